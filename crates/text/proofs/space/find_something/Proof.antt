@@ -1,0 +1,74 @@
+use Rattle.text.proofs.space.find_something.Statement.{statement}
+use Rattle.text.proofs.space.find_something.Tie as tie
+use Rattle.text.proofs.space.find_something.Reads as reads
+use Rattle.text.proofs.space.find_something.Lts as lts
+use Rattle.text.proofs.space.is_passed.Reads as is-passed-reads
+use Rattle.text.proofs.utf8.char_at.Reads as char-at-reads
+
+abbrev Inv-loop : tie.InvT-loop
+Inv-loop s at here₀ here = ?
+
+abbrev μ-loop : tie.MeasureT-loop
+μ-loop s at here₀ here = ?
+
+-- src/space.rt:86:5
+loop-holds : tie.Need-loop-holds Inv-loop μ-loop
+loop-holds c = ?
+
+-- src/space.rt:87:15
+char-at-requires : tie.Need-char-at-requires Inv-loop μ-loop
+char-at-requires c κs = ?
+
+-- src/space.rt:88:33
+enum-told : tie.Need-enum-told Inv-loop μ-loop
+enum-told c = ?
+
+-- src/space.rt:88:33
+returns : tie.Need-returns Inv-loop μ-loop
+returns c = ?
+
+-- src/space.rt:89:27
+enum-known-c : tie.Need-enum-known-c Inv-loop μ-loop
+enum-known-c c = ?
+
+-- src/space.rt:90:21
+is-passed-requires : tie.Need-is-passed-requires Inv-loop μ-loop
+is-passed-requires c κs = ?
+
+-- src/space.rt:91:21
+returns-2 : tie.Need-returns-2 Inv-loop μ-loop
+returns-2 c = ?
+
+-- src/space.rt:93:17
+add-here : tie.Need-add-here Inv-loop μ-loop
+add-here c = ?
+
+-- src/space.rt:86:5
+loop-less : tie.Need-loop-less Inv-loop μ-loop
+loop-less c = ?
+
+-- src/space.rt:86:5
+loop-again : tie.Need-loop-again Inv-loop μ-loop
+loop-again c = ?
+
+-- src/space.rt:82:1
+returns-3 : tie.Need-returns-3 Inv-loop μ-loop
+returns-3 c = ?
+
+pub find-something-spec : {M : Type 1} → statement M
+find-something-spec =
+    tie.close
+    (tie.spec
+    Inv-loop
+    μ-loop
+    loop-holds
+    char-at-requires
+    enum-told
+    returns
+    enum-known-c
+    is-passed-requires
+    returns-2
+    add-here
+    loop-less
+    loop-again
+    returns-3)
