@@ -90,9 +90,9 @@ followed-fits s at r h ok e =
     let low = and-right (leb n 4) (leb n 1 || leb 1 (r .second-low)) ok in
     fits n at (length s) four h
     (λ k.
-      let some = leb-true 1 (r .second-low) (or-right (leb n 1) _ low (lt-leb n 1 k)) in
-      let more = within-low (r .second-low) (r .second-high) x (or-right (leb n 1) _ e₁ (lt-leb n 1 k)) in
-      stands s (at + 1) (omega arith))
+    let some = leb-true 1 (r .second-low) (or-right (leb n 1) _ low (lt-leb n 1 k)) in
+    let more = within-low (r .second-low) (r .second-high) x (or-right (leb n 1) _ e₁ (lt-leb n 1 k)) in
+    stands s (at + 1) (omega arith))
     (λ k. let more = within-low 0x80 0xBF y (or-right (leb n 2) _ e₂ (lt-leb n 2 k)) in stands s (at + 2) (omega arith))
     (λ k. let more = within-low 0x80 0xBF z (or-right (leb n 3) _ e₃ (lt-leb n 3 k)) in stands s (at + 3) (omega arith))
 

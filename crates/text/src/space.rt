@@ -2,7 +2,9 @@
 ghost use mathlib.Core.Path.{_≡_};
 ghost use Prim.Native.Nat.{_≤_, _<_};
 ghost use Rattle.text.specs.Space.{isWhite, trimEnd, isPassed, something};
-use crate::utf8::{char_at, char_before, Decoded};
+use crate::utf8::Decoded;
+use crate::utf8::char_at;
+use crate::utf8::char_before;
 
 pub enum Found {
     At(usize),

@@ -1,3 +1,6 @@
+use mathlib.Core.Path.{sym, _∙_}
+use Rattle.text.specs.Newlines.{countNewlines}
+use Rattle.text.proofs.Counts.{range-inside}
 use borrow.Author.Needs.{needs}
 use Rattle.text.proofs.newlines.count_newlines.Statement.{statement}
 use Rattle.text.proofs.newlines.count_newlines.Tie as tie
@@ -12,15 +15,17 @@ is-range-requires c κs = search needs
 
 -- src/newlines.rt:26:9
 newlines-between-requires : tie.Need-newlines-between-requires
-newlines-between-requires c κs = ?
+newlines-between-requires c κs = range-inside _ _ _ (sym (c .before .is-range .ensures) ∙ c .if1 .taken)
 
 -- src/newlines.rt:26:9
 returns : tie.Need-returns
-returns c = ?
+unfolding countNewlines
+returns c = simp (sym (c .before .before .is-range .ensures) ∙ c .before .if1 .taken) (c .newlines-between .ensures)
 
 -- src/newlines.rt:22:1
 returns-2 : tie.Need-returns-2
-returns-2 c = ?
+unfolding countNewlines
+returns-2 c = sym (simp (sym (c .before .is-range .ensures) ∙ c .if1 .left))
 
 pub count-newlines-spec : {M : Type 1} → statement M
 count-newlines-spec =

@@ -1,41 +1,66 @@
+use mathlib.Core.Path.{_≡_, sym, ap, _∙_}
+use mathlib.Core.Bool.{cond}
+use mathlib.Core.Logic.{⊎-elim}
+use mathlib.Core.List.{List}
+use Prim.Native.Nat.{ℕ, _+_, _-_, _≤_, _<_}
+use native.Mathlib.Omega.{arith}
+use borrow.Author.Needs.{needs}
+use lib.ListN.{length, getD}
+use lib.Dec.{eqb}
+use borrow.Author.Tests.{eq-eqb, ne-eqb}
+use Rattle.text.specs.Newlines.{newlines}
+use Rattle.text.proofs.Counts.{newlines-next, newlines-few}
 use Rattle.text.proofs.newlines.newlines_between.Statement.{statement}
 use Rattle.text.proofs.newlines.newlines_between.Tie as tie
 use Rattle.text.proofs.newlines.newlines_between.Reads as reads
 use Rattle.text.proofs.newlines.newlines_between.Lts as lts
 
+step : (s : List ℕ) (at to : ℕ) → at < to → newlines (to - at) s at ≡ cond (eqb (getD s at 0) 0x0A) 1 0 + newlines (to - (at + 1)) s (at + 1)
+step s at to h = newlines-next (to - at) (to - (at + 1)) s at (omega arith)
+
+one : (s : List ℕ) (at to : ℕ) → at < to → getD s at 0 ≡ 0x0A → newlines (to - at) s at ≡ 1 + newlines (to - (at + 1)) s (at + 1)
+one s at to h e = step s at to h ∙ rw (eq-eqb (getD s at 0) 0x0A e)
+
+none : (s : List ℕ) (at to : ℕ) → at < to → (getD s at 0 ≡ 0x0A → ⊥) → newlines (to - at) s at ≡ newlines (to - (at + 1)) s (at + 1)
+none s at to h e = step s at to h ∙ rw (ne-eqb (getD s at 0) 0x0A e) (omega arith)
+
+empty : (n : ℕ) (s : List ℕ) (at to : ℕ) → to ≤ at → n + newlines (to - at) s at ≡ n
+unfolding newlines
+empty n s at to h = let none-left : to - at ≡ 0 = omega arith in rw none-left (omega arith)
+
 abbrev Inv-loop : tie.InvT-loop
-Inv-loop s from to n₀ at₀ n at = ?
+Inv-loop s from to n₀ at₀ n at = (from ≤ at) × (at ≤ to) × (newlines (to - from) s from ≡ n + newlines (to - at) s at)
 
 abbrev μ-loop : tie.MeasureT-loop
-μ-loop s from to n₀ at₀ n at = ?
+μ-loop s from to n₀ at₀ n at = to - at
 
 -- src/newlines.rt:37:5
 loop-holds : tie.Need-loop-holds Inv-loop μ-loop
-loop-holds c = ?
+loop-holds c = (omega arith, c .pre .0, omega arith)
 
 -- src/newlines.rt:38:12
 shared-slice-read-if1 : tie.Need-shared-slice-read-if1 Inv-loop μ-loop
-shared-slice-read-if1 c = ?
+shared-slice-read-if1 c = omega arith
 
 -- src/newlines.rt:39:13
 add-n : tie.Need-add-n Inv-loop μ-loop
-add-n c = ?
+add-n c = omega (arith, c .before .before .before .loop .inv .2, newlines-few (c .before .before .before .before .args .to - c .before .before .before .before .args .from) (c .before .before .before .before .args .s .now) (c .before .before .before .before .args .from), one (c .before .before .before .before .args .s .now) (c .before .before .before .loop .at) (c .before .before .before .before .args .to) (c .before .before .loop-test .taken) (c .if1 .taken))
 
 -- src/newlines.rt:41:9
 add-at : tie.Need-add-at Inv-loop μ-loop
-add-at c = ?
+add-at c = omega arith
 
 -- src/newlines.rt:37:5
 loop-less : tie.Need-loop-less Inv-loop μ-loop
-loop-less c = ?
+loop-less c = omega arith
 
 -- src/newlines.rt:37:5
 loop-again : tie.Need-loop-again Inv-loop μ-loop
-loop-again c = ?
+loop-again c = (omega arith, omega arith, ⊎-elim (λ w. omega (arith, c .before .before .before .loop .inv .2, one (c .before .before .before .before .args .s .now) (c .before .before .before .loop .at) (c .before .before .before .before .args .to) (c .before .before .loop-test .taken) (w .0 .taken))) (λ w. omega (arith, c .before .before .before .loop .inv .2, none (c .before .before .before .before .args .s .now) (c .before .before .before .loop .at) (c .before .before .before .before .args .to) (c .before .before .loop-test .taken) (w .0 .left))) (c .if1 .came))
 
 -- src/newlines.rt:31:1
 returns : tie.Need-returns Inv-loop μ-loop
-returns c = ?
+returns c = sym (c .before .loop .inv .2 ∙ empty (c .before .loop .n) (c .before .before .args .s .now) (c .before .loop .at) (c .before .before .args .to) (c .loop-test .left))
 
 pub newlines-between-spec : {M : Type 1} → statement M
 newlines-between-spec =

@@ -1,3 +1,11 @@
+use mathlib.Core.List.{List}
+use mathlib.Core.Path.{_≡_, refl}
+use Prim.Native.Nat.{ℕ, _+_, _*_, _%_, _<_}
+use lib.ListN.{getD}
+use mathlib.Core.Path.{sym, ap, _∙_}
+use native.Mathlib.Omega.{arith}
+use borrow.Author.Tests.{le-leb, lt-leb, eq-eqb, ne-eqb}
+use Rattle.text.specs.Utf8.{scalar}
 use borrow.Author.Needs.{needs}
 use Rattle.text.proofs.utf8.code_point.Statement.{statement}
 use Rattle.text.proofs.utf8.code_point.Tie as tie
@@ -5,6 +13,20 @@ use Rattle.text.proofs.utf8.code_point.Reads as reads
 use Rattle.text.proofs.utf8.code_point.Lts as lts
 use Rattle.text.proofs.utf8.byte.Reads as byte-reads
 use Rattle.text.proofs.utf8.wide.Reads as wide-reads
+
+-- the code point by the number of bytes, at numbers that the bytes are
+module _ (s : List ℕ) (at n w x y z : ℕ) (p : w ≡ getD s at 0) (q : x ≡ getD s (at + 1) 0) (r : y ≡ getD s (at + 2) 0) (u : z ≡ getD s (at + 3) 0) where
+  of-two : 1 < n → n ≡ 2 → w % 32 * 64 + x % 64 ≡ scalar s at n
+  unfolding scalar
+  of-two h e = rw (p, q) (sym (simp (lt-leb n 1 h, eq-eqb n 2 e)))
+
+  of-three : 1 < n → (n ≡ 2 → ⊥) → n ≡ 3 → w % 16 * 4096 + x % 64 * 64 + y % 64 ≡ scalar s at n
+  unfolding scalar
+  of-three h d e = rw (p, q, r) (sym (simp (lt-leb n 1 h, ne-eqb n 2 d, eq-eqb n 3 e)))
+
+  of-four : 1 < n → (n ≡ 2 → ⊥) → (n ≡ 3 → ⊥) → w % 8 * 262144 + x % 64 * 4096 + y % 64 * 64 + z % 64 ≡ scalar s at n
+  unfolding scalar
+  of-four h d e = rw (p, q, r, u) (sym (simp (lt-leb n 1 h, ne-eqb n 2 d, ne-eqb n 3 e)))
 
 -- src/utf8.rt:145:22
 byte-requires : tie.Need-byte-requires
@@ -16,7 +38,8 @@ wide-requires c κs = search needs
 
 -- src/utf8.rt:147:9
 returns : tie.Need-returns
-returns c = ?
+unfolding scalar
+returns c = simp (le-leb _ _ (c .if1 .taken)) (c .before .wide .ensures .0 ∙ c .before .before .byte .ensures)
 
 -- src/utf8.rt:149:31
 add-byte : tie.Need-add-byte
@@ -40,7 +63,7 @@ add-result c = search needs
 
 -- src/utf8.rt:151:9
 returns-2 : tie.Need-returns-2
-returns-2 c = ?
+returns-2 c = of-two _ _ _ _ _ _ _ (c .before .before .before .before .wide .ensures .0 ∙ c .before .before .before .before .before .byte .ensures) (c .before .wide2 .ensures .0 ∙ c .before .before .byte2 .ensures) refl refl (c .before .before .before .if1 .left) (c .if2 .taken)
 
 -- src/utf8.rt:153:30
 add-byte-2 : tie.Need-add-byte-2
@@ -72,7 +95,7 @@ add-result-3 c = search needs
 
 -- src/utf8.rt:155:9
 returns-3 : tie.Need-returns-3
-returns-3 c = ?
+returns-3 c = of-three _ _ _ _ _ _ _ (c .before .before .before .before .before .before .before .wide .ensures .0 ∙ c .before .before .before .before .before .before .before .before .byte .ensures) (c .before .before .before .before .wide2 .ensures .0 ∙ c .before .before .before .before .before .byte2 .ensures) (c .before .wide3 .ensures .0 ∙ c .before .before .byte3 .ensures) refl (c .before .before .before .before .before .before .if1 .left) (c .before .before .before .if2 .left) (c .if3 .taken)
 
 -- src/utf8.rt:157:31
 add-byte-3 : tie.Need-add-byte-3
@@ -112,7 +135,7 @@ add-result-6 c = search needs
 
 -- src/utf8.rt:141:1
 returns-4 : tie.Need-returns-4
-returns-4 c = ?
+returns-4 c = of-four _ _ _ _ _ _ _ (c .before .before .before .before .before .before .before .before .before .wide .ensures .0 ∙ c .before .before .before .before .before .before .before .before .before .before .byte .ensures) (c .before .before .before .before .before .before .wide2 .ensures .0 ∙ c .before .before .before .before .before .before .before .byte2 .ensures) (c .before .before .before .wide3 .ensures .0 ∙ c .before .before .before .before .byte3 .ensures) (c .wide4 .ensures .0 ∙ c .before .byte4 .ensures) (c .before .before .before .before .before .before .before .before .if1 .left) (c .before .before .before .before .before .if2 .left) (c .before .before .if3 .left)
 
 pub code-point-spec : {M : Type 1} → statement M
 code-point-spec =

@@ -1,3 +1,4 @@
+use borrow.Author.Needs.{needs}
 use mathlib.Core.Path.{sym, ap, _∙_}
 use Rattle.text.specs.Utf8.{ends}
 use lib.Dec.{eqb}
