@@ -8,13 +8,18 @@ use std::{
 
 use judge::{
     examples, explain,
+    generate::{self, Class},
     program::{self, Widths},
+    table,
 };
 
 const USAGE: &str = "\
 usage: judge run [--true-widths] < frame      what the program must write
        judge explain [--true-widths] < frame  rows, marks, states and text
        judge example NAME                     a frame of document 01
+       judge generate CLASS SEED COUNT        frames, each led by its length
+       judge table SEED COUNT                 what frames of all classes reach
+CLASS: realistic, wild, edges, damaged or sizes
 ";
 
 fn main() -> ExitCode {
@@ -48,6 +53,13 @@ fn command(words: &[&str]) -> Result<Vec<u8>, String> {
             Ok(explain::explain(&input(), Widths::True).into())
         }
         ["example", name] => examples::frame(name).ok_or_else(names),
+        ["generate", class, seed, count] => {
+            let (class, seed, count) = class_seed_count(class, seed, count)?;
+            Ok(stream(class, seed, count))
+        }
+        ["table", seed, count] => {
+            Ok(table::table(number(seed)?, number(count)?).into())
+        }
         _ => Err(USAGE.into()),
     }
 }
@@ -58,6 +70,29 @@ fn input() -> Vec<u8> {
         .read_to_end(&mut bytes)
         .expect("input can be read");
     bytes
+}
+
+fn class_seed_count(
+    class: &str,
+    seed: &str,
+    count: &str,
+) -> Result<(Class, u64, u64), String> {
+    let class = Class::from_name(class).ok_or(USAGE)?;
+    Ok((class, number(seed)?, number(count)?))
+}
+
+fn number(word: &str) -> Result<u64, String> {
+    word.parse().map_err(|_| USAGE.into())
+}
+
+/// Frames, each led by four bytes of length.
+fn stream(class: Class, seed: u64, count: u64) -> Vec<u8> {
+    let mut out = Vec::new();
+    for frame in generate::frames(class, seed, count) {
+        out.extend((frame.len() as u32).to_be_bytes());
+        out.extend(frame);
+    }
+    out
 }
 
 fn names() -> String {

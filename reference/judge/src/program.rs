@@ -30,10 +30,15 @@ pub fn format(frame: Frame, widths: Widths) -> Result<Run, Refusal> {
     Ok(driver::run(&input))
 }
 
-/// Runs the formatter within the program's limits: 13, the reader's
-/// refusals, then 8, 9, 10.
+/// What the program makes of a frame: 13, then as [`within_limits`].
 pub fn answer(bytes: &[u8], widths: Widths) -> Result<Run, Refusal> {
-    let run = format(frame::split(bytes)?, widths)?;
+    within_limits(frame::split(bytes)?, widths)
+}
+
+/// Runs the formatter with the program's rows, marks and output: the reader's
+/// refusals, then 8, 9, 10.
+pub fn within_limits(frame: Frame, widths: Widths) -> Result<Run, Refusal> {
+    let run = format(frame, widths)?;
     if run.rows.len() > ROWS {
         return Err(refusal(8, run.rows.len()));
     }

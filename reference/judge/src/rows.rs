@@ -99,7 +99,7 @@ pub fn marks_needed(rows: &[Row]) -> u64 {
 }
 
 /// The words that the formatter writes of its own accord.
-const WORD_LIST: [&str; 59] = [
+pub const WORD_LIST: [&str; 59] = [
     "filtermap ",
     "const ",
     "record ",
