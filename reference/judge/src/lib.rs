@@ -19,6 +19,7 @@ include!(concat!(env!("OUT_DIR"), "/declare_fmt.rs"));
 
 pub use fmt::driver;
 
+pub mod answers;
 pub mod examples;
 pub mod explain;
 pub mod frame;
@@ -26,8 +27,10 @@ pub mod generate;
 pub mod grammar;
 pub mod image;
 pub mod program;
+mod random;
 pub mod reader;
 pub mod refusal;
 pub mod rows;
 pub mod table;
+pub mod text_answers;
 pub mod tree;

@@ -7,10 +7,10 @@ use std::{
 };
 
 use judge::{
-    examples, explain,
+    answers, examples, explain,
     generate::{self, Class},
     program::{self, Widths},
-    table,
+    table, text_answers,
 };
 
 const USAGE: &str = "\
@@ -19,6 +19,8 @@ usage: judge run [--true-widths] < frame      what the program must write
        judge example NAME                     a frame of document 01
        judge generate CLASS SEED COUNT        frames, each led by its length
        judge table SEED COUNT                 what frames of all classes reach
+       judge answers CLASS SEED COUNT         frames with what is due for them
+       judge text-answers                     answers of Rust's text functions
 CLASS: realistic, wild, edges, damaged or sizes
 ";
 
@@ -57,6 +59,11 @@ fn command(words: &[&str]) -> Result<Vec<u8>, String> {
             let (class, seed, count) = class_seed_count(class, seed, count)?;
             Ok(stream(class, seed, count))
         }
+        ["answers", class, seed, count] => {
+            let (class, seed, count) = class_seed_count(class, seed, count)?;
+            Ok(answers::answers(class, seed, count))
+        }
+        ["text-answers"] => Ok(text_answers::text_answers()),
         ["table", seed, count] => {
             Ok(table::table(number(seed)?, number(count)?).into())
         }

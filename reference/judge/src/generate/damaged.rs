@@ -1,9 +1,10 @@
 //! Legal frames with damage, random and aimed.
 
-use super::{Draft, edges, random::Random, realistic, wild};
+use super::{Draft, edges, realistic, wild};
 use crate::{
-    frame, image,
-    image::{Tree, node},
+    frame,
+    image::{self, Tree, node},
+    random::Random,
 };
 
 /// A legal frame, damaged in one way or, now and then, in two.

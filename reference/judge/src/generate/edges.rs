@@ -8,7 +8,6 @@ use std::ops::Range;
 
 use super::{
     Draft,
-    random::Random,
     shape::{Fill, Shapes},
 };
 use crate::{
@@ -16,6 +15,7 @@ use crate::{
     grammar::Place,
     image::{Tree, node, text},
     program::{self, Widths},
+    random::Random,
 };
 
 /// Stands in no other name.

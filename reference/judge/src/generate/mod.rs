@@ -2,7 +2,6 @@
 
 mod damaged;
 mod edges;
-mod random;
 mod realistic;
 mod shape;
 mod sizes;
@@ -13,8 +12,8 @@ use std::ops::Range;
 use crate::{
     frame,
     image::{self, Tree},
+    random::Random,
 };
-use random::Random;
 
 pub use sizes::{Case as SizeCase, cases as size_cases};
 

@@ -2,10 +2,10 @@
 
 use std::ops::Range;
 
-use super::random::Random;
 use crate::{
     grammar::{self, Child, Payload, Place},
     image::{Tree, text},
+    random::Random,
     reader::MOST_DEPTH,
 };
 

@@ -4,12 +4,12 @@ use std::ops::Range;
 
 use super::{
     Draft,
-    random::Random,
     shape::{Fill, Shapes},
 };
 use crate::{
     grammar::Place,
     image::{Tree, chosen, node, text},
+    random::Random,
 };
 
 const PIECES: [&str; 24] = [

@@ -34,6 +34,7 @@ impl Printer<'_> {
     fn constant(&mut self) -> Vec<Option<Tree>> {
         self.keyword("const");
         let name = self.name();
+        self.gap();
         self.token(":");
         self.space();
         let ty = self.type_expr();
@@ -97,7 +98,9 @@ impl Printer<'_> {
         let start = self.here();
         let path = self.path(&[1, 2, 3]);
         let group = (levels > 0 && self.random.once_in(2)).then(|| {
+            self.gap();
             self.token(".");
+            self.gap();
             let counts = [0, 1, 2, 5];
             self.list(["{", "}"], ",", &counts, |this| {
                 this.import(levels - 1)
@@ -107,6 +110,7 @@ impl Printer<'_> {
     }
 
     fn params(&mut self) -> Tree {
+        self.gap();
         self.list(["(", ")"], ",", &FEW, Self::name_and_type)
     }
 
@@ -116,7 +120,10 @@ impl Printer<'_> {
 
     fn type_params(&mut self) -> Option<Tree> {
         let wanted = self.random.once_in(3);
-        wanted.then(|| self.list(["[", "]"], ",", &FEW, Self::name))
+        wanted.then(|| {
+            self.gap();
+            self.list(["[", "]"], ",", &FEW, Self::name)
+        })
     }
 
     fn name_and_type(&mut self) -> Tree {
@@ -133,6 +140,7 @@ impl Printer<'_> {
         let start = self.here();
         let name = self.name();
         let fields = if self.random.once_in(2) {
+            self.gap();
             self.list(["(", ")"], ",", &SOME, Self::type_expr)
         } else {
             node(3, 0..0, [])
@@ -159,12 +167,14 @@ impl Printer<'_> {
             2..=5 => (41, vec![Some(self.path(&[1, 1, 2])), None]),
             6 => {
                 let path = self.path(&[1, 1, 2]);
+                self.gap();
                 let types =
                     self.list(["[", "]"], ",", &SOME, Self::type_expr);
                 (41, vec![Some(path), Some(types)])
             }
             7 => {
                 let inner = self.type_expr();
+                self.gap();
                 self.token("?");
                 (40, vec![Some(inner)])
             }

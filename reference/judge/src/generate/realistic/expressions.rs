@@ -146,6 +146,7 @@ impl Printer<'_> {
 
     fn call(&mut self) -> Vec<Option<Tree>> {
         let callee = self.operand();
+        self.gap();
         let arguments = self.list(["(", ")"], ",", &FEW, Self::expr);
         vec![Some(callee), Some(arguments)]
     }
@@ -185,10 +186,12 @@ impl Printer<'_> {
         let inner = match kind {
             60 | 64 => {
                 self.token(if kind == 60 { "!" } else { "-" });
+                self.gap();
                 self.operand()
             }
             68 => {
                 let operand = self.operand();
+                self.gap();
                 self.token("?");
                 operand
             }
@@ -298,8 +301,10 @@ impl Printer<'_> {
         let start = self.here();
         let variant = self.name();
         let wanted = self.random.once_in(2);
-        let fields =
-            wanted.then(|| self.list(["(", ")"], ",", &FEW, Self::name));
+        let fields = wanted.then(|| {
+            self.gap();
+            self.list(["(", ")"], ",", &FEW, Self::name)
+        });
         node(83, start..self.here(), [Some(variant), fields])
     }
 

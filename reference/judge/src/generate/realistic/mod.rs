@@ -9,8 +9,11 @@ mod expressions;
 
 use std::ops::Range;
 
-use super::{Draft, random::Random};
-use crate::image::{Tree, node, text};
+use super::Draft;
+use crate::{
+    image::{Tree, node, text},
+    random::Random,
+};
 
 const NAMES: [&str; 16] = [
     "a",
