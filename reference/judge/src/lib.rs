@@ -20,6 +20,8 @@ include!(concat!(env!("OUT_DIR"), "/declare_fmt.rs"));
 pub use fmt::driver;
 
 pub mod answers;
+pub mod call_answers;
+pub mod calls;
 pub mod examples;
 pub mod explain;
 pub mod frame;

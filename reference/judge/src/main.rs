@@ -7,7 +7,7 @@ use std::{
 };
 
 use judge::{
-    answers, examples, explain,
+    answers, call_answers, examples, explain,
     generate::{self, Class},
     program::{self, Widths},
     table, text_answers,
@@ -20,6 +20,7 @@ usage: judge run [--true-widths] < frame      what the program must write
        judge generate CLASS SEED COUNT        frames, each led by its length
        judge table SEED COUNT                 what frames of all classes reach
        judge answers CLASS SEED COUNT         frames with what is due for them
+       judge call-answers SEED COUNT          lists of calls with their answers
        judge text-answers                     answers of Rust's text functions
 CLASS: realistic, wild, edges, damaged or sizes
 ";
@@ -62,6 +63,9 @@ fn command(words: &[&str]) -> Result<Vec<u8>, String> {
         ["answers", class, seed, count] => {
             let (class, seed, count) = class_seed_count(class, seed, count)?;
             Ok(answers::answers(class, seed, count))
+        }
+        ["call-answers", seed, count] => {
+            Ok(call_answers::call_answers(number(seed)?, number(count)?))
         }
         ["text-answers"] => Ok(text_answers::text_answers()),
         ["table", seed, count] => {

@@ -3,8 +3,9 @@
 use std::{collections::BTreeMap, fmt::Write};
 
 use crate::{
+    calls::{self, Call, Given},
     frame,
-    generate::{self, Class},
+    generate::{self, CallCase, Class},
     grammar::{self, Child, Place},
     program::{self, Widths},
     reader::{self, Payload, Record},
@@ -42,6 +43,8 @@ struct Counts {
     row_kinds: BTreeMap<u32, usize>,
     origins: BTreeMap<u32, usize>,
     words: BTreeMap<u32, usize>,
+    /// Answers to layout calls, and to rendering calls.
+    calls: BTreeMap<u8, [usize; 2]>,
     /// Group numbers not wrapped, and wrapped.
     marks: [usize; 2],
 }
@@ -60,6 +63,10 @@ pub fn table(seed: u64, count: u64) -> String {
         writeln!(out, "- {name}: {count} frames, {accepted} accepted")
             .unwrap();
     }
+    for index in 0..count {
+        all.add_calls(&generate::call_case(seed, index));
+    }
+    writeln!(out, "- lists of calls: {count}").unwrap();
     out + &all.report()
 }
 
@@ -80,6 +87,20 @@ impl Counts {
         let accepted =
             reader::read(frame.source, frame.image).expect("accepted");
         self.add_record(&accepted.tree, grammar::TREE);
+    }
+
+    fn add_calls(&mut self, case: &CallCase) {
+        let given = Given {
+            source: &case.source,
+            image: &case.image,
+        };
+        let mut world = case.world.clone();
+        for one in &case.calls {
+            let answer = calls::call(given, &mut world, *one);
+            let number = answer.err().map_or(0, |refusal| refusal.number);
+            let counts = self.calls.entry(number).or_default();
+            counts[usize::from(matches!(one, Call::Render { .. }))] += 1;
+        }
     }
 
     fn add_row(&mut self, row: &Row) {
@@ -167,6 +188,7 @@ impl Counts {
             );
         }
         self.report_refusals(&mut out);
+        self.report_calls(&mut out);
         out
     }
 
@@ -205,6 +227,30 @@ impl Counts {
                 None => number.to_string(),
             };
             line(out, name, self.refusals.get(&number));
+        }
+    }
+}
+
+impl Counts {
+    /// Refusals that a kind of call doesn't know are left out.
+    fn report_calls(&self, out: &mut String) {
+        out.push_str("\n## Answers to calls\n\n");
+        out.push_str("| Refusal | Layout | Rendering |\n|---|---:|---:|\n");
+        let layout = [0, 1, 2, 3, 4, 5, 6, 7, 8, 12];
+        let rendering = [0, 1, 3, 9, 10, 11, 12];
+        for number in 0..=12 {
+            let counts = self.calls.get(&number).copied().unwrap_or_default();
+            let known =
+                [&layout[..], &rendering].map(|k| k.contains(&number));
+            let [laid, rendered] = [0, 1].map(|kind| {
+                let count = counts[kind].to_string();
+                if known[kind] { count } else { "-".into() }
+            });
+            let name = match number {
+                0 => "accepted".into(),
+                _ => number.to_string(),
+            };
+            writeln!(out, "| {name} | {laid} | {rendered} |").unwrap();
         }
     }
 }

@@ -6,12 +6,13 @@ use super::{
     render::{Pen, render},
 };
 use crate::{
+    parser::Extras,
     rows::{self, Row},
     tree::Input,
 };
 
-/// A layout state, at a place where a layout call may stop.
-#[derive(Clone, Copy, Debug, PartialEq, Eq)]
+/// How far a layout came, but for the declarations.
+#[derive(Clone, Copy, Debug, Default, PartialEq, Eq)]
 pub struct Stop {
     pub next_row: usize,
     pub next_number: usize,
@@ -21,14 +22,21 @@ pub struct Stop {
 
 /// Runs the formatter. Panics if the driver and `fmt_parsed` disagree.
 pub fn run(input: &Input) -> Run {
-    let mut rows = Vec::new();
-    let (nodes, stops, closed) = lay(input, &mut rows);
-    let rendered = render(&nodes, Pen::default(), Vec::new());
+    let mut layout = Layout::new(input, Stop::default());
+    layout.shebang();
+    let mut stops = vec![layout.stop()];
+    for place in 0..input.declarations() {
+        layout.declaration(place);
+        stops.push(layout.stop());
+    }
+    layout.close();
+    let closed = layout.stop();
+    let rendered = render(&layout.nodes, Pen::default(), Vec::new());
     let original =
         fmt_parsed(&input.ast, &input.files, &input.spans, &input.extras);
     assert_eq!(rendered.text, original, "the driver strays from fmt_parsed");
     Run {
-        rows,
+        rows: layout.rows,
         stops,
         closed,
         comments_left: input.extras.comments.len() - closed.comments_placed,
@@ -38,70 +46,103 @@ pub fn run(input: &Input) -> Run {
     }
 }
 
-/// The first half of `fmt_parsed`, with a look at the state in between.
-fn lay<'s>(
-    input: &'s Input,
-    rows: &mut Vec<Row>,
-) -> (Vec<Node<'s>>, Vec<Stop>, Stop) {
-    let mut nodes = Vec::new();
-    let mut extras = input.extras.clone();
-    let mut state = State {
-        nodes: &mut nodes,
-        idx: &mut 0,
-        extras: &mut extras,
-        source: &input.files,
-        spans: &input.spans,
-        pos: &mut 0,
-    };
-    let mut flat = 0;
-    let mut stop = |state: &State<'_, 's>| {
-        flatten(input, &state.nodes[flat..], rows);
-        flat = state.nodes.len();
-        Stop {
-            next_row: rows.len(),
-            next_number: *state.idx,
-            comments_placed: input.extras.comments.len()
-                - state.extras.comments.len(),
-            position: *state.pos,
-        }
-    };
-
-    if let Some(shebang) = &input.ast.shebang {
-        state.push(Node::str(shebang.trim_end()));
-        state.push(Node::EmptyLine);
-    }
-    let mut stops = vec![stop(&state)];
-    for (place, declaration) in input.ast.declarations.iter().enumerate() {
-        state.declaration(declaration, place == 0);
-        stops.push(stop(&state));
-    }
-    state.push(Node::Line);
-    let closed = stop(&state);
-    (nodes, stops, closed)
+/// The layout of `fmt_parsed` taken apart, to start and stop in between.
+pub struct Layout<'s> {
+    input: &'s Input<'s>,
+    nodes: Vec<Node<'s>>,
+    /// The nodes as rows, as far as [`Layout::stop`] was asked for them.
+    pub rows: Vec<Row>,
+    first_row: usize,
+    nodes_in_rows: usize,
+    number: usize,
+    position: usize,
+    extras: Extras,
 }
 
-/// Appends nodes as rows in preorder; row numbers are absolute.
-fn flatten(input: &Input, nodes: &[Node], rows: &mut Vec<Row>) {
+impl<'s> Layout<'s> {
+    /// Goes on from a stop, which must lie within the comments.
+    pub fn new(input: &'s Input, from: Stop) -> Self {
+        let mut extras = input.extras.clone();
+        extras.comments.drain(..from.comments_placed);
+        Layout {
+            input,
+            nodes: Vec::new(),
+            rows: Vec::new(),
+            first_row: from.next_row,
+            nodes_in_rows: 0,
+            number: from.next_number,
+            position: from.position,
+            extras,
+        }
+    }
+
+    fn state(&mut self) -> State<'_, 's> {
+        State {
+            idx: &mut self.number,
+            nodes: &mut self.nodes,
+            extras: &mut self.extras,
+            source: &self.input.files,
+            spans: &self.input.spans,
+            pos: &mut self.position,
+        }
+    }
+
+    pub fn shebang(&mut self) {
+        if let Some(shebang) = &self.input.ast.shebang {
+            self.nodes.push(Node::str(shebang.trim_end()));
+            self.nodes.push(Node::EmptyLine);
+        }
+    }
+
+    pub fn declaration(&mut self, place: usize) {
+        let declaration = &self.input.ast.declarations[place];
+        self.state().declaration(declaration, place == 0);
+    }
+
+    pub fn close(&mut self) {
+        self.nodes.push(Node::Line);
+    }
+
+    /// The state here, with all rows up to it written.
+    pub fn stop(&mut self) -> Stop {
+        let fresh = &self.nodes[self.nodes_in_rows..];
+        flatten(self.input, fresh, self.first_row, &mut self.rows);
+        self.nodes_in_rows = self.nodes.len();
+        Stop {
+            next_row: self.first_row + self.rows.len(),
+            next_number: self.number,
+            comments_placed: self.input.extras.comments.len()
+                - self.extras.comments.len(),
+            position: self.position,
+        }
+    }
+}
+
+/// Appends nodes as rows in preorder. Row numbers count from the store's
+/// start; the first of these rows is `base`.
+fn flatten(input: &Input, nodes: &[Node], base: usize, rows: &mut Vec<Row>) {
     for node in nodes {
         let place = rows.len();
         rows.push(own_cells(input, node));
         match node {
             Node::Group(_, Nodes(parts))
             | Node::Indent(Nodes(parts))
-            | Node::IndentNext(Nodes(parts)) => flatten(input, parts, rows),
+            | Node::IndentNext(Nodes(parts)) => {
+                flatten(input, parts, base, rows);
+            }
             Node::IfWrap(_, first, second) => {
-                flatten(input, std::slice::from_ref(first), rows);
-                rows[place].second_part = number(rows.len());
-                flatten(input, std::slice::from_ref(second), rows);
+                flatten(input, std::slice::from_ref(first), base, rows);
+                rows[place].second_part = number(base + rows.len());
+                flatten(input, std::slice::from_ref(second), base, rows);
             }
             Node::Call(_, Nodes(callee), _, Nodes(arguments)) => {
-                flatten(input, callee, rows);
-                rows[place].second_part = number(rows.len());
-                flatten(input, arguments, rows);
+                flatten(input, callee, base, rows);
+                rows[place].second_part = number(base + rows.len());
+                flatten(input, arguments, base, rows);
             }
             _ => {}
         }
-        rows[place].after = number(rows.len());
+        rows[place].after = number(base + rows.len());
     }
 }
 

@@ -8,7 +8,7 @@ mod layout;
 mod render;
 
 pub use decode::{RenderedRows, Texts, render_rows};
-pub use layout::{Stop, run};
+pub use layout::{Layout, Stop, run};
 pub use render::Pen;
 
 use crate::rows::Row;

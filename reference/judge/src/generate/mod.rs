@@ -2,6 +2,8 @@
 
 mod damaged;
 mod edges;
+mod lists;
+mod random_rows;
 mod realistic;
 mod shape;
 mod sizes;
@@ -15,6 +17,7 @@ use crate::{
     random::Random,
 };
 
+pub use lists::{CallCase, case as call_case};
 pub use sizes::{Case as SizeCase, cases as size_cases};
 
 /// What a generator aims at.
