@@ -31,6 +31,12 @@ pub fn split_any_size(bytes: &[u8]) -> Result<Frame<'_>, Refusal> {
 
 /// Puts a frame together.
 pub fn join(source: &[u8], image: &[u8]) -> Vec<u8> {
-    let length = u32::try_from(source.len()).expect("a source under 4 GiB");
-    [&length.to_be_bytes(), source, image].concat()
+    [&led(source), image].concat()
+}
+
+/// Bytes led by their number, as a source is in its frame and frames are in
+/// a stream.
+pub fn led(bytes: &[u8]) -> Vec<u8> {
+    let length = u32::try_from(bytes.len()).expect("under 4 GiB");
+    [&length.to_be_bytes(), bytes].concat()
 }

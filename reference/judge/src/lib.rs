@@ -20,7 +20,6 @@ include!(concat!(env!("OUT_DIR"), "/declare_fmt.rs"));
 pub use fmt::driver;
 
 pub mod answers;
-pub mod call_answers;
 pub mod calls;
 pub mod examples;
 pub mod explain;
@@ -34,5 +33,4 @@ pub mod reader;
 pub mod refusal;
 pub mod rows;
 pub mod table;
-pub mod text_answers;
 pub mod tree;

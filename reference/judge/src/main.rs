@@ -7,10 +7,10 @@ use std::{
 };
 
 use judge::{
-    answers, call_answers, examples, explain,
+    answers, examples, explain, frame,
     generate::{self, Class},
     program::{self, Widths},
-    table, text_answers,
+    table,
 };
 
 const USAGE: &str = "\
@@ -25,54 +25,63 @@ usage: judge run [--true-widths] < frame      what the program must write
 CLASS: realistic, wild, edges, damaged or sizes
 ";
 
+/// What a command writes, piece by piece: large sets are never held whole.
+type Pieces = Box<dyn Iterator<Item = Vec<u8>>>;
+
 fn main() -> ExitCode {
     let arguments: Vec<String> = env::args().skip(1).collect();
     let words: Vec<&str> = arguments.iter().map(String::as_str).collect();
-    match command(&words) {
-        Ok(bytes) => {
-            io::stdout()
-                .write_all(&bytes)
-                .expect("output can be written");
-            ExitCode::SUCCESS
-        }
+    let pieces = match command(&words) {
+        Ok(pieces) => pieces,
         Err(message) => {
             eprint!("{message}");
-            ExitCode::FAILURE
+            return ExitCode::FAILURE;
         }
+    };
+    let mut output = io::BufWriter::new(io::stdout().lock());
+    for piece in pieces {
+        // A reader that has seen enough is no fault.
+        if output.write_all(&piece).is_err() {
+            return ExitCode::FAILURE;
+        }
+    }
+    match output.flush() {
+        Ok(()) => ExitCode::SUCCESS,
+        Err(_) => ExitCode::FAILURE,
     }
 }
 
-/// What a command prints, or why it cannot.
-fn command(words: &[&str]) -> Result<Vec<u8>, String> {
-    match words {
-        ["run"] => Ok(program::output(&input(), Widths::Supplied).into()),
-        ["run", "--true-widths"] => {
-            Ok(program::output(&input(), Widths::True).into())
+/// What a command writes, or why it cannot.
+fn command(words: &[&str]) -> Result<Pieces, String> {
+    Ok(match words {
+        ["run", flags @ ..] => one(program::output(&input(), widths(flags)?)),
+        ["explain", flags @ ..] => {
+            one(explain::explain(&input(), widths(flags)?))
         }
-        ["explain"] => {
-            Ok(explain::explain(&input(), Widths::Supplied).into())
-        }
-        ["explain", "--true-widths"] => {
-            Ok(explain::explain(&input(), Widths::True).into())
-        }
-        ["example", name] => examples::frame(name).ok_or_else(names),
+        ["example", name] => one(examples::frame(name).ok_or_else(names)?),
         ["generate", class, seed, count] => {
-            let (class, seed, count) = class_seed_count(class, seed, count)?;
-            Ok(stream(class, seed, count))
+            Box::new(frames(class, seed, count)?.map(|f| frame::led(&f)))
         }
-        ["answers", class, seed, count] => {
-            let (class, seed, count) = class_seed_count(class, seed, count)?;
-            Ok(answers::answers(class, seed, count))
-        }
+        ["answers", class, seed, count] => Box::new(
+            frames(class, seed, count)?
+                .map(|f| answers::frames::answered(&f)),
+        ),
         ["call-answers", seed, count] => {
-            Ok(call_answers::call_answers(number(seed)?, number(count)?))
+            let seed = number(seed)?;
+            let cases = (0..number(count)?)
+                .map(move |index| generate::call_case(seed, index));
+            Box::new(cases.map(|case| answers::calls::answered(&case)))
         }
-        ["text-answers"] => Ok(text_answers::text_answers()),
+        ["text-answers"] => one(answers::text::answers()),
         ["table", seed, count] => {
-            Ok(table::table(number(seed)?, number(count)?).into())
+            one(table::table(number(seed)?, number(count)?))
         }
-        _ => Err(USAGE.into()),
-    }
+        _ => return Err(USAGE.into()),
+    })
+}
+
+fn one(piece: impl Into<Vec<u8>>) -> Pieces {
+    Box::new(std::iter::once(piece.into()))
 }
 
 fn input() -> Vec<u8> {
@@ -83,27 +92,25 @@ fn input() -> Vec<u8> {
     bytes
 }
 
-fn class_seed_count(
+fn widths(flags: &[&str]) -> Result<Widths, String> {
+    match flags {
+        [] => Ok(Widths::Supplied),
+        ["--true-widths"] => Ok(Widths::True),
+        _ => Err(USAGE.into()),
+    }
+}
+
+fn frames(
     class: &str,
     seed: &str,
     count: &str,
-) -> Result<(Class, u64, u64), String> {
+) -> Result<impl Iterator<Item = Vec<u8>> + use<>, String> {
     let class = Class::from_name(class).ok_or(USAGE)?;
-    Ok((class, number(seed)?, number(count)?))
+    Ok(generate::frames(class, number(seed)?, number(count)?))
 }
 
 fn number(word: &str) -> Result<u64, String> {
     word.parse().map_err(|_| USAGE.into())
-}
-
-/// Frames, each led by four bytes of length.
-fn stream(class: Class, seed: u64, count: u64) -> Vec<u8> {
-    let mut out = Vec::new();
-    for frame in generate::frames(class, seed, count) {
-        out.extend((frame.len() as u32).to_be_bytes());
-        out.extend(frame);
-    }
-    out
 }
 
 fn names() -> String {

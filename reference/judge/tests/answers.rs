@@ -1,10 +1,10 @@
 //! The stored answers read as ANSWERS.md says.
 
 use judge::{
-    answers, examples, explain,
+    answers::{self, frames, text},
+    examples, explain,
     generate::{self, Class},
     program::{self, Widths},
-    text_answers,
 };
 
 /// Reads big-endian numbers and runs of bytes off the front.
@@ -25,14 +25,14 @@ impl<'b> Input<'b> {
 
 #[test]
 fn fnv_1a_has_its_known_values() {
-    assert_eq!(answers::fnv1a(*b""), 0x811C_9DC5);
-    assert_eq!(answers::fnv1a(*b"a"), 0xE40C_292C);
-    assert_eq!(answers::fnv1a(*b"foobar"), 0xBF9C_F968);
+    assert_eq!(frames::fnv1a(*b""), 0x811C_9DC5);
+    assert_eq!(frames::fnv1a(*b"a"), 0xE40C_292C);
+    assert_eq!(frames::fnv1a(*b"foobar"), 0xBF9C_F968);
 }
 
 #[test]
 fn text_answers_are_laid_out_as_described() {
-    let file = text_answers::text_answers();
+    let file = text::answers();
     let mut input = Input(&file);
     let single = input.bytes(256);
     assert_eq!((single[0x41], single[0x80]), (255, 0));
@@ -68,12 +68,12 @@ fn text_answers_are_laid_out_as_described() {
 #[test]
 fn frame_answers_are_laid_out_as_described() {
     for (class, _) in Class::ALL {
-        let file = answers::answers(class, 3, 40);
-        let mut input = Input(&file);
         for frame in generate::frames(class, 3, 40) {
+            let answered = frames::answered(&frame);
+            let mut input = Input(&answered);
             check_answer(&mut input, &frame);
+            assert!(input.0.is_empty());
         }
-        assert!(input.0.is_empty());
     }
 }
 
@@ -113,4 +113,53 @@ fn an_account_names_rows_and_text() {
     let account = explain::explain(&frame, Widths::Supplied);
     assert!(account.starts_with("rows 10\n"));
     assert!(account.ends_with("text, 18 bytes:\nconst A: u32 = 1;\n"));
+}
+
+/// Steps over a world and gives its store's length.
+fn skip_world(input: &mut Input) -> usize {
+    let cells = input.number(4);
+    input.bytes(4 * cells);
+    let marks = input.number(4);
+    input.bytes(marks + LAYOUT_STATE + RENDER_STATE);
+    cells
+}
+
+const LAYOUT_STATE: usize = 2 + 5 * 4;
+const RENDER_STATE: usize = 2 * 4 + 8 + 2 * 4;
+
+#[test]
+fn call_answers_are_laid_out_as_described() {
+    for index in 0..100 {
+        let case = generate::call_case(3, index);
+        let answered = answers::calls::answered(&case);
+        let mut input = Input(&answered);
+        for given in [&case.source, &case.image] {
+            let length = input.number(4);
+            assert_eq!(input.bytes(length), given);
+        }
+        let cells = skip_world(&mut input);
+        assert_eq!(cells, case.world.store.len());
+        let calls = input.number(2);
+        assert_eq!(calls, case.calls.len());
+        let mut written = 0;
+        for _ in 0..calls {
+            let kind = input.number(1);
+            input.bytes(8);
+            let refusal = input.number(1);
+            input.bytes(8);
+            match (refusal, kind) {
+                (0, 0) => {
+                    input.bytes(LAYOUT_STATE + 4);
+                }
+                (0, _) => {
+                    input.bytes(RENDER_STATE);
+                    written += input.number(4);
+                }
+                _ => {}
+            }
+        }
+        assert_eq!(skip_world(&mut input), cells);
+        assert_eq!(input.number(4), written);
+        assert_eq!(input.0.len(), written);
+    }
 }

@@ -2,9 +2,10 @@
 
 use judge::{
     calls::{self, Answer, Call, Given, LayoutState, RenderState, World},
+    driver::{Pen, Texts, render_rows},
     examples,
     frame::{self, Frame},
-    generate,
+    generate::{self, Class},
     program::{self, Widths},
     rows::{self, Row},
 };
@@ -235,4 +236,46 @@ fn the_cut_rule_holds_of_the_original() {
         assert_eq!((answers, world), plain, "case {index}");
     }
     assert!(spoken_of > 200, "{spoken_of}");
+}
+
+#[test]
+fn rows_render_as_the_nodes_they_came_from() {
+    let words = rows::fixed_words();
+    for (class, _) in Class::ALL {
+        for bytes in generate::frames(class, SEED, 200) {
+            let Ok(run) = program::answer(&bytes, Widths::Supplied) else {
+                continue;
+            };
+            let frame = frame::split(&bytes).unwrap();
+            let texts = Texts {
+                source: frame.source,
+                image: frame.image,
+                words: words.as_bytes(),
+            };
+            let rendered =
+                render_rows(texts, &run.rows, 0, Pen::default(), &[]);
+            assert_eq!(rendered.text, run.text.as_bytes());
+            assert_eq!(rendered.marks, run.marks);
+            assert_eq!(rendered.pen, run.pen);
+        }
+    }
+}
+
+#[test]
+fn no_row_lies_past_the_limit() {
+    let limit = calls::MOST_ROWS;
+    let mut world = World {
+        store: vec![0; (limit + 2) * Row::CELLS],
+        ..World::default()
+    };
+    world.rendering.next_row = limit;
+    assert_eq!(
+        refusals(&mut world, &[render(limit), render(limit + 1)]),
+        [None, Some((11, 0))]
+    );
+    world.laying.begun = true;
+    world.laying.at.next_row = limit;
+    assert_eq!(refusals(&mut world, &[layout(0, false)]), [None]);
+    world.laying.at.next_row = limit + 1;
+    assert_eq!(refusals(&mut world, &[layout(0, false)]), [Some((12, 0))]);
 }

@@ -88,7 +88,7 @@ fn sizes_are_refused_past_their_value_alone() {
 
 #[test]
 fn the_table_has_no_unexplained_zero() {
-    let table = table::table(SEED, COUNT);
+    let table = table::table(SEED, 1_500);
     let zeros = table.lines().filter(|line| line.ends_with("| 0 |"));
     for line in zeros {
         assert!(line.contains("unreachable"), "{line}");

@@ -27,14 +27,10 @@ pub fn layout_call(
     close: bool,
 ) -> Result<Answer, Refusal> {
     let accepted = reader::read(given.source, given.image)?;
+    check_state(world, &accepted, stop, close)?;
     let input = Input::new(&accepted, given.image);
-    let state = world.laying;
-    if !is_legal(&state, world, &accepted)
-        || !may_stop(&state, stop, close, input.declarations())
-    {
-        return Err(refusal(12, 0));
-    }
     let _held = input.supply_widths();
+    let state = world.laying;
     let mut layout = Layout::new(&input, state.at);
     if !state.begun {
         layout.shebang();
@@ -62,26 +58,29 @@ pub fn layout_call(
     })
 }
 
-/// The tests of 12 on the state alone.
-fn is_legal(state: &LayoutState, world: &World, accepted: &Accepted) -> bool {
+/// Refusal 12, on the state and on the arguments.
+fn check_state(
+    world: &World,
+    accepted: &Accepted,
+    stop: usize,
+    close: bool,
+) -> Result<(), Refusal> {
+    let state = world.laying;
+    // The shebang's place comes first.
     let declarations = accepted.tree.children.len() - 1;
-    (state.begun || *state == LayoutState::default())
+    let legal = (state.begun || state == LayoutState::default())
         && state.next_declaration <= declarations
         && state.at.comments_placed <= accepted.comments.len()
         && state.at.position <= accepted.source.len()
         && state.at.next_row <= world.room_for_rows()
         && state.at.next_row <= MOST_ROWS
-        && state.at.next_number <= MOST_NUMBERS
-}
-
-/// The tests of 12 on the arguments.
-fn may_stop(
-    state: &LayoutState,
-    stop: usize,
-    close: bool,
-    declarations: usize,
-) -> bool {
-    !state.closed
+        && state.at.next_number <= MOST_NUMBERS;
+    let may_stop = !state.closed
         && (state.next_declaration..=declarations).contains(&stop)
-        && (!close || stop == declarations)
+        && (!close || stop == declarations);
+    if legal && may_stop {
+        Ok(())
+    } else {
+        Err(refusal(12, 0))
+    }
 }

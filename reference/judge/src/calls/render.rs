@@ -2,10 +2,10 @@
 
 use super::{Answer, Given, MOST_ROWS, World, row_check};
 use crate::{
-    driver::{Pen, Texts, render_rows},
+    driver::{Pen, RenderedRows, Texts, render_rows},
     reader,
     refusal::{Refusal, refusal},
-    rows,
+    rows::{self, Row},
 };
 
 const MOST_INDENT: usize = 64;
@@ -40,41 +40,53 @@ pub fn render_call(
     };
     let rows = world.rows(stop);
     row_check::check(texts, &rows, state.next_row)?;
-    if !is_legal(&state, world, stop) {
-        return Err(refusal(12, 0));
-    }
-    let needed = rows::marks_needed(&rows[state.next_row..]);
-    if needed > world.marks.len() as u64 {
-        return Err(Refusal {
-            number: 9,
-            place: needed,
-        });
-    }
+    check_state(world, stop)?;
+    check_marks(world, &rows)?;
     let in_use = &world.marks[..state.marks_in_use];
     let rendered =
         render_rows(texts, &rows, state.next_row, state.pen, in_use);
     if rendered.text.len() > room {
         return Err(refusal(10, rendered.text.len()));
     }
+    Ok(write(world, stop, &rendered))
+}
+
+/// Refusal 12.
+fn check_state(world: &World, stop: usize) -> Result<(), Refusal> {
+    let RenderState {
+        pen,
+        marks_in_use,
+        next_row,
+    } = world.rendering;
+    let in_use = world.marks.get(..marks_in_use);
+    let legal = next_row <= stop
+        && pen.indent <= MOST_INDENT
+        && pen.next_indent <= MOST_INDENT
+        && pen.column <= MOST_COLUMN
+        && in_use.is_some_and(|marks| marks.iter().all(|mark| *mark <= 1));
+    if legal { Ok(()) } else { Err(refusal(12, 0)) }
+}
+
+/// Refusal 9, on the rows that the call reads.
+fn check_marks(world: &World, rows: &[Row]) -> Result<(), Refusal> {
+    let place = rows::marks_needed(&rows[world.rendering.next_row..]);
+    if place > world.marks.len() as u64 {
+        return Err(Refusal { number: 9, place });
+    }
+    Ok(())
+}
+
+/// What an accepted call changes.
+fn write(world: &mut World, stop: usize, rendered: &RenderedRows) -> Answer {
     world.marks[..rendered.marks.len()].copy_from_slice(&rendered.marks);
+    world.text.extend(&rendered.text);
     world.rendering = RenderState {
         pen: rendered.pen,
         marks_in_use: rendered.marks.len(),
         next_row: stop,
     };
-    world.text.extend(&rendered.text);
-    Ok(Answer::Written {
+    Answer::Written {
         state: world.rendering,
         bytes: rendered.text.len(),
-    })
-}
-
-/// The tests of 12.
-fn is_legal(state: &RenderState, world: &World, stop: usize) -> bool {
-    let in_use = world.marks.get(..state.marks_in_use);
-    state.next_row <= stop
-        && state.pen.indent <= MOST_INDENT
-        && state.pen.next_indent <= MOST_INDENT
-        && state.pen.column <= MOST_COLUMN
-        && in_use.is_some_and(|marks| marks.iter().all(|mark| *mark <= 1))
+    }
 }

@@ -1,19 +1,16 @@
-//! Frames with what is due for them; ANSWERS.md gives the format.
+//! Frames with what is due for them.
 
+use super::{put_bytes, put_number};
 use crate::{
     driver::{Run, Stop},
-    generate::{self, Class},
     program::{self, Widths},
 };
 
-/// Frames of a class, each with its answer.
-pub fn answers(class: Class, seed: u64, count: u64) -> Vec<u8> {
+/// A frame with its answer.
+pub fn answered(frame: &[u8]) -> Vec<u8> {
     let mut out = Vec::new();
-    for frame in generate::frames(class, seed, count) {
-        put_number(&mut out, frame.len());
-        out.extend(&frame);
-        put_answer(&mut out, &frame);
-    }
+    put_bytes(&mut out, frame);
+    put_answer(&mut out, frame);
     out
 }
 
@@ -45,8 +42,7 @@ fn put_run(out: &mut Vec<u8>, run: &Run) {
     for stop in &run.stops {
         put_stop(out, stop);
     }
-    put_number(out, run.text.len());
-    out.extend(run.text.as_bytes());
+    put_bytes(out, run.text.as_bytes());
 }
 
 fn put_stop(out: &mut Vec<u8>, stop: &Stop) {
@@ -54,11 +50,6 @@ fn put_stop(out: &mut Vec<u8>, stop: &Stop) {
     put_number(out, stop.next_number);
     put_number(out, stop.comments_placed);
     put_number(out, stop.position);
-}
-
-fn put_number(out: &mut Vec<u8>, value: usize) {
-    let value = u32::try_from(value).expect("four bytes");
-    out.extend(value.to_be_bytes());
 }
 
 /// FNV-1a with 32 bits.

@@ -1,4 +1,4 @@
-//! Answers of Rust's own text functions; ANSWERS.md gives the format.
+//! Answers of Rust's own text functions.
 
 mod samples;
 
@@ -8,7 +8,7 @@ pub use samples::samples;
 const NONE: u8 = 255;
 
 /// The whole file.
-pub fn text_answers() -> Vec<u8> {
+pub fn answers() -> Vec<u8> {
     let mut out = Vec::new();
     put_short_strings(&mut out);
     put_white_space(&mut out);

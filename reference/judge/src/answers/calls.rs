@@ -1,25 +1,19 @@
-//! Lists of calls with what is due for them; ANSWERS.md gives the format.
+//! Lists of calls with what is due for them.
 
+use super::{put_bytes, put_number};
 use crate::{
     calls::{self, Answer, Call, Given, LayoutState, RenderState, World},
     driver::Stop,
-    generate::{self, CallCase},
+    generate::CallCase,
     refusal::Refusal,
 };
 
-/// So many cases, each with its answers and what it leaves.
-pub fn call_answers(seed: u64, count: u64) -> Vec<u8> {
+/// A case with its answers and what it leaves.
+pub fn answered(case: &CallCase) -> Vec<u8> {
     let mut out = Vec::new();
-    for index in 0..count {
-        put_case(&mut out, &generate::call_case(seed, index));
-    }
-    out
-}
-
-fn put_case(out: &mut Vec<u8>, case: &CallCase) {
-    put_bytes(out, &case.source);
-    put_bytes(out, &case.image);
-    put_world(out, &case.world);
+    put_bytes(&mut out, &case.source);
+    put_bytes(&mut out, &case.image);
+    put_world(&mut out, &case.world);
     let count = u16::try_from(case.calls.len()).expect("two bytes");
     out.extend(count.to_be_bytes());
     let given = Given {
@@ -28,11 +22,12 @@ fn put_case(out: &mut Vec<u8>, case: &CallCase) {
     };
     let mut world = case.world.clone();
     for one in &case.calls {
-        put_call(out, one);
-        put_answer(out, calls::call(given, &mut world, *one));
+        put_call(&mut out, one);
+        put_answer(&mut out, calls::call(given, &mut world, *one));
     }
-    put_world(out, &world);
-    put_bytes(out, &world.text);
+    put_world(&mut out, &world);
+    put_bytes(&mut out, &world.text);
+    out
 }
 
 fn put_world(out: &mut Vec<u8>, world: &World) {
@@ -101,14 +96,4 @@ fn put_render_state(out: &mut Vec<u8>, state: &RenderState) {
     out.extend((state.pen.column as u64).to_be_bytes());
     put_number(out, state.marks_in_use);
     put_number(out, state.next_row);
-}
-
-fn put_bytes(out: &mut Vec<u8>, bytes: &[u8]) {
-    put_number(out, bytes.len());
-    out.extend(bytes);
-}
-
-fn put_number(out: &mut Vec<u8>, value: usize) {
-    let value = u32::try_from(value).expect("four bytes");
-    out.extend(value.to_be_bytes());
 }
