@@ -21,6 +21,7 @@ usage: judge run [--true-widths] < frame      what the program must write
        judge table SEED COUNT                 what frames of all classes reach
        judge answers CLASS SEED COUNT         frames with what is due for them
        judge call-answers SEED COUNT          lists of calls with their answers
+       judge size-answers                     the same for all sizes
        judge text-answers                     answers of Rust's text functions
 CLASS: realistic, wild, edges, damaged or sizes
 ";
@@ -70,6 +71,10 @@ fn command(words: &[&str]) -> Result<Pieces, String> {
             let seed = number(seed)?;
             let cases = (0..number(count)?)
                 .map(move |index| generate::call_case(seed, index));
+            Box::new(cases.map(|case| answers::calls::answered(&case)))
+        }
+        ["size-answers"] => {
+            let cases = generate::size_call_cases();
             Box::new(cases.map(|case| answers::calls::answered(&case)))
         }
         ["text-answers"] => one(answers::text::answers()),

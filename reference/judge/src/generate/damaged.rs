@@ -5,6 +5,7 @@ use crate::{
     frame,
     image::{self, Tree, node},
     random::Random,
+    reader,
 };
 
 /// A legal frame, damaged in one way or, now and then, in two.
@@ -74,11 +75,7 @@ fn frame_of_bad_bytes(random: &mut Random, draft: &Draft) -> Vec<u8> {
             let spare = vec![0; random.between(1, 15)];
             image = image::with_header(&[&image[5..], &spare].concat());
         }
-        // Small bytes are often part of a length, or a kind.
-        6 => {
-            let at = random.below(image.len());
-            nudge(random, &mut image, at);
-        }
+        6 => nudge_a_length(random, draft, &mut image),
         7 => return frame_of_bad_length(random, draft, &image),
         _ => flip(random, &mut image),
     }
@@ -92,6 +89,20 @@ fn nudge(random: &mut Random, image: &mut [u8], at: usize) {
             0 => byte.wrapping_add(1),
             _ => byte.wrapping_sub(1),
         };
+    }
+}
+
+/// Adds or takes one at the last byte of a record's length.
+fn nudge_a_length(random: &mut Random, draft: &Draft, image: &mut [u8]) {
+    let mut lengths = Vec::new();
+    if let Ok(accepted) = reader::read(draft.source.as_bytes(), image) {
+        accepted
+            .tree
+            .walk(&mut |record| lengths.push(record.at + 3));
+    }
+    if !lengths.is_empty() {
+        let at = *random.pick(&lengths);
+        nudge(random, image, at);
     }
 }
 

@@ -18,7 +18,9 @@ use crate::{
 };
 
 pub use lists::{CallCase, case as call_case};
-pub use sizes::{Case as SizeCase, cases as size_cases};
+pub use sizes::{
+    Case as SizeCase, call_cases as size_call_cases, cases as size_cases,
+};
 
 /// What a generator aims at.
 #[derive(Clone, Copy, Debug, PartialEq, Eq)]

@@ -2,10 +2,14 @@
 
 use std::sync::LazyLock;
 
+use super::CallCase;
 use crate::{
-    frame,
+    calls::{Call, World},
+    frame::{self, Frame},
     image::{self, Tree, chosen, node, text},
-    program, reader,
+    program::{self, Widths},
+    reader,
+    rows::Row,
 };
 
 /// Source and image apart, since some are too large for the program's frame.
@@ -22,6 +26,39 @@ pub struct Case {
 pub fn cases() -> &'static [Case] {
     static CASES: LazyLock<Vec<Case>> = LazyLock::new(make_cases);
     &CASES
+}
+
+/// The cases as calls, for a library without the program's limit on frames:
+/// all is laid out, then rendered.
+pub fn call_cases() -> impl Iterator<Item = CallCase> {
+    cases().iter().map(|case| {
+        let frame = Frame {
+            source: &case.source,
+            image: &case.image,
+        };
+        let run = program::format(frame, Widths::Supplied);
+        // A refused image is refused at any stop.
+        let [declarations, rows] =
+            run.map_or([0, 0], |run| [run.stops.len() - 1, run.rows.len()]);
+        let layout = Call::Layout {
+            stop: declarations,
+            close: true,
+        };
+        let rendering = Call::Render {
+            stop: rows,
+            room: program::OUTPUT,
+        };
+        CallCase {
+            source: case.source.clone(),
+            image: case.image.clone(),
+            world: World {
+                store: vec![0; program::ROWS * Row::CELLS],
+                marks: vec![0; program::MARKS as usize],
+                ..World::default()
+            },
+            calls: vec![layout, rendering],
+        }
+    })
 }
 
 fn make_cases() -> Vec<Case> {

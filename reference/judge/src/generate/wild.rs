@@ -169,7 +169,7 @@ fn around(
         |shapes: &mut Shapes<Anything>| shapes.fill.span(shapes.random, 0);
     let outer = span(shapes);
     let kinds: &[u8] = if most >= 4 {
-        &[52, 54, 59, 60, 63, 64, 68, 70, 55]
+        &[52, 54, 55, 59, 60, 63, 64, 65, 68, 70]
     } else {
         &[60, 64, 68, 70]
     };
@@ -193,9 +193,17 @@ fn around(
         }
         63 => {
             let operator = shapes.record(Place::Operator(13), 4);
-            let right = shapes.record(Place::Expr, 62);
-            let parts = [inner, operator, right].map(Some);
-            (node(63, outer, parts), 1)
+            let other = shapes.record(Place::Expr, 62);
+            let operands = match shapes.random.below(2) {
+                0 => [inner, operator, other],
+                _ => [other, operator, inner],
+            };
+            (node(63, outer, operands.map(Some)), 1)
+        }
+        65 => {
+            let list = node(3, 0..0, []);
+            let block = node(23, span(shapes), [Some(list), None]);
+            (node(65, outer, [Some(inner), Some(block), None]), 1)
         }
         kind => (node(kind, outer, [Some(inner)]), 1),
     }

@@ -20,6 +20,7 @@ struct Counts {
     payloads: BTreeMap<(u8, &'static str, u8), usize>,
     optional: BTreeMap<(u8, usize), [usize; 2]>,
     depth: usize,
+    row_depth: usize,
     refusals: BTreeMap<u8, usize>,
     row_kinds: BTreeMap<u32, usize>,
     origins: BTreeMap<u32, usize>,
@@ -57,7 +58,11 @@ impl Counts {
         let number = answer.as_ref().err().map_or(0, |r| r.number);
         *self.refusals.entry(number).or_default() += 1;
         let Ok(run) = answer else { return };
-        for row in &run.rows {
+        let mut open: Vec<u32> = Vec::new();
+        for (place, row) in (0..).zip(&run.rows) {
+            open.retain(|after| *after > place);
+            open.push(row.after);
+            self.row_depth = self.row_depth.max(open.len());
             self.add_row(row);
         }
         for mark in run.marks {

@@ -44,6 +44,7 @@ impl Counts {
                 self.row_kinds.get(&kind),
             );
         }
+        writeln!(out, "\nDeepest row: {}.", self.row_depth).unwrap();
         let [flat, wrapped] = self.marks;
         writeln!(out, "\nGroups: {wrapped} wrapped, {flat} not.").unwrap();
         heading(&mut out, "Text origins", "Origin");
