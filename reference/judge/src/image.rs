@@ -12,6 +12,14 @@ pub struct Tree {
     pub children: Vec<Option<Tree>>,
 }
 
+impl Tree {
+    /// How many records deep it is, itself included.
+    pub fn height(&self) -> usize {
+        let below = self.children.iter().flatten().map(Tree::height).max();
+        1 + below.unwrap_or(0)
+    }
+}
+
 /// A record without payload.
 pub fn node(
     kind: u8,

@@ -67,7 +67,7 @@ fn make_cases() -> Vec<Case> {
         let past = |number| if more == 1 { number } else { 0 };
         cases.push(source(reader::MOST_SOURCE + more, past(1)));
         cases.push(comments(reader::MOST_COMMENTS + more, past(7)));
-        for shape in [70, 64, 55, 54, 59, 52, 40, 16] {
+        for shape in [70, 64, 65, 63, 55, 54, 59, 52, 40, 16] {
             cases.push(depth(shape, reader::MOST_DEPTH + more, past(5)));
         }
         cases.push(frame_of(frame::MOST_BYTES + more, 0));
@@ -167,25 +167,49 @@ fn imports(levels: usize) -> Tree {
 
 /// An expression of so many levels, of one kind as far as it goes.
 fn value_around(kind: u8, levels: usize) -> Tree {
-    let list = || Some(node(3, 0..0, []));
-    let (around, added): (fn(Tree) -> Tree, usize) = match kind {
-        52 => (in_block, 2),
-        54 => (|x| node(54, 0..0, [Some(x), Some(node(3, 0..0, []))]), 1),
-        55 => (|x| node(55, 0..0, [Some(x), Some(text(0..0, 1, "f"))]), 1),
-        59 => (in_list, 2),
-        64 => (|x| node(64, 0..0, [Some(x)]), 1),
-        _ => (|x| node(70, 0..0, [Some(x)]), 1),
+    let around: fn(Tree) -> Tree = match kind {
+        52 => in_block,
+        54 => called,
+        55 => |x| node(55, 0..0, [Some(x), Some(text(0..0, 1, "f"))]),
+        59 => in_list,
+        63 => as_right_operand,
+        64 => |x| node(64, 0..0, [Some(x)]),
+        65 => as_condition,
+        _ => |x| node(70, 0..0, [Some(x)]),
     };
-    let mut value = chosen(50, 0..0, 0, [None]);
-    let mut height = 1;
-    while height + added <= levels {
-        value = around(value);
-        height += added;
+    let mut value = leaf();
+    loop {
+        let higher = around(value.clone());
+        if higher.height() > levels {
+            break;
+        }
+        value = higher;
     }
-    if height < levels {
-        value = node(54, 0..0, [Some(value), list()]);
+    // Some kinds add two levels at once.
+    if value.height() < levels {
+        called(value)
+    } else {
+        value
     }
-    value
+}
+
+fn leaf() -> Tree {
+    chosen(50, 0..0, 0, [None])
+}
+
+fn called(value: Tree) -> Tree {
+    node(54, 0..0, [Some(value), Some(node(3, 0..0, []))])
+}
+
+/// A group and an indent for each level: rows nest twice as deep.
+fn as_right_operand(value: Tree) -> Tree {
+    let operator = chosen(86, 0..0, 13, []);
+    node(63, 0..0, [leaf(), operator, value].map(Some))
+}
+
+fn as_condition(value: Tree) -> Tree {
+    let block = node(23, 0..0, [Some(node(3, 0..0, [])), None]);
+    node(65, 0..0, [Some(value), Some(block), None])
 }
 
 fn in_block(value: Tree) -> Tree {

@@ -130,7 +130,7 @@ impl Fill for Anything {
     }
 }
 
-/// A value in the only constant of a tree. The value is 3 deep.
+/// A value in the only constant of a tree.
 fn in_constant(shapes: &mut Shapes<Anything>, value: Tree) -> Tree {
     let name = text(0..0, 1, "c");
     let ty = shapes.record(Place::Type, 60);
@@ -141,72 +141,50 @@ fn in_constant(shapes: &mut Shapes<Anything>, value: Tree) -> Tree {
 /// Expressions in each other, to a depth near 64.
 fn deep(shapes: &mut Shapes<Anything>) -> Tree {
     shapes.left = 0;
-    let depth = shapes.random.between(40, 64);
-    let value = shapes.record(Place::Expr, 60);
-    let levels = value_depth(&value);
-    let mut value = value;
-    let mut height = 2 + levels;
-    while height < depth {
-        let (outer, added) = around(shapes, value, depth - height);
-        value = outer;
-        height += added;
+    // The value of a constant is 3 deep.
+    let height = shapes.random.between(40, 64) - 2;
+    let mut value = shapes.record(Place::Expr, 62);
+    while value.height() < height {
+        let spare = height - value.height();
+        value = around(shapes, value, spare);
     }
     in_constant(shapes, value)
 }
 
-fn value_depth(tree: &Tree) -> usize {
-    let below = tree.children.iter().flatten().map(value_depth).max();
-    1 + below.unwrap_or(0)
-}
-
-/// An expression around another, and how many levels that adds.
-fn around(
-    shapes: &mut Shapes<Anything>,
-    inner: Tree,
-    most: usize,
-) -> (Tree, usize) {
-    let span =
-        |shapes: &mut Shapes<Anything>| shapes.fill.span(shapes.random, 0);
-    let outer = span(shapes);
-    let kinds: &[u8] = if most >= 4 {
+/// An expression around another, at most so many levels higher.
+fn around(shapes: &mut Shapes<Anything>, inner: Tree, spare: usize) -> Tree {
+    // An operand beside the inner one may be 3 levels high itself.
+    let kinds: &[u8] = if spare >= 3 {
         &[52, 54, 55, 59, 60, 63, 64, 65, 68, 70]
     } else {
         &[60, 64, 68, 70]
     };
-    match *shapes.random.pick(kinds) {
-        52 => {
-            let list = node(3, 0..0, []);
-            let block = node(23, span(shapes), [Some(list), Some(inner)]);
-            (node(52, outer, [Some(block)]), 2)
-        }
-        54 => {
-            let list = node(3, span(shapes), []);
-            (node(54, outer, [Some(inner), Some(list)]), 1)
-        }
-        55 => {
-            let name = shapes.record(Place::Kind(2), 4);
-            (node(55, outer, [Some(inner), Some(name)]), 1)
-        }
-        59 => {
-            let list = node(3, span(shapes), [Some(inner)]);
-            (node(59, outer, [Some(list)]), 2)
-        }
+    let kind = *shapes.random.pick(kinds);
+    let span = shapes.fill.span(shapes.random, kind);
+    let inner_span = shapes.fill.span(shapes.random, kind);
+    let list = |elements: Vec<Option<Tree>>| {
+        Some(node(3, inner_span.clone(), elements))
+    };
+    let block =
+        |last| Some(node(23, inner_span.clone(), [list(vec![]), last]));
+    let inner = Some(inner);
+    let children = match kind {
+        52 => vec![block(inner)],
+        54 => vec![inner, list(vec![])],
+        55 => vec![inner, Some(shapes.record(Place::Kind(2), 4))],
+        59 => vec![list(vec![inner])],
         63 => {
-            let operator = shapes.record(Place::Operator(13), 4);
-            let other = shapes.record(Place::Expr, 62);
-            let operands = match shapes.random.below(2) {
-                0 => [inner, operator, other],
-                _ => [other, operator, inner],
-            };
-            (node(63, outer, operands.map(Some)), 1)
+            let operator = Some(shapes.record(Place::Operator(13), 4));
+            let other = Some(shapes.record(Place::Expr, 62));
+            match shapes.random.below(2) {
+                0 => vec![inner, operator, other],
+                _ => vec![other, operator, inner],
+            }
         }
-        65 => {
-            let list = node(3, 0..0, []);
-            let block = node(23, span(shapes), [Some(list), None]);
-            (node(65, outer, [Some(inner), Some(block), None]), 1)
-        }
-        kind => (node(kind, outer, [Some(inner)]), 1),
-    }
+        65 => vec![inner, block(None), None],
+        _ => vec![inner],
+    };
+    node(kind, span, children)
 }
 
 /// A long chain of operators, most of one precedence.
