@@ -12,6 +12,9 @@ struct Far {
 }
 
 /// The answers and what is due in the end, from fresh states.
+///
+/// It speaks of lists for which [`reads_laid_rows_alone`] holds. On others it
+/// may panic: rows that were rendered, then laid over, may be cut by the stop.
 pub fn plain_run(
     given: Given,
     store: &[u32],

@@ -64,6 +64,7 @@ impl Printer<'_> {
         self.keyword("let");
         let name = self.name();
         let ty = self.random.once_in(3).then(|| {
+            self.gap();
             self.token(":");
             self.space();
             self.type_expr()
