@@ -8,3 +8,4 @@ pub mod Inside
 pub mod Rows
 pub mod Accepted
 pub mod Exact
+pub mod Examples
