@@ -1,8 +1,8 @@
 -- Which payload and which children a record has, kind by kind: document 01, "Kinds and children".
 -- A place is where a child may stand, and a row is the places of a record in order. Both are numbers, the same in the code.
-use Prim.Native.Nat.{ℕ, _+_, _*_, _/_, _%_, _-_}
 use mathlib.Core.List.{List}
 use mathlib.Core.Bool.{Bool, true, cond, _&&_, _||_}
+use Prim.Native.Nat.{ℕ, _+_, _*_, _/_, _%_, _-_}
 use lib.ListN.{getD}
 use lib.Dec.{ltb, leb, eqb}
 use Rattle.text.specs.Utf8.{wellFormed}

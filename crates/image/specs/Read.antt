@@ -1,8 +1,8 @@
 -- What a source and an image read as: document 01, "The tree image", and refusals 1 to 7 of "When a call is turned down".
 -- s is the source and b the image. An offset `at` counts from b's first byte.
-use Prim.Native.Nat.{ℕ, zero, suc, _+_, _*_}
 use mathlib.Core.List.{List}
-use mathlib.Core.Bool.{Bool, true, false, cond, not, _&&_}
+use mathlib.Core.Bool.{Bool, false, cond, not, _&&_}
+use Prim.Native.Nat.{ℕ, zero, suc, _+_, _*_}
 use lib.ListN.{length, getD}
 use lib.Dec.{ltb, leb, eqb}
 use Rattle.text.specs.Utf8.{prefix, wellFormed}
