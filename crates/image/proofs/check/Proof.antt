@@ -1,3 +1,5 @@
+-- Refusals 1 and 2 by their tests; else the answer is the image's.
+-- Assumes nothing.
 use mathlib.Core.Path.{sym, _∙_, ap}
 use borrow.Author.Tests.{not-true, not-false}
 use borrow.Author.Needs.{needs}

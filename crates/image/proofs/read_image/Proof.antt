@@ -1,3 +1,5 @@
+-- A right header says version 1, whose texts have two bytes of width; then the comments' answer decides.
+-- Assumes nothing.
 use mathlib.Core.Path.{sym, _∙_, ap}
 use native.Mathlib.Omega.{arith}
 use borrow.Author.Tests.{not-true, not-false}

@@ -1,3 +1,5 @@
+-- What the record's reading answers, and whether bytes are left, decides the answer.
+-- Assumes nothing.
 use mathlib.Core.Path.{sym, _∙_, ap}
 use borrow.Author.Needs.{needs}
 use Rattle.image.specs.declared.Answer.the-variants.{Accepted}

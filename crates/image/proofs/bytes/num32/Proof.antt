@@ -1,3 +1,5 @@
+-- A byte is below 256, so no product or sum wraps, and the result is the definition written out.
+-- Assumes nothing.
 use native.Mathlib.Omega.{arith}
 use borrow.Author.Needs.{needs}
 use Rattle.image.specs.Bytes.{be32}

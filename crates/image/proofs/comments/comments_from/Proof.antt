@@ -1,3 +1,5 @@
+-- The loop keeps that the whole list is read as the comments that are left are, and that these stand in the image.
+-- Assumes nothing.
 use mathlib.Core.Path.{_≡_, refl, sym, _∙_, ap}
 use Prim.Native.Nat.{_+_, _*_, _≤_}
 use native.Mathlib.Omega.{arith}

@@ -1,3 +1,5 @@
+-- Each return is the definition under the tests that led to it.
+-- Assumes nothing.
 use borrow.Author.Tests.{le-leb, lt-leb}
 use borrow.Author.Needs.{needs}
 use Rattle.image.specs.Read.{comments}

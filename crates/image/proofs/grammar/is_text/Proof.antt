@@ -1,3 +1,5 @@
+-- The part that is handed on is the definition's, so the answer of text's check decides.
+-- Assumes nothing.
 use mathlib.Core.Path.{sym, _∙_}
 use borrow.Author.Needs.{needs}
 use Rattle.image.proofs.Texts.{checked-well, checked-bad}

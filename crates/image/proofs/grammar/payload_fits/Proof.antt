@@ -1,3 +1,5 @@
+-- Each return is the definition under the tests that led to it.
+-- Assumes nothing.
 use mathlib.Core.Path.{sym, _∙_}
 use Prim.Native.Nat.{_+_}
 use native.Mathlib.Omega.{arith}

@@ -1,3 +1,5 @@
+-- The table in the code holds the rows of kinds 0 to 87 in order, by computation; no rule is for a kind from 88 on.
+-- Assumes nothing.
 use mathlib.Core.Path.{_≡_, refl, sym}
 use mathlib.Core.Bool.{Bool, true, false}
 use Prim.Native.Nat.{ℕ, _≤_}

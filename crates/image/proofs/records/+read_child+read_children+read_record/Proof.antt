@@ -1,3 +1,6 @@
+-- The levels left fall at each record, and three functions take turns within a level, so that the measure is three times the levels and a
+-- place among the three. The loop over the children keeps that the whole reading ends as the reading from here on does.
+-- Assumes nothing.
 use mathlib.Core.Path.{refl, sym, ap, _∙_}
 use Prim.Native.Nat.{ℕ, suc, _+_, _-_, _*_, _<_, _≤_}
 use native.Mathlib.Omega.{arith}

@@ -1,3 +1,5 @@
+-- Each return is the definition under the tests that led to it; a right shape puts the thirteen bytes that are read in the image.
+-- Assumes nothing.
 use mathlib.Core.Path.{sym, _∙_}
 use native.Mathlib.Omega.{arith}
 use borrow.Author.Tests.{eq-eqb, ne-eqb, not-true, not-false}

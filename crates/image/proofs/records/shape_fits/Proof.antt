@@ -1,3 +1,5 @@
+-- Each return is the definition under the tests that led to it; with fewer than four bytes left the record outgrows `end`.
+-- Assumes nothing.
 use mathlib.Core.Path.{sym, _∙_}
 use native.Mathlib.Omega.{arith}
 use borrow.Author.Tests.{le-leb, lt-leb}
