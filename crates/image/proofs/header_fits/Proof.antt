@@ -1,0 +1,48 @@
+-- Each return is the definition under the tests that led to it.
+-- Assumes nothing.
+use borrow.Author.Tests.{le-leb, lt-leb, eq-eqb, ne-eqb}
+use borrow.Author.Needs.{needs}
+use Rattle.image.specs.Read.{header}
+use Rattle.image.proofs.header_fits.Statement.{statement}
+use Rattle.image.proofs.header_fits.Tie as tie
+
+returns : tie.Need-returns
+unfolding header
+returns c = simp (lt-leb _ _ (c .if1 .taken))
+
+shared-slice-read-wide : tie.Need-shared-slice-read-wide
+shared-slice-read-wide c = search needs
+
+wide-requires : tie.Need-wide-requires
+wide-requires c κs = search needs
+
+returns-2 : tie.Need-returns-2
+unfolding header
+returns-2 c = simp (le-leb _ _ (c .before .before .before .if1 .left), ← c .before .wide .ensures .0, ne-eqb _ _ (c .if2 .taken))
+
+num32-requires : tie.Need-num32-requires
+num32-requires c κs = search needs
+
+add-if3 : tie.Need-add-if3
+add-if3 c = search needs
+
+returns-3 : tie.Need-returns-3
+unfolding header
+returns-3 c = simp (le-leb _ _ (c .before .before .before .before .before .if1 .left), ← c .before .before .before .wide .ensures .0, eq-eqb _ _ (c .before .before .if2 .left), ← c .before .num32 .ensures .same, ne-eqb _ _ (c .if3 .taken))
+
+returns-4 : tie.Need-returns-4
+unfolding header
+returns-4 c = simp (le-leb _ _ (c .before .before .before .before .before .if1 .left), ← c .before .before .before .wide .ensures .0, eq-eqb _ _ (c .before .before .if2 .left), ← c .before .num32 .ensures .same, eq-eqb _ _ (c .if3 .left))
+
+pub header-fits-spec : {M : Type 1} → statement M
+header-fits-spec =
+    tie.close
+    (tie.spec
+    returns
+    shared-slice-read-wide
+    wide-requires
+    returns-2
+    num32-requires
+    add-if3
+    returns-3
+    returns-4)

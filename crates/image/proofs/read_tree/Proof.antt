@@ -1,0 +1,41 @@
+-- What the record's reading answers, and whether bytes are left, decides the answer.
+-- Assumes nothing.
+use mathlib.Core.Path.{sym, _∙_, ap}
+use borrow.Author.Needs.{needs}
+use Rattle.image.specs.declared.Answer.the-variants.{Accepted}
+use Rattle.image.proofs.Whole.{tree-bad, tree-spare, tree-whole}
+use Rattle.image.proofs.read_tree.Statement.{statement}
+use Rattle.image.proofs.read_tree.Tie as tie
+
+read-record-requires : tie.Need-read-record-requires
+read-record-requires c κs = search needs
+
+enum-known-n : tie.Need-enum-known-n
+enum-known-n c = search needs
+
+enum-known-next : tie.Need-enum-known-next
+enum-known-next c = search needs
+
+returns : tie.Need-returns
+returns c = sym (tree-spare _ _ _ _ _ (sym (c .before .before .before .before .read-record .ensures) ∙ c .before .before .next .given .1) (c .if1 .taken))
+
+num16-requires : tie.Need-num16-requires
+num16-requires c κs = search needs
+
+returns-2 : tie.Need-returns-2
+returns-2 c = sym (tree-bad _ _ _ _ _ _ (sym (c .before .before .before .read-record .ensures) ∙ c .before .n .given .1))
+
+returns-3 : tie.Need-returns-3
+returns-3 c = ap (λ n. Accepted n (c .before .before .before .before .before .before .before .before .args .at)) (c .num16 .ensures .same) ∙ sym (tree-whole _ _ _ _ _ (sym (c .before .before .before .before .before .read-record .ensures) ∙ c .before .before .before .next .given .1) (c .before .if1 .left))
+
+pub read-tree-spec : {M : Type 1} → statement M
+read-tree-spec =
+    tie.close
+    (tie.spec
+    read-record-requires
+    enum-known-n
+    enum-known-next
+    returns
+    num16-requires
+    returns-2
+    returns-3)
