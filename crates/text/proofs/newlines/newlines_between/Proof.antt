@@ -1,3 +1,4 @@
+-- The loop's invariant: the range's newlines are those counted so far and those of the bytes from `at` on.
 use mathlib.Core.Path.{_≡_, sym, _∙_}
 use mathlib.Core.Bool.{cond}
 use mathlib.Core.Logic.{⊎-elim}

@@ -1,3 +1,4 @@
+-- The loop's invariant, `Seeking`: the answer is what a search from `here` on gives. A character passed is one step of `seek`.
 use mathlib.Core.Path.{sym, _∙_}
 use native.Mathlib.Omega.{arith}
 use borrow.Author.Needs.{needs}

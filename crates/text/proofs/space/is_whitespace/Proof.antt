@@ -1,3 +1,4 @@
+-- The code tests each range by its last code point, ascending: `ladder` of Ranges, which equals membership in the list (`white-ladder`).
 use mathlib.Core.Path.{sym, _∙_}
 use borrow.Author.Tests.{le-leb, lt-leb}
 use Rattle.text.proofs.Ranges.{white-ladder}

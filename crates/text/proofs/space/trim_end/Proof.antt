@@ -1,3 +1,4 @@
+-- The loop's invariant, `Trimming`: the answer is what trimming from `end` on gives. A white space before `end` is one step of `trim`.
 use mathlib.Core.Path.{sym, _∙_}
 use native.Mathlib.Omega.{arith}
 use borrow.Author.Needs.{needs}

@@ -1,3 +1,4 @@
+-- A sequence stands in the text, so its code point can be read.
 use native.Mathlib.Omega.{arith}
 use Rattle.text.proofs.Characters.{sequence-inside, decoded-none, decoded-char, at-decoded}
 use borrow.Author.Needs.{needs}

@@ -1,3 +1,4 @@
+-- A sequence that ends at `to` stands in the text, so its code point can be read.
 use native.Mathlib.Omega.{arith}
 use Prim.Native.Nat.{_-_}
 use Rattle.text.specs.Utf8.{ending}

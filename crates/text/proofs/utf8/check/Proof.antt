@@ -1,3 +1,4 @@
+-- The loop's invariant, `Going`: the prefix is found by going on from `at`. It ends where no sequence starts.
 use mathlib.Core.Path.{sym, _∙_}
 use Prim.Native.Nat.{_-_, _≤_}
 use native.Mathlib.Omega.{arith}

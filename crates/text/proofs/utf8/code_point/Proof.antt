@@ -1,3 +1,4 @@
+-- The numbers fit a u32 since each byte is below 256; which case of `scalar` it is follows from the tests on n.
 use mathlib.Core.List.{List}
 use mathlib.Core.Path.{_≡_, refl}
 use Prim.Native.Nat.{ℕ, _+_, _*_, _%_, _<_}

@@ -1,3 +1,4 @@
+-- The code tries the four lengths in the order of the definition.
 use mathlib.Core.Path.{sym, _∙_}
 use Rattle.text.specs.Utf8.{ending}
 use borrow.Author.Needs.{needs}

@@ -1,3 +1,4 @@
+-- The code's tests give the row of table 3-7 at each of the 256 bytes, by computation.
 use Prim.Native.Nat.{ℕ, _<_}
 use native.Mathlib.Omega.{arith}
 use mathlib.Core.Path.{_≡_, refl, _∙_}

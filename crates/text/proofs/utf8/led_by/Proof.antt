@@ -1,3 +1,4 @@
+-- Each return settles one test of `after`: a byte out of its range makes the answer 0, and the row's last byte in range makes it n.
 use mathlib.Core.Path.{_≡_, sym, ap, _∙_}
 use mathlib.Core.Bool.{true, false}
 use mathlib.Core.List.{List}
