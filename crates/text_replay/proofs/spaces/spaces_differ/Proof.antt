@@ -1,0 +1,81 @@
+use Rattle.text_replay.proofs.spaces.spaces_differ.Statement.{statement}
+use Rattle.text_replay.proofs.spaces.spaces_differ.Tie as tie
+use Rattle.text_replay.proofs.spaces.spaces_differ.Reads as reads
+use Rattle.text_replay.proofs.spaces.spaces_differ.Lts as lts
+use Rattle.text.proofs.space.is_whitespace.Reads as is-whitespace-reads
+use Rattle.text_replay.proofs.outcome.differs.Reads as differs-reads
+use Rattle.text_replay.proofs.spaces.bit.Reads as bit-reads
+use Rattle.text_replay.proofs.spaces.is_listed.Reads as is-listed-reads
+
+abbrev Inv-loop : tie.InvT-loop
+Inv-loop d at k n₀ c₀ n c = ?
+
+abbrev μ-loop : tie.MeasureT-loop
+μ-loop d at k n₀ c₀ n c = ?
+
+-- src/spaces.rt:45:5
+loop-holds : tie.Need-loop-holds Inv-loop μ-loop
+loop-holds c = ?
+
+-- src/spaces.rt:46:26
+is-listed-requires : tie.Need-is-listed-requires Inv-loop μ-loop
+is-listed-requires c κs = ?
+
+-- src/spaces.rt:46:22
+bit-requires : tie.Need-bit-requires Inv-loop μ-loop
+bit-requires c κs = ?
+
+-- src/spaces.rt:46:69
+cast-is-whitespace : tie.Need-cast-is-whitespace Inv-loop μ-loop
+cast-is-whitespace c = ?
+
+-- src/spaces.rt:46:55
+is-whitespace-requires : tie.Need-is-whitespace-requires Inv-loop μ-loop
+is-whitespace-requires c κs = ?
+
+-- src/spaces.rt:46:51
+bit-requires-2 : tie.Need-bit-requires-2 Inv-loop μ-loop
+bit-requires-2 c κs = ?
+
+-- src/spaces.rt:46:14
+differs-requires : tie.Need-differs-requires Inv-loop μ-loop
+differs-requires c κs = ?
+
+-- src/spaces.rt:46:9
+add-n : tie.Need-add-n Inv-loop μ-loop
+add-n c = ?
+
+-- src/spaces.rt:47:9
+add-c : tie.Need-add-c Inv-loop μ-loop
+add-c c = ?
+
+-- src/spaces.rt:45:5
+loop-less : tie.Need-loop-less Inv-loop μ-loop
+loop-less c = ?
+
+-- src/spaces.rt:45:5
+loop-again : tie.Need-loop-again Inv-loop μ-loop
+loop-again c = ?
+
+-- src/spaces.rt:39:1
+returns : tie.Need-returns Inv-loop μ-loop
+returns c = ?
+
+pub spaces-differ-spec : {M : Type 1} → statement M
+spaces-differ-spec =
+    tie.close
+    (tie.spec
+    Inv-loop
+    μ-loop
+    loop-holds
+    is-listed-requires
+    bit-requires
+    cast-is-whitespace
+    is-whitespace-requires
+    bit-requires-2
+    differs-requires
+    add-n
+    add-c
+    loop-less
+    loop-again
+    returns)
