@@ -1,3 +1,4 @@
 pub mod Checks
 pub mod Ranges
+pub mod Sizes
 pub mod Sums

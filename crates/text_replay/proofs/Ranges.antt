@@ -1,16 +1,19 @@
--- Laws of `listed`: the first of the ranges, and those after it.
+-- Section 2: the first of the ranges and those after it; where the section is cut off.
 -- Assumes nothing.
 use mathlib.Core.Path.{_≡_, refl, sym, ap, _∙_}
 use mathlib.Core.Bool.{true, false}
 use mathlib.Core.List.{List}
-use Prim.Native.Nat.{ℕ, zero, suc, _+_, _-_, _≤_, _<_}
+use Prim.Native.Nat.{ℕ, zero, suc, _+_, _-_, _*_, _≤_, _<_}
 use native.Mathlib.Omega.{arith}
 use native.Mathlib.Numerals.{sub-one}
-use borrow.Author.Tests.{le-leb, lt-leb}
+use borrow.Author.Tests.{le-leb, lt-leb, le-ltb, lt-ltb}
+use lib.ListN.{length}
 use Rattle.text.specs.Utf8.{within}
+use Rattle.text.specs.Space.{isWhite}
 use Rattle.text.proofs.Tests.{and-false}
-use Rattle.text_replay.specs.Counts.{long}
-use Rattle.text_replay.specs.Sections.{listed}
+use Rattle.text_replay.specs.Counts.{short, long, differs, sum}
+use Rattle.text_replay.specs.Sections.{listed, bit, spaces}
+use Rattle.text_replay.specs.declared.outcome.Outcome.the-variants.{Cut, Done}
 
 module _ (d : List ℕ) (at c : ℕ) where
   pub first-range : (k : ℕ) → 0 < k → long d at ≤ c → c ≤ long d (at + 4) → true ≡ listed k d at c
@@ -31,3 +34,17 @@ module _ (d : List ℕ) (at c : ℕ) where
   pub no-range : (k : ℕ) → k ≡ 0 → false ≡ listed k d at c
   unfolding listed
   no-range k e = sym (rw e)
+
+module _ (d : List ℕ) (at : ℕ) where
+  pub spaces-cut : length d < at + 2 + 8 * short d at → Cut ≡ spaces d at
+  unfolding spaces
+  spaces-cut h = sym (simp (lt-ltb (length d) (at + 2 + 8 * short d at) h))
+
+  pub spaces-done :
+      (k w : ℕ)
+      → k ≡ short d at
+      → at + 2 + 8 * k ≤ length d
+      → w ≡ sum 0x110000 (λ c. differs (bit (listed k d (at + 2) c)) (bit (isWhite c)))
+      → Done (at + 2 + 8 * k) 0x110000 w ≡ spaces d at
+  unfolding spaces
+  spaces-done k w e h f = rw (← e, le-ltb (length d) (at + 2 + 8 * k) h) (ap (Done (at + 2 + 8 * k) 0x110000) f)

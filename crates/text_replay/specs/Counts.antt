@@ -1,5 +1,6 @@
 -- Numbers in the file, and how many answers differ.
 use Prim.Native.Nat.{ℕ, zero, suc, _+_, _*_}
+use mathlib.Core.Path.{_≡_}
 use mathlib.Core.List.{List}
 use mathlib.Core.Bool.{cond}
 use lib.ListN.{getD}
@@ -12,6 +13,13 @@ short d at = getD d at 0 * 256 + getD d (at + 1) 0
 -- four bytes as a number
 unfoldable pub long : List ℕ → ℕ → ℕ
 long d at = short d at * 65536 + short d (at + 2)
+
+pub record OneOrFour (w : ℕ) : Type 0 where
+  pub four : (w ≡ 1 → ⊥) → w ≡ 4
+
+-- a number in w bytes, one or four
+unfoldable pub number : ℕ → List ℕ → ℕ → ℕ
+number w d at = cond (eqb w 1) (getD d at 0) (long d at)
 
 -- 1 if two numbers differ, else 0
 unfoldable pub differs : ℕ → ℕ → ℕ

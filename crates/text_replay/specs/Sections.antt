@@ -16,7 +16,7 @@ use Rattle.text_replay.specs.declared.outcome.Outcome.{Outcome}
 use Rattle.text_replay.specs.declared.outcome.Outcome.the-variants.{Cut, Done}
 use Rattle.text_replay.specs.declared.questions.Question.{Question}
 use Rattle.text_replay.specs.declared.questions.Question.the-variants.{Newlines, Trimmed, Search, First, Last}
-use Rattle.text_replay.specs.Counts.{short, long, differs, sum}
+use Rattle.text_replay.specs.Counts.{short, long, number, differs, sum}
 
 -- a check in one byte: 255 for well-formed, else the length of the longest well-formed prefix
 unfoldable pub checkAnswer : List ℕ → ℕ
@@ -79,17 +79,9 @@ width Search = 1
 width First = 4
 width Last = 4
 
--- stored answer i, where the first is at `at`
-unfoldable pub stored : List ℕ → ℕ → Question → ℕ → ℕ
-stored d at Newlines i = getD d (at + i) 0
-stored d at Trimmed i = getD d (at + i) 0
-stored d at Search i = getD d (at + i) 0
-stored d at First i = long d (at + 4 * i)
-stored d at Last i = long d (at + 4 * i)
-
--- how many answers to a question differ
+-- how many answers to a question differ, where the first is stored at `at`
 unfoldable pub differing : List ℕ → Question → List ℕ → ℕ → ℕ
-differing s q d at = sum (answers s q) (λ i. differs (stored d at q i) (answer s q i))
+differing s q d at = sum (answers s q) (λ i. differs (number (width q) d (at + width q * i)) (answer s q i))
 
 -- the answers about a well-formed sample: how many, in how many bytes, and how many differ
 abbrev pub answerCount : List ℕ → ℕ
@@ -106,22 +98,21 @@ allDiffering s d at =
     + differing s First d (at + 2 * (places s * places s) + places s)
     + differing s Last d (at + 2 * (places s * places s) + 5 * places s)
 
--- the sample at `at`: its length in one byte, its bytes, and then its check
-abbrev pub sampleAt : List ℕ → ℕ → List ℕ
-sampleAt d at = take (getD d at 0) (drop (at + 1) d)
+-- a sample whose check, at `to`, says well-formed, with the answers about it
+unfoldable pub withAnswers : List ℕ → List ℕ → ℕ → Outcome
+withAnswers s d to =
+    cond (ltb (length d) (to + 1 + answerBytes s)) Cut
+    (Done (to + 1 + answerBytes s) (1 + answerCount s) (differs 255 (checkAnswer s) + allDiffering s d (to + 1)))
 
-abbrev pub checkAt : List ℕ → ℕ → ℕ
-checkAt d at = at + 1 + getD d at 0
+-- a sample s whose check is at `to`
+unfoldable pub checkedSample : List ℕ → List ℕ → ℕ → Outcome
+checkedSample s d to = cond (eqb (getD d to 0) 255) (withAnswers s d to) (Done (to + 1) 1 (differs (getD d to 0) (checkAnswer s)))
 
--- one sample; the answers about it follow where its check says well-formed
+-- the sample at `at`: its length n in one byte, its n bytes, their check
 unfoldable pub sample : List ℕ → ℕ → Outcome
 sample d at =
-    cond (leb (length d) (checkAt d at)) Cut
-    (cond (eqb (getD d (checkAt d at) 0) 255)
-    (cond (ltb (length d) (checkAt d at + 1 + answerBytes (sampleAt d at))) Cut
-    (Done (checkAt d at + 1 + answerBytes (sampleAt d at)) (1 + answerCount (sampleAt d at))
-    (differs 255 (checkAnswer (sampleAt d at)) + allDiffering (sampleAt d at) d (checkAt d at + 1))))
-    (Done (checkAt d at + 1) 1 (differs (getD d (checkAt d at) 0) (checkAnswer (sampleAt d at)))))
+    let n = getD d at 0 in
+    cond (leb (length d) (at + 1 + n)) Cut (checkedSample (take n (drop (at + 1) d)) d (at + 1 + n))
 
 -- m samples from `at` on, after c answers of which w differ
 unfoldable pub samplesFrom : ℕ → List ℕ → ℕ → ℕ → ℕ → Outcome

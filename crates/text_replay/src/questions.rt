@@ -11,11 +11,9 @@ ghost use Rattle.text_replay.specs.Sections.{
   answer as Sections·answer,
   answers as Sections·answers,
   width as Sections·width,
-  stored as Sections·stored,
   differing as Sections·differing,
 };
-use crate::numbers::long;
-use crate::numbers::wide;
+use crate::numbers::number;
 use crate::outcome::differs;
 use text::newlines::count_newlines;
 use text::newlines::is_range;
@@ -98,31 +96,33 @@ fn answers(s: &[u8], q: Question) -> usize
     }
 }
 
-// Stored answer i, where the first is at `at`.
-fn stored(d: &[u8], at: usize, q: Question, i: usize) -> usize
-    requires { ⌜ at + Sections·width q * i + Sections·width q ≤ length (now d) ⌝ }
-    ensures { λ r. ⌜ r ≡ Sections·stored (now (d .entry)) at q i ⌝ }
+// How many bytes an answer is stored in.
+fn width(q: Question) -> usize
+    ensures { λ r. ⌜ r ≡ Sections·width q ⌝ }
 {
     match q {
-        Question::Newlines => wide(d[at + i]),
-        Question::Trimmed => wide(d[at + i]),
-        Question::Search => wide(d[at + i]),
-        Question::First => long(d, at + 4 * i),
-        Question::Last => long(d, at + 4 * i),
+        Question::Newlines => 1,
+        Question::Trimmed => 1,
+        Question::Search => 1,
+        Question::First => 4,
+        Question::Last => 4,
     }
 }
 
-// How many answers to a question differ.
+// How many answers to a question differ, where the first is stored at `at`.
 pub fn differing(s: &[u8], q: Question, d: &[u8], at: usize) -> usize
     requires { ⌜ length (now s) < 256 ⌝ }
     requires { ⌜ at + Sections·width q * Sections·answers (now s) q ≤ length (now d) ⌝ }
     ensures { λ r. ⌜ r ≡ Sections·differing (now (s .entry)) q (now (d .entry)) at ⌝ }
 {
     let count = answers(s, q);
+    let w = width(q);
     let mut n = 0;
+    let mut here = at;
     let mut i = 0;
     while i < count {
-        n += differs(stored(d, at, q, i), answer(s, q, i));
+        n += differs(number(d, here, w), answer(s, q, i));
+        here += w;
         i += 1;
     }
     n

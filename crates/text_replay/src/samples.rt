@@ -5,6 +5,8 @@ ghost use lib.ListN.{length};
 ghost use Rattle.text_replay.specs.Sections.{
   answerBytes,
   allDiffering,
+  withAnswers,
+  checkedSample,
   sample as Sections·sample,
   samplesFrom,
   samples as Sections·samples,
@@ -33,22 +35,40 @@ fn all_differing(s: &[u8], d: &[u8], at: usize) -> usize
         + differing(s, Question::Last, d, search + 5 * k)
 }
 
-// The sample of d between `from` and `to`, whose check is at `to` and says well-formed.
-fn with_answers(d: &[u8], from: usize, to: usize) -> Outcome
-    requires { ⌜ (from ≤ to) × (to < length (now d)) × (to < from + 256) ⌝ }
+// A sample whose check, at `to`, says well-formed, with the answers about it.
+fn with_answers(s: &[u8], d: &[u8], to: usize) -> Outcome
+    requires { ⌜ length (now s) < 256 ⌝ }
+    requires { ⌜ to < length (now d) ⌝ }
+    ensures { λ r. ⌜ r ≡ withAnswers (now (s .entry)) (now (d .entry)) to ⌝ }
 {
-    let s = &d[from..to];
     let k = s.len() + 2;
     let square = k * k;
-    let at = to + 1;
     let bytes = 2 * square + 9 * k;
+    let at = to + 1;
     if d.len() - at < bytes {
         return Outcome::Cut;
     }
     Outcome::Done {
         next: at + bytes,
-        compared: 1 + 2 * square + 3 * k,
+        compared: 1 + (2 * square + 3 * k),
         differ: differs(255, check_answer(s)) + all_differing(s, d, at),
+    }
+}
+
+// A sample whose check is at `to`.
+fn checked_sample(s: &[u8], d: &[u8], to: usize) -> Outcome
+    requires { ⌜ length (now s) < 256 ⌝ }
+    requires { ⌜ to < length (now d) ⌝ }
+    ensures { λ r. ⌜ r ≡ checkedSample (now (s .entry)) (now (d .entry)) to ⌝ }
+{
+    let answer = wide(d[to]);
+    if answer == 255 {
+        return with_answers(s, d, to);
+    }
+    Outcome::Done {
+        next: to + 1,
+        compared: 1,
+        differ: differs(answer, check_answer(s)),
     }
 }
 
@@ -64,14 +84,7 @@ fn sample(d: &[u8], at: usize) -> Outcome
         return Outcome::Cut;
     }
     let to = from + n;
-    if d[to] == 255 {
-        return with_answers(d, from, to);
-    }
-    Outcome::Done {
-        next: to + 1,
-        compared: 1,
-        differ: differs(wide(d[to]), check_answer(&d[from..to])),
-    }
+    checked_sample(&d[from..to], d, to)
 }
 
 // m samples from `at` on.

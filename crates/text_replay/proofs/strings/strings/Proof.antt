@@ -1,3 +1,8 @@
+use native.Mathlib.Omega.{arith}
+use mathlib.Core.Path.{_≡_, refl, sym, ap, _∙_}
+use Rattle.text_replay.specs.Sections.{strings}
+use Rattle.text_replay.specs.declared.outcome.Outcome.the-variants.{Done}
+use borrow.Author.Tests.{lt-ltb, le-ltb}
 use borrow.Author.Needs.{needs}
 use Rattle.text_replay.proofs.strings.strings.Statement.{statement}
 use Rattle.text_replay.proofs.strings.strings.Tie as tie
@@ -7,7 +12,8 @@ use Rattle.text_replay.proofs.strings.strings_differ.Reads as strings-d
 
 -- src/strings.rt:54:9
 returns : tie.Need-returns
-returns c = ?
+unfolding strings
+returns c = sym (simp (lt-ltb _ _ (c .if1 .taken)))
 
 -- src/strings.rt:59:17
 strings-differ-requires : tie.Need-strings-differ-requires
@@ -15,7 +21,8 @@ strings-differ-requires c κs = search needs
 
 -- src/strings.rt:50:1
 returns-2 : tie.Need-returns-2
-returns-2 c = ?
+unfolding strings
+returns-2 c = simp (le-ltb _ _ (c .before .if1 .left)) (ap (Done 65792 65792) (c .strings-differ .ensures))
 
 pub strings-spec : {M : Type 1} → statement M
 strings-spec = tie.close (tie.spec returns strings-differ-requires returns-2)
