@@ -1,11 +1,10 @@
 -- Section 2: the first of the ranges and those after it; where the section is cut off.
 -- Assumes nothing.
-use mathlib.Core.Path.{_≡_, refl, sym, ap, _∙_}
+use mathlib.Core.Path.{_≡_, sym, ap}
 use mathlib.Core.Bool.{true, false}
 use mathlib.Core.List.{List}
 use Prim.Native.Nat.{ℕ, zero, suc, _+_, _-_, _*_, _≤_, _<_}
 use native.Mathlib.Omega.{arith}
-use native.Mathlib.Numerals.{sub-one}
 use borrow.Author.Tests.{le-leb, lt-leb, le-ltb, lt-ltb}
 use lib.ListN.{length}
 use Rattle.text.specs.Utf8.{within}

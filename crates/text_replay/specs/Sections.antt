@@ -2,7 +2,7 @@
 -- definitions of crate `text`. `Done next compared differ` says where the section ends, how many answers it has and how many differ.
 use Prim.Native.Nat.{ℕ, zero, suc, _+_, _-_, _*_, _/_, _%_}
 use mathlib.Core.List.{List, [], _∷_}
-use mathlib.Core.Bool.{Bool, true, false, cond, _||_}
+use mathlib.Core.Bool.{Bool, false, cond, _||_}
 use lib.ListN.{length, getD, take, drop}
 use lib.Dec.{ltb, leb, eqb}
 use Rattle.text.specs.Utf8.{within, prefix, wellFormed, charAt, charBefore}

@@ -1,12 +1,9 @@
 use Prim.Native.Nat.{ℕ}
-use mathlib.Core.Path.{_≡_, refl, sym, ap, _∙_}
+use mathlib.Core.Path.{sym}
 use lib.ListN.{length-replicate}
 use Rattle.text_replay.proofs.room.Statement.{statement}
 use Rattle.text_replay.proofs.room.Tie as tie
-use Rattle.text_replay.proofs.room.Reads as reads
-use Rattle.text_replay.proofs.room.Lts as lts
 
--- src/main.rt:60:1
 returns : tie.Need-returns
 returns c = sym {b = 1048576} (length-replicate {0} {A = ℕ} 1048576 0)
 

@@ -1,112 +1,80 @@
-use native.Mathlib.Omega.{arith}
-use mathlib.Core.Path.{_≡_, refl, sym, ap, _∙_}
+-- Each case of the match is one clause of the definition.
+use mathlib.Core.Path.{ap, _∙_}
 use Rattle.text_replay.specs.Sections.{answer, place, point}
 use borrow.Author.Needs.{needs}
 use Rattle.text_replay.proofs.questions.answer.Statement.{statement}
 use Rattle.text_replay.proofs.questions.answer.Tie as tie
-use Rattle.text_replay.proofs.questions.answer.Reads as reads
-use Rattle.text_replay.proofs.questions.answer.Lts as lts
-use Rattle.text.proofs.newlines.count_newlines.Reads as count-newlines-reads
-use Rattle.text.proofs.space.find_something.Reads as find-something-reads
-use Rattle.text.proofs.utf8.char_at.Reads as char-at-reads
-use Rattle.text.proofs.utf8.char_before.Reads as char-before-reads
-use Rattle.text_replay.proofs.questions.place.Reads as place-reads
-use Rattle.text_replay.proofs.questions.point.Reads as point-reads
-use Rattle.text_replay.proofs.questions.trimmed.Reads as trimmed-reads
 
--- src/questions.rt:76:13
 add-k : tie.Need-add-k
 add-k c = search needs
 
--- src/questions.rt:78:49
 enum-told : tie.Need-enum-told
 enum-told c = search needs
 
--- src/questions.rt:78:49
 div-count-newlines : tie.Need-div-count-newlines
 div-count-newlines c = search needs
 
--- src/questions.rt:78:56
 rem-count-newlines : tie.Need-rem-count-newlines
 rem-count-newlines c = search needs
 
--- src/questions.rt:78:31
 count-newlines-requires : tie.Need-count-newlines-requires
 count-newlines-requires c κs = search needs
 
--- src/questions.rt:79:41
 enum-told-2 : tie.Need-enum-told-2
 enum-told-2 c = search needs
 
--- src/questions.rt:79:41
 div-trimmed : tie.Need-div-trimmed
 div-trimmed c = search needs
 
--- src/questions.rt:79:48
 rem-trimmed : tie.Need-rem-trimmed
 rem-trimmed c = search needs
 
--- src/questions.rt:79:30
 trimmed-requires : tie.Need-trimmed-requires
 trimmed-requires c κs = search needs
 
--- src/questions.rt:80:35
 enum-told-3 : tie.Need-enum-told-3
 enum-told-3 c = search needs
 
--- src/questions.rt:80:35
 find-something-requires : tie.Need-find-something-requires
 find-something-requires c κs = search needs
 
--- src/questions.rt:80:29
 place-requires : tie.Need-place-requires
 place-requires c κs = search needs
 
--- src/questions.rt:81:34
 enum-told-4 : tie.Need-enum-told-4
 enum-told-4 c = search needs
 
--- src/questions.rt:81:34
 char-at-requires : tie.Need-char-at-requires
 char-at-requires c κs = search needs
 
--- src/questions.rt:81:28
 point-requires : tie.Need-point-requires
 point-requires c κs = search needs
 
--- src/questions.rt:82:33
 enum-told-5 : tie.Need-enum-told-5
 enum-told-5 c = search needs
 
--- src/questions.rt:82:33
 char-before-requires : tie.Need-char-before-requires
 char-before-requires c κs = search needs
 
--- src/questions.rt:82:27
 point-requires-2 : tie.Need-point-requires-2
 point-requires-2 c κs = search needs
 
--- src/questions.rt:72:1
 returns : tie.Need-returns
 unfolding answer
 returns c = rw (c .before .enum-told .given .1) (c .count-newlines .ensures)
 
--- src/questions.rt:72:1
 returns-2 : tie.Need-returns-2
 unfolding answer
 returns-2 c = rw (c .before .enum-told2 .given .1) (c .trimmed .ensures)
 
--- src/questions.rt:72:1
 returns-3 : tie.Need-returns-3
 unfolding answer
 returns-3 c = rw (c .before .before .enum-told3 .given .1) (c .place .ensures ∙ ap place (c .before .find-something .ensures))
 
--- src/questions.rt:72:1
 returns-4 : tie.Need-returns-4
 unfolding answer
 returns-4 c = rw (c .before .before .enum-told4 .given .1) (c .point .ensures ∙ ap point (c .before .char-at .ensures))
 
--- src/questions.rt:72:1
 returns-5 : tie.Need-returns-5
 unfolding answer
 returns-5 c = rw (c .before .before .enum-told5 .given .1) (c .point2 .ensures ∙ ap point (c .before .char-before .ensures))

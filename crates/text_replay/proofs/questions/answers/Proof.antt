@@ -1,5 +1,5 @@
 use native.Mathlib.Omega.{arith}
-use mathlib.Core.Path.{_≡_, refl, sym, ap, _∙_}
+use mathlib.Core.Path.{sym, ap}
 use Rattle.text_replay.specs.Sections.{answers}
 use Prim.Native.Nat.{_+_}
 use lib.ListN.{length}
@@ -7,62 +7,47 @@ use Rattle.text_replay.proofs.Sizes.{square-small}
 use borrow.Author.Needs.{needs}
 use Rattle.text_replay.proofs.questions.answers.Statement.{statement}
 use Rattle.text_replay.proofs.questions.answers.Tie as tie
-use Rattle.text_replay.proofs.questions.answers.Reads as reads
-use Rattle.text_replay.proofs.questions.answers.Lts as lts
 
--- src/questions.rt:91:13
 add-k : tie.Need-add-k
 add-k c = search needs
 
--- src/questions.rt:93:31
 enum-told : tie.Need-enum-told
 enum-told c = search needs
 
--- src/questions.rt:93:31
 mul-result : tie.Need-mul-result
 mul-result c = omega (arith, square-small (length (c .before .before .args .s .now) + 2) (omega arith))
 
--- src/questions.rt:94:30
 enum-told-2 : tie.Need-enum-told-2
 enum-told-2 c = search needs
 
--- src/questions.rt:94:30
 mul-result-2 : tie.Need-mul-result-2
 mul-result-2 c = omega (arith, square-small (length (c .before .before .args .s .now) + 2) (omega arith))
 
--- src/questions.rt:95:29
 enum-told-3 : tie.Need-enum-told-3
 enum-told-3 c = search needs
 
--- src/questions.rt:96:28
 enum-told-4 : tie.Need-enum-told-4
 enum-told-4 c = search needs
 
--- src/questions.rt:97:27
 enum-told-5 : tie.Need-enum-told-5
 enum-told-5 c = search needs
 
--- src/questions.rt:87:1
 returns : tie.Need-returns
 unfolding answers
 returns c = sym (ap (answers (c .before .before .args .s .now)) (c .enum-told .given .1))
 
--- src/questions.rt:87:1
 returns-2 : tie.Need-returns-2
 unfolding answers
 returns-2 c = sym (ap (answers (c .before .before .args .s .now)) (c .enum-told2 .given .1))
 
--- src/questions.rt:87:1
 returns-3 : tie.Need-returns-3
 unfolding answers
 returns-3 c = sym (ap (answers (c .before .before .args .s .now)) (c .enum-told3 .given .1))
 
--- src/questions.rt:87:1
 returns-4 : tie.Need-returns-4
 unfolding answers
 returns-4 c = sym (ap (answers (c .before .before .args .s .now)) (c .enum-told4 .given .1))
 
--- src/questions.rt:87:1
 returns-5 : tie.Need-returns-5
 unfolding answers
 returns-5 c = sym (ap (answers (c .before .before .args .s .now)) (c .enum-told5 .given .1))

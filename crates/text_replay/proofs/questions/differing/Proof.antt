@@ -1,6 +1,7 @@
+-- The loop's invariant, `Summed`: n is the sum of what differed so far; the next answer stands at `here`, and before the end by `answer-inside`.
 use lib.ListN.{length}
 use native.Mathlib.Omega.{arith}
-use mathlib.Core.Path.{_≡_, refl, sym, ap, _∙_}
+use mathlib.Core.Path.{_≡_}
 use borrow.Author.Needs.{needs}
 use Prim.Native.Nat.{_+_, _*_, _≤_, _-_}
 use Rattle.text_replay.specs.Counts.{number, differs}
@@ -9,13 +10,6 @@ use Rattle.text_replay.proofs.Sums.{Summed, sum-start, sum-next, sum-en
 use Rattle.text_replay.proofs.Sizes.{width-is, times-next, answer-inside}
 use Rattle.text_replay.proofs.questions.differing.Statement.{statement}
 use Rattle.text_replay.proofs.questions.differing.Tie as tie
-use Rattle.text_replay.proofs.questions.differing.Reads as reads
-use Rattle.text_replay.proofs.questions.differing.Lts as lts
-use Rattle.text_replay.proofs.numbers.number.Reads as number-reads
-use Rattle.text_replay.proofs.outcome.differs.Reads as differs-reads
-use Rattle.text_replay.proofs.questions.answer.Reads as answer-reads
-use Rattle.text_replay.proofs.questions.answers.Reads as answers-reads
-use Rattle.text_replay.proofs.questions.width.Reads as width-reads
 
 abbrev Inv-loop : tie.InvT-loop
 Inv-loop s q d at count w n₀ here₀ i₀ n here i = (i ≤ count) × (here ≡ at + w * i) × Summed (λ i. differs (number (width q) d (at + width q * i)) (answer s q i)) i n
@@ -23,51 +17,39 @@ Inv-loop s q d at count w n₀ here₀ i₀ n here i = (i ≤ count) × (here �
 abbrev μ-loop : tie.MeasureT-loop
 μ-loop s q d at count w n₀ here₀ i₀ n here i = count - i
 
--- src/questions.rt:118:9
 answers-requires : tie.Need-answers-requires Inv-loop μ-loop
 answers-requires c κs = c .before .before .pre .0
 
--- src/questions.rt:119:9
 width-requires : tie.Need-width-requires Inv-loop μ-loop
 width-requires c κs = search needs
 
--- src/questions.rt:123:5
 loop-holds : tie.Need-loop-holds Inv-loop μ-loop
 loop-holds c = (omega arith, omega arith, sum-start _)
 
--- src/questions.rt:124:22
 number-requires : tie.Need-number-requires Inv-loop μ-loop
 number-requires c κs = (omega (arith, c .before .loop .inv .1, answer-inside (c .before .before .width .result) (c .before .loop .i) (c .before .before .before .answers .result) (c .before .before .before .before .before .before .args .at) (length (c .before .before .before .before .before .before .args .d .now)) (c .loop-test .taken) (rw (c .before .before .width .ensures, c .before .before .before .answers .ensures) (c .before .before .before .before .before .before .pre .1))), rw (c .before .before .width .ensures) (width-is (c .before .before .before .before .before .before .args .q)))
 
--- src/questions.rt:124:42
 answer-requires : tie.Need-answer-requires Inv-loop μ-loop
 answer-requires c κs = c .before .before .before .before .before .before .before .pre .0
 
--- src/questions.rt:124:14
 differs-requires : tie.Need-differs-requires Inv-loop μ-loop
 differs-requires c κs = search needs
 
--- src/questions.rt:124:9
 add-n : tie.Need-add-n Inv-loop μ-loop
 add-n c = omega (arith, c .before .before .before .before .loop .inv .2 .few, c .differs .ensures, differs-one (c .before .before .number .result) (c .before .answer .result))
 
--- src/questions.rt:125:9
 add-here : tie.Need-add-here Inv-loop μ-loop
 add-here c = omega (arith, c .before .before .before .before .loop .inv .1, answer-inside (c .before .before .before .before .before .width .result) (c .before .before .before .before .loop .i) (c .before .before .before .before .before .before .answers .result) (c .before .before .before .before .before .before .before .before .before .args .at) (length (c .before .before .before .before .before .before .before .before .before .args .d .now)) (c .before .before .before .loop-test .taken) (rw (c .before .before .before .before .before .width .ensures, c .before .before .before .before .before .before .answers .ensures) (c .before .before .before .before .before .before .before .before .before .pre .1)))
 
--- src/questions.rt:126:9
 add-i : tie.Need-add-i Inv-loop μ-loop
 add-i c = omega arith
 
--- src/questions.rt:123:5
 loop-less : tie.Need-loop-less Inv-loop μ-loop
 loop-less c = omega arith
 
--- src/questions.rt:123:5
 loop-again : tie.Need-loop-again Inv-loop μ-loop
 loop-again c = (omega arith, omega (arith, times-next (c .before .before .before .before .before .width .result) (c .before .before .before .before .loop .i)), sum-next _ _ _ _ _ _ (c .before .before .before .before .loop .inv .2) (c .differs .ensures) (cc (c .before .before .before .before .loop .inv .1, c .before .before .before .before .before .width .ensures, c .before .before .number .ensures, c .before .answer .ensures)))
 
--- src/questions.rt:113:1
 returns : tie.Need-returns Inv-loop μ-loop
 unfolding differing
 returns c = sum-end _ _ _ _ (c .before .loop .inv .2) (omega (arith, c .before .before .before .answers .ensures))

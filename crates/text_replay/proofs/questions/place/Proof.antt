@@ -1,25 +1,19 @@
-use mathlib.Core.Path.{_≡_, refl, sym, ap, _∙_}
+use mathlib.Core.Path.{sym, ap}
 use Rattle.text_replay.specs.Sections.{place}
 use borrow.Author.Needs.{needs}
 use Rattle.text_replay.proofs.questions.place.Statement.{statement}
 use Rattle.text_replay.proofs.questions.place.Tie as tie
-use Rattle.text_replay.proofs.questions.place.Reads as reads
-use Rattle.text_replay.proofs.questions.place.Lts as lts
 
--- src/questions.rt:57:19
 enum-known-f : tie.Need-enum-known-f
 enum-known-f c = search needs
 
--- src/questions.rt:58:27
 enum-told : tie.Need-enum-told
 enum-told c = search needs
 
--- src/questions.rt:53:1
 returns : tie.Need-returns
 unfolding place
 returns c = sym (ap place (c .before .f .given .1))
 
--- src/questions.rt:53:1
 returns-2 : tie.Need-returns-2
 unfolding place
 returns-2 c = sym (ap place (c .enum-told .given .1))

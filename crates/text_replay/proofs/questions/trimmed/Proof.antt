@@ -1,25 +1,17 @@
-use mathlib.Core.Path.{_≡_, refl, sym, ap, _∙_}
+use mathlib.Core.Path.{sym, _∙_}
 use borrow.Author.Needs.{needs}
 use Rattle.text_replay.proofs.questions.trimmed.Statement.{statement}
 use Rattle.text_replay.proofs.questions.trimmed.Tie as tie
-use Rattle.text_replay.proofs.questions.trimmed.Reads as reads
-use Rattle.text_replay.proofs.questions.trimmed.Lts as lts
-use Rattle.text.proofs.newlines.is_range.Reads as is-range-reads
-use Rattle.text.proofs.space.trim_end.Reads as trim-end-reads
 
--- src/questions.rt:46:8
 is-range-requires : tie.Need-is-range-requires
 is-range-requires c κs = search needs
 
--- src/questions.rt:47:9
 trim-end-requires : tie.Need-trim-end-requires
 trim-end-requires c κs = search needs
 
--- src/questions.rt:43:1
 returns : tie.Need-returns
 returns c = simp (sym (c .before .before .is-range .ensures) ∙ c .before .if1 .taken) (c .trim-end .ensures)
 
--- src/questions.rt:43:1
 returns-2 : tie.Need-returns-2
 returns-2 c = sym (simp (sym (c .before .is-range .ensures) ∙ c .if1 .left))
 

@@ -1,52 +1,40 @@
-use mathlib.Core.Path.{_≡_, refl, sym, ap, _∙_}
+use mathlib.Core.Path.{sym, ap}
 use Rattle.text_replay.specs.Sections.{width}
 use borrow.Author.Needs.{needs}
 use Rattle.text_replay.proofs.questions.width.Statement.{statement}
 use Rattle.text_replay.proofs.questions.width.Tie as tie
-use Rattle.text_replay.proofs.questions.width.Reads as reads
-use Rattle.text_replay.proofs.questions.width.Lts as lts
 
--- src/questions.rt:104:31
 enum-told : tie.Need-enum-told
 enum-told c = search needs
 
--- src/questions.rt:105:30
 enum-told-2 : tie.Need-enum-told-2
 enum-told-2 c = search needs
 
--- src/questions.rt:106:29
 enum-told-3 : tie.Need-enum-told-3
 enum-told-3 c = search needs
 
--- src/questions.rt:107:28
 enum-told-4 : tie.Need-enum-told-4
 enum-told-4 c = search needs
 
--- src/questions.rt:108:27
 enum-told-5 : tie.Need-enum-told-5
 enum-told-5 c = search needs
 
--- src/questions.rt:100:1
 returns : tie.Need-returns
 unfolding width
 returns c = sym (ap width (c .enum-told .given .1))
 
--- src/questions.rt:100:1
 returns-2 : tie.Need-returns-2
 unfolding width
 returns-2 c = sym (ap width (c .enum-told2 .given .1))
 
--- src/questions.rt:100:1
 returns-3 : tie.Need-returns-3
 unfolding width
 returns-3 c = sym (ap width (c .enum-told3 .given .1))
 
--- src/questions.rt:100:1
 returns-4 : tie.Need-returns-4
 unfolding width
 returns-4 c = sym (ap width (c .enum-told4 .given .1))
 
--- src/questions.rt:100:1
 returns-5 : tie.Need-returns-5
 unfolding width
 returns-5 c = sym (ap width (c .enum-told5 .given .1))

@@ -1,16 +1,13 @@
+-- The loop's invariant: the answer is that of the ranges from `here` on.
 use native.Mathlib.Omega.{arith}
-use mathlib.Core.Path.{_≡_, refl, sym, ap, _∙_}
-use borrow.Author.Needs.{needs}
-use Prim.Native.Nat.{_+_, _*_, _≤_, _-_}
+use mathlib.Core.Path.{_≡_, refl, sym, _∙_}
+use Prim.Native.Nat.{_+_, _*_, _≤_}
 use lib.ListN.{length}
 use mathlib.Core.Logic.{⊎-elim}
 use Rattle.text_replay.specs.Sections.{listed}
 use Rattle.text_replay.proofs.Ranges.{first-range, below-range, above-range, no-range}
 use Rattle.text_replay.proofs.spaces.is_listed.Statement.{statement}
 use Rattle.text_replay.proofs.spaces.is_listed.Tie as tie
-use Rattle.text_replay.proofs.spaces.is_listed.Reads as reads
-use Rattle.text_replay.proofs.spaces.is_listed.Lts as lts
-use Rattle.text_replay.proofs.numbers.long.Reads as long-reads
 
 abbrev Inv-loop : tie.InvT-loop
 Inv-loop d at k c here₀ left₀ here left = (here + 8 * left ≤ length d) × (listed k d at c ≡ listed left d here c)
@@ -18,39 +15,30 @@ Inv-loop d at k c here₀ left₀ here left = (here + 8 * left ≤ length d) × 
 abbrev μ-loop : tie.MeasureT-loop
 μ-loop d at k c here₀ left₀ here left = left
 
--- src/spaces.rt:21:5
 loop-holds : tie.Need-loop-holds Inv-loop μ-loop
 loop-holds c = (c .before .pre, refl)
 
--- src/spaces.rt:22:12
 long-requires : tie.Need-long-requires Inv-loop μ-loop
 long-requires c κs = omega arith
 
--- src/spaces.rt:23:29
 add-long : tie.Need-add-long Inv-loop μ-loop
 add-long c = omega arith
 
--- src/spaces.rt:23:21
 long-requires-2 : tie.Need-long-requires-2 Inv-loop μ-loop
 long-requires-2 c κs = omega arith
 
--- src/spaces.rt:24:17
 returns : tie.Need-returns Inv-loop μ-loop
 returns c = first-range _ _ _ _ (c .before .before .before .before .loop-test .taken) (omega (arith, c .before .before .before .long .ensures)) (omega (arith, c .before .long2 .ensures)) ∙ sym (c .before .before .before .before .before .loop .inv .1)
 
--- src/spaces.rt:27:9
 add-here : tie.Need-add-here Inv-loop μ-loop
 add-here c = omega arith
 
--- src/spaces.rt:28:9
 sub-left : tie.Need-sub-left Inv-loop μ-loop
 sub-left c = omega arith
 
--- src/spaces.rt:21:5
 loop-less : tie.Need-loop-less Inv-loop μ-loop
 loop-less c = omega arith
 
--- src/spaces.rt:21:5
 loop-again : tie.Need-loop-again Inv-loop μ-loop
 loop-again c = (
   omega arith,
@@ -61,7 +49,6 @@ loop-again c = (
       (c .if1 .came),
 )
 
--- src/spaces.rt:15:1
 returns-2 : tie.Need-returns-2 Inv-loop μ-loop
 returns-2 c = no-range _ _ _ _ (omega arith) ∙ sym (c .before .loop .inv .1)
 

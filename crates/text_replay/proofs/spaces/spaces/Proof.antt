@@ -1,59 +1,42 @@
 use native.Mathlib.Omega.{arith}
-use mathlib.Core.Path.{_≡_, refl, sym, ap, _∙_}
 use Rattle.text_replay.proofs.Ranges.{spaces-cut, spaces-done}
 use borrow.Author.Needs.{needs}
 use Rattle.text_replay.proofs.spaces.spaces.Statement.{statement}
 use Rattle.text_replay.proofs.spaces.spaces.Tie as tie
-use Rattle.text_replay.proofs.spaces.spaces.Reads as reads
-use Rattle.text_replay.proofs.spaces.spaces.Lts as lts
-use Rattle.text_replay.proofs.numbers.short.Reads as short-reads
-use Rattle.text_replay.proofs.spaces.spaces_differ.Reads as spaces-differ-reads
 
--- src/spaces.rt:56:9
 returns : tie.Need-returns
 returns c = spaces-cut _ _ (omega arith)
 
--- src/spaces.rt:58:8
 sub-if2 : tie.Need-sub-if2
 sub-if2 c = search needs
 
--- src/spaces.rt:59:9
 returns-2 : tie.Need-returns-2
 returns-2 c = spaces-cut _ _ (omega arith)
 
--- src/spaces.rt:61:9
 short-requires : tie.Need-short-requires
 short-requires c κs = search needs
 
--- src/spaces.rt:62:16
 add-from : tie.Need-add-from
 add-from c = search needs
 
--- src/spaces.rt:63:8
 sub-if3 : tie.Need-sub-if3
 sub-if3 c = search needs
 
--- src/spaces.rt:63:25
 mul-if3 : tie.Need-mul-if3
 mul-if3 c = search needs
 
--- src/spaces.rt:64:9
 returns-3 : tie.Need-returns-3
 returns-3 c = spaces-cut _ _ (omega (arith, c .before .short .ensures .0))
 
--- src/spaces.rt:67:22
 mul-t5 : tie.Need-mul-t5
 mul-t5 c = search needs
 
--- src/spaces.rt:67:15
 add-t7 : tie.Need-add-t7
 add-t7 c = search needs
 
--- src/spaces.rt:69:17
 spaces-differ-requires : tie.Need-spaces-differ-requires
 spaces-differ-requires c κs = search needs
 
--- src/spaces.rt:52:1
 returns-4 : tie.Need-returns-4
 returns-4 c = spaces-done _ _ _ _ (c .before .before .short .ensures .0) (omega arith) (c .spaces-differ .ensures)
 

@@ -1,5 +1,5 @@
+-- The loop's invariant, `Summed`: n is the sum of what differed so far.
 use native.Mathlib.Omega.{arith}
-use mathlib.Core.Path.{_≡_, refl, sym, ap, _∙_}
 use borrow.Author.Needs.{needs}
 use Prim.Native.Nat.{_≤_, _-_}
 use Rattle.text_replay.specs.Counts.{differs}
@@ -8,12 +8,6 @@ use Rattle.text.specs.Space.{isWhite}
 use Rattle.text_replay.proofs.Sums.{Summed, sum-start, sum-next, sum-end, differs-one}
 use Rattle.text_replay.proofs.spaces.spaces_differ.Statement.{statement}
 use Rattle.text_replay.proofs.spaces.spaces_differ.Tie as tie
-use Rattle.text_replay.proofs.spaces.spaces_differ.Reads as reads
-use Rattle.text_replay.proofs.spaces.spaces_differ.Lts as lts
-use Rattle.text.proofs.space.is_whitespace.Reads as is-whitespace-reads
-use Rattle.text_replay.proofs.outcome.differs.Reads as differs-reads
-use Rattle.text_replay.proofs.spaces.bit.Reads as bit-reads
-use Rattle.text_replay.proofs.spaces.is_listed.Reads as is-listed-reads
 
 abbrev Inv-loop : tie.InvT-loop
 Inv-loop d at k n₀ c₀ n c = (c ≤ 0x110000) × Summed (λ c. differs (bit (listed k d at c)) (bit (isWhite c))) c n
@@ -21,51 +15,39 @@ Inv-loop d at k n₀ c₀ n c = (c ≤ 0x110000) × Summed (λ c. differs (bit (
 abbrev μ-loop : tie.MeasureT-loop
 μ-loop d at k n₀ c₀ n c = 0x110000 - c
 
--- src/spaces.rt:45:5
 loop-holds : tie.Need-loop-holds Inv-loop μ-loop
 loop-holds c = (omega arith, sum-start _)
 
--- src/spaces.rt:46:26
 is-listed-requires : tie.Need-is-listed-requires Inv-loop μ-loop
 is-listed-requires c κs = c .before .before .before .pre
 
--- src/spaces.rt:46:22
 bit-requires : tie.Need-bit-requires Inv-loop μ-loop
 bit-requires c κs = search needs
 
--- src/spaces.rt:46:69
 cast-is-whitespace : tie.Need-cast-is-whitespace Inv-loop μ-loop
 cast-is-whitespace c = omega arith
 
--- src/spaces.rt:46:55
 is-whitespace-requires : tie.Need-is-whitespace-requires Inv-loop μ-loop
 is-whitespace-requires c κs = search needs
 
--- src/spaces.rt:46:51
 bit-requires-2 : tie.Need-bit-requires-2 Inv-loop μ-loop
 bit-requires-2 c κs = search needs
 
--- src/spaces.rt:46:14
 differs-requires : tie.Need-differs-requires Inv-loop μ-loop
 differs-requires c κs = search needs
 
--- src/spaces.rt:46:9
 add-n : tie.Need-add-n Inv-loop μ-loop
 add-n c = omega (arith, c .before .before .before .before .before .before .loop .inv .1 .few, c .differs .ensures, differs-one (c .before .before .before .bit .result) (c .before .bit2 .result))
 
--- src/spaces.rt:47:9
 add-c : tie.Need-add-c Inv-loop μ-loop
 add-c c = omega arith
 
--- src/spaces.rt:45:5
 loop-less : tie.Need-loop-less Inv-loop μ-loop
 loop-less c = omega arith
 
--- src/spaces.rt:45:5
 loop-again : tie.Need-loop-again Inv-loop μ-loop
 loop-again c = (omega arith, sum-next _ _ _ _ _ _ (c .before .before .before .before .before .before .loop .inv .1) (c .differs .ensures) (cc (c .before .before .before .before .is-listed .ensures, c .before .before .before .bit .ensures, c .before .before .is-whitespace .ensures, c .before .bit2 .ensures)))
 
--- src/spaces.rt:39:1
 returns : tie.Need-returns Inv-loop μ-loop
 returns c = sum-end _ _ _ _ (c .before .loop .inv .1) (omega arith)
 

@@ -1,25 +1,18 @@
-use native.Mathlib.Omega.{arith}
-use mathlib.Core.Path.{_≡_, refl, sym, ap, _∙_}
+use mathlib.Core.Path.{sym, ap}
 use Rattle.text_replay.specs.Sections.{strings}
 use Rattle.text_replay.specs.declared.outcome.Outcome.the-variants.{Done}
 use borrow.Author.Tests.{lt-ltb, le-ltb}
 use borrow.Author.Needs.{needs}
 use Rattle.text_replay.proofs.strings.strings.Statement.{statement}
 use Rattle.text_replay.proofs.strings.strings.Tie as tie
-use Rattle.text_replay.proofs.strings.strings.Reads as reads
-use Rattle.text_replay.proofs.strings.strings.Lts as lts
-use Rattle.text_replay.proofs.strings.strings_differ.Reads as strings-differ-reads
 
--- src/strings.rt:54:9
 returns : tie.Need-returns
 unfolding strings
 returns c = sym (simp (lt-ltb _ _ (c .if1 .taken)))
 
--- src/strings.rt:59:17
 strings-differ-requires : tie.Need-strings-differ-requires
 strings-differ-requires c κs = search needs
 
--- src/strings.rt:50:1
 returns-2 : tie.Need-returns-2
 unfolding strings
 returns-2 c = simp (le-ltb _ _ (c .before .if1 .left)) (ap (Done 65792 65792) (c .strings-differ .ensures))
