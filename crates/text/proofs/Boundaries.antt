@@ -12,6 +12,7 @@ use Rattle.text.specs.Utf8.{within, continues, sequence, boundary}
 use Rattle.text.proofs.Bytes.{led, continuing-row, inner}
 use Rattle.text.proofs.Tests.{and-left, and-false, clash}
 
+-- boundaries lie in the text, and its end is one
 pub boundary-inside : (s : List ℕ) (at : ℕ) → boundary s at ≡ true → at ≤ length s
 unfolding boundary
 boundary-inside s at e = leb-true at (length s) (and-left (leb at (length s)) _ e)
@@ -24,7 +25,7 @@ pub end-boundary : (s : List ℕ) → boundary s (length s) ≡ true
 unfolding boundary within
 end-boundary s = simp (le-leb (length s) (length s) (omega arith), List·getD-eq-default s 0 {n = length s} (omega arith))
 
--- where a sequence starts
+-- a sequence starts at a boundary
 pub first-boundary : (s : List ℕ) (at : ℕ) → 0 < sequence s at → boundary s at ≡ true
 unfolding boundary
 first-boundary s at h = let l = led s at h in simp (le-leb at (length s) (omega arith), go (continues (getD s at 0)) refl)
@@ -41,7 +42,7 @@ off-boundary s at e = go (sequence s at) refl
     go zero p = p
     go (suc n) p = absurd (clash (boundary s at) (first-boundary s at (omega arith)) e)
 
--- inside a sequence
+-- inside a sequence there is none
 pub inner-none : (s : List ℕ) (at k : ℕ) → 0 < k → k < sequence s at → boundary s (at + k) ≡ false
 unfolding boundary
 inner-none s at k p q = rw (inner s at k p q) (and-false (leb (at + k) (length s)))

@@ -1,5 +1,4 @@
--- The place one byte before a comment's end, where `pop_whitespace` leaves the position: it is a boundary only if the comment's last
--- character has one byte. Elsewhere a count from there is 0.
+-- The place one byte before a comment's end, where `pop_whitespace` leaves the position: it may fall inside a character.
 -- Assumes nothing.
 use mathlib.Core.Path.{_≡_, refl, _∙_}
 use mathlib.Core.Bool.{Bool, true, false}
@@ -14,6 +13,7 @@ use Rattle.text.proofs.Boundaries.{first-boundary, inner-none}
 use Rattle.text.proofs.Characters.{ending-fits}
 use Rattle.text.proofs.Counts.{count-none, range-off-start}
 
+-- it is a boundary only if the character that ends there has one byte
 pub before-end : (s : List ℕ) (from to : ℕ) → 0 < ending s from to → boundary s (to - 1) ≡ eqb (ending s from to) 1
 before-end s from to h = let w = ending-fits s from to h in go (ending s from to) h (w .0) (w .1) (eqb (ending s from to) 1) refl
   where
@@ -26,6 +26,7 @@ before-end s from to h = let w = ending-fits s from to h in go (ending s from to
         let last : to - n + (n - 1) ≡ to - 1 = omega arith in
         rw last at (inner-none s (to - n) (n - 1) (omega arith) (omega arith))
 
+-- otherwise a count from there is 0
 pub count-before-end : (s : List ℕ) (from to stop : ℕ) → 1 < ending s from to → countNewlines s (to - 1) stop ≡ 0
 count-before-end s from to stop h =
     let off = before-end s from to (omega arith) ∙ ne-eqb (ending s from to) 1 (omega arith) in

@@ -1,4 +1,4 @@
--- Laws of the newline count.
+-- Laws of ranges and of the newline count.
 -- Assumes nothing.
 use mathlib.Core.Path.{_≡_, sym, ap}
 use mathlib.Core.Bool.{Bool, true, false, cond, _&&_}
@@ -73,7 +73,7 @@ range-off-end s from to e = simp (e, and-false)
 pub range-outside : (s : List ℕ) (from to : ℕ) → length s < to → isRange s from to ≡ false
 range-outside s from to h = range-off-end s from to (outside s to h)
 
--- and the count is 0
+-- there the count is 0
 pub count-none : (s : List ℕ) (from to : ℕ) → isRange s from to ≡ false → countNewlines s from to ≡ 0
 unfolding countNewlines
 count-none s from to e = simp e

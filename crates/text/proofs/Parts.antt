@@ -48,6 +48,7 @@ module _ (s : List ℕ) (a n : ℕ) (fits : a + n ≤ length s) where
           sequence-same s (part s a n) (a + at) at (omega arith) (omega (arith, part-length))
           (λ k q. ap (λ i. getD s i 0) (add-assoc a at k) ∙ sym (part-byte (at + k) (omega arith)))
 
+  -- what the part reaches, the text reaches
   pub reach-up : (k : ℕ) → Reach s a → Reach (part s a n) k → Reach s (a + k)
   reach-up k r here = rw (add-zero a) r
   reach-up k r (on {at = i} w h) =
@@ -55,6 +56,7 @@ module _ (s : List ℕ) (a n : ℕ) (fits : a + n ≤ length s) where
       let same : a + i + sequence s (a + i) ≡ a + (i + sequence (part s a n) i) = omega arith in
       rw same at (on (reach-up i r w) (omega arith))
 
+  -- what the text reaches, the part reaches, if no sequence crosses the part's start
   pub reach-down : ((i : ℕ) → i < a → i + sequence s i ≤ a) → (at : ℕ) → Reach s at → a ≤ at → at ≤ a + n → Reach (part s a n) (at - a)
   reach-down before at here h k = let same : 0 - a ≡ 0 = omega arith in rw same here
   reach-down before at (on {at = i} r some) h k = go (λ p q. reach-down before i r p q) (ltb i a) refl
@@ -66,9 +68,8 @@ module _ (s : List ℕ) (a n : ℕ) (fits : a + n ≤ length s) where
       go more false q =
           let after = ltb-false i a q in
           let place : a + (i - a) ≡ i = omega arith in
-          let down : sequence (part s a n) (i - a) ≡ sequence s i =
-          rw place at (sequence-down (i - a) (omega arith) (rw place (omega arith)))
-          in
+          let ends : i - a + sequence s (a + (i - a)) ≤ n = rw place (omega arith) in
+          let down : sequence (part s a n) (i - a) ≡ sequence s i = rw place at (sequence-down (i - a) (omega arith) ends) in
           let same : i - a + sequence (part s a n) (i - a) ≡ i + sequence s i - a = omega arith in
           rw same at (on (more after (omega arith)) (omega arith))
 
@@ -83,6 +84,7 @@ module _ (s : List ℕ) (a b : ℕ) (is : isRange s a b ≡ true) where
   pub length-between : length (between s a b) ≡ b - a
   length-between = part-length s a (b - a) range-fits
 
+  -- the part's boundaries are the text's
   pub boundary-between : (k : ℕ) → k ≤ b - a → boundary (between s a b) k ≡ boundary s (a + k)
   unfolding boundary
   boundary-between k h = go (ltb k (b - a)) refl
@@ -103,6 +105,7 @@ module _ (s : List ℕ) (a b : ℕ) (is : isRange s a b ≡ true) where
       let ends = sequence-before s (a + at) b (range-end s a b is) (omega arith) in
       sequence-down s a (b - a) range-fits at h (omega arith)
 
+  -- a part of a well-formed text is well-formed
   pub well-formed-between : wellFormed s ≡ true → wellFormed (between s a b) ≡ true
   well-formed-between e =
       let order = range-order s a b is in

@@ -1,4 +1,5 @@
--- `prefix` is the length of the longest well-formed prefix: it lies in the text, the prefix is well-formed, and no longer one is.
+-- `prefix` is the length of the longest well-formed prefix: it is at most the text's (`prefix-inside`), that prefix is well-formed, and no
+-- longer one is.
 -- Assumes nothing.
 use mathlib.Core.Path.{_≡_}
 use mathlib.Core.Bool.{true}
@@ -12,6 +13,7 @@ use Rattle.text.proofs.Reached.{here, well-formed-reached, prefix-reach
 pub use Rattle.text.proofs.Reached.{prefix-inside}
 
 module _ (s : List ℕ) where
+  -- the prefix is well-formed
   pub prefix-well-formed : wellFormed (take (prefix s) s) ≡ true
   prefix-well-formed =
       let inside : 0 + prefix s ≤ length s = omega (arith, prefix-inside s) in
@@ -20,6 +22,7 @@ module _ (s : List ℕ) where
       let reached = reach-down s 0 (prefix s) inside none (prefix s) (prefix-reached s) (omega arith) (omega arith) in
       well-formed-reached (take (prefix s) s) .1 (rw same at reached)
 
+  -- each well-formed prefix is at most as long
   pub prefix-longest : (n : ℕ) → n ≤ length s → wellFormed (take n s) ≡ true → n ≤ prefix s
   prefix-longest n h e =
       let inside : 0 + n ≤ length s = omega arith in

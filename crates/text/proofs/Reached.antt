@@ -30,6 +30,7 @@ run-keeps P s more (suc n) at h = go (run-keeps P s more n (at + sequence s at))
     go rest true e = h
     go rest false e = rest (more at (omega (arith, eqb-false (sequence s at) 0 e)) h)
 
+-- the prefix's end is reached, and lies in the text
 pub prefix-reached : (s : List ℕ) → Reach s (prefix s)
 unfolding prefix
 prefix-reached s = run-keeps (Reach s) s (λ i h r. on r h) (length s) 0 here
@@ -87,5 +88,6 @@ module _ (s : List ℕ) (e : wellFormed s ≡ true) (at : ℕ) (b : boundary s a
           more (on r some) (sequence-before s i at b before) (omega arith)
       go more false q = let same : i ≡ at = omega (arith, ltb-false i at q) in rw same at r
 
+-- the boundaries of a well-formed text are the places that are reached
 pub boundary-iff : (s : List ℕ) (at : ℕ) → wellFormed s ≡ true → boundary s at ≡ true ↔ Reach s at
 boundary-iff s at e = (λ b. boundary-reached s e at b at 0 here (omega arith) (omega arith), reached-boundary s at e)

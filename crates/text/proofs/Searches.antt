@@ -43,10 +43,12 @@ found-by (suc n) s at p e = go (found-by n s) (charAt s at) refl e
             let w = at-inside s at c k q in
             record { after = omega arith; inside = omega arith; on = rw same at (first-boundary s at (omega arith)) }
 
+-- what the search finds
 pub search-finds : (s : List ℕ) (at p : ℕ) → something s at ≡ At p → Findable s at p
 unfolding something
 search-finds s at p = found-by (length s) s at p
 
+-- off a boundary and past the end it finds nothing
 pub search-off : (s : List ℕ) (at : ℕ) → boundary s at ≡ false → something s at ≡ Nowhere
 search-off s at e =
     let none = sym (at-decoded s at 0 Nothing (sym (off-boundary s at e)) (decoded-none s at 0 refl)) in

@@ -7,13 +7,15 @@ use Prim.Native.Nat.{ℕ, zero, suc, _+_, _-_, _≤_, _<_}
 use native.Mathlib.Omega.{arith}
 use Rattle.text.specs.Utf8.{boundary, ending, charBefore}
 use Rattle.text.specs.Space.{isWhite, trim, trimEnd}
+use Rattle.text.specs.Newlines.{isRange}
 use Rattle.text.specs.declared.utf8.Decoded.{Decoded}
 use Rattle.text.specs.declared.utf8.Decoded.the-variants.{Char, Nothing}
 use Rattle.text.proofs.Boundaries.{first-boundary}
 use Rattle.text.proofs.Characters.{before-inside, before-empty, ending-fits}
+use Rattle.text.proofs.Counts.{range-order, range-start, range-end, range-is}
 use Rattle.text.proofs.Walks.{trim-start, trim-nothing, trim-text}
 
--- What holds at a place and before each white space that ends there holds at the end that trimming gives.
+-- what holds at a place, and stays where a character before it is left out, holds at the end that trimming gives
 trim-keeps :
     (P : ℕ → Type 0) (s : List ℕ) (from : ℕ)
     → ((end c k : ℕ) → charBefore s from end ≡ Char c k → P end → P (end - k))
@@ -34,6 +36,7 @@ trim-keeps P s from more (suc n) to h = go (trim-keeps P s from more n) (charBef
         go-on true = rest (to - k) (more to c k e h)
         go-on false = h
 
+-- the end moves back, and not past the start
 pub trim-before : (s : List ℕ) (from to : ℕ) → trimEnd s from to ≤ to
 unfolding trimEnd
 trim-before s from to = trim-keeps (λ e. e ≤ to) s from (λ end c k e h. omega arith) (to - from) to (omega arith)
@@ -52,6 +55,13 @@ trim-boundary s from to = trim-keeps (λ e. boundary s e ≡ true) s from (λ en
         let there = ending-fits s from end (omega arith) .1 in
         rw (w .2) (first-boundary s (end - ending s from end) (omega arith))
 
+-- the trimmed range is a range
+pub trim-range : (s : List ℕ) (from to : ℕ) → isRange s from to ≡ true → isRange s from (trimEnd s from to) ≡ true
+trim-range s from to e =
+    let after = trim-after s from to (range-order s from to e) in
+    range-is s from (trimEnd s from to) after (range-start s from to e) (trim-boundary s from to (range-end s from to e))
+
+-- with turns enough, trimming stops only where no white space ends
 left-by : (n : ℕ) (s : List ℕ) (from to : ℕ) → to ≤ from + n → (c k : ℕ) → charBefore s from (trim n s from to) ≡ Char c k → isWhite c ≡ false
 unfolding trim
 left-by zero s from to h c k e = let z : _≡_ {A = ℕ} 0 1 = cc (before-empty s from to (omega arith)) in absurd (omega arith)
@@ -75,6 +85,7 @@ pub trim-left : (s : List ℕ) (from to c k : ℕ) → charBefore s from (trimEn
 unfolding trimEnd
 trim-left s from to = left-by (to - from) s from to (omega arith)
 
+-- trimming twice is trimming once
 pub trim-again : (s : List ℕ) (from to : ℕ) → trimEnd s from (trimEnd s from to) ≡ trimEnd s from to
 trim-again s from to = go (charBefore s from (trimEnd s from to)) refl
   where

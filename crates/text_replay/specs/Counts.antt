@@ -14,6 +14,7 @@ short d at = getD d at 0 * 256 + getD d (at + 1) 0
 unfoldable pub long : List ℕ → ℕ → ℕ
 long d at = short d at * 65536 + short d (at + 2)
 
+-- the two widths that numbers of section 3 have
 pub record OneOrFour (w : ℕ) : Type 0 where
   pub four : (w ≡ 1 → ⊥) → w ≡ 4
 

@@ -26,6 +26,7 @@ checkAnswer s = cond (wellFormed s) 255 (prefix s)
 unfoldable pub string : ℕ → List ℕ
 string i = cond (ltb i 256) (i ∷ []) ((i - 256) / 256 ∷ (i - 256) % 256 ∷ [])
 
+-- section 1: every string of one byte and of two
 unfoldable pub strings : List ℕ → Outcome
 strings d = cond (ltb (length d) 65792) Cut (Done 65792 65792 (sum 65792 (λ i. differs (getD d i 0) (checkAnswer (string i)))))
 
@@ -34,6 +35,7 @@ unfoldable pub listed : ℕ → List ℕ → ℕ → ℕ → Bool
 listed zero d at c = false
 listed (suc k) d at c = within (long d at) (long d (at + 4)) c || listed k d (at + 8) c
 
+-- a test as a number
 abbrev pub bit : Bool → ℕ
 bit t = cond t 1 0
 
