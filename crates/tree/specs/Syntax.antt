@@ -106,7 +106,7 @@ mutual
 
   pub data MaybeExpr : Type 0 where
     noExpr : MaybeExpr
-    some : Expr → MaybeExpr
+    someExpr : Expr → MaybeExpr
 
   -- `Vec<Meta<RecordField>>`
   pub data Entries : Type 0 where
