@@ -1,0 +1,91 @@
+// Module 2: the reader of tree images. It accepts a source and an image, or refuses them with a number and a place.
+pub mod bytes;
+mod comments;
+mod grammar;
+mod records;
+
+ghost use mathlib.Core.Path.{_≡_};
+ghost use Prim.Native.Nat.{_≤_};
+ghost use lib.ListN.{length};
+ghost use Rattle.image.specs.Read.{sourceFits, header, readTree, readImage, readAll, answerOf};
+use bytes::num16;
+use bytes::num32;
+use bytes::wide;
+use comments::read_comments;
+use records::Step;
+use records::read_record;
+use text::utf8::Checked;
+
+pub enum Answer {
+    // the number of comments, and the tree's offset
+    Accepted { comments: usize, tree: usize },
+    // the number and the place
+    Refused(u8, usize),
+}
+
+// Whether the source is no longer than 65,536 bytes: refusal 1 where it is.
+pub fn source_fits(s: &[u8]) -> bool
+    ensures { λ r. ⌜ r ≡ sourceFits (now (s .entry)) ⌝ }
+{
+    s.len() <= 65536
+}
+
+// Whether the image has a header that is right: refusal 3 where it hasn't.
+pub fn header_fits(b: &[u8]) -> bool
+    ensures { λ r. ⌜ r ≡ header (now (b .entry)) ⌝ }
+{
+    if b.len() < 5 {
+        return false;
+    }
+    if wide(b[0]) != 1 {
+        return false;
+    }
+    let n = num32(b, 1);
+    if 5 + n != b.len() {
+        return false;
+    }
+    n <= 1048576
+}
+
+fn read_tree(s: &[u8], b: &[u8], v: usize, at: usize) -> Answer
+    requires { ⌜ (7 ≤ at) × (at ≤ length (now b)) ⌝ }
+    ensures { λ r. ⌜ r ≡ answerOf (readTree (now (s .entry)) (now (b .entry)) v at) ⌝ }
+{
+    match read_record(s, b, v, 64, 1, at, b.len()) {
+        Step::Fault(n, q) => Answer::Refused(n, q),
+        Step::Next(next) => {
+            if next < b.len() {
+                return Answer::Refused(4, next);
+            }
+            Answer::Accepted {
+                comments: num16(b, 5),
+                tree: at,
+            }
+        }
+    }
+}
+
+fn read_image(s: &[u8], b: &[u8], ordered: bool) -> Answer
+    ensures { λ r. ⌜ r ≡ answerOf (readImage ordered (now (s .entry)) (now (b .entry))) ⌝ }
+{
+    if !header_fits(b) {
+        return Answer::Refused(3, 0);
+    }
+    match read_comments(s, b, ordered) {
+        Step::Fault(n, q) => Answer::Refused(n, q),
+        Step::Next(at) => read_tree(s, b, 2, at),
+    }
+}
+
+// Accepts a source and an image, or refuses them.
+pub fn check(source: &[u8], image: &[u8]) -> Answer
+    ensures { λ r. ⌜ r ≡ answerOf (readAll (now (source .entry)) (now (image .entry))) ⌝ }
+{
+    if !source_fits(source) {
+        return Answer::Refused(1, 0);
+    }
+    match text::utf8::check(source) {
+        Checked::Bad(at) => Answer::Refused(2, at),
+        Checked::WellFormed => read_image(source, image, false),
+    }
+}
