@@ -96,7 +96,8 @@ headAt b at =
       stop = stopAt b at;
     }
 
--- the record at `at` is not too short, doesn't outgrow `end`, and has a kind and a payload right at place p; a text's width has v bytes
+-- the record at `at` is not too short, doesn't outgrow `end`, and has a kind and a payload right at place p; a text's width has v bytes.
+-- (With fewer than four bytes up to `end` it outgrows `end`, whatever its length is read as.)
 unfoldable pub shape : List ℕ → ℕ → ℕ → ℕ → ℕ → Bool
 shape b v p at end =
     leb 9 (be32 b at) && leb (stopAt b at) end && kindFits p (kindAt b at) && payloadFits b v p (kindAt b at) (at + 13) (stopAt b at)
@@ -124,8 +125,8 @@ unfoldable pub skips : List ℕ → ℕ → ℕ → ℕ → Bool
 skips b p at end = isOptional p && leb (at + 4) end && eqb (be32 b at) 0
 
 -- a child at place p: absent, or the record that `one` reads
-abbrev pub childAt : List ℕ → (ℕ → ℕ → ℕ → Read Tree) → ℕ → ℕ → ℕ → Read Tree
-childAt b one p at end = cond (skips b p at end) (got absent (at + 4)) (one (bare p) at end)
+abbrev pub childBy : List ℕ → (ℕ → ℕ → ℕ → Read Tree) → ℕ → ℕ → ℕ → Read Tree
+childBy b one p at end = cond (skips b p at end) (got absent (at + 4)) (one (bare p) at end)
 
 -- the record at `at`, at place p of a parent that ends at `end`
 unfoldable pub recordAt : List ℕ → List ℕ → ℕ → ℕ → ℕ → ℕ → ℕ → Read Tree
@@ -133,7 +134,10 @@ recordAt s b v zero p at end = bind (opens s b v 0 p at end) (λ h first. bad 5 
 recordAt s b v (suc left) p at end =
     bind (opens s b v (suc left) p at end)
     (λ h first.
-    bind (childrenAt (childAt b (recordAt s b v left)) (suc (length b)) (rowUnder p (h .kind)) first (h .stop)) (λ ts next. got (node h ts) next))
+    bind (childrenAt (childBy b (recordAt s b v left)) (suc (length b)) (rowUnder p (h .kind)) first (h .stop)) (λ ts next. got (node h ts) next))
+
+abbrev pub childAt : List ℕ → List ℕ → ℕ → ℕ → ℕ → ℕ → ℕ → Read Tree
+childAt s b v left = childBy b (recordAt s b v left)
 
 -- the record at `at`, read as if it were the tree
 unfoldable pub treeAt : List ℕ → List ℕ → ℕ → ℕ → ℕ → Read Tree

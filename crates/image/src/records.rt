@@ -90,7 +90,7 @@ fn skip_fits(b: &[u8], p: usize, at: usize, end: usize) -> bool
 // Reads a child at place p: nothing or a record.
 fn read_child(s: &[u8], b: &[u8], v: usize, left: u32, p: usize, at: usize, end: usize) -> Step
     requires { ⌜ (at ≤ end) × (end ≤ length (now b)) ⌝ }
-    ensures { λ r. ⌜ r ≡ stepOf (childAt (now (b .entry)) (recordAt (now (s .entry)) (now (b .entry)) v left) p at end) ⌝ }
+    ensures { λ r. ⌜ r ≡ stepOf (childAt (now (s .entry)) (now (b .entry)) v left p at end) ⌝ }
 {
     if skip_fits(b, p, at, end) {
         return Step::Next(at + 4);
@@ -120,7 +120,7 @@ fn read_children(
     stop: usize,
 ) -> Step
     requires { ⌜ (first ≤ stop) × (stop ≤ length (now b)) ⌝ }
-    ensures { λ r. ⌜ r ≡ stepOf (childrenAt (childAt (now (b .entry)) (recordAt (now (s .entry)) (now (b .entry)) v left)) (suc (length (now (b .entry)))) places first stop) ⌝ }
+    ensures { λ r. ⌜ r ≡ stepOf (childrenAt (childAt (now (s .entry)) (now (b .entry)) v left) (suc (length (now (b .entry)))) places first stop) ⌝ }
 {
     let mut at = first;
     let mut row = places;
