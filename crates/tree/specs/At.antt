@@ -298,14 +298,14 @@ module _ (s b : List ℕ) where
     -- 81, one after the other
     pub ArmsAt : Arms → ℕ → ℕ → Type 0
     ArmsAt noArms at end = Done at end
-    ArmsAt (arm p q g e as) at end =
+    ArmsAt (arm p q g e more) at end =
         Head s b 81 p at
         × PatternAt q (at + 13)
         × MaybeExprAt g (past (at + 13))
         × ExprAt e (past (past (at + 13)))
         × Ends b (past (past (at + 13))) at
         × Before b at end
-        × ArmsAt as (past at) end
+        × ArmsAt more (past at) end
 
     -- 84 and 85, one after the other
     pub PartsAt : Parts → ℕ → ℕ → Type 0
