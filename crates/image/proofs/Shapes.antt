@@ -81,7 +81,7 @@ pub opened-order : {s b : List ℕ} {v left p at end : ℕ} → Opened s b v lef
 opened-order {b = b} {v = v} {p = p} {at = at} o =
     first-within b v p (kindAt b at) (at + 13) (stopAt b at) (omega (arith, o .right .long)) (o .right .payload)
 
-abbrev isGot : {A : Type 0} → Read A → Bool
+abbrev pub isGot : {A : Type 0} → Read A → Bool
 isGot (got a n) = true
 isGot (bad n p) = false
 
