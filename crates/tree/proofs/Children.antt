@@ -36,6 +36,11 @@ use Rattle.image.proofs.Shapes.{opened-order, skips-within}
 use Rattle.image.proofs.Inside.{Split, must, none-left, any-number, Inside, inside, none-deep}
 use Rattle.tree.specs.At.{Absent, Done, Head}
 
+-- cases one after the other
+infixr 10 _∣_
+abbrev pub _∣_ : {A B : Type 0} → A → B → A × B
+x ∣ y = (x, y)
+
 -- ---- places
 pub data Place : Type 0 where
   due : ℕ → Place
@@ -285,3 +290,20 @@ module _ (s b : List ℕ) where
       let o = opened d p at end t k in
       let r = ranged p (kindAt b at) (o .0) in
       subst Q (sym (o .1 .1)) (pick (λ k. (n : Node d p at end k) → Q (treeOf d p at end k n)) (low p) (count p) (kindAt b at) each (r .0) (r .1) (o .1 .0))
+
+  -- ---- what holds of every record that is read at a place, at its offset
+  abbrev pub All : ℕ → ℕ → (Tree → ℕ → Type 0) → Type 0
+  All d p P = (at end : ℕ) (t : Tree) → Kid d p at end t → P t at
+
+  -- with no level left none is read
+  pub none : (p : ℕ) (P : Tree → ℕ → Type 0) → All 0 p P
+  none p P at end t k = absurd (none-deep s b 2 p at end t _ (k .reads))
+
+  pub all : (d p : ℕ) (P : Tree → ℕ → Type 0)
+      → ((at end : ℕ) → Each (λ k. (n : Node d p at end k) → P (treeOf d p at end k n) at) (low p) (count p)) → All (suc d) p P
+  all d p P f at end = by-kind d p at end (λ t. P t at) (f at end)
+
+  pub always : (p : ℕ) (P : Tree → ℕ → Type 0)
+      → ((d at end : ℕ) → Each (λ k. (n : Node d p at end k) → P (treeOf d p at end k n) at) (low p) (count p)) → (d : ℕ) → All d p P
+  always p P f zero = none p P
+  always p P f (suc d) = all d p P (f d)

@@ -1,1 +1,4 @@
 pub mod Children
+pub mod Texts
+pub mod Types
+pub mod Exprs

@@ -128,8 +128,8 @@ abbrev pub maybeBlock : Bool → Block → MaybeBlock
 maybeBlock true k = someBlock k
 maybeBlock false k = noBlock
 
-abbrev pub maybeIdents : Views → Option Idents
-maybeIdents x = maybe (x .there) (record { span = x .span; elems = x .idents })
+abbrev pub listOf : Views → Idents
+listOf x = record { span = x .span; elems = x .idents }
 
 -- ---- the elements of a list
 abbrev pub idents : List Views → List Ident
@@ -195,7 +195,7 @@ typeForms xs =
     else (recordType (first xs .span) (first xs .fields))
 
 abbrev pub patterns : List Views → Forms Pattern
-patterns xs = 82 ⇒ underscore ∣ else (enumVariant (first xs .ident) (maybeIdents (second xs)))
+patterns xs = 82 ⇒ underscore ∣ else (enumVariant (first xs .ident) (maybe (second xs .there) (listOf (second xs))))
 
 -- n is the payload byte
 abbrev pub exprForms : ℕ → List Views → Forms Form
@@ -238,17 +238,17 @@ abbrev pub declarationForms : Span → List Views → Forms Declaration
 declarationForms s xs =
     10 ⇒ filterMap (first xs .ident) (second xs .span) (second xs .fields) (third xs .block) ∣
     11 ⇒ const (first xs .ident) (second xs .type) (third xs .expr) ∣
-    12 ⇒ recordDecl (first xs .ident) (maybeIdents (second xs)) (third xs .span) (third xs .fields) ∣
-    13 ⇒ enumDecl (first xs .ident) (maybeIdents (second xs)) (third xs .span) (third xs .variants) ∣
+    12 ⇒ recordDecl (first xs .ident) (maybe (second xs .there) (listOf (second xs))) (third xs .span) (third xs .fields) ∣
+    13 ⇒ enumDecl (first xs .ident) (maybe (second xs .there) (listOf (second xs))) (third xs .span) (third xs .variants) ∣
     14 ⇒ function (first xs .ident) (second xs .span) (second xs .fields) (maybe (third xs .there) (third xs .type)) (fourth xs .block) ∣
     15 ⇒ test (first xs .ident) (second xs .block) ∣
     else (importDecl (importOf s xs))
 
 -- ---- a record, and records one after the other
-module _ (b : List ℕ) where
-  abbrev pub spanOf : Head → Span
-  spanOf h = record { start = h .from; end = h .to }
+abbrev pub spanOf : Head → Span
+spanOf h = record { start = h .from; end = h .to }
 
+module _ (b : List ℕ) where
   abbrev pub byteOf : Head → ℕ
   byteOf h = getD b (h .at + 13) 0
 
