@@ -65,7 +65,7 @@ module _ (s b : List ℕ) where
 
   -- the same where it may be absent
   pub data Perhaps (d p at end : ℕ) : Tree → Type 0 where
-    gone : Absent b at → Perhaps d p at end absent
+    gone : Absent b at → at + 4 ≤ end → Perhaps d p at end absent
     here : {h : Rattle.image.specs.Read.Head} {ts : Trees} → Kid d p at end (node h ts) → Perhaps d p at end (node h ts)
 
   -- records at place p one after the other, up to `end`
@@ -93,7 +93,7 @@ module _ (s b : List ℕ) where
     pub same : ts ≡ trees d ps at end kids
 
   -- ---- what was read below a record
-  kid : (d p at end : ℕ) (t : Tree) (q : ℕ) → end ≤ length b → recordAt s b 2 d p at end ≡ got t q → (q ≡ stopAt b at) × Kid d p at end t
+  pub kid : (d p at end : ℕ) (t : Tree) (q : ℕ) → end ≤ length b → recordAt s b 2 d p at end ≡ got t q → (q ≡ stopAt b at) × Kid d p at end t
   kid zero p at end t q far h = absurd (none-deep s b 2 p at end t q h)
   kid (suc d) p at end t q far h =
       let i = inside s b 2 d p at end t q h in
@@ -132,7 +132,7 @@ module _ (s b : List ℕ) where
           record {
             stop = omega (arith, w .1);
             within = omega (arith, w .0, w .1);
-            is = rw (← is) (gone (record { zero = w .1; fits = omega (arith, w .0) }));
+            is = rw (← is) (gone (record { zero = w .1; fits = omega (arith, w .0) }) (w .0));
           }
       go false e h =
           let k = kid d (bare p) at end t q far h in

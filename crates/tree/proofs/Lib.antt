@@ -2,3 +2,5 @@ pub mod Children
 pub mod Texts
 pub mod Types
 pub mod Exprs
+pub mod Declarations
+pub mod Whole

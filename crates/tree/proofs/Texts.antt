@@ -38,8 +38,12 @@ module _ (s b : List ℕ) where
   -- a child that may be absent
   pub perhaps : (d p at end : ℕ) (P : Tree → Type 0) → (Absent b at → P absent)
       → ((h : Rattle.image.specs.Read.Head) (ts : Trees) → Kid s b d p at end (node h ts) → P (node h ts)) → (t : Tree) → Perhaps s b d p at end t → P t
-  perhaps d p at end P z f t (gone a) = z a
+  perhaps d p at end P z f t (gone a l) = z a
   perhaps d p at end P z f t (here {h = h} {ts = ts} k) = f h ts k
+
+  pub perhaps-before : (d p at end : ℕ) (t : Tree) → Perhaps s b d p at end t → Before b at end
+  perhaps-before d p at end t (gone a l) = let z = a .zero in record { least = omega arith }
+  perhaps-before d p at end t (here k) = before k
 
   pub optional : {A : Type 0} (d p : ℕ) (f : Views → A) (P : A → ℕ → Type 0) → All s b d p (λ t at. P (f (views b t)) at)
       → (at end : ℕ) (t : Tree) → Perhaps s b d p at end t → Maybe s b P (maybe (views b t .there) (f (views b t))) at

@@ -160,3 +160,7 @@ module _ (s b : List ℕ) where
 
   pub import-at : (d : ℕ) → All s b d 16 ImportHere
   import-at d = imported d .one
+
+  pub group-at : (d at end : ℕ) (t : Tree) → Perhaps s b d (list 16) at end t
+      → ImportGroupAt s b (maybeGroup (views b t .there) (views b t .span) (views b t .imports)) at
+  group-at d = import-group d (imported d)
