@@ -233,8 +233,7 @@ module _ (s b : List ℕ) where
   opened d p at end t k =
       let i = inside s b 2 d p at end t _ (k .reads) in
       let o = i .held in
-      let a = apart d 5 (rowUnder p (kindAt b at)) (stopAt b at) (omega (arith, k .within, k .far)) _ _ (i .trees) (opened-order o) (i .kept) in
-      (
+      let a = apart d 5 (rowUnder p (kindAt b at)) (stopAt b at) (omega (arith, k .within, k .far)) _ _ (i .trees) (opened-order o) (i .kept) in (
         o .right .kind,
         (
           record {
@@ -246,8 +245,8 @@ module _ (s b : List ℕ) where
             span = o .span;
             kids = a .kids;
           },
-          i .is ∙ ap (node (headAt b at)) (a .same)
-        )
+          i .is ∙ ap (node (headAt b at)) (a .same),
+        ),
       )
 
   -- ---- by kind

@@ -40,7 +40,7 @@ module _ (s b : List ℕ) where
       (λ n. (
         head s b n,
         run s b d 21 (stopAt b at) (λ ts i. VariantsAt s b (variants (each b ts)) i (stopAt b at)) (λ i e. e)
-        (λ i t ts k more. one-variant d _ _ _ k _ _ (before s b k) more) (at + 13) (n .kids)
+            (λ i t ts k more. one-variant d _ _ _ k _ _ (before s b k) more) (at + 13) (n .kids),
       ))
       ∣ tt)
 
@@ -81,15 +81,14 @@ module _ (s b : List ℕ) where
         (record { span = _; head = head s b n }, text-of ki, params-of kp, l .0, l .1, z))
         ∣ (λ n.
         let (i, ki, (p, kp, (t, kt, (k, kk, z)))) = n .kids in
-        let l = fields-at s b d _ _ _ kp in
-        (
+        let l = fields-at s b d _ _ _ kp in (
           record { span = _; head = head s b n },
           text-of ki,
           l .0,
           l .1,
           optional s b d type (λ x. x .type) (TypeAt s b) (type-at s b d) _ _ _ kt,
           block-of kk,
-          z
+          z,
         ))
         ∣ (λ n. let (i, ki, (k, kk, z)) = n .kids in (record { span = _; head = head s b n }, text-of ki, block-of kk, z))
         ∣ (λ n.

@@ -164,7 +164,7 @@ module _ (s b : List ℕ) where
         (λ n. (
           head s b n,
           run s b d expr (stopAt b at) (λ ts i. ExprsAt s b (exprs (each b ts)) i (stopAt b at)) (λ i e. e)
-          (λ i t ts k more. (expr-of k, before s b k, more)) (at + 13) (n .kids)
+              (λ i t ts k more. (expr-of k, before s b k, more)) (at + 13) (n .kids),
         ))
         ∣ tt)
 
@@ -184,7 +184,7 @@ module _ (s b : List ℕ) where
         (λ n. (
           head s b n,
           run s b d 22 (stopAt b at) (λ ts i. EntriesAt s b (entries (each b ts)) i (stopAt b at)) (λ i e. e)
-          (λ i t ts k more. w .entry _ _ _ k _ _ (before s b k) more) (at + 13) (n .kids)
+              (λ i t ts k more. w .entry _ _ _ k _ _ (before s b k) more) (at + 13) (n .kids),
         ))
         ∣ tt)
 
@@ -206,7 +206,7 @@ module _ (s b : List ℕ) where
         (λ n. (
           head s b n,
           run s b d 81 (stopAt b at) (λ ts i. ArmsAt s b (arms (each b ts)) i (stopAt b at)) (λ i e. e)
-          (λ i t ts k more. w .arm _ _ _ k _ _ (before s b k) more) (at + 13) (n .kids)
+              (λ i t ts k more. w .arm _ _ _ k _ _ (before s b k) more) (at + 13) (n .kids),
         ))
         ∣ tt)
 
@@ -227,7 +227,7 @@ module _ (s b : List ℕ) where
         (λ n. (
           head s b n,
           run s b d (upTo 84 85) (stopAt b at) (λ ts i. PartsAt s b (parts (each b ts)) i (stopAt b at)) (λ i e. e)
-          (λ i t ts k more. w .part _ _ _ k _ _ (before s b k) more) (at + 13) (n .kids)
+              (λ i t ts k more. w .part _ _ _ k _ _ (before s b k) more) (at + 13) (n .kids),
         ))
         ∣ tt)
 
@@ -262,7 +262,7 @@ module _ (s b : List ℕ) where
         (λ n. (
           head s b n,
           run s b d statement (stopAt b at) (λ ts i. StmtsAt s b (stmts (each b ts)) i (stopAt b at)) (λ i e. e)
-          (λ i t ts k more. (w .stmt _ _ _ k, before s b k, more)) (at + 13) (n .kids)
+              (λ i t ts k more. (w .stmt _ _ _ k, before s b k, more)) (at + 13) (n .kids),
         ))
         ∣ tt)
 

@@ -4,3 +4,4 @@ pub mod Types
 pub mod Exprs
 pub mod Declarations
 pub mod Whole
+pub mod Examples

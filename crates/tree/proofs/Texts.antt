@@ -82,13 +82,13 @@ module _ (s b : List ℕ) where
       always s b 4 (λ t at. PathAt s b (views b t .path) at)
       (λ d at end. (
         (λ n.
-        let (t, k, more) = n .kids in
-        record {
-          head = record { span = _; head = head n };
-          first = ident d (at + 13) (stopAt b at) t k;
-          inside = before k;
-          more = texts d (stopAt b at) _ more;
-        }),
+            let (t, k, more) = n .kids in
+            record {
+              head = record { span = _; head = head n };
+              first = ident d (at + 13) (stopAt b at) t k;
+              inside = before k;
+              more = texts d (stopAt b at) _ more;
+            }),
         tt,
       ))
 
@@ -127,7 +127,7 @@ module _ (s b : List ℕ) where
       (λ d at end. (
         (λ n. (
           record { span = _; op = record { head = head n; which = record { byte = refl }; ends = byte-ends at (n .kids) } },
-          small 4 at (stopAt b at) (n .payload)
+          small 4 at (stopAt b at) (n .payload),
         )),
         tt,
       ))
@@ -139,13 +139,14 @@ module _ (s b : List ℕ) where
       always s b (upTo 82 83) (λ t at. PatternAt s b (views b t .pattern) at)
       (λ d at end. (
         (λ n. (record { span = _; head = head n }, n .kids)),
-        ((λ n.
-        let (i, ki, (is, kis, e)) = n .kids in
         (
-          record { span = _; head = head n },
-          ident d (at + 13) (stopAt b at) i ki,
-          optional d (list 2) listOf (ListAt s b) (idents-list d) (stopAt b (at + 13)) (stopAt b at) is kis,
-          e
-        )),
-        tt)
+          (λ n.
+              let (i, ki, (is, kis, e)) = n .kids in (
+                record { span = _; head = head n },
+                ident d (at + 13) (stopAt b at) i ki,
+                optional d (list 2) listOf (ListAt s b) (idents-list d) (stopAt b (at + 13)) (stopAt b at) is kis,
+                e,
+              )),
+          tt,
+        ),
       ))

@@ -74,7 +74,7 @@ module _ (s b : List ℕ) where
         (λ n. (
           head s b n,
           run s b d type (stopAt b at) (λ ts i. TypesAt s b (types (each b ts)) i (stopAt b at)) (λ i e. e)
-          (λ i t ts k more. (w .one _ _ _ k, before s b k, more)) (at + 13) (n .kids)
+              (λ i t ts k more. (w .one _ _ _ k, before s b k, more)) (at + 13) (n .kids),
         ))
         ∣ tt)
 
@@ -94,7 +94,7 @@ module _ (s b : List ℕ) where
         (λ n. (
           head s b n,
           run s b d 20 (stopAt b at) (λ ts i. FieldsAt s b (fields (each b ts)) i (stopAt b at)) (λ i e. e)
-          (λ i t ts k more. w .field _ _ _ k _ _ (before s b k) more) (at + 13) (n .kids)
+              (λ i t ts k more. w .field _ _ _ k _ _ (before s b k) more) (at + 13) (n .kids),
         ))
         ∣ tt)
 
@@ -150,7 +150,7 @@ module _ (s b : List ℕ) where
         (λ n. (
           head s b n,
           run s b d 16 (stopAt b at) (λ ts i. ImportsAt s b (imports (each b ts)) i (stopAt b at)) (λ i e. e)
-          (λ i t ts k more. (w .one _ _ _ k, before s b k, more)) (at + 13) (n .kids)
+              (λ i t ts k more. (w .one _ _ _ k, before s b k, more)) (at + 13) (n .kids),
         ))
         ∣ tt)
 
