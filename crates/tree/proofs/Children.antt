@@ -1,47 +1,30 @@
--- A record that was read, taken apart: what its head says, and its children at the places of its row, one after the other.
+-- A record that was read, taken apart: what its head says, and its children at the places of its row. The reader goes along the row, so
+-- that each child was read at the next place, from where the one before it ends.
 -- Assumes nothing.
 use mathlib.Core.Path.{_≡_, refl, sym, ap, _∙_, subst}
 use mathlib.Core.List.{List, [], _∷_}
-use mathlib.Core.Bool.{Bool, true, false, cond, _&&_, false≢true}
+use mathlib.Core.Bool.{Bool, true, false, cond, _&&_}
 use mathlib.Core.Logic.{⊎-elim}
 use Prim.Native.Nat.{ℕ, zero, suc, _+_, _/_, _%_, _≤_, _<_}
 use native.Mathlib.Omega.{arith}
-use native.Mathlib.Nat.{not-suc-le-zero}
 use lib.ListN.{length}
 use lib.Dec.{leb, eqb}
 use borrow.Author.Tests.{leb-true, eqb-true, eqb-false}
 use Rattle.text.specs.Newlines.{isRange}
 use Rattle.text.proofs.Tests.{and-left, and-right}
 use Rattle.image.specs.Bytes.{be32}
-use Rattle.image.specs.Grammar.{isList, isOptional, isMany, bare, place, after, over, rowUnder, kindFits, payloadFits, firstChild}
-use Rattle.image.specs.Read.{
-  Read,
-  got,
-  bad,
-  Tree,
-  Trees,
-  absent,
-  node,
-  nil,
-  _▸_,
-  stopAt,
-  kindAt,
-  headAt,
-  skips,
-  childAt,
-  recordAt,
-  childrenAt,
-}
+use Rattle.image.specs.Grammar.{isList, isOptional, isMany, bare, place, rowUnder, kindFits, payloadFits, firstChild}
+use Rattle.image.specs.Read.{Read, got, Tree, Trees, absent, node, nil, _▸_, stopAt, kindAt, headAt, skips, childAt, recordAt, childrenAt}
 use Rattle.image.proofs.Shapes.{opened-order, skips-within}
-use Rattle.image.proofs.Inside.{Split, must, none-left, any-number, Inside, inside, none-deep}
-use Rattle.tree.specs.At.{Absent, Done, Head}
+use Rattle.image.proofs.Inside.{Split, must, none-left, any-number, inside, none-deep}
+use Rattle.tree.specs.At.{Absent, Before, Done, Head}
 
 -- cases one after the other
 infixr 10 _∣_
 abbrev pub _∣_ : {A B : Type 0} → A → B → A × B
 x ∣ y = (x, y)
 
--- ---- places
+-- ---- places: a record is due, may be absent, stands any number of times; others are not looked at
 pub data Place : Type 0 where
   due : ℕ → Place
   maybe : ℕ → Place
@@ -56,7 +39,41 @@ places (suc n) row =
     (cond (isMany row) (cond (isOptional (place row)) others (many (bare (place row))) ∷ [])
     (cond (isOptional (place row)) (maybe (bare (place row))) (due (bare (place row))) ∷ places n (row / 65536)))
 
+-- ---- kinds
+-- the kinds at place p: the lowest, and how many
+abbrev pub low : ℕ → ℕ
+low p = cond (isList p) 3 (p % 128)
+
+abbrev pub count : ℕ → ℕ
+count p = cond (isList p) 1 (suc (p / 128 % 32))
+
+-- P of n numbers from k on
+abbrev pub Each : (ℕ → Type 0) → ℕ → ℕ → Type 0
+Each P k zero = Unit
+Each P k (suc n) = P k × Each P (suc k) n
+
+pick : (P : ℕ → Type 0) (low n k : ℕ) → Each P low n → low ≤ k → k < low + n → P k
+pick P low zero k x h l = absurd (omega arith)
+pick P low (suc n) k x h l = go (eqb low k) refl (pick P (suc low) n k (x .1))
+  where
+    go : (t : Bool) → eqb low k ≡ t → (suc low ≤ k → k < suc low + n → P k) → P k
+    go true e more = rw (eqb-true low k e) at (x .0)
+    go false e more = let f = eqb-false low k e in more (omega arith) (omega arith)
+
+ranged : (p k : ℕ) → kindFits p k ≡ true → (low p ≤ k) × (k < low p + count p)
+unfolding kindFits
+ranged p k e = go (isList p) e
+  where
+    go : (x : Bool) → cond x (eqb k 3) (leb (p % 128) k && leb k (p % 128 + p / 128 % 32)) ≡ true
+        → (cond x 3 (p % 128) ≤ k) × (k < cond x 3 (p % 128) + cond x 1 (suc (p / 128 % 32)))
+    go true e = let f = eqb-true k 3 e in omega arith
+    go false e =
+        let f = leb-true (p % 128) k (and-left _ _ e) in
+        let g = leb-true k (p % 128 + p / 128 % 32) (and-right (leb (p % 128) k) _ e) in
+        omega arith
+
 module _ (s b : List ℕ) where
+  -- ---- what is read
   -- a record that was read as t at place p, with d levels left, in a parent that ends at `end`
   pub record Kid (d p at end : ℕ) (t : Tree) : Type 0 where
     pub reads : recordAt s b 2 d p at end ≡ got t (stopAt b at)
@@ -81,6 +98,7 @@ module _ (s b : List ℕ) where
   Kids d (many p ∷ ps) at end = (ts : Trees) × Elements d p end ts at
   Kids d (others ∷ ps) at end = Trees
 
+  -- those children as the reader gives them
   abbrev pub trees : (d : ℕ) (ps : List Place) (at end : ℕ) → Kids d ps at end → Trees
   trees d [] at end c = nil
   trees d (due p ∷ ps) at end c = c .0 ▸ trees d ps (stopAt b at) end (c .2)
@@ -249,40 +267,7 @@ module _ (s b : List ℕ) where
         ),
       )
 
-  -- ---- by kind
-  -- the kinds at place p: the lowest, and how many
-  abbrev pub low : ℕ → ℕ
-  low p = cond (isList p) 3 (p % 128)
-
-  abbrev pub count : ℕ → ℕ
-  count p = cond (isList p) 1 (suc (p / 128 % 32))
-
-  -- P of n numbers from k on
-  abbrev pub Each : (ℕ → Type 0) → ℕ → ℕ → Type 0
-  Each P k zero = Unit
-  Each P k (suc n) = P k × Each P (suc k) n
-
-  pick : (P : ℕ → Type 0) (low n k : ℕ) → Each P low n → low ≤ k → k < low + n → P k
-  pick P low zero k x h l = absurd (omega arith)
-  pick P low (suc n) k x h l = go (eqb low k) refl (pick P (suc low) n k (x .1))
-    where
-      go : (t : Bool) → eqb low k ≡ t → (suc low ≤ k → k < suc low + n → P k) → P k
-      go true e more = rw (eqb-true low k e) at (x .0)
-      go false e more = let f = eqb-false low k e in more (omega arith) (omega arith)
-
-  ranged : (p k : ℕ) → kindFits p k ≡ true → (low p ≤ k) × (k < low p + count p)
-  unfolding kindFits
-  ranged p k e = go (isList p) e
-    where
-      go : (x : Bool) → cond x (eqb k 3) (leb (p % 128) k && leb k (p % 128 + p / 128 % 32)) ≡ true
-          → (cond x 3 (p % 128) ≤ k) × (k < cond x 3 (p % 128) + cond x 1 (suc (p / 128 % 32)))
-      go true e = let f = eqb-true k 3 e in omega arith
-      go false e =
-          let f = leb-true (p % 128) k (and-left _ _ e) in
-          let g = leb-true k (p % 128 + p / 128 % 32) (and-right (leb (p % 128) k) _ e) in
-          omega arith
-
-  -- What holds of each kind of record at place p holds of a record that was read there.
+  -- What holds of each kind of record at place p holds of the record that was read there.
   pub by-kind : (d p at end : ℕ) (Q : Tree → Type 0) → Each (λ k. (n : Node d p at end k) → Q (treeOf d p at end k n)) (low p) (count p)
       → (t : Tree) → Kid (suc d) p at end t → Q t
   by-kind d p at end Q each t k =
@@ -306,3 +291,38 @@ module _ (s b : List ℕ) where
       → ((d at end : ℕ) → Each (λ k. (n : Node d p at end k) → P (treeOf d p at end k n) at) (low p) (count p)) → (d : ℕ) → All d p P
   always p P f zero = none p P
   always p P f (suc d) = all d p P (f d)
+
+  -- ---- its parts, as the relations say them
+  pub head : {d p at end k : ℕ} (n : Node d p at end k) → Head s b k (record { start = be32 b (at + 5); end = be32 b (at + 9) }) at
+  head n =
+      record {
+        kinds = n .kind;
+        long = n .long;
+        fits = omega (arith, n .within, n .far);
+        start = refl;
+        end = refl;
+        range = n .span;
+      }
+
+  pub before : {d p at end : ℕ} {t : Tree} → Kid d p at end t → Before b at end
+  before k = record { least = k .within }
+
+  -- a child that may be absent
+  pub perhaps : (d p at end : ℕ) (P : Tree → Type 0) → (Absent b at → P absent)
+      → ((h : Rattle.image.specs.Read.Head) (ts : Trees) → Kid d p at end (node h ts) → P (node h ts)) → (t : Tree) → Perhaps d p at end t → P t
+  perhaps d p at end P z f t (gone a l) = z a
+  perhaps d p at end P z f t (here {h = h} {ts = ts} k) = f h ts k
+
+  pub perhaps-before : (d p at end : ℕ) (t : Tree) → Perhaps d p at end t → Before b at end
+  perhaps-before d p at end t (gone a l) = let z = a .zero in record { least = omega arith }
+  perhaps-before d p at end t (here k) = before k
+
+  -- a list of the elements that were read
+  pub run : (d p end : ℕ) (L : Trees → ℕ → Type 0) → ((at : ℕ) → Done at end → L nil at)
+      → ((at : ℕ) (t : Tree) (ts : Trees) → Kid d p at end t → L ts (stopAt b at) → L (t ▸ ts) at)
+      → (at : ℕ) (c : (ts : Trees) × Elements d p end ts at) → L (c .0) at
+  run d p end L z more at c = go (c .0) at (c .1)
+    where
+      go : (ts : Trees) (at : ℕ) → Elements d p end ts at → L ts at
+      go nil at e = z at e
+      go (t ▸ ts) at e = more at t ts (e .0) (go ts (stopAt b at) (e .1))

@@ -1,14 +1,14 @@
--- Declarations stand in the image as the relations say.
+-- Declarations stand in the image as the relations say, since their parts do.
 -- Assumes nothing.
 use mathlib.Core.List.{List}
-use Prim.Native.Nat.{ℕ, zero, suc, _+_, _≤_}
-use Rattle.image.specs.Grammar.{list, type, expr, declaration, rowOf, rowUnder, firstChild}
+use Prim.Native.Nat.{ℕ, suc, _+_, _≤_}
+use Rattle.image.specs.Grammar.{list, type, declaration, rowOf, rowUnder, firstChild}
 use Rattle.image.specs.Read.{Tree, stopAt}
 use Rattle.tree.specs.Syntax.{Variants}
 use Rattle.tree.specs.At.{Before, Head, Maybe, IdentAt, PathAt, ListAt, TypeAt, ImportAt, BlockAt, VariantsAt, DeclarationAt}
 use Rattle.tree.specs.Records.{views, each, maybe, listOf, variants}
-use Rattle.tree.proofs.Children.{_∣_, Kid, Perhaps, All, all, always}
-use Rattle.tree.proofs.Texts.{head, before, optional, run, ident, path, idents-list}
+use Rattle.tree.proofs.Children.{_∣_, Kid, Perhaps, All, all, always, head, before, run}
+use Rattle.tree.proofs.Texts.{optional, ident, path, idents-list}
 use Rattle.tree.proofs.Types.{type-at, types-at, fields-at, group-at}
 use Rattle.tree.proofs.Exprs.{expr-at, block-at}
 
@@ -63,6 +63,7 @@ module _ (s b : List ℕ) where
     unfolding views DeclarationAt ImportAt rowUnder rowOf firstChild
     declaration-at =
         all s b d declaration DeclarationHere
+        -- 10 to 16
         (λ at end.
         (λ n.
         let (i, ki, (p, kp, (k, kk, z))) = n .kids in

@@ -1,10 +1,9 @@
 -- Images as syntax trees: antt computes each from its bytes.
 -- Assumes nothing.
 use mathlib.Core.Path.{_≡_, refl}
-use mathlib.Core.List.{List, [], _∷_, _++_}
+use mathlib.Core.List.{List, [], _∷_}
 use mathlib.Core.Option.{Option, none, some}
 use Prim.Native.Nat.{ℕ, _+_}
-use lib.ListN.{length}
 use Rattle.text.specs.Utf8.{within, rowIn, followed, sequence, run, prefix, wellFormed, boundary}
 use Rattle.text.specs.Newlines.{isRange}
 use Rattle.image.specs.Bytes.{be16, be32}
@@ -29,7 +28,7 @@ use Rattle.image.specs.Read.{
   sourceFits,
   readAll,
 }
-use Rattle.tree.specs.Syntax.{Span, Ident, TypeExpr, type, typePath, noArgs, Expr, expr, literal, Declaration, const, SyntaxTree}
+use Rattle.tree.specs.Syntax.{Span, Ident, TypeExpr, type, typePath, noArgs, Expr, expr, literal, const, SyntaxTree}
 use Rattle.tree.specs.Records.{views, syntaxTree}
 
 -- what is read of a source and an image: the number of comments, the tree's offset, the tree

@@ -1,33 +1,17 @@
--- Expressions, blocks and statements stand in the image as the relations say, by induction on the levels left.
+-- Expressions, blocks and statements stand in the image as the relations say, by induction on the levels left: a record's children were
+-- read with one level less.
 -- Assumes nothing.
 use mathlib.Core.Path.{_≡_, refl}
 use mathlib.Core.List.{List}
 use Prim.Native.Nat.{ℕ, zero, suc, _+_, _≤_}
 use native.Mathlib.Omega.{arith}
 use Rattle.image.specs.Grammar.{list, upTo, type, expr, statement, rowOf, rowUnder, firstChild, payloadFits}
-use Rattle.image.specs.Read.{Tree, Trees, absent, node, nil, _▸_, stopAt}
+use Rattle.image.specs.Read.{Tree, node, stopAt}
 use Rattle.tree.specs.Syntax.{Entries, Arms, Parts}
-use Rattle.tree.specs.At.{
-  Absent,
-  Before,
-  Head,
-  Record,
-  TypeAt,
-  leftDepth,
-  ExprAt,
-  ExprsAt,
-  MaybeExprAt,
-  EntriesAt,
-  ArmsAt,
-  PartsAt,
-  BlockAt,
-  MaybeBlockAt,
-  StmtsAt,
-  StmtAt,
-}
-use Rattle.tree.specs.Records.{Views, views, each, exprs, entries, arms, parts, stmts, maybeExpr, maybeBlock}
-use Rattle.tree.proofs.Children.{_∣_, Kid, Perhaps, Elements, Node, All, all, none}
-use Rattle.tree.proofs.Texts.{head, before, perhaps, optional, run, small, ident, path, literal, operator, compound-operator, pattern}
+use Rattle.tree.specs.At.{Before, Head, TypeAt, leftDepth, ExprAt, ExprsAt, MaybeExprAt, EntriesAt, ArmsAt, PartsAt, BlockAt, MaybeBlockAt, StmtsAt, StmtAt}
+use Rattle.tree.specs.Records.{views, each, exprs, entries, arms, parts, stmts, maybeExpr, maybeBlock}
+use Rattle.tree.proofs.Children.{_∣_, Kid, Perhaps, All, all, none, head, before, perhaps, run}
+use Rattle.tree.proofs.Texts.{optional, small, ident, path, literal, operator, compound-operator, pattern}
 use Rattle.tree.proofs.Types.{type-at, import-at}
 
 module _ (s b : List ℕ) where
@@ -118,6 +102,7 @@ module _ (s b : List ℕ) where
     unfolding views ExprAt rowUnder rowOf firstChild payloadFits
     one-expr low =
         all s b d expr ExprHere
+        -- 50 to 70
         (λ at end.
         (λ n.
         let (x, kx, z) = n .kids in
@@ -137,7 +122,7 @@ module _ (s b : List ℕ) where
         ∣ (λ n.
         let (p, kp, (o, ko, (x, kx, z))) = n .kids in
         let op = compound-operator s b d _ _ _ ko in
-        (head s b n, (path s b d _ _ _ kp, op .0, op .1, expr-of kx, z)))
+        (head s b n, (path s b d _ _ _ kp, record { span = _; op = op .0 }, op .1, expr-of kx, z)))
         ∣ (λ n.
         let (l, kl, (o, ko, (r, kr, z))) = n .kids in
         let op = operator s b d _ _ _ ko in
@@ -246,6 +231,7 @@ module _ (s b : List ℕ) where
     unfolding views ExprAt rowUnder rowOf firstChild
     one-stmt =
         all s b d statement StmtHere
+        -- 30 to 32
         (λ at end.
         (λ n.
         let (i, ki, (t, kt, (x, kx, z))) = n .kids in

@@ -1,29 +1,15 @@
--- Types and imports stand in the image as the relations say, by induction on the levels left.
+-- Types and imports stand in the image as the relations say, by induction on the levels left: a record's children were read with one level
+-- less.
 -- Assumes nothing.
-use mathlib.Core.Path.{_≡_, refl}
 use mathlib.Core.List.{List}
 use Prim.Native.Nat.{ℕ, zero, suc, _+_}
 use Rattle.image.specs.Grammar.{list, type, rowOf, rowUnder, firstChild}
-use Rattle.image.specs.Read.{Tree, Trees, absent, node, nil, _▸_, stopAt}
+use Rattle.image.specs.Read.{Tree, node, stopAt}
 use Rattle.tree.specs.Syntax.{Fields}
-use Rattle.tree.specs.At.{
-  Absent,
-  Before,
-  Head,
-  IdentAt,
-  PathAt,
-  TypeAt,
-  TypeFormAt,
-  TypeArgsAt,
-  TypesAt,
-  FieldsAt,
-  ImportAt,
-  ImportGroupAt,
-  ImportsAt,
-}
-use Rattle.tree.specs.Records.{Views, views, each, types, fields, imports, maybeArgs, maybeGroup}
-use Rattle.tree.proofs.Children.{_∣_, Kid, Perhaps, Elements, Node, All, all, none}
-use Rattle.tree.proofs.Texts.{head, before, perhaps, optional, run, ident, path}
+use Rattle.tree.specs.At.{Before, Head, PathAt, TypeAt, TypeArgsAt, TypesAt, FieldsAt, ImportAt, ImportGroupAt, ImportsAt}
+use Rattle.tree.specs.Records.{views, each, types, fields, imports, maybeArgs, maybeGroup}
+use Rattle.tree.proofs.Children.{_∣_, Perhaps, All, all, none, head, before, perhaps, run}
+use Rattle.tree.proofs.Texts.{optional, ident, path}
 
 module _ (s b : List ℕ) where
   abbrev pub TypeHere : Tree → ℕ → Type 0
@@ -58,6 +44,7 @@ module _ (s b : List ℕ) where
     unfolding views TypeAt rowUnder rowOf firstChild
     one-type =
         all s b d type TypeHere
+        -- 40 to 44
         (λ at end.
         (λ n. let (t, k, e) = n .kids in (head s b n, (w .one _ _ _ k, e)))
         ∣ (λ n. let (p, kp, (t, k, e)) = n .kids in (head s b n, (path s b d _ _ _ kp, type-args _ _ _ k, e)))

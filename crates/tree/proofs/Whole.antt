@@ -1,9 +1,9 @@
 -- The tree of an accepted image stands at its offset: what the reader read, as a syntax tree, is what layout finds by walking the image.
 -- Assumes nothing.
-use mathlib.Core.Path.{_≡_, refl, sym, ap, _∙_}
+use mathlib.Core.Path.{_≡_, sym, ap}
 use mathlib.Core.List.{List}
 use mathlib.Core.Bool.{Bool, true, false, cond, not, false≢true}
-use Prim.Native.Nat.{ℕ, suc, _+_, _≤_}
+use Prim.Native.Nat.{ℕ}
 use native.Mathlib.Omega.{arith}
 use lib.ListN.{length}
 use lib.Dec.{lit≤}
@@ -14,8 +14,8 @@ use Rattle.image.proofs.Shapes.{isGot}
 use Rattle.image.proofs.Accepted.{Root, rooted}
 use Rattle.tree.specs.At.{IdentAt, DeclarationsAt, TreeAt}
 use Rattle.tree.specs.Records.{views, each, declarations, syntaxTree}
-use Rattle.tree.proofs.Children.{_∣_, Elements, All, all, kid}
-use Rattle.tree.proofs.Texts.{head, before, perhaps-before, optional, run, ident}
+use Rattle.tree.proofs.Children.{_∣_, Elements, All, all, kid, head, before, perhaps-before, run}
+use Rattle.tree.proofs.Texts.{optional, ident}
 use Rattle.tree.proofs.Declarations.{declaration-at}
 
 module _ (s b : List ℕ) where

@@ -133,11 +133,11 @@ pub record Absent (b : List ℕ) (at : ℕ) : Type 0 where
   pub zero : be32 b at ≡ 0
   pub fits : at + 4 ≤ length b
 
--- the elements of a list are over at its end
+-- nothing more stands from `at` to `end`
 pub record Done (at end : ℕ) : Type 0 where
   pub same : at ≡ end
 
--- one more element, which ends by then
+-- one more record stands there, and ends by `end`
 pub record Before (b : List ℕ) (at end : ℕ) : Type 0 where
   pub least : stopAt b at ≤ end
 

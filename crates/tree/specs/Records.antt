@@ -1,5 +1,5 @@
--- The syntax tree that the records of an image are: a total function on the trees that the reader gives. Where the grammar rules a tree
--- out, what it gives does not matter.
+-- The syntax tree of src/ast.rs that the records of an image are: a total function on the trees that the reader gives. Where the grammar
+-- rules a tree out, what it gives does not matter.
 use Prim.Native.Nat.{ℕ, _+_, _-_}
 use mathlib.Core.List.{List, [], _∷_}
 use mathlib.Core.Bool.{Bool, true, false, cond}
@@ -109,26 +109,27 @@ use Rattle.tree.specs.Syntax.{
   SyntaxTree,
 }
 
--- A record, taken as each part of the tree; which of them it is, its place says. An element of a list waits for those after it.
+-- A record, taken as each part of the syntax tree; its place says which of them it is. An element that has no type of its own is a
+-- function of the elements after it.
 pub record Views : Type 0 where
   pub there : Bool
   pub span : Span
   pub byte : ℕ
-  pub ident : Ident
-  pub path : Path
-  pub type : TypeExpr
-  pub field : Fields → Fields
-  pub import : Import
-  pub pattern : Pattern
-  pub expr : Expr
-  pub entry : Entries → Entries
-  pub arm : Arms → Arms
-  pub part : Parts → Parts
-  pub block : Block
-  pub stmt : Stmt
-  pub variant : Variants → Variants
-  pub declaration : Declaration
-  -- its children as the elements of a list
+  pub ident : Ident  -- 2
+  pub path : Path  -- 4
+  pub type : TypeExpr  -- 40 to 44
+  pub field : Fields → Fields  -- 20
+  pub import : Import  -- 16
+  pub pattern : Pattern  -- 82, 83
+  pub expr : Expr  -- 50 to 70
+  pub entry : Entries → Entries  -- 22
+  pub arm : Arms → Arms  -- 81
+  pub part : Parts → Parts  -- 84, 85
+  pub block : Block  -- 23
+  pub stmt : Stmt  -- 30 to 32
+  pub variant : Variants → Variants  -- 21
+  pub declaration : Declaration  -- 10 to 16
+  -- its children, as the elements of each list
   pub idents : List Ident
   pub types : Types
   pub fields : Fields
@@ -140,7 +141,7 @@ pub record Views : Type 0 where
   pub stmts : Stmts
   pub variants : Variants
 
--- no record
+-- ---- no record
 abbrev pub noSpan : Span
 noSpan = record { start = 0; end = 0 }
 
@@ -267,7 +268,8 @@ abbrev pub declarations : List Views → List Declaration
 declarations [] = []
 declarations (x ∷ xs) = x .declaration ∷ declarations xs
 
--- ---- the forms of a part, by the record's kind, from its children
+-- ---- the forms of a part, by the record's kind, from its children in order: document 01, "Kinds and children"
+-- `else` is the one kind left: 44, 83, 70, 85, 32 and 16.
 infixr 30 _⇒_∣_
 pub data Forms (A : Type 0) : Type 0 where
   else : A → Forms A
@@ -288,7 +290,7 @@ typeForms xs =
 abbrev pub patterns : List Views → Forms Pattern
 patterns xs = 82 ⇒ underscore ∣ else (enumVariant (first xs .ident) (maybe (second xs .there) (listOf (second xs))))
 
--- n is the payload byte
+-- n is the payload byte of `return`
 abbrev pub exprForms : ℕ → List Views → Forms Form
 exprForms n xs =
     50 ⇒ return′ n (maybeExpr (first xs .there) (first xs .expr)) ∣
