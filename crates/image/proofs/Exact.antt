@@ -5,6 +5,7 @@ use mathlib.Core.List.{List, [], _∷_, _++_}
 use mathlib.Core.Bool.{Bool, true, false, cond, false≢true}
 use Prim.Native.Nat.{ℕ, zero, suc, _+_, _-_, _*_, _/_, _%_, _≤_, _<_}
 use native.Mathlib.Omega.{arith}
+use native.Mathlib.Nat.{le-refl}
 use native.Mathlib.Numerals.{add-one, add-two, add-three}
 use lib.ListN.{length, getD, take, drop, length-drop}
 use lib.Seq.{drop-cons, take-add, drop-drop, length-take-le}
@@ -13,30 +14,11 @@ use borrow.Author.Tests.{ltb-false}
 use Rattle.image.specs.Bytes.{be32, part}
 use Rattle.image.specs.Grammar.{bare, place, after, over}
 use Rattle.image.specs.Write.{bytes4, content, framed, written, writtens, plain, plains}
-use Rattle.image.specs.Read.{
-  Read,
-  got,
-  bad,
-  bind,
-  headAt,
-  stopAt,
-  kindAt,
-  Tree,
-  Trees,
-  absent,
-  node,
-  nil,
-  _▸_,
-  skips,
-  childBy,
-  childAt,
-  recordAt,
-  childrenAt,
-  stepOf,
-}
+use Rattle.image.specs.Read.{Read, got, bad, bind, headAt, stopAt, kindAt, Tree, Trees, absent, nil, _▸_, skips, childBy, childAt, recordAt, childrenAt, treeAt, stepOf}
 use Rattle.image.proofs.Shapes.{isGot, skips-within, opened-after, opened-order}
 use Rattle.image.proofs.Reading.{record-within}
 use Rattle.image.proofs.Inside.{inside, none-deep}
+use Rattle.image.proofs.Accepted.{Root}
 
 -- two parts that meet
 pub join : (b : List ℕ) (x y z : ℕ) → x ≤ y → y ≤ z → part x z b ≡ part x y b ++ part y z b
@@ -195,3 +177,10 @@ exact s b small v (suc left) p at end t q le l h =
     (λ (r : List ℕ). framed (content (kindAt b at) (be32 b (at + 5)) (be32 b (at + 9)) (part (at + 13) (headAt b at .first) b) r))
     (children-exact b (childAt s b v left) (child-exact b small (recordAt s b v left) below) _ _ _ _ _ _ (opened-order o) far (i .kept))
     ∙ ap (λ (u : Tree). written (plain b u)) (sym (i .is))
+
+-- an accepted image ends with the bytes that its tree is written as
+pub tree-exact : (ordered : Bool) (s b : List ℕ) (n at : ℕ) → Small b → (r : Root ordered s b n at) → part at (length b) b ≡ written (plain b (r .tree))
+unfolding treeAt
+tree-exact ordered s b n at small r =
+    let h = r .list .within in
+    exact s b small 2 64 1 at (length b) (r .tree) (length b) (omega (arith, r .place, r .count)) (le-refl (length b)) (r .reads)

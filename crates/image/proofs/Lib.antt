@@ -9,3 +9,4 @@ pub mod Rows
 pub mod Accepted
 pub mod Exact
 pub mod Examples
+pub mod Numbers

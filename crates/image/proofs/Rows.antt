@@ -10,10 +10,10 @@ use native.Mathlib.Nat.{lt-irrefl, lt-of-lt-of-le}
 use lib.ListN.{length}
 use lib.Dec.{lit≤}
 use Rattle.image.specs.Bytes.{be32}
-use Rattle.image.specs.Grammar.{bare, isOptional, isMany, place, after, over, rowUnder}
+use Rattle.image.specs.Grammar.{bare, isList, isOptional, isMany, many, element, place, after, over, rowOf, rowUnder, firstChild}
 use Rattle.image.specs.Read.{got, headAt, stopAt, kindAt, Tree, Trees, absent, node, nil, _▸_, skips, childAt, recordAt, childrenAt, treeAt}
-use Rattle.image.proofs.Shapes.{Opened, opened-order, skips-within}
-use Rattle.image.proofs.Inside.{Inside, inside, none-deep, record-more, Split, must, any-number, none-left}
+use Rattle.image.proofs.Shapes.{Opened, opened-order, skips-within, kind-list}
+use Rattle.image.proofs.Inside.{inside, none-deep, record-more, Split, must, any-number, none-left}
 
 -- a record that reads as t at place p, in a parent that ends at `stop`
 pub record Kid (s b : List ℕ) (v p at stop : ℕ) (t : Tree) : Type 0 where
@@ -171,3 +171,14 @@ module _ (s b : List ℕ) (v : ℕ) where
         },
         i .stop,
       )
+
+  -- the row of a record of kind k at a place that is no list's
+  pub row-of-kind : (p at k : ℕ) (t : Tree) → isList p ≡ false → kindAt b at ≡ k → (o : Opens p at t)
+      → Row s b v (rowOf k) (firstChild k (at + 13) (stopAt b at)) (stopAt b at) (o .trees)
+  unfolding rowUnder
+  row-of-kind p at k t l e o = simp (e, l) at (o .row)
+
+  -- the elements of a list
+  pub row-of-list : (p at : ℕ) (t : Tree) → isList p ≡ true → (o : Opens p at t) → Row s b v (many (element p)) (at + 13) (stopAt b at) (o .trees)
+  unfolding rowUnder firstChild
+  row-of-list p at t l o = simp (kind-list p (kindAt b at) l (o .held .right .kind), l) at (o .row)
