@@ -1,0 +1,74 @@
+-- `pop_trailing_comment`, `pop_whitespace`, `newlines` and `ignore_newlines` of fmt.rs.
+use Prim.Native.Nat.{ℕ, zero, suc, _+_, _-_, min}
+use mathlib.Core.Bool.{Bool, true, false, cond, _&&_}
+use mathlib.Core.List.{List, [], _∷_}
+use mathlib.Core.Option.{Option, none, some}
+use lib.ListN.{length}
+use lib.Dec.{ltb, eqb}
+use Rattle.text.specs.Space.{trimEnd, something}
+use Rattle.text.specs.Newlines.{countNewlines}
+use Rattle.text.specs.declared.space.Found.the-variants.{At, Nowhere}
+use Rattle.tree.specs.Syntax.{Span}
+use Rattle.rows.specs.Node.{comment, line, emptyLine}
+use Rattle.state.specs.Act.{Given, St, Act, Asking, _⨟_, _⨟!_, skip, push, moveTo, pop, told, answering}
+
+-- the element of a list at a place
+unfoldable pub nth : {A : Type 0} → List A → ℕ → Option A
+nth [] k = none
+nth (x ∷ xs) zero = some x
+nth (x ∷ xs) (suc k) = nth xs k
+
+module _ (g : Given) where
+  -- `comments.front()`
+  abbrev pub front : St → Option Span
+  front s = nth (g .comments) (s .placed)
+
+  -- `Node::Comment`: a comment's text, trimmed at the end
+  abbrev pub remark : Span → Act
+  remark c = push (comment (record { origin = 0; start = c .start; size = trimEnd (g .source) (c .start) (c .end) - c .start }))
+
+  -- `newlines`: a line for one newline before the position, an empty line for more; it answers whether there is any
+  unfoldable pub newlines : ℕ → Asking
+  newlines position s =
+      let n = countNewlines (g .source) (s .pos) position in
+      ((cond (eqb n 0) skip (cond (eqb n 1) (push line) (push emptyLine)) ⨟ moveTo position) s, ltb 0 n)
+
+  -- `ignore_newlines`: to the position, or to the front comment where that starts before it
+  unfoldable pub ignoreNewlines : ℕ → Act
+  ignoreNewlines position s = moveTo (elim (front s) [ none ↦ position | some c ↦ min position (c .start) ]) s
+
+  -- one comment of `pop_whitespace`; the position is then its end less 1
+  unfoldable pub popComment : Bool → Span → Act
+  popComment leading c =
+      pop ⨟ cond leading (told (newlines (c .start))) (ignoreNewlines (c .start)) ⨟ moveTo (c .end - 1) ⨟ remark c
+
+  -- a comment waits before the position
+  abbrev pub waits : ℕ → St → Bool
+  waits position s = elim (front s) [ none ↦ false | some c ↦ ltb (c .start) position ]
+
+  -- the loop of `pop_whitespace`: the comments that start before the position, n at most. Newlines before the first are kept where
+  -- `leading` says so, before the others always
+  unfoldable pub popComments : ℕ → ℕ → Bool → Act
+  popComments zero position leading s = skip s
+  popComments (suc n) position leading s =
+      elim (front s) [
+        | none ↦ skip s
+        | some c ↦ cond (ltb (c .start) position) (popComment leading c ⨟ popComments n position true) skip s
+      ]
+
+  -- `pop_whitespace`, with its flags `preserve_leading_whitespace`, `preserve_trailing_whitespace`, `preserve_only_whitespace`
+  unfoldable pub popWhitespace : ℕ → Bool → Bool → Bool → Asking
+  popWhitespace position leading trailing only s =
+      (popComments (length (g .comments)) position leading
+      ⨟! cond (waits position s && trailing) (answering true (told (newlines position)))
+      (cond only (newlines position) (answering false (ignoreNewlines position))))
+      s
+
+  -- `pop_trailing_comment`
+  unfoldable pub popTrailingComment : Act
+  popTrailingComment s =
+      elim (something (g .source) (s .pos)) [
+        | Nowhere ↦ skip s
+        | At place ↦
+            elim (front s) [ none ↦ skip s | some c ↦ cond (eqb (c .start) place) (pop ⨟ remark c ⨟ moveTo (c .end)) skip s ]
+      ]

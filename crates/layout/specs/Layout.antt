@@ -1,0 +1,506 @@
+-- The layout rules: `State` of fmt.rs from `separated` on, function by function, under its names.
+use Prim.Native.Nat.{ℕ, _+_, _-_}
+use Prim.Native.String.{String}
+use mathlib.Core.Bool.{Bool, true, false, cond, not, _&&_}
+use mathlib.Core.List.{List, [], _∷_}
+use mathlib.Core.Option.{Option, none, some}
+use lib.ListN.{getD}
+use lib.Dec.{ltb, eqb}
+use lib.Text.{eqt}
+use Rattle.text.specs.Space.{trimEnd}
+use Rattle.tree.specs.Syntax.{
+    Span, Ident, Path, Idents, TypeExpr, type, TypeForm, option, typePath, never, unit, recordType, TypeArgs, noArgs, args, Types, noTypes,
+    _∷ᵗ_, Fields, noFields, field, Import, import, ImportGroup, noGroup, group, Imports, noImports, _∷ⁱ_, Pattern, underscore, enumVariant,
+    Expr, expr, Form, return′, literal, block, match′, functionCall, access, path, record′, typedRecord, list, not′, assign,
+    compoundAssign, binOp, negate, ifElse, while, for, questionMark, fString, parentheses, Exprs, noExprs, _∷ᵉ_, MaybeExpr, noExpr, someExpr,
+    Entries, noEntries, entry, Arms, noArms, arm, Parts, noParts, string, value, Block, braces, MaybeBlock, noBlock, someBlock, Stmts,
+    noStmts, _∷ˢ_, Stmt, stmt, StmtForm, let′, importStmt, does, Variants, noVariants, variant, Declaration, filterMap, const,
+    recordDecl, enumDecl, function, test, importDecl, SyntaxTree
+}
+use Rattle.rows.specs.Node.{str, ascii, line, emptyLine, lineOrSpace, wrapParent, ifWrap}
+use Rattle.rows.specs.Words.{word}
+use Rattle.state.specs.Act.{
+    Given, St, Out, Act, Asking, _⨟_, _⨟?_, skip, when, push, told, grouped, indented, indentedNext, called, says, content
+}
+use Rattle.comments.specs.Comments.{popWhitespace, popTrailingComment}
+
+-- `WrapStyle`
+pub data WrapStyle : Type 0 where
+  Tight Spaced Wrap : WrapStyle
+
+-- an element of `separated`: where its span starts, and what the closure does with it
+pub record Elem : Type 0 where
+  pub start : ℕ
+  pub act : Act
+
+-- `Precedence`, in the order of its variants
+abbrev pub Bottom : ℕ
+Bottom = 0
+
+abbrev pub Chain : ℕ
+Chain = 8
+
+abbrev pub Unit′ : ℕ
+Unit′ = 9
+
+-- `binop_precedence`, by the place in `BinOp`
+abbrev pub binopPrecedence : ℕ → ℕ
+binopPrecedence op = getD (2 ∷ 1 ∷ 3 ∷ 3 ∷ 3 ∷ 3 ∷ 3 ∷ 3 ∷ 4 ∷ 4 ∷ 5 ∷ 5 ∷ 5 ∷ 6 ∷ []) op 0
+
+-- the symbols of `binop`, of `CompoundAssign` and of `Return`, by the place
+abbrev pub symbol : ℕ → String
+symbol op = getD ("&&" ∷ "||" ∷ "==" ∷ "!=" ∷ "<" ∷ "<=" ∷ ">" ∷ ">=" ∷ "+" ∷ "-" ∷ "*" ∷ "/" ∷ "%" ∷ "**" ∷ []) op ""
+
+abbrev pub assignSymbol : ℕ → String
+assignSymbol op = getD (" += " ∷ " -= " ∷ " *= " ∷ " /= " ∷ " %= " ∷ []) op ""
+
+abbrev pub returnWord : ℕ → String
+returnWord kind = getD ("return" ∷ "accept" ∷ "reject" ∷ []) kind ""
+
+-- A chain of operators of one precedence: the leftmost operand, what follows it, and whether nothing does.
+pub record Spine : Type 0 where
+  pub head : Act
+  pub tail : Act
+  pub alone : Bool
+
+-- An expression by itself, by the precedence around it, and as the left operand of an operator of some precedence.
+pub record Look : Type 0 where
+  pub whole : ℕ → Act
+  pub under : ℕ → Spine
+
+-- ---- tests on the tree
+abbrev isSome : {A : Type 0} → Option A → Bool
+isSome none = false
+isSome (some a) = true
+
+abbrev isGroup : ImportGroup → Bool
+isGroup noGroup = false
+isGroup (group s is) = true
+
+abbrev typeSpan : TypeExpr → Span
+typeSpan (type s f) = s
+
+abbrev importSpan : Import → Span
+importSpan (import s p q) = s
+
+abbrev exprSpan : Expr → Span
+exprSpan (expr s f) = s
+
+abbrev stmtSpan : Stmt → Span
+stmtSpan (stmt s f) = s
+
+-- the span of the last of some types
+unfoldable pub lastSpan : TypeExpr → Types → Span
+lastSpan t noTypes = typeSpan t
+lastSpan t (u ∷ᵗ us) = lastSpan u us
+
+abbrev noneOf : Stmts → Bool
+noneOf noStmts = true
+noneOf (x ∷ˢ ss) = false
+
+-- a block with neither statements nor a last expression
+abbrev isEmpty : Stmts → MaybeExpr → Bool
+isEmpty ss noExpr = noneOf ss
+isEmpty ss (someExpr e) = false
+
+-- expressions that need no `;` as a statement; and a block, which needs no `,` in an arm
+pub data Shape : Type 0 where
+  Braced Brace Other : Shape
+
+abbrev shape : Form → Shape
+shape (return′ k e) = Other
+shape (literal s w) = Other
+shape (block b) = Brace
+shape (match′ e s a) = Braced
+shape (functionCall e s es) = Other
+shape (access e i) = Other
+shape (path p) = Other
+shape (record′ s es) = Other
+shape (typedRecord p s es) = Other
+shape (list es) = Other
+shape (not′ e) = Other
+shape (assign p e) = Other
+shape (compoundAssign p o e) = Other
+shape (binOp l s o r) = Other
+shape (negate e) = Other
+shape (ifElse c b e) = Braced
+shape (while c b) = Braced
+shape (for i e b) = Braced
+shape (questionMark e) = Other
+shape (fString ps) = Other
+shape (parentheses e) = Other
+
+abbrev isBlock : Expr → Bool
+isBlock (expr s f) = elim (shape f) [ Braced ↦ false | Brace ↦ true | Other ↦ false ]
+
+abbrev isBraced : Expr → Bool
+isBraced (expr s f) = elim (shape f) [ Braced ↦ true | Brace ↦ true | Other ↦ false ]
+
+abbrev unlessEmpty : List Ident → Act → Act
+unlessEmpty [] a = skip
+unlessEmpty (i ∷ is) a = a
+
+module _ (g : Given) where
+  abbrev trailing : Act
+  trailing = popTrailingComment g
+
+  -- `pop_whitespace` where its answer isn't looked at
+  abbrev gap : ℕ → Bool → Bool → Bool → Act
+  gap position a b c = told (popWhitespace g position a b c)
+
+  -- `Node::ident`
+  abbrev pub ident : Ident → Act
+  ident i = push (str (g .columns i) (record { origin = 1; start = i .start; size = i .size }))
+
+  -- ---- `separated`
+  abbrev edge : WrapStyle → Act
+  edge Tight = push line
+  edge Spaced = push lineOrSpace
+  edge Wrap = push line
+
+  abbrev isWrap : WrapStyle → Bool
+  isWrap Tight = false
+  isWrap Spaced = false
+  isWrap Wrap = true
+
+  -- the loop over the elements
+  unfoldable pub elements : String → Bool → List Elem → Act
+  elements separator first [] = skip
+  elements separator first (e ∷ es) =
+      when (not first && not (eqt separator "")) (says separator)
+      ⨟ gap (e .start) true true false
+      ⨟ when (not first) (push lineOrSpace)
+      ⨟ e .act
+      ⨟ elements separator false es
+
+  unfoldable pub separated : String → String → String → List Elem → Span → WrapStyle → Act
+  separated start end separator [] span style =
+      grouped (λ id.
+        says start
+        ⨟ push line
+        ⨟ indented (gap (span .end) false false false)
+        ⨟ push line
+        ⨟ says end
+        ⨟ trailing)
+  separated start end separator (e ∷ es) span style =
+      grouped (λ id.
+        when (isWrap style) (push wrapParent)
+        ⨟ says start
+        ⨟ edge style
+        ⨟ indented (
+          elements separator true (e ∷ es)
+          ⨟ when (not (eqt separator "")) (push (ifWrap id (ascii (word separator)) (ascii (word ""))))
+          ⨟ gap (span .end) true false false)
+        ⨟ edge style
+        ⨟ says end
+        ⨟ trailing)
+
+  -- ---- `path`
+  -- the identifiers after the first
+  unfoldable pub pathMore : Bool → List Ident → Act
+  pathMore allowLineBreaks [] = skip
+  pathMore allowLineBreaks (i ∷ is) =
+      when allowLineBreaks (push line)
+      ⨟ gap (i .span .end) false false false
+      ⨟ says "."
+      ⨟ ident i
+      ⨟ pathMore allowLineBreaks is
+
+  unfoldable pub pathRule : Path → Bool → Bool → Act
+  pathRule p true allowLineBreaks =
+      grouped (λ id. ident (p .first) ⨟ indented (pathMore allowLineBreaks (p .more))) ⨟ trailing
+  pathRule p false allowLineBreaks = ident (p .first) ⨟ pathMore allowLineBreaks (p .more) ⨟ trailing
+
+  -- identifiers as elements: `type_params`, and the fields of a pattern
+  abbrev pub identElems : List Ident → List Elem
+  identElems [] = []
+  identElems (i ∷ is) = record { start = i .span .start; act = ident i } ∷ identElems is
+
+  -- ---- `type_expr`, `record_type`, `params`
+  unfoldable mutual
+    pub typeExpr : TypeExpr → Act
+    typeExpr (type s f) = typeForm f
+
+    pub typeForm : TypeForm → Act
+    typeForm (option t) = typeExpr t ⨟ says "?"
+    typeForm (typePath p a) = pathRule p true true ⨟ typeArgs a
+    typeForm never = says "!"
+    typeForm unit = says "()"
+    typeForm (recordType s fs) = separated "{" "}" "," (fieldElems fs) s Tight
+
+    pub typeArgs : TypeArgs → Act
+    typeArgs noArgs = skip
+    typeArgs (args s ts) = separated "[" "]" "," (typeElems ts) s Tight
+
+    pub typeElems : Types → List Elem
+    typeElems noTypes = []
+    typeElems (t ∷ᵗ ts) = record { start = typeSpan t .start; act = typeExpr t } ∷ typeElems ts
+
+    pub fieldElems : Fields → List Elem
+    fieldElems noFields = []
+    fieldElems (field s i t fs) = record { start = s .start; act = ident i ⨟ says ": " ⨟ typeExpr t } ∷ fieldElems fs
+
+  unfoldable pub params : Fields → Span → Act
+  params fs s = separated "(" ")" "," (fieldElems fs) s Tight
+
+  unfoldable pub recordTypeRule : Fields → Span → WrapStyle → Act
+  recordTypeRule fs s style = separated "{" "}" "," (fieldElems fs) s style
+
+  unfoldable pub typeParams : Idents → Act
+  typeParams is = separated "[" "]" "," (identElems (is .elems)) (is .span) Tight
+
+  -- ---- `import_path`
+  abbrev importFirst : Option Path → Act
+  importFirst none = skip
+  importFirst (some p) = pathRule p true false
+
+  abbrev oneOr : Imports → Act → Act → Act
+  oneOr noImports one more = one
+  oneOr (i ∷ⁱ is) one more = more
+
+  unfoldable mutual
+    pub importPath : Import → Act
+    importPath (import s p q) = importFirst p ⨟ when (isSome p && isGroup q) (says ".") ⨟ importGroup q
+
+    pub importGroup : ImportGroup → Act
+    importGroup noGroup = skip
+    importGroup (group s is) = importItems s is
+
+    -- a group of one item loses its braces
+    pub importItems : Span → Imports → Act
+    importItems s noImports = separated "{" "}" "," [] s Tight
+    importItems s (i ∷ⁱ is) = oneOr is (importPath i) (separated "{" "}" "," (record { start = importSpan i .start; act = importPath i } ∷ importElems is) s Tight)
+
+    pub importElems : Imports → List Elem
+    importElems noImports = []
+    importElems (i ∷ⁱ is) = record { start = importSpan i .start; act = importPath i } ∷ importElems is
+
+  -- ---- the pattern of a match arm
+  unfoldable pub pattern : Pattern → Act
+  pattern underscore = says "_"
+  pattern (enumVariant i none) = ident i
+  pattern (enumVariant i (some fs)) = ident i ⨟ separated "(" ")" "," (identElems (fs .elems)) (fs .span) Tight
+
+  -- ---- `binop`
+  abbrev lone : Act → Spine
+  lone a = record { head = a; tail = skip; alone = true }
+
+  -- one more operator and its right operand
+  unfoldable pub operation : Bool → Span → ℕ → Act → Act
+  operation first s op right =
+      popWhitespace g (s .start) true true false
+      ⨟? (λ whitespace. when (not first && not whitespace) (push lineOrSpace) ⨟ says (symbol op) ⨟ says " " ⨟ right)
+
+  abbrev extend : Spine → Span → ℕ → Act → Spine
+  extend c s op right = record { head = c .head; tail = c .tail ⨟ operation (c .alone) s op right; alone = false }
+
+  unfoldable pub chained : Spine → Act
+  chained c = grouped (λ id. c .head ⨟ push lineOrSpace ⨟ indented (c .tail))
+
+  abbrev pickSpine : Bool → Spine → Spine → Spine
+  pickSpine true a b = a
+  pickSpine false a b = b
+
+  -- An expression that is no binary operator. Each expression ends with `pop_trailing_comment`.
+  abbrev plain : (ℕ → Act) → Look
+  plain a = record { whole = λ outer. a outer ⨟ trailing; under = λ p. lone (a p ⨟ trailing) }
+
+  abbrev joined : Look → Span → ℕ → Look → Look
+  joined l s op r =
+      let q = binopPrecedence op in
+      let whole : Act = chained (extend (l .under q) s op (r .whole Bottom)) ⨟ trailing in
+      record
+      { whole = λ outer. whole
+      ; under = λ p. pickSpine (eqb q p) (extend (l .under p) s op (r .whole Bottom)) (lone whole)
+      }
+
+  -- the condition of `if`, `while` and `for`
+  abbrev condition : Act → Act
+  condition a = grouped (λ id. indented a)
+
+  -- `literal`
+  unfoldable pub literalRule : Span → ℕ → Act
+  literalRule s which =
+      gap (s .end) true true false
+      ⨟ getD (push (ascii (content s)) ∷ says "true" ∷ says "false" ∷ says "()" ∷ []) which skip
+
+  -- the gaps of `block` before a statement or the last expression, and before its end
+  abbrev beforeStmt : Bool → ℕ → Act
+  beforeStmt first position = cond first (gap position false true false) (gap position true true true)
+
+  abbrev letType : Option TypeExpr → Act
+  letType none = skip
+  letType (some t) = says ": " ⨟ typeExpr t
+
+  -- ---- `expr_with_precedence`, `block` and `stmt`
+  unfoldable mutual
+    pub look : Expr → Look
+    look (expr s f) = lookForm s f
+
+    pub lookForm : Span → Form → Look
+    lookForm s (return′ kind e) = plain (λ outer. says (returnWord kind) ⨟ returned e)
+    lookForm s (literal t which) = plain (λ outer. literalRule t which)
+    lookForm s (block b) = plain (λ outer. blockRule b)
+    lookForm s (match′ e t arms) =
+        plain (λ outer. says "match " ⨟ look e .whole Bottom ⨟ says " " ⨟ separated "{" "}" "" (armElems arms) t Wrap)
+    lookForm s (functionCall e t es) =
+        plain (λ outer.
+          cond (ltb outer Chain) (called (look e .whole Chain) (separated "(" ")" "," (exprElems es) t Tight))
+          (look e .whole Chain ⨟ separated "(" ")" "," (exprElems es) t Tight))
+    lookForm s (access e i) =
+        plain (λ outer.
+          cond (ltb outer Chain) (grouped (λ id. indentedNext (look e .whole Chain ⨟ push line ⨟ says "." ⨟ ident i)))
+          (look e .whole Chain ⨟ push line ⨟ says "." ⨟ ident i))
+    lookForm s (path p) = plain (λ outer. pathRule p (ltb outer Chain) true)
+    lookForm s (record′ t es) = plain (λ outer. separated "{" "}" "," (entryElems es) t Spaced)
+    lookForm s (typedRecord p t es) = plain (λ outer. pathRule p true true ⨟ says " " ⨟ separated "{" "}" "," (entryElems es) t Spaced)
+    lookForm s (list es) = plain (λ outer. separated "[" "]" "," (groupedElems es) s Tight)
+    lookForm s (not′ e) = plain (λ outer. says "!" ⨟ look e .whole Unit′)
+    lookForm s (assign p e) = plain (λ outer. pathRule p true true ⨟ says " = " ⨟ look e .whole Bottom)
+    lookForm s (compoundAssign p op e) = plain (λ outer. pathRule p true true ⨟ says (assignSymbol op) ⨟ look e .whole Bottom)
+    lookForm s (binOp l t op r) = joined (look l) t op (look r)
+    lookForm s (negate e) = plain (λ outer. says "-" ⨟ look e .whole Bottom)
+    lookForm s (ifElse c b e) =
+        plain (λ outer. says "if " ⨟ condition (look c .whole Bottom) ⨟ says " " ⨟ blockRule b ⨟ otherwise e)
+    lookForm s (while c b) = plain (λ outer. says "while " ⨟ condition (look c .whole Bottom) ⨟ says " " ⨟ blockRule b)
+    lookForm s (for i e b) =
+        plain (λ outer. says "for " ⨟ ident i ⨟ says " in " ⨟ condition (look e .whole Bottom) ⨟ says " " ⨟ blockRule b)
+    lookForm s (questionMark e) = plain (λ outer. look e .whole outer ⨟ says "?")
+    lookForm s (fString ps) = plain (λ outer. gap (s .start) true true false ⨟ says "f\"" ⨟ partsRule ps ⨟ says "\"")
+    lookForm s (parentheses e) = plain (λ outer. gap (s .start) true true false ⨟ says "(" ⨟ look e .whole Bottom ⨟ says ")")
+
+    -- the value of a `return`
+    pub returned : MaybeExpr → Act
+    returned noExpr = skip
+    returned (someExpr e) = says " " ⨟ look e .whole Bottom
+
+    -- the `else` of an `if`
+    pub otherwise : MaybeBlock → Act
+    otherwise noBlock = skip
+    otherwise (someBlock b) = says " else " ⨟ blockRule b
+
+    -- the closures of `function_args`, of a list, of `record` and of `match`
+    pub exprElems : Exprs → List Elem
+    exprElems noExprs = []
+    exprElems (e ∷ᵉ es) = record { start = exprSpan e .start; act = look e .whole Bottom } ∷ exprElems es
+
+    pub groupedElems : Exprs → List Elem
+    groupedElems noExprs = []
+    groupedElems (e ∷ᵉ es) = record { start = exprSpan e .start; act = grouped (λ id. look e .whole Bottom) } ∷ groupedElems es
+
+    pub entryElems : Entries → List Elem
+    entryElems noEntries = []
+    entryElems (entry s i e es) = record { start = s .start; act = ident i ⨟ says ": " ⨟ look e .whole Bottom } ∷ entryElems es
+
+    pub armElems : Arms → List Elem
+    armElems noArms = []
+    armElems (arm s p condition body arms) =
+        record {
+          start = s .start;
+          act = pattern p ⨟ guard condition ⨟ says " => " ⨟ look body .whole Bottom ⨟ when (not (isBlock body)) (says ",");
+        }
+        ∷ armElems arms
+
+    pub guard : MaybeExpr → Act
+    guard noExpr = skip
+    guard (someExpr e) = says " if " ⨟ look e .whole Bottom
+
+    -- the parts of an f-string
+    pub partsRule : Parts → Act
+    partsRule noParts = skip
+    partsRule (string s ps) = push (ascii (content s)) ⨟ partsRule ps
+    partsRule (value e ps) = says "{" ⨟ look e .whole Bottom ⨟ says "}" ⨟ partsRule ps
+
+    -- `block`
+    pub blockRule : Block → Act
+    blockRule (braces s ss last) =
+        grouped (λ id.
+          says "{"
+          ⨟ push line
+          ⨟ when (not (isEmpty ss last)) (push wrapParent)
+          ⨟ indented (stmtsRule ss true ⨟ lastRule last (noneOf ss) ⨟ gap (s .end) (not (isEmpty ss last)) false false)
+          ⨟ push line
+          ⨟ says "}")
+
+    pub stmtsRule : Stmts → Bool → Act
+    stmtsRule noStmts first = skip
+    stmtsRule (x ∷ˢ ss) first =
+        beforeStmt first (stmtSpan x .start)
+        ⨟ push line
+        ⨟ stmtRule x
+        ⨟ gap (stmtSpan x .end) false false false
+        ⨟ trailing
+        ⨟ stmtsRule ss false
+
+    pub lastRule : MaybeExpr → Bool → Act
+    lastRule noExpr first = skip
+    lastRule (someExpr e) first = beforeStmt first (exprSpan e .start) ⨟ push line ⨟ look e .whole Bottom ⨟ trailing
+
+    -- `stmt`
+    pub stmtRule : Stmt → Act
+    stmtRule (stmt s f) = stmtForm f
+
+    pub stmtForm : StmtForm → Act
+    stmtForm (let′ i t e) = says "let " ⨟ ident i ⨟ letType t ⨟ says " = " ⨟ look e .whole Bottom ⨟ says ";"
+    stmtForm (importStmt p) = says "import " ⨟ importPath p ⨟ says ";"
+    stmtForm (does e) = grouped (λ id. look e .whole Bottom ⨟ when (not (isBraced e)) (says ";"))
+
+  -- `expr`
+  abbrev pub exprRule : Expr → Act
+  exprRule e = look e .whole Bottom
+
+  -- ---- `declaration`
+  -- how each declaration begins: `first` is true of the file's first
+  unfoldable pub opening : ℕ → Bool → Act
+  opening position first =
+      popWhitespace g position (not first) true (not first) ⨟? (λ whitespace. when (not first && not whitespace) (push line))
+
+  abbrev someTypeParams : Option Idents → Act
+  someTypeParams none = skip
+  someTypeParams (some is) = unlessEmpty (is .elems) (typeParams is)
+
+  abbrev returnType : Option TypeExpr → Act
+  returnType none = skip
+  returnType (some t) = says "-> " ⨟ typeExpr t ⨟ says " "
+
+  -- the types of a variant, in a list whose end is taken from the last of them
+  abbrev variantTypes : Types → Act
+  variantTypes noTypes = skip
+  variantTypes (t ∷ᵗ ts) = separated "(" ")" "," (typeElems (t ∷ᵗ ts)) (lastSpan t ts) Tight
+
+  unfoldable pub variantElems : Variants → List Elem
+  variantElems noVariants = []
+  variantElems (variant s i ts vs) = record { start = s .start; act = ident i ⨟ variantTypes ts } ∷ variantElems vs
+
+  unfoldable pub declaration : Declaration → Bool → Act
+  declaration (filterMap i s fs b) first =
+      opening (i .span .start) first ⨟ says "filtermap " ⨟ ident i ⨟ params fs s ⨟ says " " ⨟ blockRule b
+  declaration (const i t e) first =
+      opening (i .span .start) first ⨟ says "const " ⨟ ident i ⨟ says ": " ⨟ typeExpr t ⨟ says " = " ⨟ exprRule e ⨟ says ";"
+  declaration (recordDecl i ps s fs) first =
+      opening (i .span .start) first ⨟ says "record " ⨟ ident i ⨟ someTypeParams ps ⨟ says " " ⨟ recordTypeRule fs s Wrap
+  declaration (enumDecl i ps s vs) first =
+      opening (i .span .start) first
+      ⨟ says "enum "
+      ⨟ ident i
+      ⨟ someTypeParams ps
+      ⨟ says " "
+      ⨟ separated "{" "}" "," (variantElems vs) s Wrap
+  declaration (function i s fs t b) first =
+      opening (i .span .start) first ⨟ says "fn " ⨟ ident i ⨟ params fs s ⨟ says " " ⨟ returnType t ⨟ blockRule b
+  declaration (test i b) first = opening (i .span .start) first ⨟ says "test " ⨟ ident i ⨟ says " " ⨟ blockRule b
+  declaration (importDecl p) first = opening (importSpan p .start) first ⨟ says "import " ⨟ importPath p ⨟ says ";"
+
+  -- ---- `fmt_parsed`
+  unfoldable pub shebangRule : Option Ident → Act
+  shebangRule none = skip
+  shebangRule (some i) =
+      push (str (g .columns i) (record { origin = 1; start = i .start; size = trimEnd (g .image) (i .start) (i .start + i .size) - i .start }))
+      ⨟ push emptyLine
+
+  unfoldable pub declarationsRule : List Declaration → Bool → Act
+  declarationsRule [] first = skip
+  declarationsRule (d ∷ ds) first = declaration d first ⨟ declarationsRule ds false
+
+  unfoldable pub fmtParsed : SyntaxTree → Act
+  fmtParsed t = shebangRule (t .shebang) ⨟ declarationsRule (t .declarations) true ⨟ push line

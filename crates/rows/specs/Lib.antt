@@ -1,0 +1,5 @@
+pub mod Ascii
+pub mod Node
+pub mod Rows
+pub mod View
+pub mod Words

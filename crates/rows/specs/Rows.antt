@@ -1,0 +1,74 @@
+-- A document as rows: nine numbers a row, in preorder (document 01, "Rows, marks and carried state").
+use Prim.Native.Nat.{ℕ, _+_, _*_}
+use mathlib.Core.List.{List, [], _∷_, _++_}
+use lib.ListN.{getD}
+use Rattle.rows.specs.Node.{
+  Text,
+  Node,
+  Nodes,
+  group,
+  indent,
+  indentNext,
+  wrapParent,
+  comment,
+  str,
+  ascii,
+  line,
+  emptyLine,
+  lineOrSpace,
+  ifWrap,
+  call,
+  none,
+  _then_,
+}
+
+-- how many rows a node and nodes take
+unfoldable mutual
+  pub size : Node → ℕ
+  size (group n ns) = 1 + sizes ns
+  size (indent ns) = 1 + sizes ns
+  size (indentNext ns) = 1 + sizes ns
+  size wrapParent = 1
+  size (comment t) = 1
+  size (str w t) = 1
+  size (ascii t) = 1
+  size line = 1
+  size emptyLine = 1
+  size lineOrSpace = 1
+  size (ifWrap n a b) = 1 + (size a + size b)
+  size (call n e k a) = 1 + (sizes e + sizes a)
+
+  pub sizes : Nodes → ℕ
+  sizes none = 0
+  sizes (n then ns) = size n + sizes ns
+
+-- A row: kind, number, second number, first row of the second part, row after the last descendant, text origin, text start, text length,
+-- width.
+abbrev pub row : ℕ → ℕ → ℕ → ℕ → ℕ → Text → ℕ → List ℕ
+row kind n k second after t w = kind ∷ n ∷ k ∷ second ∷ after ∷ t .origin ∷ t .start ∷ t .size ∷ w ∷ []
+
+-- unused places are 0
+abbrev pub noText : Text
+noText = record { origin = 0; start = 0; size = 0 }
+
+-- the rows of a node and of nodes, the first of which is row r
+unfoldable mutual
+  pub rowsOf : Node → ℕ → List ℕ
+  rowsOf (group n ns) r = row 0 n 0 0 (r + (1 + sizes ns)) noText 0 ++ rows ns (r + 1)
+  rowsOf (indent ns) r = row 1 0 0 0 (r + (1 + sizes ns)) noText 0 ++ rows ns (r + 1)
+  rowsOf (indentNext ns) r = row 2 0 0 0 (r + (1 + sizes ns)) noText 0 ++ rows ns (r + 1)
+  rowsOf wrapParent r = row 3 0 0 0 (r + 1) noText 0
+  rowsOf (comment t) r = row 4 0 0 0 (r + 1) t 0
+  rowsOf (str w t) r = row 5 0 0 0 (r + 1) t w
+  rowsOf (ascii t) r = row 6 0 0 0 (r + 1) t 0
+  rowsOf line r = row 7 0 0 0 (r + 1) noText 0
+  rowsOf emptyLine r = row 8 0 0 0 (r + 1) noText 0
+  rowsOf lineOrSpace r = row 9 0 0 0 (r + 1) noText 0
+  rowsOf (ifWrap n a b) r =
+      row 10 n 0 (r + (1 + size a)) (r + (1 + (size a + size b))) noText 0 ++ (rowsOf a (r + 1) ++ rowsOf b (r + (1 + size a)))
+  rowsOf (call n e k a) r =
+      row 11 n k (r + (1 + sizes e)) (r + (1 + (sizes e + sizes a))) noText 0 ++ (rows e (r + 1) ++ rows a (r + (1 + sizes e)))
+
+  pub rows : Nodes → ℕ → List ℕ
+  rows none r = []
+  rows (n then ns) r = rowsOf n r ++ rows ns (r + size n)

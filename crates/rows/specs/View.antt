@@ -1,0 +1,99 @@
+-- The nodes that a range of rows is: rows read back.
+use Prim.Native.Nat.{ℕ, zero, suc, _+_, _*_, _-_, min, max}
+use mathlib.Core.Bool.{Bool, cond}
+use mathlib.Core.List.{List, [], _∷_}
+use lib.ListN.{getD}
+use lib.Dec.{ltb, eqb}
+use Rattle.rows.specs.Node.{
+  Text,
+  Node,
+  Nodes,
+  group,
+  indent,
+  indentNext,
+  wrapParent,
+  comment,
+  str,
+  ascii,
+  line,
+  emptyLine,
+  lineOrSpace,
+  ifWrap,
+  call,
+  none,
+  _then_,
+}
+
+-- The places of each row by its number.
+pub record View : Type 0 where
+  pub kind : ℕ → ℕ
+  pub number : ℕ → ℕ
+  pub number2 : ℕ → ℕ
+  pub second : ℕ → ℕ
+  pub after : ℕ → ℕ
+  pub text : ℕ → Text
+  pub width : ℕ → ℕ
+
+-- place k of row i of a store
+abbrev pub cell : List ℕ → ℕ → ℕ → ℕ
+cell store i k = getD store (i * 9 + k) 0
+
+-- the rows of a store; `Str` alone has a width
+unfoldable pub viewOf : List ℕ → View
+viewOf store = record {
+  kind = λ i. cell store i 0;
+  number = λ i. cell store i 1;
+  number2 = λ i. cell store i 2;
+  second = λ i. cell store i 3;
+  after = λ i. cell store i 4;
+  text = λ i. record { origin = cell store i 5; start = cell store i 6; size = cell store i 7 };
+  width = λ i. cond (eqb (cell store i 0) 5) (cell store i 8) 0;
+}
+
+-- the first of some nodes
+abbrev pub firstOf : Nodes → Node
+firstOf none = wrapParent
+firstOf (n then ns) = n
+
+-- the node of row i, by its kind; its parts are ns, or e and then a where it has two
+unfoldable pub nodeOf : View → ℕ → Nodes → Nodes → Nodes → Node
+nodeOf v i ns e a =
+    getD
+    (group (v .number i) ns
+    ∷ indent ns
+    ∷ indentNext ns
+    ∷ wrapParent
+    ∷ comment (v .text i)
+    ∷ str (v .width i) (v .text i)
+    ∷ ascii (v .text i)
+    ∷ line
+    ∷ emptyLine
+    ∷ lineOrSpace
+    ∷ ifWrap (v .number i) (firstOf e) (firstOf a)
+    ∷ call (v .number i) e (v .number2 i) a
+    ∷ [])
+    (v .kind i)
+    wrapParent
+
+-- where the parts of row i end, if not past j, and where its second part starts, if not past e
+abbrev pub endIn : View → ℕ → ℕ → ℕ
+endIn v i j = max (suc i) (min (v .after i) j)
+
+abbrev pub secondIn : View → ℕ → ℕ → ℕ
+secondIn v i e = max (suc i) (min (v .second i) e)
+
+-- the nodes of the rows from i up to j, at most f of them in a row or inside one another
+unfoldable pub decode : ℕ → View → ℕ → ℕ → Nodes
+decode zero v i j = none
+decode (suc f) v i j =
+    cond (ltb i j)
+    (nodeOf v i
+    (decode f v (suc i) (endIn v i j))
+    (decode f v (suc i) (secondIn v i (endIn v i j)))
+    (decode f v (secondIn v i (endIn v i j)) (endIn v i j))
+    then decode f v (endIn v i j) j)
+    none
+
+-- the nodes of the rows from i up to j
+unfoldable pub nodesAt : View → ℕ → ℕ → Nodes
+nodesAt v i j = decode (j - i) v i j
