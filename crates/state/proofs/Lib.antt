@@ -1,0 +1,5 @@
+pub mod Stores
+pub mod Joins
+pub mod Laws
+pub mod Nested
+pub mod Places
