@@ -1,3 +1,5 @@
+pub mod Accepted
+pub mod Bounds
 pub mod Fronts
 pub mod Pops
 pub mod Trims
