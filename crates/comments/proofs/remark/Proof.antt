@@ -1,3 +1,4 @@
+-- Trimming at the end keeps the start, so that the length is no less than 0.
 use native.Mathlib.Omega.{arith}
 use Rattle.comments.proofs.Trims.{trimmed-within}
 use borrow.Author.Needs.{needs}
