@@ -2,4 +2,3 @@ pub mod Accepted
 pub mod Bounds
 pub mod Fronts
 pub mod Pops
-pub mod Trims
