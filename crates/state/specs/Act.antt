@@ -42,15 +42,14 @@ join (n then ns) ms = n then join ns ms
 -- one step after the other
 unfoldable pub _⨟_ : Act → Act → Act
 _⨟_ a b s =
-    record
-    { nodes = join (a s .nodes) (b (next s (a s)) .nodes)
-    ; taken = a s .taken + b (next s (a s)) .taken
-    ; pos = b (next s (a s)) .pos
-    ; placed = b (next s (a s)) .placed
+    record {
+      nodes = join (a s .nodes) (b (next s (a s)) .nodes);
+      taken = a s .taken + b (next s (a s)) .taken;
+      pos = b (next s (a s)) .pos;
+      placed = b (next s (a s)) .placed;
     }
 
 infixr 50 _⨟_
-
 -- a step that pushes nothing and changes nothing
 abbrev pub skip : Act
 skip s = record { nodes = none; taken = 0; pos = s .pos; placed = s .placed }
@@ -91,11 +90,11 @@ unfoldable pub called : Act → Act → Act
 called e a s =
     let o : Out = e (record { number = s .number + 2; pos = s .pos; placed = s .placed }) in
     let p : Out = a (record { number = s .number + 2 + o .taken; pos = o .pos; placed = o .placed }) in
-    record
-    { nodes = call (s .number) (o .nodes) (s .number + 1) (p .nodes) then none
-    ; taken = 2 + (o .taken + p .taken)
-    ; pos = p .pos
-    ; placed = p .placed
+    record {
+      nodes = call (s .number) (o .nodes) (s .number + 1) (p .nodes) then none;
+      taken = 2 + (o .taken + p .taken);
+      pos = p .pos;
+      placed = p .placed;
     }
 
 -- A step that answers.
@@ -118,7 +117,6 @@ unfoldable pub _⨟?_ : Asking → (Bool → Act) → Act
 _⨟?_ a b s = (told a ⨟ b (a s .1)) s
 
 infixr 50 _⨟!_ _⨟?_
-
 -- `Node::Ascii` of a fixed word
 abbrev pub says : String → Act
 says w = push (ascii (word w))

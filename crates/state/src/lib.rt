@@ -1,1 +1,47 @@
-// Steps of layout.
+// Steps of layout: what they write to the store of rows, and how the cursor moves.
+pub mod leaves;
+pub mod parts;
+mod store;
+pub mod words;
+
+ghost use mathlib.Core.Path.{_≡_};
+ghost use Prim.Native.Nat.{_+_, _<_};
+ghost use Rattle.state.specs.Laid.{cursor};
+
+// The next row, the next group number, the position in the source, and how many comments are placed.
+pub struct Cursor {
+    pub row: u32,
+    pub number: u32,
+    pub pos: u32,
+    pub placed: u32,
+}
+
+// What a step that answers leaves: the cursor, and its answer.
+pub struct Asked {
+    pub cursor: Cursor,
+    pub answer: bool,
+}
+
+// `*self.pos = pos`
+pub fn move_to(c: Cursor, pos: u32) -> Cursor
+    ensures { λ r. ⌜ r ≡ cursor (c .row) (c .number) pos (c .placed) ⌝ }
+{
+    Cursor {
+        row: c.row,
+        number: c.number,
+        pos: pos,
+        placed: c.placed,
+    }
+}
+
+// How many comments are placed, set anew.
+pub fn with_placed(c: Cursor, placed: u32) -> Cursor
+    ensures { λ r. ⌜ r ≡ cursor (c .row) (c .number) (c .pos) placed ⌝ }
+{
+    Cursor {
+        row: c.row,
+        number: c.number,
+        pos: c.pos,
+        placed: placed,
+    }
+}
