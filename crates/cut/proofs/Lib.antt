@@ -1,0 +1,5 @@
+pub mod Memory
+pub mod Comments
+pub mod Steps
+pub mod Rule
+pub mod Entries
