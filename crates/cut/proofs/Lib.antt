@@ -3,3 +3,8 @@ pub mod Comments
 pub mod Steps
 pub mod Rule
 pub mod Entries
+pub mod Table
+pub mod LayoutParts
+pub mod RenderParts
+pub mod CommentParts
+pub mod Document

@@ -3,7 +3,7 @@
 use mathlib.Core.Bool.{Bool, true, false, not, _&&_, _||_}
 use mathlib.Core.Option.{Option, none, some}
 use mathlib.Core.List.{List, [], _∷_, _++_}
-use Prim.Native.Nat.{ℕ, zero, suc, _+_, _-_, _/_}
+use Prim.Native.Nat.{ℕ, zero, suc, _+_, _-_, _/_, max}
 use lib.Dec.{ltb, eqb}
 use lib.ListN.{length, take, replicate}
 use Rattle.cut.specs.Rules.{Refusal, LayoutArgs, RenderArgs, Laid, Rendered, Rules}
@@ -182,7 +182,7 @@ module _ (P : Parts) where
 
   abbrev pub rendering : Unit {0} → RenderState → List ℕ → List ℕ → ℕ → Rendered RenderState
   rendering c s marks store stop = record {
-    state = record { pen = drawn s marks store stop .pen; in-use = length (drawn s marks store stop .marks); row = stop };
+    state = record { pen = drawn s marks store stop .pen; in-use = max (s .in-use) (P .needed store (s .row) stop); row = stop };
     marks = drawn s marks store stop .marks;
     text = drawn s marks store stop .text;
   }
