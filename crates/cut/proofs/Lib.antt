@@ -8,3 +8,4 @@ pub mod LayoutParts
 pub mod RenderParts
 pub mod CommentParts
 pub mod Document
+pub mod Example

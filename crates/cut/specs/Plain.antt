@@ -81,7 +81,7 @@ module _ (R : Rules) where
   ReadsLaid w (renderCall q) = (k : ℕ) → R .reads-from (w .rendering) ≤ k → k < q .stop → k < R .next-row (w .laying)
 
   -- No accepted call reads rows not yet laid out. What the store held at first may pass for rows: a call that renders them, before layout
-  -- overwrites them, leaves a text that no later plain run gives (proofs/Flat.antt has such a list).
+  -- overwrites them, leaves a text that no later plain run gives (proofs/Example.antt has such a list).
   abbrev pub AllReadLaid : Carried R → List (Call R) → Type 0
   AllReadLaid w [] = Unit {0}
   AllReadLaid w (c ∷ cs) = (Accepted w c → ReadsLaid w c) × AllReadLaid (call R w c) cs
