@@ -1,21 +1,21 @@
 -- Each piece places the next comments of the list, so the document up to any stop has the first of them.
 -- Assumes nothing but the laws of the parts.
-use mathlib.Core.Path.{_≡_, refl, sym, ap, ap₂, subst, _∙_}
+use mathlib.Core.Path.{_≡_, sym, ap, ap₂, subst, _∙_}
 use mathlib.Core.Bool.{Bool, true, false}
-use mathlib.Core.Option.{Option, none}
+use mathlib.Core.Option.{none}
 use mathlib.Core.List.{List, _++_}
 use Prim.Native.Nat.{ℕ, zero, suc, _+_, _-_, _*_, _≤_, _<_}
-use native.Mathlib.Nat.{sub-zero, zero-add}
+use native.Mathlib.Nat.{sub-zero}
 use native.Mathlib.Omega.{arith}
 use lib.ListN.{length, take, drop, length-drop}
 use lib.Seq.{take-add, drop-drop}
 use Rattle.cut.specs.Rules.{LayoutArgs}
 use Rattle.cut.specs.CutRule.{Text, commentsIn}
 use Rattle.cut.specs.Laws.{CommentLaws}
-use Rattle.cut.specs.Parts.{Cursor, layoutFresh, Piece, Parts, andThen, several, end, pieceOf, rules}
+use Rattle.cut.specs.Parts.{Cursor, layoutFresh, Piece, Parts, andThen, end, pieceOf, rules}
 use Rattle.cut.specs.PartLaws.{Counts, LayoutPartLaws, Places, CommentPartLaws}
 use Rattle.cut.proofs.Comments.{comments-join}
-use Rattle.cut.proofs.LayoutParts.{upTo, from-fresh, counts-then, FitsParts, fitting, layout-laws}
+use Rattle.cut.proofs.LayoutParts.{upTo, from-fresh, counts-then, fitting, layout-laws}
 
 -- a piece that counts its rows and places the next comments
 record Laying (listed : List Text) (c : Cursor) (p : Piece) : Type 0 where
@@ -42,7 +42,8 @@ laying-then listed c p g u v =
         next = ap (commentsIn (p .rows ++ q .rows)) (sym all)
             ∙ comments-join m n (p .rows) (q .rows) rows
             ∙ ap₂ (λ (xs ys : List Text). xs ++ ys) (u .places .next) (v .places .next)
-            ∙ ap (λ (ys : List Text). take i (drop (c .placed) listed) ++ take j ys) (ap (λ (k : ℕ). drop k listed) (sym at) ∙ sym (drop-drop i (c .placed) listed))
+            ∙ ap (λ (ys : List Text). take i (drop (c .placed) listed) ++ take j ys)
+            (ap (λ (k : ℕ). drop k listed) (sym at) ∙ sym (drop-drop i (c .placed) listed))
             ∙ sym (take-add i j (drop (c .placed) listed))
             ∙ ap (λ (k : ℕ). take k (drop (c .placed) listed)) both;
       };

@@ -3,7 +3,7 @@
 -- Assumes nothing.
 use mathlib.Core.Path.{_≡_, refl, ap}
 use mathlib.Core.Option.{Option, none, some}
-use mathlib.Core.List.{List, [], _∷_, _++_, append-nil}
+use mathlib.Core.List.{List, _++_, append-nil}
 use Prim.Native.Nat.{ℕ, _*_}
 use lib.ListN.{length, drop}
 use lib.Seq.{take-append-seam}
@@ -13,37 +13,37 @@ use Rattle.cut.specs.Entries.{layoutNext, renderNext, leftNext, writtenO
 
 module _ (R : Rules) (w : Carried R) (out : List ℕ) where
   layout-same : (q : LayoutArgs (R .LayoutChoice)) → entryCall R w out (layoutCall q) ≡ call R w (layoutCall q)
-  layout-same q = go (R .layout-refusal q (w .laying) (w .store))
+  layout-same q = go (R .layout-refusal q (w .layout-state) (w .store))
     where
       go : (o : Option Refusal) → _≡_ {A = Carried R} (record {
-        store = unless o (w .store) (over (9 * R .next-row (w .laying)) (R .layout (w .laying) q .rows) (w .store));
+        store = unless o (w .store) (over (9 * R .next-row (w .layout-state)) (R .layout (w .layout-state) q .rows) (w .store));
         marks = w .marks;
-        laying = layoutNext R (answerBy R o (laidOut (R .layout (w .laying) q .state) (R .layout (w .laying) q .left))) (w .laying);
-        rendering = w .rendering;
+        layout-state = layoutNext R (answerBy R o (laidOut (R .layout (w .layout-state) q .state) (R .layout (w .layout-state) q .left))) (w .layout-state);
+        render-state = w .render-state;
         text = w .text;
-        left = leftNext R (answerBy R o (laidOut (R .layout (w .laying) q .state) (R .layout (w .laying) q .left))) (w .left);
+        left = leftNext R (answerBy R o (laidOut (R .layout (w .layout-state) q .state) (R .layout (w .layout-state) q .left))) (w .left);
       }) (unless o w (accepted R w (layoutCall q)))
       go (some r) = refl
       go none = refl
 
   abbrev withText : Carried R → List ℕ → Carried R
-  withText v t = record { store = v .store; marks = v .marks; laying = v .laying; rendering = v .rendering; text = t; left = v .left }
+  withText v t = record { store = v .store; marks = v .marks; layout-state = v .layout-state; render-state = v .render-state; text = t; left = v .left }
 
   render-same : (q : RenderArgs (R .RenderChoice)) → entryCall R w out (renderCall q) ≡ call R w (renderCall q)
-  render-same q = go (R .render-refusal q (w .rendering) (w .store) (w .marks))
+  render-same q = go (R .render-refusal q (w .render-state) (w .store) (w .marks))
     where
       new : Carried R
       new = accepted R w (renderCall q)
 
       txt : List ℕ
-      txt = renderGives R q (w .rendering) (w .store) (w .marks) .text
+      txt = renderGives R q (w .render-state) (w .store) (w .marks) .text
 
       go : (o : Option Refusal) → _≡_ {A = Carried R} (record {
         store = w .store;
         marks = unless o (w .marks) (new .marks);
-        laying = w .laying;
-        rendering = renderNext R (answerBy R o (written (new .rendering) (length txt))) (w .rendering);
-        text = w .text ++ writtenOf R (answerBy R o (written (new .rendering) (length txt))) (unless o out (onto txt out));
+        layout-state = w .layout-state;
+        render-state = renderNext R (answerBy R o (written (new .render-state) (length txt))) (w .render-state);
+        text = w .text ++ writtenOf R (answerBy R o (written (new .render-state) (length txt))) (unless o out (onto txt out));
         left = w .left;
       }) (unless o w (accepted R w (renderCall q)))
       go (some r) = ap (withText w) (append-nil (w .text))

@@ -5,18 +5,16 @@ use mathlib.Core.Path.{_≡_, refl, sym, ap, _∙_}
 use mathlib.Core.Bool.{Bool, true, false}
 use mathlib.Core.Option.{Option, none, some}
 use mathlib.Core.List.{List, [], _∷_, _++_}
-use Prim.Native.Nat.{ℕ, zero, suc, _+_, _-_, _*_, _≤_, _<_, max}
+use Prim.Native.Nat.{ℕ, zero, suc, _+_, _-_, _*_, _≤_, _<_}
 use native.Mathlib.Omega.{arith}
 use borrow.Author.Tests.{leb-true, le-leb, ltb-true}
 use lib.Dec.{ltb, leb}
 use lib.ListN.{length, getD, take, drop, replicate, take-append-drop, length-take}
 use lib.Seq.{take-take}
-use Rattle.cut.specs.Rules.{Refusal}
 use Rattle.cut.specs.Run.{Call, layoutCall, renderCall, Carried, start, run, Answer, refused, laidOut, written, answers}
 use Rattle.cut.specs.Plain.{atFirst, due, plain, AllReadLaid}
 use Rattle.cut.specs.CutRule.{Text, commentsIn, CutRule}
-use Rattle.cut.specs.Laws.{SameBefore}
-use Rattle.cut.specs.Parts.{Cursor, Piece, Drawn, Parts, rules}
+use Rattle.cut.specs.Parts.{Cursor, Piece, Parts, rules}
 use Rattle.cut.specs.PartLaws.{Counts, LayoutPartLaws, Places, CommentPartLaws, RenderPartLaws}
 use Rattle.cut.proofs.Document.{demand-3}
 

@@ -1,18 +1,18 @@
 -- Layout in one go is layout piece by piece: the shebang, the declarations in order, the final `Line`. So layout to a stop and then on is layout
 -- to the later stop, and the next row counts the rows.
 -- Assumes nothing but the laws of the parts.
-use mathlib.Core.Path.{_≡_, refl, sym, ap, subst, _∙_}
+use mathlib.Core.Path.{_≡_, refl, sym, ap, _∙_}
 use mathlib.Core.Bool.{Bool, true, false}
-use mathlib.Core.Option.{Option, none}
-use mathlib.Core.List.{List, [], _++_, append-nil, append-assoc}
-use Prim.Native.Nat.{ℕ, zero, suc, _+_, _-_, _*_, _/_, _≤_, _<_}
+use mathlib.Core.Option.{none}
+use mathlib.Core.List.{List, _++_, append-nil, append-assoc}
+use Prim.Native.Nat.{ℕ, zero, suc, _+_, _-_, _*_, _≤_}
 use native.Mathlib.Nat.{sub-zero, zero-add, suc-add}
 use native.Mathlib.Omega.{arith}
 use lib.ListN.{length, length-append}
 use Rattle.cut.specs.Rules.{LayoutArgs, Laid}
-use Rattle.cut.specs.Laws.{LayoutAfter, LayoutLaws}
-use Rattle.cut.specs.Parts.{Cursor, LayoutState, layoutFresh, Piece, Parts, first, rowsIn, still, andThen}
-use Rattle.cut.specs.Parts.{begin, several, end, pieceOf, layOut, layoutTable, rules}
+use Rattle.cut.specs.Laws.{LayoutAfter, thenLaid, LayoutLaws}
+use Rattle.cut.specs.Parts.{Cursor, LayoutState, layoutFresh, Piece, Parts, first, still, andThen}
+use Rattle.cut.specs.Parts.{begin, several, end, pieceOf, laidOf, layoutTable, rules}
 use Rattle.cut.specs.PartLaws.{Counts, LayoutPartLaws}
 use Rattle.cut.proofs.Table.{layout-told}
 
@@ -91,20 +91,17 @@ module _ (P : Parts) where
     pub counts-piece : (s : LayoutState) (q : LayoutArgs (Unit {0})) → s .declaration ≤ q .stop → q .stop ≤ P .declarations
         → Counts (s .cursor) (pieceOf P s q)
     counts-piece s q h g =
-        counts-end (q .close) (s .cursor) (several P (q .stop - s .declaration) (s .declaration) (begin P (s .begun) (s .cursor)))
-        (counts-several (q .stop - s .declaration) (s .declaration) (s .cursor) (begin P (s .begun) (s .cursor)) (omega arith) (counts-begin (s .begun) (s .cursor)))
+        let d = s .declaration in
+        let p = begin P (s .begun) (s .cursor) in
+        counts-end (q .close) (s .cursor) (several P (q .stop - d) d p)
+        (counts-several (q .stop - d) d (s .cursor) p (omega arith) (counts-begin (s .begun) (s .cursor)))
 
   module _ (L : LayoutPartLaws P) where
     pub record FitsParts (q : LayoutArgs (Unit {0})) : Type 0 where
       pub image : P .layout-image ≡ none
       pub to : q .stop ≤ P .declarations
 
-    goes-on : (p q : LayoutArgs (Unit {0})) → LayoutAfter p q
-        → _≡_ {A = Laid LayoutState} (layOut P layoutFresh q) (record {
-          state = layOut P (layOut P layoutFresh p .state) q .state;
-          rows = layOut P layoutFresh p .rows ++ layOut P (layOut P layoutFresh p .state) q .rows;
-          left = layOut P (layOut P layoutFresh p .state) q .left;
-        })
+    goes-on : (p q : LayoutArgs (Unit {0})) → LayoutAfter p q → laidOf P layoutFresh q ≡ thenLaid (laidOf P layoutFresh p) (λ s. laidOf P s q)
     goes-on p q a = ap laidAs (piece-on (p .stop) q (a .not-past)) ∙ ap parted (sym (stopped p (a .not-closed)))
       where
         laidAs : Piece → Laid LayoutState
@@ -122,8 +119,8 @@ module _ (P : Parts) where
       Fits = FitsParts;
       accepted-fits = λ q s store e. record { image = layout-told P q s store e .image; to = layout-told P q s store e .to };
       accepted-after = λ p q store k e. record {
-        not-closed = layout-told P q (layOut P layoutFresh p .state) store e .not-closed;
-        not-past = layout-told P q (layOut P layoutFresh p .state) store e .from;
+        not-closed = layout-told P q (laidOf P layoutFresh p .state) store e .not-closed;
+        not-past = layout-told P q (laidOf P layoutFresh p .state) store e .from;
         same = refl;
       };
       fresh-row = refl;

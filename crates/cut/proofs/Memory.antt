@@ -12,7 +12,8 @@ use Rattle.cut.specs.Laws.{SameBefore}
 -- rows written after rows that stand at the front
 pub over-onto : (n : ℕ) (xs ys m : List ℕ) → n ≡ length xs → over n ys (onto xs m) ≡ onto (xs ++ ys) m
 over-onto n xs ys m e =
-    rw (take-at xs (drop (length xs) m) n (sym e), drop-at xs (drop (length xs) m) n (sym e), drop-drop (length ys) (length xs) m, length-append xs ys)
+    let rest = drop (length xs) m in
+    rw (take-at xs rest n (sym e), drop-at xs rest n (sym e), drop-drop (length ys) (length xs) m, length-append xs ys)
     (sym (append-assoc xs ys (drop (length xs + length ys) m)))
 
 drop-onto : (n : ℕ) (xs m : List ℕ) → length xs ≤ n → drop n (onto xs m) ≡ drop n m

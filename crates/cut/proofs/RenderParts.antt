@@ -2,15 +2,15 @@
 -- rows before each call: the same, since rows neither read nor change marks past their numbers (`draw-past`).
 -- Assumes nothing but the laws of the parts.
 use mathlib.Core.Path.{_≡_, refl, sym, ap, ap₂, _∙_}
-use mathlib.Core.Option.{Option, none}
+use mathlib.Core.Option.{none}
 use mathlib.Core.List.{List, [], _++_}
-use Prim.Native.Nat.{ℕ, _+_, _-_, _*_, _/_, _≤_, max}
+use Prim.Native.Nat.{ℕ, _+_, _-_, _≤_, max}
 use native.Mathlib.Omega.{arith}
 use lib.ListN.{length, take, replicate, length-append, length-take, length-replicate, replicate-append-replicate}
-use Rattle.cut.specs.Rules.{LayoutArgs, RenderArgs, Rendered}
-use Rattle.cut.specs.Laws.{RenderLaws, RoomLaws, SameBefore}
-use Rattle.cut.specs.Parts.{LayoutState, RenderState, renderFresh, Pen, Drawn, Parts, first, cleared, drawn, rendering, renderTable, rules}
-use Rattle.cut.specs.PartLaws.{LayoutPartLaws, RenderPartLaws}
+use Rattle.cut.specs.Rules.{Rendered}
+use Rattle.cut.specs.Laws.{SameBefore, thenRendered, RenderLaws, RoomLaws}
+use Rattle.cut.specs.Parts.{RenderState, renderFresh, Pen, Drawn, Parts, cleared, drawnOf, renderedOf, rules}
+use Rattle.cut.specs.PartLaws.{LayoutPartLaws, withPast, thenDrawn, RenderPartLaws}
 use Rattle.cut.proofs.Table.{render-told}
 use Rattle.cut.proofs.LayoutParts.{rows-fit}
 
@@ -22,19 +22,21 @@ module _ (P : Parts) (D : RenderPartLaws P) where
   length-cleared marks n = omega (arith, length-append marks (replicate (n - length marks) 0), length-replicate {A = ℕ} (n - length marks) 0)
 
   drawn-marks : (s : RenderState) (marks store : List ℕ) (stop : ℕ)
-      → length (drawn P s marks store stop .marks) ≡ length marks + (P .needed store (s .row) stop - length marks)
+      → length (drawnOf P s marks store stop .marks) ≡ length marks + (P .needed store (s .row) stop - length marks)
   drawn-marks s marks store stop =
-      D .draw-marks (s .pen) (cleared P marks (P .needed store (s .row) stop)) store (s .row) stop ∙ length-cleared marks (P .needed store (s .row) stop)
+      let n = P .needed store (s .row) stop in
+      D .draw-marks (s .pen) (cleared P marks n) store (s .row) stop ∙ length-cleared marks n
 
   rendering-local : (s : RenderState) (marks store other : List ℕ) (n : ℕ) → SameBefore n store other
-      → rendering P tt s marks store n ≡ rendering P tt s marks other n
+      → renderedOf P tt s marks store n ≡ renderedOf P tt s marks other n
   rendering-local s marks store other n e =
-      ap₂ (λ (y : Drawn) (k : ℕ). shape y (max (s .in-use) k)) (drawn-same (D .needed-local store other (s .row) n e)) (D .needed-local store other (s .row) n e)
+      let h = D .needed-local store other (s .row) n e in
+      ap₂ (λ (y : Drawn) (k : ℕ). shape y (max (s .in-use) k)) (drawn-same h) h
     where
       shape : Drawn → ℕ → Rendered RenderState
       shape y u = record { state = record { pen = y .pen; in-use = u; row = n }; marks = y .marks; text = y .text }
 
-      drawn-same : P .needed store (s .row) n ≡ P .needed other (s .row) n → drawn P s marks store n ≡ drawn P s marks other n
+      drawn-same : P .needed store (s .row) n ≡ P .needed other (s .row) n → drawnOf P s marks store n ≡ drawnOf P s marks other n
       drawn-same h =
           ap (λ (k : ℕ). P .draw (s .pen) (cleared P marks k) store (s .row) n) h
           ∙ D .draw-local (s .pen) (cleared P marks (P .needed other (s .row) n)) store other (s .row) n e
@@ -69,27 +71,19 @@ module _ (P : Parts) (D : RenderPartLaws P) where
     marks-split = replicate-split (all - 0) (before - 0) (more - length (one .marks)) (omega (arith, one-marks, both))
 
     -- the rows before n, with the marks of all rows cleared
-    one-past : P .draw z (cleared P [] all) store 0 n ≡ record { pen = one .pen; marks = one .marks ++ zeros; text = one .text }
+    one-past : P .draw z (cleared P [] all) store 0 n ≡ withPast one zeros
     one-past =
         ap (λ (ms : List ℕ). P .draw z ms store 0 n) marks-split
         ∙ D .draw-past z (cleared P [] before) zeros store n right₁ (omega (arith, length-cleared [] before))
 
-    abbrev after-one : Drawn → Drawn
-    after-one y = record {
-      pen = P .draw (y .pen) (y .marks) store n m .pen;
-      marks = P .draw (y .pen) (y .marks) store n m .marks;
-      text = y .text ++ P .draw (y .pen) (y .marks) store n m .text;
-    }
+    abbrev onward : Drawn → Drawn
+    onward y = thenDrawn y (λ p ms. P .draw p ms store n m)
 
-    all-drawn : P .draw z (cleared P [] all) store 0 m ≡ after-one (record { pen = one .pen; marks = one .marks ++ zeros; text = one .text })
-    all-drawn = D .draw-join z (cleared P [] all) store n m le right₁ right₂ (omega (arith, length-cleared [] all)) ∙ ap after-one one-past
+    all-drawn : P .draw z (cleared P [] all) store 0 m ≡ onward (withPast one zeros)
+    all-drawn = D .draw-join z (cleared P [] all) store n m le right₁ right₂ (omega (arith, length-cleared [] all)) ∙ ap onward one-past
 
-    joined : _≡_ {A = Rendered RenderState} (rendering P tt renderFresh [] store m) (record {
-      state = rendering P tt (rendering P tt renderFresh [] store n .state) (rendering P tt renderFresh [] store n .marks) store m .state;
-      marks = rendering P tt (rendering P tt renderFresh [] store n .state) (rendering P tt renderFresh [] store n .marks) store m .marks;
-      text = rendering P tt renderFresh [] store n .text
-          ++ rendering P tt (rendering P tt renderFresh [] store n .state) (rendering P tt renderFresh [] store n .marks) store m .text;
-    })
+    joined : renderedOf P tt renderFresh [] store m
+        ≡ thenRendered (renderedOf P tt renderFresh [] store n) (λ s marks. renderedOf P tt s marks store m)
     joined =
         let u : max 0 all ≡ max (max 0 before) more = omega (arith, both) in
         ap₂ (λ (y : Drawn) (k : ℕ). shape y k) all-drawn u

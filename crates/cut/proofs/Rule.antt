@@ -4,11 +4,12 @@ use mathlib.Core.Path.{_≡_, refl, sym, ap, subst, _∙_}
 use mathlib.Core.Logic.{_↔_}
 use mathlib.Core.Option.{Option, none, some}
 use mathlib.Core.List.{List, [], _∷_}
-use Prim.Native.Nat.{ℕ, _*_, _≤_}
+use Prim.Native.Nat.{ℕ, _*_}
 use native.Mathlib.Omega.{arith}
-use lib.ListN.{length, take, drop}
+use lib.ListN.{length, drop}
 use Rattle.cut.specs.Rules.{Refusal, LayoutArgs, Rules}
-use Rattle.cut.specs.Run.{unless, Call, layoutCall, renderCall, Carried, start, refusal, rendered, accepted, call, run, Answer, answer, answers}
+use Rattle.cut.specs.Run.{unless, Call, layoutCall, renderCall, Carried, start, refusal, rendered, accepted, call, run}
+use Rattle.cut.specs.Run.{Answer, answer, answers}
 use Rattle.cut.specs.Plain.{
   RenderedTo,
   Progress,
@@ -23,7 +24,7 @@ use Rattle.cut.specs.Plain.{
   AllReadLaid,
   AllReadDue,
 }
-use Rattle.cut.specs.CutRule.{Text, commentsIn, CommentsKept, SameRoom}
+use Rattle.cut.specs.CutRule.{Text, CommentsKept, SameRoom}
 use Rattle.cut.specs.Laws.{LayoutLaws, RenderLaws, CommentLaws, RoomLaws}
 use Rattle.cut.proofs.Memory.{length-onto, length-over}
 use Rattle.cut.proofs.Comments.{comments-before}
@@ -37,11 +38,13 @@ module _ (R : Rules) (L : LayoutLaws R) (D : RenderLaws R) where
   at-first = record { laid-ok = tt; rendered-ok = tt }
 
   -- ---- the run leaves what is due
-  run-from : (s m : List ℕ) (cs : List (Call R)) (f : Progress R) → Ok f → AllReadLaid R (due R s m f) cs → run R (due R s m f) cs ≡ due R s m (plain R s m f cs)
+  run-from : (s m : List ℕ) (cs : List (Call R)) (f : Progress R) → Ok f → AllReadLaid R (due R s m f) cs
+      → run R (due R s m f) cs ≡ due R s m (plain R s m f cs)
   run-from s m [] f k a = refl
   run-from s m (c ∷ cs) f k a =
       let t = one-call R L D s m f c k (a .0) in
-      ap (λ (w : Carried R). run R w cs) (t .0) ∙ run-from s m cs (plainCall R s m f c) (t .1) (subst (λ (w : Carried R). AllReadLaid R w cs) (t .0) (a .1))
+      ap (λ (w : Carried R). run R w cs) (t .0)
+      ∙ run-from s m cs (plainCall R s m f c) (t .1) (subst (λ (w : Carried R). AllReadLaid R w cs) (t .0) (a .1))
 
   pub cut-rule : (store₀ marks₀ : List ℕ) (calls : List (Call R)) → AllReadLaid R (start R store₀ marks₀) calls
       → run R (start R store₀ marks₀) calls ≡ due R store₀ marks₀ (plain R store₀ marks₀ (atFirst R) calls)
@@ -49,7 +52,8 @@ module _ (R : Rules) (L : LayoutLaws R) (D : RenderLaws R) where
 
   -- lists that come equally far leave the same, however they cut the work
   pub cuts-alike : (store₀ marks₀ : List ℕ) (some-calls other-calls : List (Call R)) → AllReadLaid R (start R store₀ marks₀) some-calls
-      → AllReadLaid R (start R store₀ marks₀) other-calls → plain R store₀ marks₀ (atFirst R) some-calls ≡ plain R store₀ marks₀ (atFirst R) other-calls
+      → AllReadLaid R (start R store₀ marks₀) other-calls
+      → plain R store₀ marks₀ (atFirst R) some-calls ≡ plain R store₀ marks₀ (atFirst R) other-calls
       → run R (start R store₀ marks₀) some-calls ≡ run R (start R store₀ marks₀) other-calls
   cuts-alike store₀ marks₀ some-calls other-calls a b e =
       cut-rule store₀ marks₀ some-calls a ∙ ap (due R store₀ marks₀) e ∙ sym (cut-rule store₀ marks₀ other-calls b)
@@ -120,9 +124,11 @@ module _ (R : Rules) (L : LayoutLaws R) (D : RenderLaws R) where
 module _ (R : Rules) (M : RoomLaws R) where
   room-accepted : (w : Carried R) (c : Call R) → Accepted R w c → SameRoom R (accepted R w c) w
   room-accepted w (layoutCall q) e =
-      record { store-same = length-over _ (R .layout (w .laying) q .rows) (w .store) (M .rows-fit q (w .laying) (w .store) e); marks-same = refl }
+      let fit = M .rows-fit q (w .layout-state) (w .store) e in
+      record { store-same = length-over _ (R .layout (w .layout-state) q .rows) (w .store) fit; marks-same = refl }
   room-accepted w (renderCall q) e =
-      record { store-same = refl; marks-same = length-onto (rendered R w q .marks) (w .marks) (M .marks-fit q (w .rendering) (w .store) (w .marks) e) }
+      let fit = M .marks-fit q (w .render-state) (w .store) (w .marks) e in
+      record { store-same = refl; marks-same = length-onto (rendered R w q .marks) (w .marks) fit }
 
   room-call : (w : Carried R) (c : Call R) → SameRoom R (call R w c) w
   room-call w c = go (refusal R w c) refl

@@ -9,7 +9,7 @@ use native.Mathlib.Omega.{arith}
 use native.Mathlib.Decide.{decLt}
 use lib.ListN.{length, take, drop, length-append}
 use Rattle.cut.specs.Rules.{Refusal, LayoutArgs, RenderArgs, Laid, Rendered, Rules}
-use Rattle.cut.specs.Run.{onto, over, unless, Call, layoutCall, renderCall, Carried, refusal, rendered, accepted, call}
+use Rattle.cut.specs.Run.{onto, unless, Call, layoutCall, renderCall, Carried, refusal, rendered, accepted, call}
 use Rattle.cut.specs.Plain.{
   RenderedTo,
   Progress,
@@ -24,17 +24,23 @@ use Rattle.cut.specs.Plain.{
   Accepted,
   ReadsLaid,
 }
-use Rattle.cut.specs.Laws.{LayoutAfter, LayoutLaws, RenderLaws, SameBefore}
+use Rattle.cut.specs.Laws.{thenLaid, LayoutLaws, SameBefore, thenRendered, RenderLaws}
 use Rattle.cut.proofs.Memory.{over-onto, onto-onto, take-onto, same-before}
 
 module _ (R : Rules) (L : LayoutLaws R) (D : RenderLaws R) where
+  abbrev pub LaidTo : Type 0
+  LaidTo = Option (LayoutArgs (R .LayoutChoice))
+
+  abbrev pub ShownTo : Type 0
+  ShownTo = Option (RenderedTo (R .RenderChoice))
+
   -- ---- what stays true on the way
-  abbrev pub LaidOk : Option (LayoutArgs (R .LayoutChoice)) → Type 0
+  abbrev pub LaidOk : LaidTo → Type 0
   LaidOk none = Unit {0}
   LaidOk (some p) = L .Fits p
 
   -- the rows before the rendering stop are laid out and whole
-  abbrev pub RenderedOk : List ℕ → Option (RenderedTo (R .RenderChoice)) → Type 0
+  abbrev pub RenderedOk : List ℕ → ShownTo → Type 0
   RenderedOk rows none = Unit {0}
   RenderedOk rows (some p) = (9 * p .stop ≤ length rows) × D .Whole (p .choice) rows (p .stop)
 
@@ -43,27 +49,24 @@ module _ (R : Rules) (L : LayoutLaws R) (D : RenderLaws R) where
     pub rendered-ok : RenderedOk (laidDue R f .rows) (f .rendered-to)
 
   -- ---- layout
-  laid-row : (o : Option (LayoutArgs (R .LayoutChoice))) → LaidOk o → 9 * R .next-row (layoutDue R o .state) ≡ length (layoutDue R o .rows)
+  laid-row : (o : LaidTo) → LaidOk o → 9 * R .next-row (layoutDue R o .state) ≡ length (layoutDue R o .rows)
   laid-row none k = ap (λ (n : ℕ). 9 * n) (L .fresh-row)
   laid-row (some p) k = L .due-row p k
 
-  laid-on : (o : Option (LayoutArgs (R .LayoutChoice))) (q : LayoutArgs (R .LayoutChoice)) (store : List ℕ) → LaidOk o
+  laid-on : (o : LaidTo) (q : LayoutArgs (R .LayoutChoice)) (store : List ℕ) → LaidOk o
       → R .layout-refusal q (layoutDue R o .state) store ≡ none
-      → _≡_ {A = Laid (R .LayoutState)} (R .layout (R .layout-fresh) q) (record {
-        state = R .layout (layoutDue R o .state) q .state;
-        rows = layoutDue R o .rows ++ R .layout (layoutDue R o .state) q .rows;
-        left = R .layout (layoutDue R o .state) q .left;
-      })
+      → R .layout (R .layout-fresh) q ≡ thenLaid (layoutDue R o) (λ s. R .layout s q)
   laid-on none q store k e = refl
   laid-on (some p) q store k e = L .goes-on p q k (L .accepted-fits q _ store e) (L .accepted-after p q store k e)
 
   -- more rows behind do not change what the rows before the rendering stop give
-  rendered-more : (o : Option (RenderedTo (R .RenderChoice))) (rows more : List ℕ) → RenderedOk rows o
+  rendered-more : (o : ShownTo) (rows more : List ℕ) → RenderedOk rows o
       → renderDue R (rows ++ more) o ≡ renderDue R rows o
   rendered-more none rows more k = refl
-  rendered-more (some p) rows more k = D .render-local (p .choice) (R .render-fresh) [] (rows ++ more) rows (p .stop) (same-before (p .stop) rows more (k .0))
+  rendered-more (some p) rows more k =
+      D .render-local (p .choice) (R .render-fresh) [] (rows ++ more) rows (p .stop) (same-before (p .stop) rows more (k .0))
 
-  rendered-ok-more : (o : Option (RenderedTo (R .RenderChoice))) (rows more : List ℕ) → RenderedOk rows o → RenderedOk (rows ++ more) o
+  rendered-ok-more : (o : ShownTo) (rows more : List ℕ) → RenderedOk rows o → RenderedOk (rows ++ more) o
   rendered-ok-more none rows more k = tt
   rendered-ok-more (some p) rows more k = (
     omega (arith, length-append rows more, k .0),
@@ -84,13 +87,14 @@ module _ (R : Rules) (L : LayoutLaws R) (D : RenderLaws R) where
       two = R .layout (one .state) q
 
       joined : Laid (R .LayoutState)
-      joined = record { state = two .state; rows = one .rows ++ two .rows; left = two .left }
+      joined = thenLaid one (λ s. R .layout s q)
 
       shown : Rendered (R .RenderState)
       shown = renderDue R (one .rows) (f .rendered-to)
 
       filled : List ℕ → Laid (R .LayoutState) → Rendered (R .RenderState) → Carried R
-      filled st l d = record { store = st; marks = onto (d .marks) m; laying = l .state; rendering = d .state; text = d .text; left = some (l .left) }
+      filled st l d =
+          record { store = st; marks = onto (d .marks) m; layout-state = l .state; render-state = d .state; text = d .text; left = some (l .left) }
 
       made : Laid (R .LayoutState) → Rendered (R .RenderState) → Carried R
       made l d = filled (onto (l .rows) s) l d
@@ -104,37 +108,34 @@ module _ (R : Rules) (L : LayoutLaws R) (D : RenderLaws R) where
   }
 
   -- ---- rendering
-  abbrev stopOf : Option (RenderedTo (R .RenderChoice)) → ℕ
+  abbrev stopOf : ShownTo → ℕ
   stopOf none = 0
   stopOf (some p) = p .stop
 
-  rendered-row : (rows : List ℕ) (o : Option (RenderedTo (R .RenderChoice))) → RenderedOk rows o → R .reads-from (renderDue R rows o .state) ≡ stopOf o
+  rendered-row : (rows : List ℕ) (o : ShownTo) → RenderedOk rows o → R .reads-from (renderDue R rows o .state) ≡ stopOf o
   rendered-row rows none k = D .fresh-row
   rendered-row rows (some p) k = D .due-row (p .choice) rows (p .stop) (k .1)
 
-  rendered-use : (rows : List ℕ) (o : Option (RenderedTo (R .RenderChoice))) → RenderedOk rows o
+  rendered-use : (rows : List ℕ) (o : ShownTo) → RenderedOk rows o
       → R .in-use (renderDue R rows o .state) ≡ length (renderDue R rows o .marks)
   rendered-use rows none k = D .fresh-use
   rendered-use rows (some p) k = D .due-use (p .choice) rows (p .stop) (k .1)
 
-  rendered-laid : (rows : List ℕ) (o : Option (RenderedTo (R .RenderChoice))) → RenderedOk rows o → 9 * stopOf o ≤ length rows
+  rendered-laid : (rows : List ℕ) (o : ShownTo) → RenderedOk rows o → 9 * stopOf o ≤ length rows
   rendered-laid rows none k = omega arith
   rendered-laid rows (some p) k = k .0
 
   -- the rows rendered so far are whole under the choice of the next accepted call
-  rendered-whole : (rows : List ℕ) (o : Option (RenderedTo (R .RenderChoice))) (q : RenderArgs (R .RenderChoice)) (store marks : List ℕ) → RenderedOk rows o
+  rendered-whole : (rows : List ℕ) (o : ShownTo) (q : RenderArgs (R .RenderChoice)) (store marks : List ℕ) → RenderedOk rows o
       → R .render-refusal q (renderDue R rows o .state) store marks ≡ none → D .Whole (q .choice) rows (stopOf o)
   rendered-whole rows none q store marks k e = D .whole-local (q .choice) store rows 0 refl (D .accepted-none q _ store marks e)
   rendered-whole rows (some p) q store marks k e =
       subst (λ (c : R .RenderChoice). D .Whole c rows (p .stop)) (D .accepted-same (p .choice) rows (p .stop) q store marks (k .1) e) (k .1)
 
-  rendered-on : (rows : List ℕ) (o : Option (RenderedTo (R .RenderChoice))) (q : RenderArgs (R .RenderChoice)) (store marks : List ℕ) → RenderedOk rows o
+  rendered-on : (rows : List ℕ) (o : ShownTo) (q : RenderArgs (R .RenderChoice)) (store marks : List ℕ) → RenderedOk rows o
       → R .render-refusal q (renderDue R rows o .state) store marks ≡ none → stopOf o ≤ q .stop → D .Whole (q .choice) rows (q .stop)
-      → _≡_ {A = Rendered (R .RenderState)} (renderDue R rows (some (record { stop = q .stop; choice = q .choice }))) (record {
-        state = R .render (q .choice) (renderDue R rows o .state) (renderDue R rows o .marks) rows (q .stop) .state;
-        marks = R .render (q .choice) (renderDue R rows o .state) (renderDue R rows o .marks) rows (q .stop) .marks;
-        text = renderDue R rows o .text ++ R .render (q .choice) (renderDue R rows o .state) (renderDue R rows o .marks) rows (q .stop) .text;
-      })
+      → R .render (q .choice) (R .render-fresh) [] rows (q .stop)
+      ≡ thenRendered (renderDue R rows o) (λ s ms. R .render (q .choice) s ms rows (q .stop))
   rendered-on rows none q store marks k e h w = refl
   rendered-on rows (some p) q store marks k e h w =
       rw (D .accepted-same (p .choice) rows (p .stop) q store marks (k .1) e)
@@ -145,7 +146,7 @@ module _ (R : Rules) (L : LayoutLaws R) (D : RenderLaws R) where
     abbrev rows : List ℕ
     rows = laidDue R f .rows
 
-    row-due : R .reads-from (due R s m f .rendering) ≡ stopOf (f .rendered-to)
+    row-due : R .reads-from (due R s m f .render-state) ≡ stopOf (f .rendered-to)
     row-due = rendered-row rows (f .rendered-to) (k .rendered-ok)
 
     not-past : stopOf (f .rendered-to) ≤ q .stop
@@ -153,9 +154,9 @@ module _ (R : Rules) (L : LayoutLaws R) (D : RenderLaws R) where
 
     -- the stop is among the rows laid out
     stop-laid : 9 * q .stop ≤ length rows
-    stop-laid = go (decLt (R .reads-from (due R s m f .rendering)) (q .stop))
+    stop-laid = go (decLt (R .reads-from (due R s m f .render-state)) (q .stop))
       where
-        go : Dec (R .reads-from (due R s m f .rendering) < q .stop) → 9 * q .stop ≤ length rows
+        go : Dec (R .reads-from (due R s m f .render-state) < q .stop) → 9 * q .stop ≤ length rows
         go (yes h) = omega (arith, reads (q .stop - 1) (omega arith) (omega arith), laid-row (f .laid-to) (k .laid-ok))
         go (no h) = omega (arith, row-due, D .accepted-not-past q _ _ _ e, rendered-laid _ (f .rendered-to) (k .rendered-ok))
 
@@ -163,7 +164,7 @@ module _ (R : Rules) (L : LayoutLaws R) (D : RenderLaws R) where
     same-rows : (n : ℕ) → 9 * n ≤ length rows → SameBefore n (due R s m f .store) rows
     same-rows n h = same-before n rows (drop (length rows) s) h
 
-    marks-due : take (R .in-use (due R s m f .rendering)) (due R s m f .marks) ≡ renderedDue R f .marks
+    marks-due : take (R .in-use (due R s m f .render-state)) (due R s m f .marks) ≡ renderedDue R f .marks
     marks-due = take-onto _ (renderedDue R f .marks) m (rendered-use rows (f .rendered-to) (k .rendered-ok))
 
     whole : D .Whole (q .choice) rows (q .stop)
@@ -171,14 +172,17 @@ module _ (R : Rules) (L : LayoutLaws R) (D : RenderLaws R) where
         D .whole-local (q .choice) (due R s m f .store) rows (q .stop) (same-rows (q .stop) stop-laid)
         (D .accepted-whole q _ (due R s m f .store) _ e
         (subst (D .Whole (q .choice) (due R s m f .store)) (sym row-due)
-        (D .whole-local (q .choice) rows (due R s m f .store) (stopOf (f .rendered-to)) (sym (same-rows _ (rendered-laid rows (f .rendered-to) (k .rendered-ok))))
+        (D .whole-local (q .choice) rows (due R s m f .store) (stopOf (f .rendered-to))
+        (sym (same-rows _ (rendered-laid rows (f .rendered-to) (k .rendered-ok))))
         (rendered-whole rows (f .rendered-to) q _ _ (k .rendered-ok) e))))
 
     render-step : accepted R (due R s m f) (renderCall q) ≡ due R s m (onward R f (renderCall q))
     render-step =
         ap (λ (d : Rendered (R .RenderState)). filled (onto (d .marks) (onto (one .marks) m)) (d .state) (one .text ++ d .text)) same-two
-        ∙ ap (λ (ms : List ℕ). filled ms (two .state) (one .text ++ two .text)) (onto-onto (one .marks) (two .marks) m (D .grows (q .choice) (one .state) (one .marks) rows (q .stop)))
-        ∙ ap (λ (d : Rendered (R .RenderState)). filled (onto (d .marks) m) (d .state) (d .text)) (sym (rendered-on rows (f .rendered-to) q _ _ (k .rendered-ok) e not-past whole))
+        ∙ ap (λ (ms : List ℕ). filled ms (two .state) (one .text ++ two .text))
+        (onto-onto (one .marks) (two .marks) m (D .grows (q .choice) (one .state) (one .marks) rows (q .stop)))
+        ∙ ap (λ (d : Rendered (R .RenderState)). filled (onto (d .marks) m) (d .state) (d .text))
+        (sym (rendered-on rows (f .rendered-to) q _ _ (k .rendered-ok) e not-past whole))
       where
         one : Rendered (R .RenderState)
         one = renderedDue R f
@@ -192,7 +196,8 @@ module _ (R : Rules) (L : LayoutLaws R) (D : RenderLaws R) where
             ∙ D .render-local (q .choice) (one .state) (one .marks) (due R s m f .store) rows (q .stop) (same-rows (q .stop) stop-laid)
 
         filled : List ℕ → R .RenderState → List ℕ → Carried R
-        filled ms st t = record { store = onto rows s; marks = ms; laying = laidDue R f .state; rendering = st; text = t; left = leftDue R (f .laid-to) }
+        filled ms st t =
+            record { store = onto rows s; marks = ms; layout-state = laidDue R f .state; render-state = st; text = t; left = leftDue R (f .laid-to) }
 
     render-ok : ProgressOk (onward R f (renderCall q))
     render-ok = record { laid-ok = k .laid-ok; rendered-ok = (stop-laid, whole) }
@@ -209,6 +214,7 @@ module _ (R : Rules) (L : LayoutLaws R) (D : RenderLaws R) where
   one-call s m f c k r = go (refusal R (due R s m f) c) refl
     where
       go : (o : Option Refusal) → refusal R (due R s m f) c ≡ o
-          → (unless o (due R s m f) (accepted R (due R s m f) c) ≡ due R s m (unless o f (onward R f c))) × ProgressOk (unless o f (onward R f c))
+          → (unless o (due R s m f) (accepted R (due R s m f) c) ≡ due R s m (unless o f (onward R f c)))
+          × ProgressOk (unless o f (onward R f c))
       go (some n) e = (refl, k)
       go none e = step s m f c k e (r e)

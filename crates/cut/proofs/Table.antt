@@ -1,7 +1,7 @@
 -- What an accepted call tells: each line of the table lets it pass, and so does each test of 12.
 -- Assumes nothing.
 use mathlib.Core.Path.{_≡_, refl}
-use mathlib.Core.Bool.{Bool, true, false, _||_}
+use mathlib.Core.Bool.{Bool, true, false}
 use mathlib.Core.Option.{Option, none, some}
 use mathlib.Core.List.{List, [], _∷_}
 use Prim.Native.Nat.{ℕ, zero, suc, _≤_}
@@ -10,7 +10,7 @@ use borrow.Author.Tests.{ltb-false}
 use lib.Dec.{ltb}
 use lib.ListN.{length, getD}
 use Rattle.cut.specs.Rules.{Refusal, LayoutArgs, RenderArgs}
-use Rattle.cut.specs.Parts.{LayoutState, RenderState, Parts, orElse, first, when, whenFound, any, rowsIn}
+use Rattle.cut.specs.Parts.{LayoutState, RenderState, Parts, first, when, whenFound, any, rowsIn}
 use Rattle.cut.specs.Parts.{layoutTests, rowsNeeded, layoutTable, renderTests, marksNeeded, renderTable}
 
 -- line i of a table that refuses nothing
@@ -43,7 +43,8 @@ module _ (P : Parts) where
     pub not-closed : s .closed ≡ false
     pub room : rowsNeeded P q s ≤ rowsIn store
 
-  pub layout-told : (q : LayoutArgs (Unit {0})) (s : LayoutState) (store : List ℕ) → first (layoutTable P q s store) ≡ none → LayoutTold q s store
+  pub layout-told : (q : LayoutArgs (Unit {0})) (s : LayoutState) (store : List ℕ) → first (layoutTable P q s store) ≡ none
+      → LayoutTold q s store
   layout-told q s store e =
       let line : (i : ℕ) → getD (layoutTable P q s store) i none ≡ none = λ i. first-at (layoutTable P q s store) i e in
       let none-holds : any (layoutTests P q s store) ≡ false = not-when (any (layoutTests P q s store)) 12 0 (line 1) in

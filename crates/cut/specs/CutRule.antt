@@ -1,12 +1,12 @@
--- Demand 3, "one theorem on the list, not one a call": what is claimed of each list of calls in which no accepted call reads rows not yet laid
--- out. proofs/Document.antt proves it of document 01's rules.
+-- Demand 3, "one theorem on the list, not one a call": what is claimed of each list of calls in which no accepted call reads rows not yet
+-- laid out. proofs/Document.antt proves it of document 01's states and table.
 --
--- Laying out all at the first call does not meet it: after each call the store is what the rows due at the calls' stops leave of any store that
--- there was at first, so a row too many shows, and the state names the declaration that was asked for. Refusing all meets it only with a table
--- that refuses all: the table of Parts.antt is document 01's, and the entries' contracts (Entries.antt) give its answer and no other.
+-- Laying out everything at the first call does not meet it: the list may end there, and then the store still holds, past the rows due at that
+-- call's stop, what it held at first, whatever that was. Refusing everything does not either: the rule by itself would hold of a table that
+-- refuses everything, but the table in Parts.antt is document 01's, and by their contracts (Entries.antt) the calls answer as it says.
 use mathlib.Core.Path.{_≡_}
-use mathlib.Core.Bool.{Bool, cond}
-use mathlib.Core.Option.{Option, none, some}
+use mathlib.Core.Bool.{cond}
+use mathlib.Core.Option.{some}
 use mathlib.Core.List.{List, [], _∷_, _++_}
 use Prim.Native.Nat.{ℕ, zero, suc, _+_, _*_}
 use lib.Dec.{eqb}
@@ -38,10 +38,9 @@ commentsIn store (suc n) = commentsIn store n ++ commentAt store n
 module _ (R : Rules) where
   -- The comments in the rows laid out are the first so many of the list, in order, each once; the others are the n that wait.
   pub record CommentsKept (listed : List Text) (w : Carried R) (n : ℕ) : Type 0 where
-    pub first : commentsIn (w .store) (R .next-row (w .laying)) ≡ take (R .placed (w .laying)) listed
-    pub others : n ≡ length (drop (R .placed (w .laying)) listed)
+    pub first : commentsIn (w .store) (R .next-row (w .layout-state)) ≡ take (R .placed (w .layout-state)) listed
+    pub others : n ≡ length (drop (R .placed (w .layout-state)) listed)
 
-  -- no memory grows or shrinks
   pub record SameRoom (w v : Carried R) : Type 0 where
     pub store-same : length (w .store) ≡ length (v .store)
     pub marks-same : length (w .marks) ≡ length (v .marks)
@@ -53,4 +52,5 @@ module _ (R : Rules) where
     pub answered : answers R (start R store₀ marks₀) calls ≡ answersDue R store₀ marks₀ (atFirst R) calls
     -- once a layout call is accepted
     pub comments : (n : ℕ) → run R (start R store₀ marks₀) calls .left ≡ some n → CommentsKept listed (run R (start R store₀ marks₀) calls) n
+    -- store and marks keep their length
     pub room : SameRoom (run R (start R store₀ marks₀) calls) (start R store₀ marks₀)

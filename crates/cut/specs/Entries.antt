@@ -1,10 +1,10 @@
 -- What the contracts of the two public calls say, each of one call alone, and what their caller hands on. `entryCall` is the `call` of Run.antt
 -- (proofs/Entries.antt), so that the cut rule is a rule on functions with these contracts.
-use mathlib.Core.Option.{Option, none, some}
-use mathlib.Core.List.{List, [], _∷_, _++_}
+use mathlib.Core.Option.{Option, some}
+use mathlib.Core.List.{List, [], _++_}
 use Prim.Native.Nat.{ℕ, _*_}
 use lib.ListN.{length, take}
-use Rattle.cut.specs.Rules.{Refusal, LayoutArgs, RenderArgs, Laid, Rendered, Rules}
+use Rattle.cut.specs.Rules.{LayoutArgs, RenderArgs, Rendered, Rules}
 use Rattle.cut.specs.Run.{onto, over, unless, Call, layoutCall, renderCall, Carried, Answer, refused, laidOut, written, answerBy}
 
 module _ (R : Rules) where
@@ -53,19 +53,19 @@ module _ (R : Rules) where
   -- one call by the contracts, with a rendering call's output that held `out`
   abbrev pub entryCall : Carried R → List ℕ → Call R → Carried R
   entryCall w out (layoutCall q) = record {
-    store = layoutStore q (w .laying) (w .store);
+    store = layoutStore q (w .layout-state) (w .store);
     marks = w .marks;
-    laying = layoutNext (layoutAnswer q (w .laying) (w .store)) (w .laying);
-    rendering = w .rendering;
+    layout-state = layoutNext (layoutAnswer q (w .layout-state) (w .store)) (w .layout-state);
+    render-state = w .render-state;
     text = w .text;
-    left = leftNext (layoutAnswer q (w .laying) (w .store)) (w .left);
+    left = leftNext (layoutAnswer q (w .layout-state) (w .store)) (w .left);
   }
   entryCall w out (renderCall q) = record {
     store = w .store;
-    marks = renderMarks q (w .rendering) (w .store) (w .marks);
-    laying = w .laying;
-    rendering = renderNext (renderAnswer q (w .rendering) (w .store) (w .marks)) (w .rendering);
+    marks = renderMarks q (w .render-state) (w .store) (w .marks);
+    layout-state = w .layout-state;
+    render-state = renderNext (renderAnswer q (w .render-state) (w .store) (w .marks)) (w .render-state);
     text = w .text
-        ++ writtenOf (renderAnswer q (w .rendering) (w .store) (w .marks)) (renderOutput q (w .rendering) (w .store) (w .marks) out);
+        ++ writtenOf (renderAnswer q (w .render-state) (w .store) (w .marks)) (renderOutput q (w .render-state) (w .store) (w .marks) out);
     left = w .left;
   }

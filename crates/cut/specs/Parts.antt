@@ -1,5 +1,5 @@
--- Document 01's states and table, over parts that are open here: the shebang, one declaration, the final `Line`, the tests of image and rows, and
--- one rendering of rows. `rules` are the rules of the cut rule; what the parts owe is in PartLaws.antt.
+-- Document 01's states and table, over parts that are open here: the shebang, one declaration, the final `Line`, the tests of image and rows,
+-- the renderer. `rules` puts them together; what the parts owe is in PartLaws.antt.
 use mathlib.Core.Bool.{Bool, true, false, not, _&&_, _||_}
 use mathlib.Core.Option.{Option, none, some}
 use mathlib.Core.List.{List, [], _∷_, _++_}
@@ -64,7 +64,7 @@ pub record Parts : Type 0 where
   pub shebang : Cursor → Piece
   pub declaration : ℕ → Cursor → Piece
   pub final : Cursor → Piece
-  -- 11's place, for a store and the rows of it from one up to a stop; none if all is right
+  -- 11's place, "0 for the stop, tested first", for the rows of a store from one up to a stop; none if all is right
   pub wrong-row : List ℕ → ℕ → ℕ → Option ℕ
   -- "largest number in the rows plus 1", for the rows of a store from one up to a stop; 0 if none has one
   pub needed : List ℕ → ℕ → ℕ → ℕ
@@ -97,7 +97,7 @@ any (b ∷ bs) = b || any bs
 abbrev pub rowsIn : List ℕ → ℕ
 rowsIn store = length store / 9
 
--- a state that has begun is not asked to be all 0
+-- all of a state that has not begun is 0
 abbrev pub allZero : LayoutState → Bool
 allZero s =
     not (s .closed)
@@ -112,7 +112,7 @@ abbrev pub oddMark : List ℕ → Bool
 oddMark [] = false
 oddMark (x ∷ xs) = ltb 1 x || oddMark xs
 
--- no piece
+-- the piece that adds nothing
 abbrev pub still : Cursor → Piece
 still c = record { cursor = c; rows = [] }
 
@@ -141,8 +141,8 @@ module _ (P : Parts) where
   pieceOf s q = end (q .close) (several (q .stop - s .declaration) (s .declaration) (begin (s .begun) (s .cursor)))
 
   -- "Its answer is the new state with the number of comments left."
-  abbrev pub layOut : LayoutState → LayoutArgs (Unit {0}) → Laid LayoutState
-  layOut s q = record {
+  abbrev pub laidOf : LayoutState → LayoutArgs (Unit {0}) → Laid LayoutState
+  laidOf s q = record {
     state = record { begun = true; closed = q .close; declaration = q .stop; cursor = pieceOf s q .cursor };
     rows = pieceOf s q .rows;
     left = P .comments - pieceOf s q .cursor .placed;
@@ -177,14 +177,15 @@ module _ (P : Parts) where
   abbrev pub cleared : List ℕ → ℕ → List ℕ
   cleared marks n = marks ++ replicate (n - length marks) 0
 
-  abbrev pub drawn : RenderState → List ℕ → List ℕ → ℕ → Drawn
-  drawn s marks store stop = P .draw (s .pen) (cleared marks (P .needed store (s .row) stop)) store (s .row) stop
+  -- what the rows from the state's next row up to a stop give
+  abbrev pub drawnOf : RenderState → List ℕ → List ℕ → ℕ → Drawn
+  drawnOf s marks store stop = P .draw (s .pen) (cleared marks (P .needed store (s .row) stop)) store (s .row) stop
 
-  abbrev pub rendering : Unit {0} → RenderState → List ℕ → List ℕ → ℕ → Rendered RenderState
-  rendering c s marks store stop = record {
-    state = record { pen = drawn s marks store stop .pen; in-use = max (s .in-use) (P .needed store (s .row) stop); row = stop };
-    marks = drawn s marks store stop .marks;
-    text = drawn s marks store stop .text;
+  abbrev pub renderedOf : Unit {0} → RenderState → List ℕ → List ℕ → ℕ → Rendered RenderState
+  renderedOf c s marks store stop = record {
+    state = record { pen = drawnOf s marks store stop .pen; in-use = max (s .in-use) (P .needed store (s .row) stop); row = stop };
+    marks = drawnOf s marks store stop .marks;
+    text = drawnOf s marks store stop .text;
   }
 
   -- 12, as far as it is of rendering
@@ -204,7 +205,7 @@ module _ (P : Parts) where
   marksNeeded q s store = P .needed store (s .row) (q .stop)
 
   abbrev pub bytesNeeded : RenderArgs (Unit {0}) → RenderState → List ℕ → List ℕ → ℕ
-  bytesNeeded q s store marks = length (rendering (q .choice) s (take (s .in-use) marks) store (q .stop) .text)
+  bytesNeeded q s store marks = length (renderedOf (q .choice) s (take (s .in-use) marks) store (q .stop) .text)
 
   -- "rendering 1, 3 by the same tests, then 11, 12, 9, 10"
   abbrev pub renderTable : RenderArgs (Unit {0}) → RenderState → List ℕ → List ℕ → List (Option Refusal)
@@ -228,8 +229,8 @@ module _ (P : Parts) where
     placed = λ s. s .cursor .placed;
     reads-from = λ s. s .row;
     in-use = λ s. s .in-use;
-    layout = layOut;
-    render = rendering;
+    layout = laidOf;
+    render = renderedOf;
     layout-refusal = λ q s store. first (layoutTable q s store);
     render-refusal = λ q s store marks. first (renderTable q s store marks);
   }

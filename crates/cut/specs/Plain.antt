@@ -3,7 +3,7 @@ use mathlib.Core.Path.{_≡_}
 use mathlib.Core.Option.{Option, none, some}
 use mathlib.Core.List.{List, [], _∷_}
 use Prim.Native.Nat.{ℕ, _≤_, _<_}
-use Rattle.cut.specs.Rules.{LayoutArgs, RenderArgs, Laid, Rendered, Rules}
+use Rattle.cut.specs.Rules.{LayoutArgs, Laid, Rendered, Rules}
 use Rattle.cut.specs.Run.{onto, unless, Call, layoutCall, renderCall, Carried, refusal, call, Answer, answer}
 
 -- How far rendering came: its stop, and "what else the accepted calls of a kind chose".
@@ -21,7 +21,7 @@ module _ (R : Rules) where
   abbrev pub atFirst : Progress
   atFirst = record { laid-to = none; rendered-to = none }
 
-  -- "Due are the rows and layout state there": layout from fresh in one go. "With no accepted call that state stays fresh."
+  -- "Due are the rows and layout state there": layout from fresh in one go; "with no accepted call that state stays fresh"
   abbrev pub layoutDue : Option (LayoutArgs (R .LayoutChoice)) → Laid (R .LayoutState)
   layoutDue none = record { state = R .layout-fresh; rows = []; left = 0 }
   layoutDue (some q) = R .layout (R .layout-fresh) q
@@ -36,7 +36,7 @@ module _ (R : Rules) where
   leftDue none = none
   leftDue (some q) = some (layoutDue (some q) .left)
 
-  -- both, by how far the runs came
+  -- both, by how far layout and rendering came
   abbrev pub laidDue : Progress → Laid (R .LayoutState)
   laidDue f = layoutDue (f .laid-to)
 
@@ -48,8 +48,8 @@ module _ (R : Rules) where
   due store₀ marks₀ f = record {
     store = onto (laidDue f .rows) store₀;
     marks = onto (renderedDue f .marks) marks₀;
-    laying = laidDue f .state;
-    rendering = renderedDue f .state;
+    layout-state = laidDue f .state;
+    render-state = renderedDue f .state;
     text = renderedDue f .text;
     left = leftDue (f .laid-to);
   }
@@ -78,10 +78,10 @@ module _ (R : Rules) where
   -- each row that a call reads, from its next row to its stop, is laid out
   abbrev pub ReadsLaid : Carried R → Call R → Type 0
   ReadsLaid w (layoutCall q) = Unit {0}
-  ReadsLaid w (renderCall q) = (k : ℕ) → R .reads-from (w .rendering) ≤ k → k < q .stop → k < R .next-row (w .laying)
+  ReadsLaid w (renderCall q) = (k : ℕ) → R .reads-from (w .render-state) ≤ k → k < q .stop → k < R .next-row (w .layout-state)
 
-  -- No accepted call reads rows not yet laid out. What the store held at first may pass for rows: a call that renders them, before layout
-  -- overwrites them, leaves a text that no later plain run gives (proofs/Example.antt has such a list).
+  -- No accepted call reads rows not yet laid out. What the store held at first may pass for rows: once a call has rendered them and layout has
+  -- overwritten them, the text is not the one that the rows due give (proofs/Example.antt has such a list).
   abbrev pub AllReadLaid : Carried R → List (Call R) → Type 0
   AllReadLaid w [] = Unit {0}
   AllReadLaid w (c ∷ cs) = (Accepted w c → ReadsLaid w c) × AllReadLaid (call R w c) cs

@@ -3,7 +3,7 @@ use mathlib.Core.Option.{Option, none, some}
 use mathlib.Core.List.{List, [], _∷_, _++_}
 use Prim.Native.Nat.{ℕ, _*_}
 use lib.ListN.{length, take, drop}
-use Rattle.cut.specs.Rules.{Refusal, LayoutArgs, RenderArgs, Laid, Rendered, Rules}
+use Rattle.cut.specs.Rules.{Refusal, LayoutArgs, RenderArgs, Rendered, Rules}
 
 -- xs written over the front of a memory: "Memory past what is written is untouched."
 abbrev pub onto : List ℕ → List ℕ → List ℕ
@@ -27,40 +27,40 @@ module _ (R : Rules) where
   pub record Carried : Type 0 where
     pub store : List ℕ
     pub marks : List ℕ
-    pub laying : R .LayoutState
-    pub rendering : R .RenderState
+    pub layout-state : R .LayoutState
+    pub render-state : R .RenderState
     pub text : List ℕ
     pub left : Option ℕ
 
   -- fresh states, and whatever store and marks held
   abbrev pub start : List ℕ → List ℕ → Carried
   start store₀ marks₀ =
-      record { store = store₀; marks = marks₀; laying = R .layout-fresh; rendering = R .render-fresh; text = []; left = none }
+      record { store = store₀; marks = marks₀; layout-state = R .layout-fresh; render-state = R .render-fresh; text = []; left = none }
 
   -- the table, read on what is there before the call
   abbrev pub refusal : Carried → Call → Option Refusal
-  refusal w (layoutCall q) = R .layout-refusal q (w .laying) (w .store)
-  refusal w (renderCall q) = R .render-refusal q (w .rendering) (w .store) (w .marks)
+  refusal w (layoutCall q) = R .layout-refusal q (w .layout-state) (w .store)
+  refusal w (renderCall q) = R .render-refusal q (w .render-state) (w .store) (w .marks)
 
   -- what an accepted rendering call gives
   abbrev pub rendered : Carried → RenderArgs (R .RenderChoice) → Rendered (R .RenderState)
-  rendered w q = R .render (q .choice) (w .rendering) (take (R .in-use (w .rendering)) (w .marks)) (w .store) (q .stop)
+  rendered w q = R .render (q .choice) (w .render-state) (take (R .in-use (w .render-state)) (w .marks)) (w .store) (q .stop)
 
   -- what an accepted call leaves
   abbrev pub accepted : Carried → Call → Carried
   accepted w (layoutCall q) = record {
-    store = over (9 * R .next-row (w .laying)) (R .layout (w .laying) q .rows) (w .store);
+    store = over (9 * R .next-row (w .layout-state)) (R .layout (w .layout-state) q .rows) (w .store);
     marks = w .marks;
-    laying = R .layout (w .laying) q .state;
-    rendering = w .rendering;
+    layout-state = R .layout (w .layout-state) q .state;
+    render-state = w .render-state;
     text = w .text;
-    left = some (R .layout (w .laying) q .left);
+    left = some (R .layout (w .layout-state) q .left);
   }
   accepted w (renderCall q) = record {
     store = w .store;
     marks = onto (rendered w q .marks) (w .marks);
-    laying = w .laying;
-    rendering = rendered w q .state;
+    layout-state = w .layout-state;
+    render-state = rendered w q .state;
     text = w .text ++ rendered w q .text;
     left = w .left;
   }
@@ -85,7 +85,7 @@ module _ (R : Rules) where
   answerBy none a = a
 
   abbrev pub acceptedAnswer : Carried → Call → Answer
-  acceptedAnswer w (layoutCall q) = laidOut (R .layout (w .laying) q .state) (R .layout (w .laying) q .left)
+  acceptedAnswer w (layoutCall q) = laidOut (R .layout (w .layout-state) q .state) (R .layout (w .layout-state) q .left)
   acceptedAnswer w (renderCall q) = written (rendered w q .state) (length (rendered w q .text))
 
   abbrev pub answer : Carried → Call → Answer
