@@ -1,5 +1,7 @@
 pub mod Decode
+pub mod Flatten
 pub mod MustWrap
 pub mod Nested
+pub mod Sizes
 pub mod Widths
 pub mod Words
