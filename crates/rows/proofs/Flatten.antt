@@ -67,9 +67,9 @@ holds-right s i n a b e h =
     record {
       at =
           λ k l.
-              ap (λ (x : ℕ). getD s x 0) (along i n k (length a) e)
-              ∙ h .at (length a + k) (simp length-append (omega arith))
-              ∙ getD-append-add a b k 0;
+          ap (λ (x : ℕ). getD s x 0) (along i n k (length a) e)
+          ∙ h .at (length a + k) (simp length-append (omega arith))
+          ∙ getD-append-add a b k 0;
     }
   where
     along : (i n k m : ℕ) → m ≡ n * 9 → (i + n) * 9 + k ≡ i * 9 + (m + k)
@@ -130,24 +130,24 @@ none-shown s i = nodes-none (viewOf s) i (i + 0) (omega arith)
 -- a block, whose parts start at the next row
 module _ (s : List ℕ) (i kind n : ℕ) (ns : Nodes) (r : Row s i kind n 0 0 (i + (1 + sizes ns)) noText 0)
     (q : nodesAt (viewOf s) (i + 1) (i + 1 + sizes ns) ≡ ns)
-    where
-  parts : nodesAt (viewOf s) (suc i) (viewOf s .after i) ≡ ns
-  parts = rw (r .isAfter) (subst (λ (j : ℕ). nodesAt (viewOf s) (suc i) j ≡ ns) (same i (sizes ns)) (rw (add-one i) at q))
-    where
-      same : (i z : ℕ) → suc i + z ≡ i + (1 + z)
-      same i z = omega arith
+  where
+    parts : nodesAt (viewOf s) (suc i) (viewOf s .after i) ≡ ns
+    parts = rw (r .isAfter) (subst (λ (j : ℕ). nodesAt (viewOf s) (suc i) j ≡ ns) (same i (sizes ns)) (rw (add-one i) at q))
+      where
+        same : (i z : ℕ) → suc i + z ≡ i + (1 + z)
+        same i z = omega arith
 
-  group-shown : kind ≡ 0 → Shown s i (group n ns)
-  unfolding size
-  group-shown k = record { end = r .isAfter; node = node-group (viewOf s) i (r .isKind ∙ k) ∙ rw (r .isNumber, parts) }
+    group-shown : kind ≡ 0 → Shown s i (group n ns)
+    unfolding size
+    group-shown k = record { end = r .isAfter; node = node-group (viewOf s) i (r .isKind ∙ k) ∙ rw (r .isNumber, parts) }
 
-  indent-shown : kind ≡ 1 → Shown s i (indent ns)
-  unfolding size
-  indent-shown k = record { end = r .isAfter; node = node-indent (viewOf s) i (r .isKind ∙ k) ∙ rw parts }
+    indent-shown : kind ≡ 1 → Shown s i (indent ns)
+    unfolding size
+    indent-shown k = record { end = r .isAfter; node = node-indent (viewOf s) i (r .isKind ∙ k) ∙ rw parts }
 
-  next-shown : kind ≡ 2 → Shown s i (indentNext ns)
-  unfolding size
-  next-shown k = record { end = r .isAfter; node = node-next (viewOf s) i (r .isKind ∙ k) ∙ rw parts }
+    next-shown : kind ≡ 2 → Shown s i (indentNext ns)
+    unfolding size
+    next-shown k = record { end = r .isAfter; node = node-next (viewOf s) i (r .isKind ∙ k) ∙ rw parts }
 
 module _ (s : List ℕ) (i n : ℕ) (a b : Node) (r : Row s i 10 n 0 (i + (1 + size a)) (i + (1 + (size a + size b))) noText 0) where
   if-shown : Shown s (i + 1) a → Shown s (i + (1 + size a)) b → Shown s i (ifWrap n a b)
@@ -199,21 +199,21 @@ block-parts s i kind n ns h = parts-held s i kind n 0 0 (i + (1 + sizes ns)) noT
 -- the rows of two parts
 module _ (s : List ℕ) (i kind n k x y : ℕ) (a b : List ℕ) (e : length a ≡ x * 9)
     (h : Holds s i (row kind n k (i + (1 + x)) (i + (1 + (x + y))) noText 0 ++ (a ++ b)))
-    where
-  pair-row : Row s i kind n k (i + (1 + x)) (i + (1 + (x + y))) noText 0
-  pair-row = row-held s i kind n k (i + (1 + x)) (i + (1 + (x + y))) noText 0 (a ++ b) h
+  where
+    pair-row : Row s i kind n k (i + (1 + x)) (i + (1 + (x + y))) noText 0
+    pair-row = row-held s i kind n k (i + (1 + x)) (i + (1 + (x + y))) noText 0 (a ++ b) h
 
-  pair-parts : Holds s (i + 1) (a ++ b)
-  pair-parts = parts-held s i kind n k (i + (1 + x)) (i + (1 + (x + y))) noText 0 (a ++ b) h
+    pair-parts : Holds s (i + 1) (a ++ b)
+    pair-parts = parts-held s i kind n k (i + (1 + x)) (i + (1 + (x + y))) noText 0 (a ++ b) h
 
-  pair-first : Holds s (i + 1) a
-  pair-first = holds-left s (i + 1) a b pair-parts
+    pair-first : Holds s (i + 1) a
+    pair-first = holds-left s (i + 1) a b pair-parts
 
-  pair-second : Holds s (i + (1 + x)) b
-  pair-second = subst (λ (j : ℕ). Holds s j b) (same i x) (holds-right s (i + 1) x a b e pair-parts)
-    where
-      same : (i x : ℕ) → i + 1 + x ≡ i + (1 + x)
-      same i x = omega arith
+    pair-second : Holds s (i + (1 + x)) b
+    pair-second = subst (λ (j : ℕ). Holds s j b) (same i x) (holds-right s (i + 1) x a b e pair-parts)
+      where
+        same : (i x : ℕ) → i + 1 + x ≡ i + (1 + x)
+        same i x = omega arith
 
 -- the rows of a node, and of those behind it
 then-first : (n : Node) (ns : Nodes) (s : List ℕ) (i : ℕ) → Holds s i (rows (n then ns) i) → Holds s i (rowsOf n i)
@@ -235,6 +235,7 @@ then-nodes s i n ns x e = rw (same i (size n) (sizes ns)) (then-shown s i n ns x
 
 mutual
   unfolding rowsOf size
+
   pub shown : (n : Node) (s : List ℕ) (i : ℕ) → Holds s i (rowsOf n i) → Shown s i n
   shown (group n ns) s i h = group-shown s i 0 n ns (block-row s i 0 n ns h) (read-back ns s (i + 1) (block-parts s i 0 n ns h)) refl
   shown (indent ns) s i h = indent-shown s i 1 0 ns (block-row s i 1 0 ns h) (read-back ns s (i + 1) (block-parts s i 1 0 ns h)) refl
@@ -295,43 +296,43 @@ module _ (s : List ℕ) (i kind n k x y j d : ℕ) (r : Row s i kind n k (i + (1
     (p : Nests (viewOf s) (i + 1) (i + 1 + x) (suc d))
     (q : Nests (viewOf s) (i + (1 + x)) (i + (1 + x) + y) (suc d))
     (g : Nests (viewOf s) (i + (1 + (x + y))) j d)
-    where
-  isSecond′ : viewOf s .second i ≡ i + 1 + x
-  isSecond′ = let e = r .isSecond in omega arith
+  where
+    isSecond′ : viewOf s .second i ≡ i + 1 + x
+    isSecond′ = let e = r .isSecond in omega arith
 
-  isAfter′ : viewOf s .after i ≡ i + (1 + x) + y
-  isAfter′ = let e = r .isAfter in omega arith
+    isAfter′ : viewOf s .after i ≡ i + (1 + x) + y
+    isAfter′ = let e = r .isAfter in omega arith
 
-  inside : Within (viewOf s) i j
-  inside = let e = r .isAfter in let l = nests-le g in record { up = omega arith; to = omega arith }
+    inside : Within (viewOf s) i j
+    inside = let e = r .isAfter in let l = nests-le g in record { up = omega arith; to = omega arith }
 
-  first-part : Nests (viewOf s) (suc i) (viewOf s .second i) (suc d)
-  first-part = rw (isSecond′, ← add-one i) p
+    first-part : Nests (viewOf s) (suc i) (viewOf s .second i) (suc d)
+    first-part = rw (isSecond′, ← add-one i) p
 
-  second-part : Nests (viewOf s) (viewOf s .second i) (viewOf s .after i) (suc d)
-  second-part = rw (isAfter′, r .isSecond) q
+    second-part : Nests (viewOf s) (viewOf s .second i) (viewOf s .after i) (suc d)
+    second-part = rw (isAfter′, r .isSecond) q
 
-  pair-nests : kind ≡ 11 → Nests (viewOf s) i j d
-  pair-nests e =
-      let a = r .isSecond in
-      let b = r .isAfter in
-      pair {i = i} {j = j} {d = d} (r .isKind ∙ e) inside (record { up = omega arith; to = omega arith }) c first-part second-part (rw b g)
+    pair-nests : kind ≡ 11 → Nests (viewOf s) i j d
+    pair-nests e =
+        let a = r .isSecond in
+        let b = r .isAfter in
+        pair {i = i} {j = j} {d = d} (r .isKind ∙ e) inside (record { up = omega arith; to = omega arith }) c first-part second-part (rw b g)
 
-  two-nests : kind ≡ 10 → viewOf s .after (i + 1) ≡ i + 1 + x → viewOf s .after (i + (1 + x)) ≡ i + (1 + x) + y → 0 < x → 0 < y → Nests (viewOf s) i j d
-  two-nests e u w l m =
-      let a = r .isSecond in
-      let b = r .isAfter in
-      two {i = i} {j = j} {d = d} (r .isKind ∙ e) inside
-      (record {
-        first = rw (isSecond′, ← add-one i) u;
-        second = rw (isAfter′, a) w;
-        up = omega arith;
-        to = omega arith;
-      })
-      c
-      first-part
-      second-part
-      (rw b g)
+    two-nests : kind ≡ 10 → viewOf s .after (i + 1) ≡ i + 1 + x → viewOf s .after (i + (1 + x)) ≡ i + (1 + x) + y → 0 < x → 0 < y → Nests (viewOf s) i j d
+    two-nests e u w l m =
+        let a = r .isSecond in
+        let b = r .isAfter in
+        two {i = i} {j = j} {d = d} (r .isKind ∙ e) inside
+        (record {
+          first = rw (isSecond′, ← add-one i) u;
+          second = rw (isAfter′, a) w;
+          up = omega arith;
+          to = omega arith;
+        })
+        c
+        first-part
+        second-part
+        (rw b g)
 
 none-rest : (s : List ℕ) (i j d : ℕ) → Nests (viewOf s) (i + 0) j d → Nests (viewOf s) i j d
 none-rest s i j d g = subst (λ (x : ℕ). Nests (viewOf s) x j d) (add-zero i) g
@@ -344,6 +345,7 @@ then-after s i a b j d g = subst (λ (x : ℕ). Nests (viewOf s) x j d) (same i 
 
 mutual
   unfolding rowsOf size depth
+
   node-nests : (n : Node) (s : List ℕ) (i j d : ℕ) → Holds s i (rowsOf n i) → depth n + d ≤ 256 → Nests (viewOf s) (i + size n) j d → Nests (viewOf s) i j d
   node-nests (group n ns) s i j d h l g =
       block-nests s i 0 n (sizes ns) j d (block-row s i 0 n ns h) (omega arith) (omega arith) (nodes-nest ns s (i + 1) (i + 1 + sizes ns) (suc d) (block-parts s i 0 n ns h) (omega arith) (over refl)) g

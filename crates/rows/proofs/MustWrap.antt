@@ -4,13 +4,15 @@
 use mathlib.Core.Path.{_≡_, refl, ap, sym, _∙_}
 use mathlib.Core.Logic.{_⊎_, inl, inr}
 use mathlib.Core.Bool.{Bool, true, false, _||_}
-use Prim.Native.Nat.{ℕ, zero, suc, _≤_, _<_}
+use mathlib.Core.List.{List}
+use Prim.Native.Nat.{ℕ, zero, suc, _+_, _-_, _≤_, _<_}
 use native.Mathlib.Omega.{arith}
+use native.Mathlib.Numerals.{add-one}
 use Rattle.rows.specs.Node.{Node, Nodes, none, _then_, join, mustWrap, mustWraps}
-use Rattle.rows.specs.View.{View, nodesAt, nodeOf}
+use Rattle.rows.specs.View.{View, viewOf, cell, nodesAt, nodeOf}
 use Rattle.rows.specs.Nesting.{Within, Nests}
-use Rattle.rows.proofs.Decode.{nodeAt, nodes-some, node-indent}
-use Rattle.rows.proofs.Nested.{nodes-join, nests-block, nests-after, nests-kind, nests-join, nests-weaken}
+use Rattle.rows.proofs.Decode.{nodeAt, nodes-some, nodes-none, node-indent}
+use Rattle.rows.proofs.Nested.{nodes-join, nests-block, nests-after, nests-kind, nests-rest, nests-join, nests-weaken}
 
 or-assoc : (a b c : Bool) → ((a || b) || c) ≡ (a || (b || c))
 or-assoc true b c = refl
@@ -61,3 +63,36 @@ module _ (v : View) where
 
   pub must-skip : {i j d : ℕ} (k : ℕ) → Nests v i j d → i < j → v .kind i ≡ k → (k ≡ 1 → ⊥) → (k ≡ 3 → ⊥) → (k ≡ 4 → ⊥) → mustWraps (nodesAt v i j) ≡ mustWraps (nodesAt v (v .after i) j)
   must-skip {i} {j} k g h e a b c = must-some i j (nests-after g h) ∙ rw (must-none k i e (rw e at (nests-kind g h)) a b c)
+
+-- What the loop of `must_wrap` keeps: the rows from `row` on nest, and give the answer.
+pub record MustAt (s : List ℕ) (from to row : ℕ) : Type 0 where
+  pub good : Nests (viewOf s) row to 0
+  pub same : mustWraps (nodesAt (viewOf s) row to) ≡ mustWraps (nodesAt (viewOf s) from to)
+
+module _ (s : List ℕ) (from to row : ℕ) (a : MustAt s from to row) where
+  pub must-done : to ≤ row → false ≡ mustWraps (nodesAt (viewOf s) from to)
+  unfolding mustWraps
+  must-done h = sym (ap mustWraps (nodes-none (viewOf s) row to h)) ∙ a .same
+
+  module _ (k : ℕ) (h : row < to) (e : k ≡ cell s row 0) where
+    pub must-found : (k ≡ 3) ⊎ (k ≡ 4) → true ≡ mustWraps (nodesAt (viewOf s) from to)
+    unfolding viewOf
+    must-found q = sym (must-true (viewOf s) k row to (nests-after (a .good) h) (sym e) q) ∙ a .same
+
+    pub must-in : k ≡ 1 → MustAt s from to (row + 1)
+    unfolding viewOf
+    must-in q =
+        rw (add-one row)
+        (record {
+          good = nests-flat (viewOf s) (a .good) h (sym e ∙ q);
+          same = sym (must-flat (viewOf s) (a .good) h (sym e ∙ q)) ∙ a .same;
+        })
+
+    pub must-over : (n : ℕ) → n ≡ cell s row 4 → (k ≡ 1 → ⊥) → (k ≡ 3 → ⊥) → (k ≡ 4 → ⊥) → MustAt s from to n
+    unfolding viewOf
+    must-over n f x y z =
+        rw f (record { good = nests-rest (a .good) h; same = sym (must-skip (viewOf s) k (a .good) h (sym e) x y z) ∙ a .same })
+
+    pub must-less : (n : ℕ) → n ≡ cell s row 4 → to - n < to - row
+    unfolding viewOf
+    must-less n f = let w = nests-after (a .good) h .up in omega arith

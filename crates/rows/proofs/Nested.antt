@@ -132,4 +132,3 @@ nests-deep (leaf k l e f q g) h = q
 nests-deep (block k w q g r) h = q
 nests-deep (two k w t q g l r) h = q
 nests-deep (pair k w t q g l r) h = q
-

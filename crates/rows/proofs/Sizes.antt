@@ -51,6 +51,7 @@ headed n l p = omega arith
 
 mutual
   unfolding size rowsOf
+
   pub length-rowsOf : (n : Node) (r : ℕ) → length (rowsOf n r) ≡ size n * 9
   length-rowsOf (group n ns) r = headed (sizes ns) (rows ns (r + 1)) (length-rows ns (r + 1))
   length-rowsOf (indent ns) r = headed (sizes ns) (rows ns (r + 1)) (length-rows ns (r + 1))

@@ -200,13 +200,13 @@ module _ (v : View) (columns : Text → ℕ) (m : List ℕ) (to : ℕ) where
         let e = width-flat-call v columns m a (l .within) (l .split) (l .first) (l .second) in
         let t = w .sum in
         rw (add-one i)
-        (record
-        { sum = omega arith
-        ; good = nests-join (nests-weaken p (omega arith) (nests-join (l .first) (l .second))) (l .rest)
-        ; low = w .low
-        ; deep = w .deep
-        ; fine = w .fine
-        ; size = w .size
+        (record {
+          sum = omega arith;
+          good = nests-join (nests-weaken p (omega arith) (nests-join (l .first) (l .second))) (l .rest);
+          low = w .low;
+          deep = w .deep;
+          fine = w .fine;
+          size = w .size;
         })
 
     pub w-second : v .kind i ≡ 10 → wrapped m (v .number i) ≡ false → W total pend p (v .second i) acc
@@ -248,13 +248,13 @@ module _ (v : View) (columns : Text → ℕ) (m : List ℕ) (to : ℕ) where
         let s = pend-same (l .1 .shallow) in
         let u = wlimit-top (l .1 .shallow) in
         rw (add-one i, add-one p)
-        (record
-        { sum = rw (u, s, wlimit-set pend p p i (omega arith), wrest-set pend p p i (omega arith)) (omega arith)
-        ; good = rw u (l .1 .first)
-        ; low = rw u (let x = l .1 .within in let y = l .1 .split in let z = w .low in omega arith)
-        ; deep = let z = l .1 .shallow in omega arith
-        ; fine = (rw s (let z = w .low in omega arith), rw (wlimit-set pend p p i (omega arith)) (w .low), rw s (l .1 .split .to), rw (s, wlimit-set pend p p i (omega arith)) (l .1 .rest), wfine-set pend p p i (omega arith) (w .fine))
-        ; size = length-set pend p i ∙ w .size
+        (record {
+          sum = rw (u, s, wlimit-set pend p p i (omega arith), wrest-set pend p p i (omega arith)) (omega arith);
+          good = rw u (l .1 .first);
+          low = rw u (let x = l .1 .within in let y = l .1 .split in let z = w .low in omega arith);
+          deep = let z = l .1 .shallow in omega arith;
+          fine = (rw s (let z = w .low in omega arith), rw (wlimit-set pend p p i (omega arith)) (w .low), rw s (l .1 .split .to), rw (s, wlimit-set pend p p i (omega arith)) (l .1 .rest), wfine-set pend p p i (omega arith) (w .fine));
+          size = length-set pend p i ∙ w .size;
         })
 
     pub w-shallow : v .kind i ≡ 10 → p < 256
@@ -302,4 +302,3 @@ module _ (v : View) (columns : Text → ℕ) (m : List ℕ) (to : ℕ) where
 
   pub w-depth : (total : ℕ) (pend : List ℕ) (p i acc : ℕ) → W total pend p i acc → i < wlimit pend p → p < 256
   w-depth total pend p i acc w h = nests-deep (w .good) h
-

@@ -32,7 +32,6 @@ mutual
     _then_ : Node → Nodes → Nodes
 
 infixr 60 _then_
-
 -- nodes and, behind them, others
 unfoldable pub join : Nodes → Nodes → Nodes
 join none b = b
