@@ -1,0 +1,5 @@
+pub mod Allot
+pub mod Call
+pub mod Machine
+pub mod Meaning
+pub mod Opened
