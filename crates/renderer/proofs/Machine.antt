@@ -383,10 +383,10 @@ module _ (v : View) (pg : Page) (stop : ℕ) where
       go true q =
           let i = eqb-true (m .next) (partEnd v (frameAt (m .frames) k)) q in
           let x = leave-fine m k a2 i in
-          record
-          { fine = x .0
-          ; less = subst (λ (d : ℕ). left stop (leave m k) < (stop - m .next) * 3 + weight (m .frames) d) (sym e) (x .1)
-          ; same = leave-same m k a2 i ∙ ap (λ (d : ℕ). meaning v pg stop (m .frames) d (m .next) (m .state)) (sym e)
+          record {
+            fine = x .0;
+            less = subst (λ (d : ℕ). left stop (leave m k) < (stop - m .next) * 3 + weight (m .frames) d) (sym e) (x .1);
+            same = leave-same m k a2 i ∙ ap (λ (d : ℕ). meaning v pg stop (m .frames) d (m .next) (m .state)) (sym e);
           }
       go false q = entered m a (ne-lt (m .next) (limit v pg stop (m .frames) (m .depth)) (nests-le (a .good)) (λ z. eqb-false (m .next) (partEnd v (frameAt (m .frames) k)) q (z ∙ l)))
 

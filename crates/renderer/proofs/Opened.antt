@@ -53,13 +53,15 @@ module _ (v : View) (pg : Page) (stop : ℕ) where
   under-set fs k zero f h u = tt
   under-set fs k (suc d) f h u =
       let e = frame-other v pg stop fs k d f h in
-      let l = limit-set v pg stop fs k d f (omega arith) in
-      (record
-      { row = rw e (u .0 .row)
-      ; later = rw e (u .0 .later)
-      ; after = rw (e, l) (u .0 .after)
-      ; low = rw l (u .0 .low)
-      }, under-set fs k d f (omega arith) (u .1))
+      let l = limit-set v pg stop fs k d f (omega arith) in (
+        record {
+          row = rw e (u .0 .row);
+          later = rw e (u .0 .later);
+          after = rw (e, l) (u .0 .after);
+          low = rw l (u .0 .low);
+        },
+        under-set fs k d f (omega arith) (u .1),
+      )
 
   pub record At (fs : List Frame) (d i : ℕ) : Type 0 where
     pub good : Nests v i (limit v pg stop fs d) d
@@ -83,12 +85,12 @@ module _ (v : View) (pg : Page) (stop : ℕ) where
       let q : limit v pg stop (set fs d f) (suc d) ≡ v .after i = limit-same v pg stop fs d f l ∙ rw (y, e) in
       let s = frame-same v pg stop fs d f l in
       rw (add-one i, add-one d)
-      (record
-      { good = rw q (b .parts)
-      ; under = (record { row = rw (s, e) (omega arith); later = rw (s, y, e) (over refl); after = rw (p, s, e) (b .rest); low = rw p (a .low) }, under-set fs d d f (omega arith) (a .under))
-      ; low = rw q (omega arith)
-      ; size = length-set fs d f ∙ a .size
-      ; deep = omega arith
+      (record {
+        good = rw q (b .parts);
+        under = (record { row = rw (s, e) (omega arith); later = rw (s, y, e) (over refl); after = rw (p, s, e) (b .rest); low = rw p (a .low) }, under-set fs d d f (omega arith) (a .under));
+        low = rw q (omega arith);
+        size = length-set fs d f ∙ a .size;
+        deep = omega arith;
       })
 
   pub at-pop-suc : (fs : List Frame) (d i : ℕ) → At fs (suc d) i → At fs d (v .after (frameAt fs d .row))
@@ -152,17 +154,20 @@ module _ (v : View) (pg : Page) (stop : ℕ) where
       let q = limit-same v pg stop fs d f b in
       let s = frame-same v pg stop fs d f b in
       let y = nests-le l in
-      record
-      { good = rw q g
-      ; under = (record
-      { row = rw (s, e) (omega arith)
-      ; later = rw s (subst (λ (x : ℕ). Nests v (partEnd v f) (v .after x) (suc d)) (sym e) l)
-      ; after = rw (p, s, e) (nests-rest (a .good) h)
-      ; low = rw p (a .low)
-      }, under-set fs d d f (omega arith) (a .under))
-      ; low = rw q (omega arith)
-      ; size = length-set fs d f ∙ a .size
-      ; deep = omega arith
+      record {
+        good = rw q g;
+        under = (
+          record {
+            row = rw (s, e) (omega arith);
+            later = rw s (subst (λ (x : ℕ). Nests v (partEnd v f) (v .after x) (suc d)) (sym e) l);
+            after = rw (p, s, e) (nests-rest (a .good) h);
+            low = rw p (a .low);
+          },
+          under-set fs d d f (omega arith) (a .under),
+        );
+        low = rw q (omega arith);
+        size = length-set fs d f ∙ a .size;
+        deep = omega arith;
       }
 
   pub at-first : (fs : List Frame) (d i : ℕ) (f : Frame) → At fs d i → i < limit v pg stop fs d → v .kind i ≡ 10 → f .row ≡ i → f .early ≡ true → At (set fs d f) (suc d) (suc i)
@@ -195,16 +200,18 @@ module _ (v : View) (pg : Page) (stop : ℕ) where
       let s = frame-same v pg stop fs d f b in
       let w = nests-le (o .after) in
       let z = o .low in
-      record
-      { good = rw (q, h) (o .later)
-      ; under = (record
-      { row = rw (s, e) (o .row)
-      ; later = rw (s, y) (over refl)
-      ; after = rw (p, s, e) (o .after)
-      ; low = rw p (o .low)
-      }, under-set fs d d f (omega arith) (a .under .1))
-      ; low = rw q (omega arith)
-      ; size = length-set fs d f ∙ a .size
-      ; deep = a .deep
+      record {
+        good = rw (q, h) (o .later);
+        under = (
+          record {
+            row = rw (s, e) (o .row);
+            later = rw (s, y) (over refl);
+            after = rw (p, s, e) (o .after);
+            low = rw p (o .low);
+          },
+          under-set fs d d f (omega arith) (a .under .1),
+        );
+        low = rw q (omega arith);
+        size = length-set fs d f ∙ a .size;
+        deep = a .deep;
       }
-
