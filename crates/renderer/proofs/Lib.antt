@@ -6,3 +6,4 @@ pub mod Machine
 pub mod Margin
 pub mod Meaning
 pub mod Opened
+pub mod Safe

@@ -97,7 +97,7 @@ bit-le2 : (b : Bool) → bit b ≤ 1
 bit-le2 true = omega arith
 bit-le2 false = omega arith
 
-and-two : (a b : Bool) → (a && b) ≡ true → (a ≡ true) × (b ≡ true)
+pub and-two : (a b : Bool) → (a && b) ≡ true → (a ≡ true) × (b ≡ true)
 and-two true b e = (refl, e)
 and-two false b e = absurd (let z : _≡_ {A = ℕ} 0 1 = cc in omega arith)
 
@@ -360,24 +360,30 @@ module _ (v : View) (pg : Page) (stop : ℕ) where
       let x = enter-fine m a h (v .kind (m .next)) refl in
       record { fine = x .0; less = x .1; same = enter-same m a h (v .kind (m .next)) refl }
 
+  ne-lt : (a b : ℕ) → a ≤ b → (a ≡ b → ⊥) → a < b
+  ne-lt a b h n = omega arith
+
+  -- a row is ahead in the open part
+  pub not-done : (m : Machine) → Fine m → isDone m ≡ false → m .depth ≡ 0 → m .next < limit v pg stop (m .frames) (m .depth)
+  unfolding isDone
+  not-done m a n e =
+      let l : limit v pg stop (m .frames) (m .depth) ≡ stop = rw e (limit-none (m .frames)) in
+      let z : eqb (m .next) stop ≡ false = rw e at n in
+      ne-lt (m .next) (limit v pg stop (m .frames) (m .depth)) (nests-le (a .good)) (λ q. eqb-false (m .next) stop z (q ∙ l))
+
+  pub in-part : (m : Machine) (k : ℕ) → m .depth ≡ suc k → Fine m → (m .next ≡ partEnd v (frameAt (m .frames) k) → ⊥)
+      → m .next < limit v pg stop (m .frames) (m .depth)
+  in-part m k e a n =
+      let l : limit v pg stop (m .frames) (m .depth) ≡ partEnd v (frameAt (m .frames) k) = ap (limit v pg stop (m .frames)) e ∙ limit-suc (m .frames) k in
+      ne-lt (m .next) (limit v pg stop (m .frames) (m .depth)) (nests-le (a .good)) (λ z. n (z ∙ l))
+
   turned-at : (d : ℕ) (m : Machine) → m .depth ≡ d → Fine m → isDone m ≡ false → Turned m (turnAt d m)
-  unfolding turnAt isDone
-  turned-at zero m e a n =
-      entered m a (let g = nests-le (a .good) in let l : limit v pg stop (m .frames) (m .depth) ≡ stop = rw e (limit-none (m .frames)) in
-      let z : eqb (m .next) stop ≡ false = rw e at n in ne-lt (m .next) (limit v pg stop (m .frames) (m .depth)) g (λ q. eqb-false (m .next) stop z (q ∙ l)))
-    where
-      ne-lt : (a b : ℕ) → a ≤ b → (a ≡ b → ⊥) → a < b
-      ne-lt a b h n = omega arith
+  unfolding turnAt
+  turned-at zero m e a n = entered m a (not-done m a n e)
   turned-at (suc k) m e a n = go (eqb (m .next) (partEnd v (frameAt (m .frames) k))) refl
     where
-      ne-lt : (a b : ℕ) → a ≤ b → (a ≡ b → ⊥) → a < b
-      ne-lt a b h n = omega arith
-
       a2 : At v pg stop (m .frames) (suc k) (m .next)
       a2 = subst (λ (d : ℕ). At v pg stop (m .frames) d (m .next)) e a
-
-      l : limit v pg stop (m .frames) (m .depth) ≡ partEnd v (frameAt (m .frames) k)
-      l = ap (limit v pg stop (m .frames)) e ∙ limit-suc (m .frames) k
 
       go : (b : Bool) → eqb (m .next) (partEnd v (frameAt (m .frames) k)) ≡ b → Turned m (cond b (leave m k) (enter m))
       go true q =
@@ -388,7 +394,7 @@ module _ (v : View) (pg : Page) (stop : ℕ) where
             less = subst (λ (d : ℕ). left stop (leave m k) < (stop - m .next) * 3 + weight (m .frames) d) (sym e) (x .1);
             same = leave-same m k a2 i ∙ ap (λ (d : ℕ). meaning v pg stop (m .frames) d (m .next) (m .state)) (sym e);
           }
-      go false q = entered m a (ne-lt (m .next) (limit v pg stop (m .frames) (m .depth)) (nests-le (a .good)) (λ z. eqb-false (m .next) (partEnd v (frameAt (m .frames) k)) q (z ∙ l)))
+      go false q = entered m a (in-part m k e a (eqb-false (m .next) (partEnd v (frameAt (m .frames) k)) q))
 
   pub turned : (m : Machine) → Fine m → isDone m ≡ false → Turned m (turn m)
   unfolding turn
