@@ -1,1 +1,3 @@
 // Rendering of rows.
+pub mod output;
+pub mod pen;

@@ -549,159 +549,159 @@ module _ (v : View) (pg : Page) (stop : ℕ) where
 
   module _ (base : ℕ) (m : Machine) (k : ℕ) (a : At v pg stop (m .frames) (suc k) (m .next)) (e : m .next ≡ partEnd v (frameAt (m .frames) k))
       (s : Safe base (record { frames = m .frames; depth = suc k; next = m .next; state = m .state; entered = m .entered }))
-      where
-    f : Frame
-    f = frameAt (m .frames) k
+    where
+      f : Frame
+      f = frameAt (m .frames) k
 
-    later : m .next ≤ v .after (frameAt (m .frames) k .row)
-    later = let g = nests-le (at-top-suc v pg stop (m .frames) k (m .next) a .later) in omega arith
+      later : m .next ≤ v .after (frameAt (m .frames) k .row)
+      later = let g = nests-le (at-top-suc v pg stop (m .frames) k (m .next) a .later) in omega arith
 
-    off-plain : (n : ℕ) → v .kind (frameAt (m .frames) k .row) ≡ n → (n ≡ 1 → ⊥) → (n ≡ 2 → ⊥) → (n ≡ 11 → ⊥)
-        → Safe base
-        (record {
-          frames = m .frames;
-          depth = k;
-          next = v .after (frameAt (m .frames) k .row);
-          state = closing v pg (frameAt (m .frames) k) (m .state);
-          entered = m .entered;
-        })
-    off-plain n q x y z =
-        rw (closing-plain v pg (frameAt (m .frames) k) (m .state) n q x y z)
-        (let b = plain-step v (frameAt (m .frames) k) (λ p. x (sym q ∙ p)) (λ p. y (sym q ∙ p)) (λ p. z (sym q ∙ p)) in
-        let b2 = in-le v (frameAt (m .frames) k) in
-        let c = steps-suc (m .frames) k in
-        let d = ins-suc (m .frames) k in
-        let g1 = s .sum in
-        let g2 = s .low in
-        let g3 = s .column in
-        let g4 = s .bytes in
-        let l = later in
-        record { sum = omega arith; low = omega arith; column = omega arith; bytes = omega arith })
+      off-plain : (n : ℕ) → v .kind (frameAt (m .frames) k .row) ≡ n → (n ≡ 1 → ⊥) → (n ≡ 2 → ⊥) → (n ≡ 11 → ⊥)
+          → Safe base
+          (record {
+            frames = m .frames;
+            depth = k;
+            next = v .after (frameAt (m .frames) k .row);
+            state = closing v pg (frameAt (m .frames) k) (m .state);
+            entered = m .entered;
+          })
+      off-plain n q x y z =
+          rw (closing-plain v pg (frameAt (m .frames) k) (m .state) n q x y z)
+          (let b = plain-step v (frameAt (m .frames) k) (λ p. x (sym q ∙ p)) (λ p. y (sym q ∙ p)) (λ p. z (sym q ∙ p)) in
+          let b2 = in-le v (frameAt (m .frames) k) in
+          let c = steps-suc (m .frames) k in
+          let d = ins-suc (m .frames) k in
+          let g1 = s .sum in
+          let g2 = s .low in
+          let g3 = s .column in
+          let g4 = s .bytes in
+          let l = later in
+          record { sum = omega arith; low = omega arith; column = omega arith; bytes = omega arith })
 
-    off-indent : v .kind (frameAt (m .frames) k .row) ≡ 1
-        → Safe base
-        (record {
-          frames = m .frames;
-          depth = k;
-          next = v .after (frameAt (m .frames) k .row);
-          state = closing v pg (frameAt (m .frames) k) (m .state);
-          entered = m .entered;
-        })
-    off-indent q =
-        rw (closing-indent v pg (frameAt (m .frames) k) (m .state) q)
-        (outdented-safe base k (m .next) (m .frames) (m .state) (m .entered) (frameAt (m .frames) k .wrap) s
-        (v .after (frameAt (m .frames) k .row))
-        later
-        (indent-steps v (frameAt (m .frames) k) (frameAt (m .frames) k .wrap) q refl))
+      off-indent : v .kind (frameAt (m .frames) k .row) ≡ 1
+          → Safe base
+          (record {
+            frames = m .frames;
+            depth = k;
+            next = v .after (frameAt (m .frames) k .row);
+            state = closing v pg (frameAt (m .frames) k) (m .state);
+            entered = m .entered;
+          })
+      off-indent q =
+          rw (closing-indent v pg (frameAt (m .frames) k) (m .state) q)
+          (outdented-safe base k (m .next) (m .frames) (m .state) (m .entered) (frameAt (m .frames) k .wrap) s
+          (v .after (frameAt (m .frames) k .row))
+          later
+          (indent-steps v (frameAt (m .frames) k) (frameAt (m .frames) k .wrap) q refl))
 
-    off-next : v .kind (frameAt (m .frames) k .row) ≡ 2
-        → Safe base
-        (record {
-          frames = m .frames;
-          depth = k;
-          next = v .after (frameAt (m .frames) k .row);
-          state = closing v pg (frameAt (m .frames) k) (m .state);
-          entered = m .entered;
-        })
-    off-next q =
-        rw (closing-next v pg (frameAt (m .frames) k) (m .state) q)
-        (nextOutdented-safe base k (m .next) (m .frames) (m .state) (m .entered) (frameAt (m .frames) k .wrap) s
-        (v .after (frameAt (m .frames) k .row))
-        later
-        (next-steps v (frameAt (m .frames) k) (frameAt (m .frames) k .wrap) q refl))
+      off-next : v .kind (frameAt (m .frames) k .row) ≡ 2
+          → Safe base
+          (record {
+            frames = m .frames;
+            depth = k;
+            next = v .after (frameAt (m .frames) k .row);
+            state = closing v pg (frameAt (m .frames) k) (m .state);
+            entered = m .entered;
+          })
+      off-next q =
+          rw (closing-next v pg (frameAt (m .frames) k) (m .state) q)
+          (nextOutdented-safe base k (m .next) (m .frames) (m .state) (m .entered) (frameAt (m .frames) k .wrap) s
+          (v .after (frameAt (m .frames) k .row))
+          later
+          (next-steps v (frameAt (m .frames) k) (frameAt (m .frames) k .wrap) q refl))
 
-    off-call : v .kind (frameAt (m .frames) k .row) ≡ 11 → frameAt (m .frames) k .early ≡ false
-        → Safe base
-        (record {
-          frames = m .frames;
-          depth = k;
-          next = v .after (frameAt (m .frames) k .row);
-          state = closing v pg (frameAt (m .frames) k) (m .state);
-          entered = m .entered;
-        })
-    off-call q y =
-        rw (closing-call v pg (frameAt (m .frames) k) (m .state) q y)
-        (nextOutdented-safe base k (m .next) (m .frames) (m .state) (m .entered) (frameAt (m .frames) k .deep) s
-        (v .after (frameAt (m .frames) k .row))
-        later
-        (call-steps v (frameAt (m .frames) k) (frameAt (m .frames) k .deep) q refl))
+      off-call : v .kind (frameAt (m .frames) k .row) ≡ 11 → frameAt (m .frames) k .early ≡ false
+          → Safe base
+          (record {
+            frames = m .frames;
+            depth = k;
+            next = v .after (frameAt (m .frames) k .row);
+            state = closing v pg (frameAt (m .frames) k) (m .state);
+            entered = m .entered;
+          })
+      off-call q y =
+          rw (closing-call v pg (frameAt (m .frames) k) (m .state) q y)
+          (nextOutdented-safe base k (m .next) (m .frames) (m .state) (m .entered) (frameAt (m .frames) k .deep) s
+          (v .after (frameAt (m .frames) k .row))
+          later
+          (call-steps v (frameAt (m .frames) k) (frameAt (m .frames) k .deep) q refl))
 
-    off-safe : (x y z : Bool) → eqb (v .kind (frameAt (m .frames) k .row)) 1 ≡ x → eqb (v .kind (frameAt (m .frames) k .row)) 2 ≡ y
-        → eqb (v .kind (frameAt (m .frames) k .row)) 11 ≡ z
-        → (z && frameAt (m .frames) k .early) ≡ false
-        → Safe base
-        (record {
-          frames = m .frames;
-          depth = k;
-          next = v .after (frameAt (m .frames) k .row);
-          state = closing v pg (frameAt (m .frames) k) (m .state);
-          entered = m .entered;
-        })
-    off-safe true y z p q r g = off-indent (eqb-true _ 1 p)
-    off-safe false true z p q r g = off-next (eqb-true _ 2 q)
-    off-safe false false true p q r g = off-call (eqb-true _ 11 r) g
-    off-safe false false false p q r g =
-        off-plain (v .kind (frameAt (m .frames) k .row)) refl (eqb-false _ 1 p) (eqb-false _ 2 q) (eqb-false _ 11 r)
+      off-safe : (x y z : Bool) → eqb (v .kind (frameAt (m .frames) k .row)) 1 ≡ x → eqb (v .kind (frameAt (m .frames) k .row)) 2 ≡ y
+          → eqb (v .kind (frameAt (m .frames) k .row)) 11 ≡ z
+          → (z && frameAt (m .frames) k .early) ≡ false
+          → Safe base
+          (record {
+            frames = m .frames;
+            depth = k;
+            next = v .after (frameAt (m .frames) k .row);
+            state = closing v pg (frameAt (m .frames) k) (m .state);
+            entered = m .entered;
+          })
+      off-safe true y z p q r g = off-indent (eqb-true _ 1 p)
+      off-safe false true z p q r g = off-next (eqb-true _ 2 q)
+      off-safe false false true p q r g = off-call (eqb-true _ 11 r) g
+      off-safe false false false p q r g =
+          off-plain (v .kind (frameAt (m .frames) k .row)) refl (eqb-false _ 1 p) (eqb-false _ 2 q) (eqb-false _ 11 r)
 
-    -- the arguments of a `Call` are opened: the same steps
-    on-safe : (c : Bool) → v .kind (frameAt (m .frames) k .row) ≡ 11
-        → Safe base
-        (record {
-          frames = set (m .frames) k (frame (frameAt (m .frames) k .row) c false (frameAt (m .frames) k .deep));
-          depth = suc k;
-          next = m .next;
-          state = insert c (v .number2 (frameAt (m .frames) k .row)) (m .state);
-          entered = m .entered;
-        })
-    unfolding insert
-    on-safe c q =
-        let deep = a .deep in
-        let h : k < length (m .frames) = rw (a .size) (omega arith) in
-        let new = frame (frameAt (m .frames) k .row) c false (frameAt (m .frames) k .deep) in
-        let u = steps-top (m .frames) k new h in
-        let w = ins-top (m .frames) k new h in
-        let x = call-steps v new (frameAt (m .frames) k .deep) q refl in
-        let y = call-steps v (frameAt (m .frames) k) (frameAt (m .frames) k .deep) q refl in
-        let x0 = x .0 in
-        let x1 = x .1 in
-        let y0 = y .0 in
-        let y1 = y .1 in
-        let c0 = steps-suc (m .frames) k in
-        let d0 = ins-suc (m .frames) k in
-        let g1 = s .sum in
-        let g2 = s .low in
-        record { sum = omega arith; low = omega arith; column = s .column; bytes = s .bytes }
+      -- the arguments of a `Call` are opened: the same steps
+      on-safe : (c : Bool) → v .kind (frameAt (m .frames) k .row) ≡ 11
+          → Safe base
+          (record {
+            frames = set (m .frames) k (frame (frameAt (m .frames) k .row) c false (frameAt (m .frames) k .deep));
+            depth = suc k;
+            next = m .next;
+            state = insert c (v .number2 (frameAt (m .frames) k .row)) (m .state);
+            entered = m .entered;
+          })
+      unfolding insert
+      on-safe c q =
+          let deep = a .deep in
+          let h : k < length (m .frames) = rw (a .size) (omega arith) in
+          let new = frame (frameAt (m .frames) k .row) c false (frameAt (m .frames) k .deep) in
+          let u = steps-top (m .frames) k new h in
+          let w = ins-top (m .frames) k new h in
+          let x = call-steps v new (frameAt (m .frames) k .deep) q refl in
+          let y = call-steps v (frameAt (m .frames) k) (frameAt (m .frames) k .deep) q refl in
+          let x0 = x .0 in
+          let x1 = x .1 in
+          let y0 = y .0 in
+          let y1 = y .1 in
+          let c0 = steps-suc (m .frames) k in
+          let d0 = ins-suc (m .frames) k in
+          let g1 = s .sum in
+          let g2 = s .low in
+          record { sum = omega arith; low = omega arith; column = s .column; bytes = s .bytes }
 
-    leave-safe : Safe base (leave v pg stop m k)
-    unfolding leave
-    leave-safe = go (eqb (v .kind (frameAt (m .frames) k .row)) 11 && frameAt (m .frames) k .early) refl
-      where
-        c : Bool
-        c = groupWraps pg (nodesAt v (m .next) (v .after (frameAt (m .frames) k .row))) (m .state)
+      leave-safe : Safe base (leave v pg stop m k)
+      unfolding leave
+      leave-safe = go (eqb (v .kind (frameAt (m .frames) k .row)) 11 && frameAt (m .frames) k .early) refl
+        where
+          c : Bool
+          c = groupWraps pg (nodesAt v (m .next) (v .after (frameAt (m .frames) k .row))) (m .state)
 
-        on : Machine
-        on =
-            record {
-              frames = set (m .frames) k (frame (frameAt (m .frames) k .row) c false (frameAt (m .frames) k .deep));
-              depth = suc k;
-              next = m .next;
-              state = insert c (v .number2 (frameAt (m .frames) k .row)) (m .state);
-              entered = m .entered;
-            }
+          on : Machine
+          on =
+              record {
+                frames = set (m .frames) k (frame (frameAt (m .frames) k .row) c false (frameAt (m .frames) k .deep));
+                depth = suc k;
+                next = m .next;
+                state = insert c (v .number2 (frameAt (m .frames) k .row)) (m .state);
+                entered = m .entered;
+              }
 
-        off : Machine
-        off =
-            record {
-              frames = m .frames;
-              depth = k;
-              next = v .after (frameAt (m .frames) k .row);
-              state = closing v pg (frameAt (m .frames) k) (m .state);
-              entered = m .entered;
-            }
+          off : Machine
+          off =
+              record {
+                frames = m .frames;
+                depth = k;
+                next = v .after (frameAt (m .frames) k .row);
+                state = closing v pg (frameAt (m .frames) k) (m .state);
+                entered = m .entered;
+              }
 
-        go : (b : Bool) → (eqb (v .kind (frameAt (m .frames) k .row)) 11 && frameAt (m .frames) k .early) ≡ b → Safe base (cond b on off)
-        go true q = on-safe c (eqb-true _ 11 (and-two (eqb (v .kind (frameAt (m .frames) k .row)) 11) (frameAt (m .frames) k .early) q .0))
-        go false q = off-safe _ _ _ refl refl refl q
+          go : (b : Bool) → (eqb (v .kind (frameAt (m .frames) k .row)) 11 && frameAt (m .frames) k .early) ≡ b → Safe base (cond b on off)
+          go true q = on-safe c (eqb-true _ 11 (and-two (eqb (v .kind (frameAt (m .frames) k .row)) 11) (frameAt (m .frames) k .early) q .0))
+          go false q = off-safe _ _ _ refl refl refl q
 
   turn-safe-at : (base d : ℕ) (m : Machine) → m .depth ≡ d → Fine v pg stop m → isDone v pg stop m ≡ false → Small v pg → base ≤ 128 → Safe base m
       → Safe base (turnAt v pg stop d m)

@@ -6,7 +6,7 @@ use mathlib.Core.Option.{Option, some, none}
 use lib.ListN.{length, getD}
 use lib.Dec.{ltb, leb, eqb}
 use Rattle.rows.specs.View.{View, cell, viewOf}
-use Rattle.rows.specs.Words.{words}
+use Rattle.renderer.specs.Page.{originText}
 
 -- row b is reached from row a, row after row, in f steps at most
 unfoldable pub reaches : ℕ → View → ℕ → ℕ → Bool
@@ -67,14 +67,10 @@ firstWrong (suc f) places v end d i =
 unfoldable pub wrongRow : (ℕ → Bool) → View → ℕ → ℕ → ℕ → Option ℕ
 wrongRow places v end d i = firstWrong (end - i) places v end d i
 
--- the length of the text of an origin
-abbrev pub originSize : List ℕ → List ℕ → ℕ → ℕ
-originSize source image origin = getD (length source ∷ length image ∷ length words ∷ []) origin 0
-
 -- the text of row i: its origin is not over 2, and it is not outside it
 abbrev pub textFits : List ℕ → List ℕ → List ℕ → ℕ → Bool
 textFits source image store i =
-    leb (cell store i 5) 2 && leb (cell store i 6 + cell store i 7) (originSize source image (cell store i 5))
+    leb (cell store i 5) 2 && leb (cell store i 6 + cell store i 7) (length (originText source image (cell store i 5)))
 
 -- a row without a text has 0 in these places
 abbrev pub noTextFits : List ℕ → ℕ → Bool
