@@ -1,2 +1,4 @@
+pub mod Decided
 pub mod Drawn
+pub mod Leaves
 pub mod Written

@@ -22,6 +22,10 @@ penAfter p s =
       at = record { 0 = p .at .0 + length (s .buf) };
     }
 
+-- the pen with the margin of s
+unfoldable pub withMargin : Pen → Renderer → Pen
+withMargin p s = record { indent = s .indent; «next_indent» = s .nextIndent; column = p .column; at = p .at }
+
 -- s, rendered from pen p, is what the output and the pen have become
 pub record Drawn (limit : ℕ) (s : Renderer) (out : List ℕ) (p : Pen) (out2 : List ℕ) (q : Pen) : Type 0 where
   pub pen : q ≡ penAfter p s
