@@ -1,18 +1,19 @@
 // `render_node` over rows: a loop with the open rows in an array.
 ghost use mathlib.Core.Path.{_≡_};
 ghost use Prim.Native.Nat.{ℕ, _+_, _-_, _*_, _≤_, _<_};
-ghost use mathlib.Core.Bool.{Bool, true, false, cond};
+ghost use mathlib.Core.Bool.{Bool, true, false, cond, not, _&&_};
 ghost use mathlib.Core.List.{[], _∷_};
 ghost use lib.ListN.{length, set};
+ghost use Rattle.rows.specs.Node.{wrapped};
 ghost use Rattle.rows.specs.View.{cell, viewOf, nodesAt};
 ghost use Rattle.rows.specs.Nesting.{Nested};
 ghost use Rattle.rows.proofs.Decode.{nodeAt};
 ghost use Rattle.renderer.specs.Page.{pageOf};
 ghost use Rattle.renderer.specs.Renderer.{render, groupWraps, trailing, calleeWraps, indented, outdented, newLine, nextIndented, nextOutdented, text, virtualColumn};
 ghost use Rattle.renderer.proofs.Meaning.{frameAt, partEnd, wrapAt};
-ghost use Rattle.renderer.proofs.Machine.{enterGroup, enterIf, enterCall, enter, leave, turn};
+ghost use Rattle.renderer.proofs.Machine.{frame, enter, turn};
 ghost use Rattle.render.specs.Pen.{shown, withMargin, Drawn, Room};
-ghost use Rattle.render.specs.Run.{Follows, Ready, Entering};
+ghost use Rattle.render.specs.Run.{openedRun, Enters, GroupOpened, CallOpened, ArgumentsOpened, Follows, Ready, Entering};
 use crate::pen::Pen;
 use crate::pen::comment;
 use crate::pen::empty_line;
@@ -191,6 +192,106 @@ fn opened(r: Run, f: Frame, next: usize, pen: Pen) -> Run
         depth: d + 1,
         next: next,
         pen: pen,
+    }
+}
+
+// A `Group` is opened.
+fn enter_group(r: Run, store: &[u32], marks: &mut [u8], max: usize) -> Run
+    requires { ⌜ Enters (now store) r × Nested (now store) (r .next + 1) (cell (now store) (r .next) 4) ⌝ }
+    ensures { λ q. ⌜ GroupOpened (now (store .entry)) max (now (marks .entry)) r (now (marks .exit)) q ⌝ }
+{
+    let i = r.next;
+    let p = r.pen;
+    let end = place(store, i, 4);
+    let number = place(store, i, 1);
+    let wraps = group_wraps(p, store, marks, i + 1, end, max);
+    insert(marks, number, wraps);
+    let f = Frame {
+        row: i as u32,
+        wrap: wraps,
+        early: false,
+        deep: false,
+    };
+    opened(r, f, i + 1, p)
+}
+
+// An `IfWrap` is opened at the part that is chosen.
+fn enter_if(r: Run, wrap: bool, store: &[u32], marks: &[u8]) -> Run
+    requires { ⌜ Enters (now store) r ⌝ }
+    ensures { λ q. ⌜ q ≡ cond (wrapped (now (marks .entry)) (cell (now (store .entry)) (r .next) 1)) (openedRun r (frame (r .next) wrap true false) (r .next + 1) (r .pen)) (openedRun r (frame (r .next) wrap false false) (cell (now (store .entry)) (r .next) 3) (r .pen)) ⌝ }
+{
+    let i = r.next;
+    let p = r.pen;
+    let first = is_wrapped(marks, place(store, i, 1));
+    let f = Frame {
+        row: i as u32,
+        wrap: wrap,
+        early: first,
+        deep: false,
+    };
+    if first {
+        return opened(r, f, i + 1, p);
+    }
+    opened(r, f, place(store, i, 3), p)
+}
+
+// A `Call` is opened at its callee.
+fn enter_call(r: Run, store: &[u32], marks: &mut [u8], max: usize) -> Run
+    requires { ⌜ Enters (now store) r × (Nested (now store) (r .next + 1) (cell (now store) (r .next) 3) × Nested (now store) (cell (now store) (r .next) 3) (cell (now store) (r .next) 4)) ⌝ }
+    ensures { λ q. ⌜ CallOpened (now (store .entry)) max (now (marks .entry)) r (now (marks .exit)) q ⌝ }
+{
+    let i = r.next;
+    let p = r.pen;
+    let mid = place(store, i, 3);
+    let end = place(store, i, 4);
+    let number = place(store, i, 1);
+    let trailing = trails(p, store, marks, i + 1, mid, end, max);
+    let wraps = callee_wraps(p, store, marks, trailing, i + 1, mid, end, max);
+    insert(marks, number, wraps);
+    let deep = made_up(trailing, wraps);
+    let f = Frame {
+        row: i as u32,
+        wrap: wraps,
+        early: true,
+        deep: deep,
+    };
+    opened(r, f, i + 1, indent_next(p, deep))
+}
+
+// Whether the group that the second branch of `Call` makes up wraps.
+fn made_up(trailing: bool, wraps: bool) -> bool
+    ensures { λ r. ⌜ r ≡ (not trailing && wraps) ⌝ }
+{
+    if trailing {
+        return false;
+    }
+    wraps
+}
+
+// The callee of a `Call` is done: its arguments are opened.
+fn enter_arguments(r: Run, f: Frame, store: &[u32], marks: &mut [u8], max: usize) -> Run
+    requires { ⌜ (0 < r .depth) × ((r .depth ≤ 256) × ((f .row * 9 + 8 < length (now store)) × (Nested (now store) (r .next) (cell (now store) (f .row) 4) × ((r .pen .indent ≤ 384) × (r .pen .column .0 < 1152921504606846976))))) ⌝ }
+    ensures { λ q. ⌜ ArgumentsOpened (now (store .entry)) max (now (marks .entry)) r f (now (marks .exit)) q ⌝ }
+{
+    let d = r.depth - 1;
+    let p = r.pen;
+    let row = wide(f.row);
+    let end = place(store, row, 4);
+    let number = place(store, row, 2);
+    let wraps = group_wraps(p, store, marks, r.next, end, max);
+    insert(marks, number, wraps);
+    let mut fs = r.frames;
+    fs[d] = Frame {
+        row: f.row,
+        wrap: wraps,
+        early: false,
+        deep: f.deep,
+    };
+    Run {
+        frames: fs,
+        depth: r.depth,
+        next: r.next,
+        pen: p,
     }
 }
 
