@@ -459,6 +459,32 @@ module _ (v : View) (pg : Page) (stop : ℕ) where
   unfolding enter
   enter-0 m e = rw e
 
+  pub enter-1 : (m : Machine) → v .kind (m .next) ≡ 1 → enter v pg stop m ≡ enterIndent v pg stop m
+  unfolding enter
+  enter-1 m e = rw e
+
+  pub enter-2 : (m : Machine) → v .kind (m .next) ≡ 2 → enter v pg stop m ≡ enterNext v pg stop m
+  unfolding enter
+  enter-2 m e = rw e
+
+  pub enter-10 : (m : Machine) → v .kind (m .next) ≡ 10 → enter v pg stop m ≡ enterIf v pg stop m
+  unfolding enter
+  enter-10 m e = rw e
+
+  pub enter-leaf : (m : Machine) (k : ℕ) → v .kind (m .next) ≡ k → 3 ≤ k → k ≤ 9 → enter v pg stop m ≡ enterLeaf v pg stop m
+  unfolding enter
+  enter-leaf m zero e a b = absurd (omega arith)
+  enter-leaf m (suc zero) e a b = absurd (omega arith)
+  enter-leaf m (suc (suc zero)) e a b = absurd (omega arith)
+  enter-leaf m (suc (suc (suc zero))) e a b = rw e
+  enter-leaf m (suc (suc (suc (suc zero)))) e a b = rw e
+  enter-leaf m (suc (suc (suc (suc (suc zero))))) e a b = rw e
+  enter-leaf m (suc (suc (suc (suc (suc (suc zero)))))) e a b = rw e
+  enter-leaf m (suc (suc (suc (suc (suc (suc (suc zero))))))) e a b = rw e
+  enter-leaf m (suc (suc (suc (suc (suc (suc (suc (suc zero)))))))) e a b = rw e
+  enter-leaf m (suc (suc (suc (suc (suc (suc (suc (suc (suc zero))))))))) e a b = rw e
+  enter-leaf m (suc (suc (suc (suc (suc (suc (suc (suc (suc (suc n)))))))))) e a b = absurd (omega arith)
+
   pub enter-11 : (m : Machine) → v .kind (m .next) ≡ 11 → enter v pg stop m ≡ enterCall v pg stop m
   unfolding enter
   enter-11 m e = rw e
