@@ -17,14 +17,58 @@ use Rattle.text.specs.declared.space.Found.{Found}
 use Rattle.text.specs.declared.space.Found.the-variants.{At, Nowhere}
 use Rattle.tree.specs.Syntax.{Span}
 use Rattle.rows.specs.Node.{
-    Text, Node, Nodes, group, indent, indentNext, wrapParent, comment, str, ascii, line, emptyLine, lineOrSpace, ifWrap, call, none, _then_
+  Text,
+  Node,
+  Nodes,
+  group,
+  indent,
+  indentNext,
+  wrapParent,
+  comment,
+  str,
+  ascii,
+  line,
+  emptyLine,
+  lineOrSpace,
+  ifWrap,
+  call,
+  none,
+  _then_,
 }
 use Rattle.state.specs.Act.{
-    Given, St, Out, Act, Asking, next, join, _⨟_, _⨟?_, _⨟!_, skip, when, push, moveTo, pop, told, answering, grouped, indented, indentedNext,
-    called
+  Given,
+  St,
+  Out,
+  Act,
+  Asking,
+  next,
+  join,
+  _⨟_,
+  _⨟?_,
+  _⨟!_,
+  skip,
+  when,
+  push,
+  moveTo,
+  pop,
+  told,
+  answering,
+  grouped,
+  indented,
+  indentedNext,
+  called,
 }
 use Rattle.comments.specs.Comments.{
-    nth, front, remark, newlines, ignoreNewlines, popComment, waits, popComments, popWhitespace, popTrailingComment
+  nth,
+  front,
+  remark,
+  newlines,
+  ignoreNewlines,
+  popComment,
+  waits,
+  popComments,
+  popWhitespace,
+  popTrailingComment,
 }
 use Rattle.facts.specs.Placing.{commentsOf, commentsIn, trimmed, between, Placed, Places}
 
@@ -99,6 +143,10 @@ placed-then g a b s x q =
 pub places-then : {g : Given} {a b : Act} → Places g a → Places g b → Places g (a ⨟ b)
 places-then {g} {a} {b} p q = record { from = λ s h. placed-then g a b s (p .from s h) q }
 
+pub _⨾_ : {g : Given} {a b : Act} → Places g a → Places g b → Places g (a ⨟ b)
+p ⨾ q = places-then p q
+
+infixr 50 _⨾_
 pub places-skip : {g : Given} → Places g skip
 places-skip = places-quiet quiet-skip
 

@@ -6,7 +6,23 @@ use lib.ListN.{length, take, drop}
 use Rattle.text.specs.Space.{trimEnd}
 use Rattle.tree.specs.Syntax.{Span}
 use Rattle.rows.specs.Node.{
-    Text, Node, Nodes, group, indent, indentNext, wrapParent, comment, str, ascii, line, emptyLine, lineOrSpace, ifWrap, call, none, _then_
+  Text,
+  Node,
+  Nodes,
+  group,
+  indent,
+  indentNext,
+  wrapParent,
+  comment,
+  str,
+  ascii,
+  line,
+  emptyLine,
+  lineOrSpace,
+  ifWrap,
+  call,
+  none,
+  _then_,
 }
 use Rattle.state.specs.Act.{Given, St, Out, Act}
 
