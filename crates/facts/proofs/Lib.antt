@@ -1,3 +1,5 @@
 pub mod Tests
 pub mod Placing
 pub mod InOrder
+pub mod Steps
+pub mod Gaps
