@@ -3,3 +3,4 @@ pub mod Placing
 pub mod InOrder
 pub mod Steps
 pub mod Gaps
+pub mod Parts

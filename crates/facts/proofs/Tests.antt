@@ -9,6 +9,9 @@ use Rattle.tree.specs.Syntax.{
   type,
   Import,
   import,
+  ImportGroup,
+  noGroup,
+  group,
   Imports,
   noImports,
   _∷ⁱ_,
@@ -47,6 +50,10 @@ use Rattle.tree.specs.Syntax.{
 }
 use Rattle.state.specs.Act.{Act, skip}
 use Rattle.layout.specs.Layout.{Shape, Braced, Brace, Other}
+
+abbrev pub isGroup : ImportGroup → Bool
+isGroup noGroup = false
+isGroup (group s is) = true
 
 abbrev pub typeSpan : TypeExpr → Span
 typeSpan (type s f) = s
