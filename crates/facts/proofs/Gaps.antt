@@ -47,7 +47,7 @@ unfolding trimEnd
 trimEnd-le s from to = trim-le (to - from) s from to
 
 module _ {g : Given} (commented : Commented g) where
-  inside-comment : {c : Span} → Ranged g c → Inside g (trimmed g c)
+  inside-comment : {c : Span} → Ranged (g .source) c → Inside g (trimmed g c)
   inside-comment {c} r = record { origin = omega arith; fits = omega (arith, trimEnd-le (g .source) (c .start) (c .end), r .ordered, r .fits) }
 
   sound-newlines : {d : ℕ} (p : ℕ) → p ≤ length (g .source) → Sounds g 1 d (told (newlines g p))
@@ -86,7 +86,7 @@ module _ {g : Given} (commented : Commented g) where
   before-free false p s = ignoreNewlines-free p s
 
   -- the comment in front is taken: two rows for it
-  sound-popped : {d : ℕ} (c : Span) (q : Act) (p : ℕ) (s : St) → Ranged g c → p ≤ length (g .source) → Sounds g 1 d q
+  sound-popped : {d : ℕ} (c : Span) (q : Act) (p : ℕ) (s : St) → Ranged (g .source) c → p ≤ length (g .source) → Sounds g 1 d q
       → ((s : St) → q s .taken ≡ 0) → Sound g 0 d s ((pop ⨟ q ⨟ moveTo p ⨟ remark g c) s)
   unfolding _⨟_ join
   sound-popped {d} c q p s r h k free =
@@ -107,7 +107,7 @@ module _ {g : Given} (commented : Commented g) where
   sound-popComments zero p leading = sound-skip
   sound-popComments {d} (suc n) p leading = record { from = λ s. turn s (front g s) refl (sound-popComments n p true) }
     where
-      taken : (s : St) (c : Span) → Ranged g c → Sounds g 0 d (popComments g n p true) → (t : Bool)
+      taken : (s : St) (c : Span) → Ranged (g .source) c → Sounds g 0 d (popComments g n p true) → (t : Bool)
           → Sound g 0 d s (cond t (popComment g leading c ⨟ popComments g n p true) skip s)
       taken s c r more true =
           let starts : c .start ≤ length (g .source) = omega (arith, r .ordered, r .fits) in
@@ -142,7 +142,7 @@ module _ {g : Given} (commented : Commented g) where
   unfolding popTrailingComment _⨟_ join
   sound-trailing {d} = record { from = λ s. found s (something (g .source) (s .pos)) }
     where
-      taken : (s : St) (c : Span) → Ranged g c → (t : Bool) → Sound g 0 d s (cond t (pop ⨟ remark g c ⨟ moveTo (c .end)) skip s)
+      taken : (s : St) (c : Span) → Ranged (g .source) c → (t : Bool) → Sound g 0 d s (cond t (pop ⨟ remark g c ⨟ moveTo (c .end)) skip s)
       taken s c r true =
           let s′ : St = next s (pop s) in
           let one : Sounds g 1 d (remark g c ⨟ moveTo (c .end)) = fewer (sound-comment (inside-comment r) ⨾ sound-moveTo (r .fits)) (omega arith) in

@@ -4,3 +4,4 @@ pub mod InOrder
 pub mod Steps
 pub mod Gaps
 pub mod Parts
+pub mod Exprs

@@ -57,31 +57,32 @@ inside-word w e =
 pub sound-says : {g : Given} {d : ℕ} (w : String) → Fits w → Sounds g 1 d (says w)
 sound-says w e = sound-ascii (inside-word w e)
 
-module _ {g : Given} (commented : Commented g) where
-  -- ---- spans and texts
-  pub ranged : {k at : ℕ} {p : Span} → Head (g .source) (g .image) k p at → Ranged g p
-  ranged {p = p} h =
-      let r = range-inside (g .source) (p .start) (p .end) (h .range) in
-      record { ordered = omega (arith, r); fits = omega (arith, r) }
+-- ---- spans and texts
+pub ranged : {s b : List ℕ} {k at : ℕ} {p : Span} → Head s b k p at → Ranged s p
+ranged {s} {p = p} h =
+    let r = range-inside s (p .start) (p .end) (h .range) in
+    record { ordered = omega (arith, r); fits = omega (arith, r) }
 
-  pub from-start : {p : Span} → Ranged g p → p .start ≤ length (g .source)
-  from-start r = omega (arith, r .ordered, r .fits)
+pub from-start : {s : List ℕ} {p : Span} → Ranged s p → p .start ≤ length s
+from-start r = omega (arith, r .ordered, r .fits)
 
-  pub sound-ident : {d at : ℕ} {i : Ident} → IdentAt (g .source) (g .image) i at → Sounds g 1 d (ident g i)
-  sound-ident {i = i} a = sound-str (record { origin = omega arith; fits = omega (arith, a .ends, a .head .fits) })
+pub sound-ident : {g : Given} {d at : ℕ} {i : Ident} → IdentAt (g .source) (g .image) i at → Sounds g 1 d (ident g i)
+sound-ident {i = i} a = sound-str (record { origin = omega arith; fits = omega (arith, a .ends, a .head .fits) })
 
-  -- ---- `separated`
-  -- elements in n bytes, at most d deep
+module _ (g : Given) where
+  -- elements of `separated` in n bytes, at most d deep
   pub data All : ℕ → ℕ → List Elem → Type 0 where
     none : {n d : ℕ} → All n d []
     more : {e : Elem} {es : List Elem} {k m n d : ℕ} → e .start ≤ length (g .source) → Sounds g k d (e .act) → All m d es → 3 + (k + m) ≤ n
         → All n d (e ∷ es)
 
-  pub also : {e : Elem} {es : List Elem} {k m n d : ℕ} → e .start ≤ length (g .source) → Sounds g k d (e .act) → All m d es → 3 + (k + m) ≤ n
-      → All n d (e ∷ es)
-  also h p ps i = more h p ps i
+pub also : {g : Given} {e : Elem} {es : List Elem} {k m n d : ℕ} → e .start ≤ length (g .source) → Sounds g k d (e .act) → All g m d es → 3 + (k + m) ≤ n
+    → All g n d (e ∷ es)
+also h p ps i = more h p ps i
 
-  sound-elements : (w : String) → Fits w → (first : Bool) {es : List Elem} {n d : ℕ} → All n d es → Sounds g n d (elements g w first es)
+module _ {g : Given} (commented : Commented g) where
+  -- ---- `separated`
+  sound-elements : (w : String) → Fits w → (first : Bool) {es : List Elem} {n d : ℕ} → All g n d es → Sounds g n d (elements g w first es)
   unfolding elements
   sound-elements w f first none = fewer sound-skip (omega arith)
   sound-elements w f first (more {e} {es} {k} {m} {n} {d} h p ps i) =
@@ -98,7 +99,7 @@ module _ {g : Given} (commented : Commented g) where
   edged Spaced = sound-lineOrSpace
   edged Wrap = sound-line
 
-  pub sound-separated : (start end w : String) → Fits start → Fits end → Fits w → {es : List Elem} {n c d : ℕ} → All n c es → (s : Span)
+  pub sound-separated : (start end w : String) → Fits start → Fits end → Fits w → {es : List Elem} {n c d : ℕ} → All g n c es → (s : Span)
       → s .end ≤ length (g .source) → (style : WrapStyle) → c + 2 ≤ d → 1 ≤ c → Sounds g (11 + n) d (separated g start end w es s style)
   unfolding separated placeIn
   sound-separated start end w f₁ f₂ f₃ {n = n} {c} {d} none s h style i j =
@@ -158,7 +159,7 @@ module _ {g : Given} (commented : Commented g) where
       (sound-ident (a .first) ⨾ sound-pathMore (p .more) rest (past (g .source) (g .image) at) u (a .more) ⨾ sound-trailing commented)
       (omega (arith, a .inside .least, a .head .head .long))
 
-  all-idents : (is : List Ident) (at end : ℕ) {d : ℕ} → IdentsAt (g .source) (g .image) is at end → All (end - at) d (identElems g is)
+  all-idents : (is : List Ident) (at end : ℕ) {d : ℕ} → IdentsAt (g .source) (g .image) is at end → All g (end - at) d (identElems g is)
   unfolding IdentsAt
   all-idents [] at end a = none
   all-idents (i ∷ is) at end a =
@@ -176,7 +177,7 @@ module _ {g : Given} (commented : Commented g) where
       (omega (arith, a .head .long))
 
   -- ---- types
-  pub type-ranged : (t : TypeExpr) (at : ℕ) → TypeAt (g .source) (g .image) t at → Ranged g (typeSpan t)
+  pub type-ranged : (t : TypeExpr) (at : ℕ) → TypeAt (g .source) (g .image) t at → Ranged (g .source) (typeSpan t)
   unfolding TypeAt
   type-ranged (type s f) at a = ranged (a .0)
 
@@ -214,7 +215,7 @@ module _ {g : Given} (commented : Commented g) where
         (omega (arith, a .0 .long))
 
     pub all-types : (ts : Types) (at end : ℕ) {d : ℕ} → TypesAt (g .source) (g .image) ts at end → 2 * typesHeight ts ≤ d
-        → All (end - at) d (typeElems g ts)
+        → All g (end - at) d (typeElems g ts)
     all-types noTypes at end a h = none
     all-types (t ∷ᵗ ts) at end a h =
         also (from-start (type-ranged t at (a .0))) (sound-type t at (a .0) (omega arith))
@@ -222,7 +223,7 @@ module _ {g : Given} (commented : Commented g) where
         (omega (arith, a .1 .least))
 
     pub all-fields : (fs : Fields) (at end : ℕ) {d : ℕ} → FieldsAt (g .source) (g .image) fs at end → 2 * fieldsHeight fs ≤ d
-        → All (end - at) d (fieldElems g fs)
+        → All g (end - at) d (fieldElems g fs)
     all-fields noFields at end a h = none
     all-fields (field s i t fs) at end a h =
         also (from-start (ranged (a .0)))
@@ -232,13 +233,13 @@ module _ {g : Given} (commented : Commented g) where
 
   -- the last of some types
   pub last-ranged : (ts : Types) (t : TypeExpr) (at at′ end : ℕ) → TypeAt (g .source) (g .image) t at
-      → TypesAt (g .source) (g .image) ts at′ end → Ranged g (lastSpan t ts)
+      → TypesAt (g .source) (g .image) ts at′ end → Ranged (g .source) (lastSpan t ts)
   unfolding lastSpan TypesAt
   last-ranged noTypes t at at′ end a b = type-ranged t at a
   last-ranged (u ∷ᵗ us) t at at′ end a b = last-ranged us u at′ (past (g .source) (g .image) at′) end (b .0) (b .2)
 
   -- ---- imports
-  pub import-ranged : (i : Import) (at : ℕ) → ImportAt (g .source) (g .image) i at → Ranged g (importSpan i)
+  pub import-ranged : (i : Import) (at : ℕ) → ImportAt (g .source) (g .image) i at → Ranged (g .source) (importSpan i)
   unfolding ImportAt
   import-ranged (import s p q) at a = ranged (a .0)
 
@@ -268,7 +269,7 @@ module _ {g : Given} (commented : Commented g) where
     sound-importGroup noGroup at a h = fewer sound-skip (omega arith)
     sound-importGroup (group s is) at a h = sound-imports is s at (ranged (a .0)) (a .0 .long) (a .1) h
 
-    sound-imports : (is : Imports) (s : Span) (at : ℕ) {d : ℕ} → Ranged g s → 9 ≤ be32 (g .image) at
+    sound-imports : (is : Imports) (s : Span) (at : ℕ) {d : ℕ} → Ranged (g .source) s → 9 ≤ be32 (g .image) at
         → ImportsAt (g .source) (g .image) is (at + 13) (past (g .source) (g .image) at) → 2 * (1 + importsHeight is) + 2 ≤ d
         → Sounds g (4 + be32 (g .image) at) d (importItems g s is)
     sound-imports noImports s at {d} r l a h =
@@ -285,7 +286,7 @@ module _ {g : Given} (commented : Commented g) where
         (omega arith))
 
     all-imports : (is : Imports) (at end : ℕ) {d : ℕ} → ImportsAt (g .source) (g .image) is at end → 2 * importsHeight is ≤ d
-        → All (end - at) d (importElems g is)
+        → All g (end - at) d (importElems g is)
     all-imports noImports at end a h = none
     all-imports (i ∷ⁱ is) at end a h =
         also (from-start (import-ranged i at (a .0))) (sound-import i at (a .0) (omega arith))

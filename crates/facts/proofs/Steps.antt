@@ -68,6 +68,9 @@ wider {g} {a} {m} {n} {d} {e} p h i =
 pub fewer : {g : Given} {a : Act} {m n d : ℕ} → Sounds g m d a → m ≤ n → Sounds g n d a
 fewer p h = wider p h (omega arith)
 
+pub deeper : {g : Given} {a : Act} {n d e : ℕ} → Sounds g n d a → d ≤ e → Sounds g n e a
+deeper p h = wider p (omega arith) h
+
 -- ---- steps that push no nodes
 pub sound-skip : {g : Given} {d : ℕ} → Sounds g 0 d skip
 unfolding sizes depths TextsIn

@@ -58,14 +58,14 @@ unfoldable mutual
   TextsIn g none = Unit
   TextsIn g (n then ns) = TextsOf g n × TextsIn g ns
 
--- a comment is a range of the source
-pub record Ranged (g : Given) (c : Span) : Type 0 where
-  pub ordered : c .start ≤ c .end
-  pub fits : c .end ≤ length (g .source)
+-- a span is a range of a text
+pub record Ranged (s : List ℕ) (p : Span) : Type 0 where
+  pub ordered : p .start ≤ p .end
+  pub fits : p .end ≤ length s
 
--- all comments are
+-- the comments are ranges of the source
 pub record Commented (g : Given) : Type 0 where
-  pub ranged : (k : ℕ) (c : Span) → nth (g .comments) k ≡ some c → Ranged g c
+  pub ranged : (k : ℕ) (c : Span) → nth (g .comments) k ≡ some c → Ranged (g .source) c
 
 -- What a step gives from a state: at most n rows, and two more for each comment that it takes; at most n numbers; rows at most d deep below
 -- the top ones; texts inside their origins; a position within the source, if it was there before.
