@@ -5,3 +5,4 @@ pub mod Steps
 pub mod Gaps
 pub mod Parts
 pub mod Exprs
+pub mod Document

@@ -243,6 +243,10 @@ module _ {g : Given} (commented : Commented g) where
   unfolding ImportAt
   import-ranged (import s p q) at a = ranged (a .0)
 
+  pub import-long : (i : Import) (at : ℕ) → ImportAt (g .source) (g .image) i at → 9 ≤ be32 (g .image) at
+  unfolding ImportAt
+  import-long (import s p q) at a = a .0 .long
+
   sound-oneOr : (is : Imports) {a b : Act} {n d : ℕ} → Sounds g n d a → Sounds g n d b → Sounds g n d (oneOr is a b)
   sound-oneOr noImports p q = p
   sound-oneOr (i ∷ⁱ is) p q = q
