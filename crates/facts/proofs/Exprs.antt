@@ -18,7 +18,7 @@ use Rattle.tree.specs.Syntax.{
     noBlock, someBlock, Stmts, noStmts, _∷ˢ_, Stmt, stmt, StmtForm, let′, importStmt, does
 }
 use Rattle.tree.specs.At.{
-    Head, Record, Absent, Ends, Bare, Done, Before, past, formKind, IdentAt, PathAt, Maybe, TypeAt, ByteAt, OpAt, ExprAt, FormAt, ExprsAt,
+    Head, Record, Absent, Done, Before, past, formKind, IdentAt, PathAt, Maybe, TypeAt, ByteAt, OpAt, ExprAt, FormAt, ExprsAt,
     MaybeExprAt, EntriesAt, ArmsAt, PartsAt, BlockAt, MaybeBlockAt, StmtsAt, StmtAt, StmtFormAt
 }
 use Rattle.rows.specs.Node.{Text, ascii, line}
@@ -218,7 +218,7 @@ module _ {g : Given} (commented : Commented g) where
         sound-plain (λ p.
         fewer
         (sound-separated commented "{" "}" "," refl refl refl
-        (all-entries es (at + 26) (past (g .source) (g .image) (at + 13)) {d = d - 2} (a .1) (omega arith)) t (ranged (a .0) .fits) Spaced
+        (all-entries es (at + 13 + 13) (past (g .source) (g .image) (at + 13)) {d = d - 2} (a .1) (omega arith)) t (ranged (a .0) .fits) Spaced
         (omega arith) (omega arith))
         (omega (arith, a .0 .long, a .2 .same)))
     sound-form (typedRecord q t es) s at d r l a h =
@@ -235,7 +235,7 @@ module _ {g : Given} (commented : Commented g) where
         sound-plain (λ p.
         fewer
         (sound-separated commented "[" "]" "," refl refl refl
-        (all-grouped es (at + 26) (past (g .source) (g .image) (at + 13)) {d = d - 2} (a .1) (omega arith)) s (r .fits) Tight
+        (all-grouped es (at + 13 + 13) (past (g .source) (g .image) (at + 13)) {d = d - 2} (a .1) (omega arith)) s (r .fits) Tight
         (omega arith) (omega arith))
         (omega (arith, a .0 .head .long, a .2 .same)))
     sound-form (not′ e) s at d r l a h =
@@ -316,7 +316,7 @@ module _ {g : Given} (commented : Commented g) where
         fewer
         (sound-gap commented (s .start) true true false (from-start r)
         ⨾ sound-says "f\"" refl
-        ⨾ sound-parts ps (at + 26) (past (g .source) (g .image) (at + 13)) (a .1) (omega arith)
+        ⨾ sound-parts ps (at + 13 + 13) (past (g .source) (g .image) (at + 13)) (a .1) (omega arith)
         ⨾ sound-says "\"" refl)
         (omega (arith, a .0 .head .long, a .2 .same)))
     sound-form (parentheses e) s at d r l a h =
@@ -409,7 +409,7 @@ module _ {g : Given} (commented : Commented g) where
         ⨾ sound-line
         ⨾ sound-when (not (isEmpty ss last)) sound-wrapParent
         ⨾ sound-indented {c = d - 2} (omega arith)
-        (sound-stmts ss (at + 26) v true (a .2) (omega arith)
+        (sound-stmts ss (at + 13 + 13) v true (a .2) (omega arith)
         ⨾ sound-last last v (noneOf ss) (a .3) (omega arith)
         ⨾ sound-gap commented (s .end) (not (isEmpty ss last)) false false (ranged (a .0) .fits))
         ⨾ sound-line

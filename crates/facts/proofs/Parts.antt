@@ -18,7 +18,7 @@ use Rattle.tree.specs.Syntax.{
     _∷ᵗ_, Fields, noFields, field, Import, import, ImportGroup, noGroup, group, Imports, noImports, _∷ⁱ_, Pattern, underscore, enumVariant
 }
 use Rattle.tree.specs.At.{
-    Head, Record, Absent, Ends, Bare, Done, Before, past, IdentAt, IdentsAt, PathAt, ListAt, Maybe, TypeAt, TypeFormAt, TypeArgsAt, TypesAt,
+    Head, Record, Absent, Done, Before, past, IdentAt, IdentsAt, PathAt, ListAt, Maybe, TypeAt, TypeFormAt, TypeArgsAt, TypesAt,
     FieldsAt, ImportAt, ImportGroupAt, ImportsAt, PatternAt
 }
 use Rattle.rows.specs.Node.{Text, ascii, str, line, lineOrSpace, wrapParent, ifWrap}
@@ -201,7 +201,7 @@ module _ {g : Given} (commented : Commented g) where
     sound-typeForm unit at l a h = fewer (sound-says "()" refl) (omega arith)
     sound-typeForm (recordType s fs) at {d} l a h =
         fewer
-        (sound-separated "{" "}" "," refl refl refl (all-fields fs (at + 26) (past (g .source) (g .image) (at + 13)) {d = d - 2} (a .1) (omega arith)) s
+        (sound-separated "{" "}" "," refl refl refl (all-fields fs (at + 13 + 13) (past (g .source) (g .image) (at + 13)) {d = d - 2} (a .1) (omega arith)) s
         (ranged (a .0) .fits) Tight (omega arith) (omega arith))
         (omega (arith, a .2 .same, a .0 .long))
 
