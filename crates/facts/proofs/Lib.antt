@@ -6,3 +6,4 @@ pub mod Gaps
 pub mod Parts
 pub mod Exprs
 pub mod Document
+pub mod Levels

@@ -1,8 +1,9 @@
--- How many records of the image stand one in the other at a part of the syntax tree. Texts, paths, patterns, operators and literals are
--- left out.
+-- How many records of the image stand one in the other: in a tree as it was read, and at a part of the syntax tree, where texts, paths,
+-- patterns, operators and literals are left out.
 use Prim.Native.Nat.{ℕ, _+_, max}
 use mathlib.Core.List.{List, [], _∷_}
 use mathlib.Core.Option.{Option, none, some}
+use Rattle.image.specs.Read.{Tree, Trees, absent, node, nil, _▸_}
 use Rattle.tree.specs.Syntax.{
     Span, Ident, Path, Idents, TypeExpr, type, TypeForm, option, typePath, never, unit, recordType, TypeArgs, noArgs, args, Types, noTypes,
     _∷ᵗ_, Fields, noFields, field, Import, import, ImportGroup, noGroup, group, Imports, noImports, _∷ⁱ_, Expr, expr, Form, return′, literal,
@@ -11,6 +12,15 @@ use Rattle.tree.specs.Syntax.{
     noParts, string, value, Block, braces, MaybeBlock, noBlock, someBlock, Stmts, noStmts, _∷ˢ_, Stmt, stmt, StmtForm, let′, importStmt, does,
     Variants, noVariants, variant, Declaration, filterMap, const, recordDecl, enumDecl, function, test, importDecl, SyntaxTree
 }
+
+unfoldable mutual
+  pub levels : Tree → ℕ
+  levels absent = 0
+  levels (node h ts) = 1 + levelsIn ts
+
+  pub levelsIn : Trees → ℕ
+  levelsIn nil = 0
+  levelsIn (t ▸ ts) = max (levels t) (levelsIn ts)
 
 unfoldable mutual
   pub typeHeight : TypeExpr → ℕ
