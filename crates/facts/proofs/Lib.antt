@@ -7,3 +7,4 @@ pub mod Parts
 pub mod Exprs
 pub mod Document
 pub mod Levels
+pub mod Limits

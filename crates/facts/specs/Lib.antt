@@ -1,3 +1,4 @@
 pub mod Placing
 pub mod Sound
 pub mod Height
+pub mod Accepted
