@@ -1,0 +1,154 @@
+-- What follows for an accepted image: the rows and the numbers of a document fit, from the fresh state within the limits of document 01;
+-- its rows are 133 deep at most; its texts lie inside their origins; its position stays in the source.
+-- Assumes nothing.
+use Prim.Native.Nat.{ℕ, zero, suc, _+_, _*_, _-_, _≤_, _<_}
+use mathlib.Core.Path.{_≡_, refl, sym, ap, subst, _∙_}
+use mathlib.Core.Bool.{Bool, true, false}
+use mathlib.Core.List.{List, [], _∷_, _++_}
+use mathlib.Core.Option.{Option, none as nothing, some}
+use native.Mathlib.Omega.{arith}
+use lib.ListN.{length}
+use Rattle.text.proofs.Counts.{range-inside}
+use Rattle.image.specs.Bytes.{be16, be32}
+use Rattle.image.proofs.CommentList.{Comment}
+use Rattle.image.proofs.Accepted.{Root}
+use Rattle.tree.specs.Syntax.{Span, Declaration, SyntaxTree}
+use Rattle.tree.specs.At.{past, DeclarationsAt, TreeAt}
+use Rattle.tree.specs.Records.{syntaxTree}
+use Rattle.tree.proofs.Whole.{root-at}
+use Rattle.rows.specs.Rows.{sizes}
+use Rattle.state.specs.Act.{Given, St, Out, Act, _⨟_}
+use Rattle.state.specs.Laid.{st, top, Room}
+use Rattle.state.specs.declared.Cursor.{Cursor}
+use Rattle.comments.specs.Comments.{nth}
+use Rattle.layout.specs.Layout.{shebangRule, declarationsRule, fmtParsed}
+use Rattle.facts.specs.Placing.{Placed, Places}
+use Rattle.facts.specs.Sound.{depths, TextsIn, Ranged, Commented, Sound, Sounds}
+use Rattle.facts.specs.Height.{declarationsHeight, treeHeight}
+use Rattle.facts.specs.Accepted.{Paired, Stands, fresh, upTo, Within}
+use Rattle.facts.proofs.Placing.{front-is, places-then}
+use Rattle.facts.proofs.InOrder.{places-shebang, places-declarations, places-fmtParsed}
+use Rattle.facts.proofs.Steps.{_⨾_, fewer}
+use Rattle.facts.proofs.Document.{sound-shebang, sound-declarations, sound-fmtParsed}
+use Rattle.facts.proofs.Levels.{accepted-high}
+
+-- ---- an accepted image
+commented : (ordered : Bool) (g : Given) (n at : ℕ) → Root ordered (g .source) (g .image) n at → length (g .comments) ≡ n → Paired g
+    → Commented g
+commented ordered g n at r e p =
+    record {
+      ranged =
+          λ k c f.
+          let i = front-is g (g .comments) k c f .0 in
+          let one = r .list .list .each k (omega (arith, r .count)) in
+          let w = range-inside (g .source) (be32 (g .image) (7 + 8 * k)) (be32 (g .image) (7 + 8 * k + 4)) (one .range) in
+          record { ordered = omega (arith, w, p .start k c f, p .end k c f); fits = omega (arith, w, p .end k c f) };
+    }
+
+pub stands : (ordered : Bool) (g : Given) (n at : ℕ) (r : Root ordered (g .source) (g .image) n at) → length (g .comments) ≡ n → Paired g
+    → Stands g (syntaxTree (g .image) (r .tree)) at
+stands ordered g n at r e p =
+    record {
+      tree = root-at (g .source) (g .image) ordered n at r;
+      high = accepted-high (g .source) (g .image) 2 1 at (r .tree) (length (g .image)) (r .reads);
+      comments = commented ordered g n at r e p;
+      count = omega (arith, r .count, r .list .few);
+      place = omega (arith, r .place);
+      small = omega (arith, r .head .size, r .head .short);
+    }
+
+-- ---- parts of the declarations
+declarations-order : (s b : List ℕ) (xs : List Declaration) (at end : ℕ) → DeclarationsAt s b xs at end → at ≤ end
+unfolding DeclarationsAt
+declarations-order s b [] at end a = omega (arith, a .same)
+declarations-order s b (x ∷ xs) at end a = omega (arith, a .1 .least, declarations-order s b xs (past s b at) end (a .2))
+
+-- the declarations xs and then ys, from `at` to `end`
+record Parted (s b : List ℕ) (xs ys : List Declaration) (at end : ℕ) : Type 0 where
+  mid : ℕ
+  first : DeclarationsAt s b xs at mid
+  rest : DeclarationsAt s b ys mid end
+  order : mid ≤ end
+
+parted : (s b : List ℕ) (xs ys : List Declaration) (at end : ℕ) → DeclarationsAt s b (xs ++ ys) at end → Parted s b xs ys at end
+unfolding DeclarationsAt
+parted s b [] ys at end a =
+    record { mid = at; first = record { same = refl }; rest = a; order = declarations-order s b ys at end a }
+parted s b (x ∷ xs) ys at end a =
+    let p = parted s b xs ys (past s b at) end (a .2) in
+    let o = declarations-order s b xs (past s b at) (p .mid) (p .first) in
+    record { mid = p .mid; first = (a .0, record { least = o }, p .first); rest = p .rest; order = p .order }
+
+height-first : (xs ys : List Declaration) → declarationsHeight xs ≤ declarationsHeight (xs ++ ys)
+unfolding declarationsHeight
+height-first [] ys = omega arith
+height-first (x ∷ xs) ys = omega (arith, height-first xs ys)
+
+height-rest : (xs ys : List Declaration) → declarationsHeight ys ≤ declarationsHeight (xs ++ ys)
+unfolding declarationsHeight
+height-rest [] ys = omega arith
+height-rest (x ∷ xs) ys = omega (arith, height-rest xs ys)
+
+module _ {g : Given} {t : SyntaxTree} {at : ℕ} (a : Stands g t at) where
+  low : declarationsHeight (t .declarations) ≤ 66
+  unfolding treeHeight
+  low = omega (arith, a .high)
+
+  -- ---- the whole, what is laid up to a stop, and what is laid between two
+  pub whole-sound : Sounds g (be32 (g .image) at) 132 (fmtParsed g t)
+  whole-sound = sound-fmtParsed (a .comments) t at (a .tree) (omega (arith, a .high))
+
+  pub upTo-sound : (xs ys : List Declaration) → xs ++ ys ≡ t .declarations → Sounds g (be32 (g .image) at) 132 (upTo g t xs)
+  upTo-sound xs ys e =
+      let from : ℕ = past (g .source) (g .image) (at + 13) in
+      let p = parted (g .source) (g .image) xs ys from (past (g .source) (g .image) at) (rw e (a .tree .declarations)) in
+      let h : declarationsHeight xs ≤ 66 = omega (arith, height-first xs ys, ap declarationsHeight e, low) in
+      fewer
+      (sound-shebang (a .comments) (t .shebang) (at + 13) (a .tree .shebang)
+      ⨾ sound-declarations (a .comments) xs from (p .mid) true (p .first) (omega arith))
+      (omega (arith, p .order, a .tree .inside .least))
+
+  pub between-sound : (xs ys zs : List Declaration) (first : Bool) → xs ++ (ys ++ zs) ≡ t .declarations
+      → Sounds g (be32 (g .image) at) 132 (declarationsRule g ys first)
+  between-sound xs ys zs first e =
+      let from : ℕ = past (g .source) (g .image) (at + 13) in
+      let end : ℕ = past (g .source) (g .image) at in
+      let p = parted (g .source) (g .image) xs (ys ++ zs) from end (rw e (a .tree .declarations)) in
+      let q = parted (g .source) (g .image) ys zs (p .mid) end (p .rest) in
+      let o = declarations-order (g .source) (g .image) xs from (p .mid) (p .first) in
+      let h : declarationsHeight ys ≤ 66 =
+          omega (arith, height-first ys zs, height-rest xs (ys ++ zs), ap declarationsHeight e, low)
+      in
+      fewer (sound-declarations (a .comments) ys (p .mid) (q .mid) first (q .first) (omega arith)) (omega (arith, o, q .order))
+
+  -- ---- the limits, from the fresh state: two rows a comment are less than its eight bytes
+  within : {d : ℕ} (s : Act) → d ≤ 255 → Sounds g (be32 (g .image) at) d s → Places g s → Within g (s fresh)
+  within s h p q =
+      let r = p .from fresh in
+      let w = q .from fresh (omega arith) in
+      record {
+        rows = omega (arith, r .rows, w .within, a .tree .end, a .place, a .small);
+        numbers = omega (arith, r .taken, a .tree .end, a .place, a .small);
+        deep = omega (arith, r .deep);
+        texts = r .texts;
+        position = r .position (omega arith);
+        placed = w .within;
+      }
+
+  pub whole-within : Within g (fmtParsed g t fresh)
+  whole-within = within (fmtParsed g t) (omega arith) whole-sound (places-fmtParsed g t)
+
+  pub upTo-within : (xs ys : List Declaration) → xs ++ ys ≡ t .declarations → Within g (upTo g t xs fresh)
+  upTo-within xs ys e =
+      within (upTo g t xs) (omega arith) (upTo-sound xs ys e) (places-then (places-shebang g (t .shebang)) (places-declarations g xs true))
+
+  -- ---- room for the rows of a step, from any state that refusal 12 lets pass
+  pub room : {d : ℕ} (s : Act) → Sounds g (be32 (g .image) at) d s → Places g s → (c : Cursor) → c .row ≤ 2097152 → c .number ≤ 1048576
+      → c .placed ≤ length (g .comments) → Room (s (st c)) c
+  room s p q c h i j =
+      let r = p .from (st c) in
+      let w = q .from (st c) j in
+      record {
+        rows-fit = omega (arith, r .rows, w .within, a .tree .end, a .place, a .small);
+        numbers-fit = omega (arith, r .taken, a .tree .end, a .place, a .small);
+      }

@@ -1,0 +1,48 @@
+-- What layout may take for granted of an accepted image, and the steps of a layout call.
+use Prim.Native.Nat.{ℕ, _+_, _*_, _≤_}
+use mathlib.Core.Path.{_≡_}
+use mathlib.Core.Bool.{true}
+use mathlib.Core.List.{List}
+use mathlib.Core.Option.{some}
+use lib.ListN.{length}
+use Rattle.image.specs.Bytes.{be32}
+use Rattle.tree.specs.Syntax.{Span, Declaration, SyntaxTree}
+use Rattle.tree.specs.At.{TreeAt}
+use Rattle.rows.specs.Rows.{sizes}
+use Rattle.state.specs.Act.{Given, St, Out, Act, _⨟_}
+use Rattle.comments.specs.Comments.{nth}
+use Rattle.layout.specs.Layout.{shebangRule, declarationsRule}
+use Rattle.facts.specs.Sound.{depths, TextsIn, Commented}
+use Rattle.facts.specs.Height.{treeHeight}
+
+-- the comments are the pairs of numbers that follow the count
+pub record Paired (g : Given) : Type 0 where
+  pub start : (k : ℕ) (c : Span) → nth (g .comments) k ≡ some c → be32 (g .image) (7 + 8 * k) ≡ c .start
+  pub end : (k : ℕ) (c : Span) → nth (g .comments) k ≡ some c → be32 (g .image) (7 + 8 * k + 4) ≡ c .end
+
+-- A tree that stands at `at` of an accepted image: the body is 1,048,576 bytes at most, the comments before it are 8,192 at most.
+pub record Stands (g : Given) (t : SyntaxTree) (at : ℕ) : Type 0 where
+  pub tree : TreeAt (g .source) (g .image) t at
+  pub high : treeHeight t ≤ 67
+  pub comments : Commented g
+  pub count : length (g .comments) ≤ 8192
+  pub place : at ≡ 7 + 8 * length (g .comments)
+  pub small : length (g .image) ≤ 1048581
+
+-- the state from which `fmt_parsed` starts
+abbrev pub fresh : St
+fresh = record { number = 0; pos = 0; placed = 0 }
+
+-- what `fmt_parsed` has done when its loop has laid the declarations ds
+abbrev pub upTo : Given → SyntaxTree → List Declaration → Act
+upTo g t ds = shebangRule g (t .shebang) ⨟ declarationsRule g ds true
+
+-- The rows and the state due are within the limits of document 01: rows and numbers for the next call's state, rows not over 256 deep, texts
+-- inside their origins, the position in the source, the comments placed in the list.
+pub record Within (g : Given) (o : Out) : Type 0 where
+  pub rows : sizes (o .nodes) ≤ 1048576
+  pub numbers : o .taken ≤ 1048576
+  pub deep : depths (o .nodes) ≤ 256
+  pub texts : TextsIn g (o .nodes)
+  pub position : o .pos ≤ length (g .source)
+  pub placed : o .placed ≤ length (g .comments)

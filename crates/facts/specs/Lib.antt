@@ -1,0 +1,4 @@
+pub mod Placing
+pub mod Sound
+pub mod Height
+pub mod Accepted

@@ -1,0 +1,82 @@
+-- What the layout rules keep to: how many rows and numbers they need, how deep the rows are, where the texts lie, where the position is.
+use Prim.Native.Nat.{ℕ, _+_, _*_, _-_, _≤_, max}
+use mathlib.Core.Path.{_≡_}
+use mathlib.Core.List.{List, [], _∷_}
+use mathlib.Core.Option.{some}
+use lib.ListN.{length, getD}
+use Rattle.tree.specs.Syntax.{Span}
+use Rattle.rows.specs.Node.{
+    Text, Node, Nodes, group, indent, indentNext, wrapParent, comment, str, ascii, line, emptyLine, lineOrSpace, ifWrap, call, none, _then_
+}
+use Rattle.rows.specs.Rows.{sizes}
+use Rattle.rows.specs.Words.{words}
+use Rattle.state.specs.Act.{Given, St, Out, Act}
+use Rattle.comments.specs.Comments.{nth}
+
+-- how deep the rows of a node and of nodes are: top rows are 1
+unfoldable mutual
+  pub depth : Node → ℕ
+  depth (group n ns) = 1 + depths ns
+  depth (indent ns) = 1 + depths ns
+  depth (indentNext ns) = 1 + depths ns
+  depth wrapParent = 1
+  depth (comment t) = 1
+  depth (str w t) = 1
+  depth (ascii t) = 1
+  depth line = 1
+  depth emptyLine = 1
+  depth lineOrSpace = 1
+  depth (ifWrap n a b) = 1 + max (depth a) (depth b)
+  depth (call n e k a) = 1 + max (depths e) (depths a)
+
+  pub depths : Nodes → ℕ
+  depths none = 0
+  depths (n then ns) = max (depth n) (depths ns)
+
+-- a text lies inside its origin: the source, the image or the fixed words
+pub record Inside (g : Given) (t : Text) : Type 0 where
+  pub origin : t .origin ≤ 2
+  pub fits : t .start + t .size ≤ length (getD (g .source ∷ g .image ∷ words ∷ []) (t .origin) [])
+
+-- each text of a node and of nodes does
+unfoldable mutual
+  pub TextsOf : Given → Node → Type 0
+  TextsOf g (group n ns) = TextsIn g ns
+  TextsOf g (indent ns) = TextsIn g ns
+  TextsOf g (indentNext ns) = TextsIn g ns
+  TextsOf g wrapParent = Unit
+  TextsOf g (comment t) = Inside g t
+  TextsOf g (str w t) = Inside g t
+  TextsOf g (ascii t) = Inside g t
+  TextsOf g line = Unit
+  TextsOf g emptyLine = Unit
+  TextsOf g lineOrSpace = Unit
+  TextsOf g (ifWrap n a b) = TextsOf g a × TextsOf g b
+  TextsOf g (call n e k a) = TextsIn g e × TextsIn g a
+
+  pub TextsIn : Given → Nodes → Type 0
+  TextsIn g none = Unit
+  TextsIn g (n then ns) = TextsOf g n × TextsIn g ns
+
+-- a span is a range of a text
+pub record Ranged (s : List ℕ) (p : Span) : Type 0 where
+  pub ordered : p .start ≤ p .end
+  pub fits : p .end ≤ length s
+
+-- the comments are ranges of the source
+pub record Commented (g : Given) : Type 0 where
+  pub ranged : (k : ℕ) (c : Span) → nth (g .comments) k ≡ some c → Ranged (g .source) c
+
+-- What a step gives from a state: at most n rows, and two more for each comment that it takes; at most n numbers; rows at most d deep below
+-- the top ones; texts inside their origins; a position within the source, if it was there before.
+pub record Sound (g : Given) (n d : ℕ) (s : St) (o : Out) : Type 0 where
+  pub more : s .placed ≤ o .placed
+  pub rows : sizes (o .nodes) ≤ n + 2 * (o .placed - s .placed)
+  pub taken : o .taken ≤ n
+  pub deep : depths (o .nodes) ≤ 1 + d
+  pub texts : TextsIn g (o .nodes)
+  pub position : s .pos ≤ length (g .source) → o .pos ≤ length (g .source)
+
+-- so it is from every state
+pub record Sounds (g : Given) (n d : ℕ) (a : Act) : Type 0 where
+  pub from : (s : St) → Sound g n d s (a s)

@@ -1,0 +1,1 @@
+// Facts about the layout rules: no code.
