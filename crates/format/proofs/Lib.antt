@@ -1,2 +1,4 @@
 pub mod Local
 pub mod Past
+pub mod Marks
+pub mod Right

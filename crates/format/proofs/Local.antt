@@ -85,16 +85,16 @@ decode-none zero v i j h = refl
 decode-none (suc f) v i j h = rw (le-ltb i j h)
 
 -- the parts of row i lie behind it and not past j
-in-end : (v : View) (i j k : ℕ) → i < j → k < endIn v i j → k < j
+pub in-end : (v : View) (i j k : ℕ) → i < j → k < endIn v i j → k < j
 in-end v i j k h q = omega arith
 
-in-second : (v : View) (i j k : ℕ) → i < j → k < secondIn v i (endIn v i j) → k < j
+pub in-second : (v : View) (i j k : ℕ) → i < j → k < secondIn v i (endIn v i j) → k < j
 in-second v i j k h q = omega arith
 
-from-end : (v : View) (i j k : ℕ) → endIn v i j ≤ k → i ≤ k
+pub from-end : (v : View) (i j k : ℕ) → endIn v i j ≤ k → i ≤ k
 from-end v i j k q = omega arith
 
-from-second : (v : View) (i e k : ℕ) → secondIn v i e ≤ k → i ≤ k
+pub from-second : (v : View) (i e k : ℕ) → secondIn v i e ≤ k → i ≤ k
 from-second v i e k q = omega arith
 
 decode-step : (f : ℕ) (v u : View) (i j : ℕ) → ((k l : ℕ) → Agree v u k l → decode f v k l ≡ decode f u k l) → Agree v u i j → i < j
