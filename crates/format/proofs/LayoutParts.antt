@@ -36,7 +36,7 @@ use Rattle.state.specs.Act.{Given, St, Act, skip, push}
 use Rattle.comments.specs.Comments.{nth}
 use Rattle.comments.specs.Listed.{commentsOf, given}
 use Rattle.layout.specs.Layout.{shebangRule, declaration}
-use Rattle.facts.specs.Placing.{commentsOf as commentsOfNode, commentsIn as commentsInNodes, trimmed} 
+use Rattle.facts.specs.Placing.{commentsOf as commentsOfNode, commentsIn as commentsInNodes, trimmed}
 use Rattle.facts.specs.Placing as Placing
 use Rattle.facts.proofs.Placing.{places-skip, places-push}
 use Rattle.facts.proofs.InOrder.{places-shebang, places-declaration}

@@ -5,3 +5,4 @@ pub mod Right
 pub mod RenderParts
 pub mod LayoutParts
 pub mod Demands
+pub mod Edges

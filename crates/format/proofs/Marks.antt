@@ -89,12 +89,13 @@ decode-under (suc f) v i j b s = go (λ k l t. decode-under f v k l b t) (ltb i 
         none)
     go rec false e = tt
     go rec true e =
-        let h = ltb-true i j e in
-        (node-under (v .kind i) v i _ _ _ b refl (s i (omega arith) h)
-        (rec (suc i) (endIn v i j) (λ k p q. s k (omega arith) (in-end v i j k h q)))
-        (rec (suc i) (secondIn v i (endIn v i j)) (λ k p q. s k (omega arith) (in-second v i j k h q)))
-        (rec (secondIn v i (endIn v i j)) (endIn v i j) (λ k p q. s k (from-second v i (endIn v i j) k p) (in-end v i j k h q))),
-        rec (endIn v i j) j (λ k p q. s k (from-end v i j k p) q))
+        let h = ltb-true i j e in (
+          node-under (v .kind i) v i _ _ _ b refl (s i (omega arith) h)
+              (rec (suc i) (endIn v i j) (λ k p q. s k (omega arith) (in-end v i j k h q)))
+              (rec (suc i) (secondIn v i (endIn v i j)) (λ k p q. s k (omega arith) (in-second v i j k h q)))
+              (rec (secondIn v i (endIn v i j)) (endIn v i j) (λ k p q. s k (from-second v i (endIn v i j) k p) (in-end v i j k h q))),
+          rec (endIn v i j) j (λ k p q. s k (from-end v i j k p) q),
+        )
 
 pub nodes-under : (v : View) (n i j k b : ℕ) → marksFrom n v i ≤ b → i ≤ j → k ≤ i + n → Unders b (nodesAt v j k)
 unfolding nodesAt

@@ -54,15 +54,14 @@ abbrev pub orElse : Option ℕ → Option ℕ → Option ℕ
 orElse none b = b
 orElse (some i) b = some i
 
--- the first row from i up to `end` that is not right: row i, or one of its parts, or one after it; f rows at most
+-- the first row from i up to `end` that is not right: row i, or one of its parts, or one after it; f rows at most (by `let`, so that nothing is
+-- computed where i is not before `end`)
 unfoldable pub firstWrong : ℕ → (ℕ → Bool) → View → ℕ → ℕ → ℕ → Option ℕ
 firstWrong zero places v end d i = none
 firstWrong (suc f) places v end d i =
-    cond (ltb i end)
-    (cond (rowFits places v end d i)
-    (orElse (firstWrong f places v (v .after i) (suc d) (suc i)) (firstWrong f places v end d (v .after i)))
-    (some i))
-    none
+    let later : Option ℕ = orElse (firstWrong f places v (v .after i) (suc d) (suc i)) (firstWrong f places v end d (v .after i)) in
+    let found : Option ℕ = cond (rowFits places v end d i) later (some i) in
+    cond (ltb i end) found none
 
 unfoldable pub wrongRow : (ℕ → Bool) → View → ℕ → ℕ → ℕ → Option ℕ
 wrongRow places v end d i = firstWrong (end - i) places v end d i

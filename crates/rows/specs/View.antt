@@ -86,17 +86,19 @@ endIn v i j = max (suc i) (min (v .after i) j)
 abbrev pub secondIn : View → ℕ → ℕ → ℕ
 secondIn v i e = max (suc i) (min (v .second i) e)
 
--- the nodes of the rows from i up to j, at most f of them in a row or inside one another
+-- the nodes of the rows from i up to j, at most f of them in a row or inside one another (by `let`, so that nothing is computed where i is
+-- not before j)
 unfoldable pub decode : ℕ → View → ℕ → ℕ → Nodes
 decode zero v i j = none
 decode (suc f) v i j =
-    cond (ltb i j)
-    (nodeOf v i
+    let some : Nodes =
+    nodeOf v i
     (decode f v (suc i) (endIn v i j))
     (decode f v (suc i) (secondIn v i (endIn v i j)))
     (decode f v (secondIn v i (endIn v i j)) (endIn v i j))
-    then decode f v (endIn v i j) j)
-    none
+    then decode f v (endIn v i j) j
+    in
+    cond (ltb i j) some none
 
 -- the nodes of the rows from i up to j
 unfoldable pub nodesAt : View → ℕ → ℕ → Nodes
