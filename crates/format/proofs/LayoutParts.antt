@@ -2,7 +2,7 @@
 -- these rows are the next so many of the list (crates/facts has it of the nodes; rows say the same in the same order).
 -- Assumes nothing.
 use mathlib.Core.Path.{_≡_, refl, sym, ap, ap₂, _∙_}
-use mathlib.Core.Bool.{Bool, true, false}
+use mathlib.Core.Bool.{false}
 use mathlib.Core.Option.{Option, none as nothing, some}
 use mathlib.Core.List.{List, [], _∷_, _++_, map, map-map, map-append}
 use Prim.Native.Nat.{ℕ, zero, suc, _+_, _-_, _*_, _≤_}
@@ -10,7 +10,7 @@ use native.Mathlib.Omega.{arith}
 use lib.Dec.{eqb}
 use lib.ListN.{length, take, drop, length-map}
 use Rattle.image.specs.Read.{readAll}
-use Rattle.tree.specs.Syntax.{Span, Declaration, SyntaxTree}
+use Rattle.tree.specs.Syntax.{Declaration}
 use Rattle.rows.specs.Node.{
   Text as NodeText,
   Node,
@@ -32,16 +32,15 @@ use Rattle.rows.specs.Node.{
 }
 use Rattle.rows.specs.Rows.{row, noText, size, sizes, rowsOf, rows}
 use Rattle.rows.proofs.Sizes.{length-rowsOf, length-rows}
-use Rattle.state.specs.Act.{Given, St, Act, skip, push}
+use Rattle.state.specs.Act.{Given, St, Act, push}
 use Rattle.comments.specs.Comments.{nth}
 use Rattle.comments.specs.Listed.{commentsOf, given}
-use Rattle.layout.specs.Layout.{shebangRule, declaration}
-use Rattle.facts.specs.Placing.{commentsOf as commentsOfNode, commentsIn as commentsInNodes, trimmed}
-use Rattle.facts.specs.Placing as Placing
+use Rattle.layout.specs.Layout.{shebangRule}
+use Rattle.facts.specs.Placing.{commentsOf as commentsOfNode, commentsIn as commentsInNodes, trimmed, between, Places as StepPlaces}
 use Rattle.facts.proofs.Placing.{places-skip, places-push}
 use Rattle.facts.proofs.InOrder.{places-shebang, places-declaration}
 use Rattle.cut.specs.CutRule.{Text, commentsIn}
-use Rattle.cut.specs.Parts.{Cursor, Piece, Parts}
+use Rattle.cut.specs.Parts.{Cursor}
 use Rattle.cut.specs.PartLaws.{Counts, LayoutPartLaws, Places, CommentPartLaws}
 use Rattle.cut.proofs.Comments.{comments-join}
 use Rattle.format.specs.Parts.{treeOf, listed, pieceOf, declarationAct, parts}
@@ -127,12 +126,12 @@ module _ (s b : List ℕ) where
   listed-told : map told (map (trimmed g) (commentsOf b)) ≡ listed s b
   listed-told = map-map told (trimmed g) (commentsOf b)
 
-  between-told : (k m : ℕ) → map told (Placing.between g k m) ≡ take (m - k) (drop k (listed s b))
+  between-told : (k m : ℕ) → map told (between g k m) ≡ take (m - k) (drop k (listed s b))
   between-told k m =
       map-take told (m - k) (drop k (map (trimmed g) (commentsOf b)))
       ∙ ap (take (m - k)) (map-drop told k (map (trimmed g) (commentsOf b)) ∙ ap (drop k) listed-told)
 
-  places : (a : Act) (c : Cursor) → Placing.Places g a → c .placed ≤ length (listed s b) → Places (listed s b) c (pieceOf a c)
+  places : (a : Act) (c : Cursor) → StepPlaces g a → c .placed ≤ length (listed s b) → Places (listed s b) c (pieceOf a c)
   places a c p h =
       let z : St = record { number = c .number; pos = c .position; placed = c .placed } in
       let l : length (listed s b) ≡ length (commentsOf b) = length-map (commentsOf b) _ in
@@ -148,11 +147,11 @@ module _ (s b : List ℕ) where
             ∙ between-told (c .placed) (a z .placed);
       }
 
-  places-one : (n : ℕ) (d : Option Declaration) → Placing.Places g (declarationAct s b n d)
+  places-one : (n : ℕ) (d : Option Declaration) → StepPlaces g (declarationAct s b n d)
   places-one n nothing = places-skip
   places-one n (some d) = places-declaration g d (eqb n 0)
 
-  places-final : Placing.Places g (push line)
+  places-final : StepPlaces g (push line)
   unfolding commentsOfNode
   places-final = places-push refl
 

@@ -2,34 +2,16 @@
 -- The decoder never looks past the end that it is given, and rows that nest end there.
 -- Assumes nothing.
 use mathlib.Core.Path.{_≡_, refl, sym, ap, ap₂, subst, subst₂, _∙_}
-use mathlib.Core.Bool.{Bool, cond}
+use mathlib.Core.Bool.{cond}
 use mathlib.Core.List.{List, [], _∷_}
 use Prim.Native.Nat.{ℕ, zero, suc, _+_, _*_, _-_, _≤_, _<_, min, max}
 use native.Mathlib.Omega.{arith}
 use native.Mathlib.Decide.{decLt}
-use lib.Dec.{ltb, leb, eqb}
-use lib.ListN.{length, getD, take}
+use lib.Dec.{ltb, eqb}
+use lib.ListN.{getD}
 use lib.Seq.{getD-take}
 use borrow.Author.Tests.{le-ltb}
-use Rattle.rows.specs.Node.{
-  Text,
-  Node,
-  Nodes,
-  group,
-  indent,
-  indentNext,
-  wrapParent,
-  comment,
-  str,
-  ascii,
-  line,
-  emptyLine,
-  lineOrSpace,
-  ifWrap,
-  call,
-  none,
-  _then_,
-}
+use Rattle.rows.specs.Node.{Node, Nodes, group, indent, indentNext, wrapParent, comment, str, ascii, line, emptyLine, lineOrSpace, ifWrap, call, none, _then_}
 use Rattle.rows.specs.View.{View, cell, viewOf, firstOf, nodeOf, endIn, secondIn, decode, nodesAt}
 use Rattle.rows.specs.Nesting.{Within, TwoParts, Split, Nests, over, leaf, block, two, pair}
 use Rattle.renderer.specs.Check.{placesFit}

@@ -2,16 +2,14 @@
 -- Assumes nothing.
 use mathlib.Core.Path.{_≡_, refl, sym, ap, ap₂, subst, _∙_}
 use mathlib.Core.Bool.{Bool, true, false, cond}
-use mathlib.Core.List.{List}
 use Prim.Native.Nat.{ℕ, zero, suc, _+_, _-_, _≤_, _<_, max}
 use native.Mathlib.Omega.{arith}
 use native.Mathlib.Decide.{decLt}
 use native.Mathlib.Nat.{zero-add, add-zero, add-suc, suc-add}
 use lib.Dec.{ltb}
 use borrow.Author.Tests.{ltb-true}
-use Rattle.rows.specs.Node.{Node, Nodes, none, _then_}
+use Rattle.rows.specs.Node.{Nodes, none, _then_}
 use Rattle.rows.specs.View.{View, firstOf, nodeOf, endIn, secondIn, decode, nodesAt}
-use Rattle.renderer.specs.Check.{usesNumber, usesNumber2}
 use Rattle.format.specs.Parts.{marksOf, marksFrom}
 use Rattle.format.proofs.Local.{Same, Agree, in-end, in-second, from-end, from-second}
 use Rattle.format.proofs.Past.{Under, Unders}

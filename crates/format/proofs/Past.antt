@@ -6,7 +6,7 @@ use mathlib.Core.Bool.{Bool, true, false, cond, not, _&&_, _||_}
 use mathlib.Core.List.{List, [], _∷_, _++_, append-assoc}
 use Prim.Native.Nat.{ℕ, _+_, _-_, _*_, _<_}
 use lib.Dec.{ltb, eqb}
-use lib.ListN.{length, getD, set, replicate, length-set, List·getD-append}
+use lib.ListN.{length, replicate, length-set, List·getD-append}
 use lib.Seq.{set-append-left}
 use Rattle.rows.specs.Node.{
   Text,

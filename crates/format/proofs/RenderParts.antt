@@ -1,16 +1,15 @@
 -- The rendering laws that the cut rule asks, for `Renderer` over rows: top rows are rendered one after the other, and a call that goes on
 -- writes what one go would have written there, with the text so far ahead.
 -- Assumes nothing.
-use mathlib.Core.Path.{_≡_, refl, sym, ap, ap₂, subst, _∙_}
-use mathlib.Core.Bool.{Bool, true}
-use mathlib.Core.Option.{Option, none}
+use mathlib.Core.Path.{_≡_, sym, ap, ap₂, subst, _∙_}
+use mathlib.Core.Bool.{true}
+use mathlib.Core.Option.{none}
 use mathlib.Core.List.{List, [], _++_, append-nil}
 use Prim.Native.Nat.{ℕ, _+_, _-_, _≤_, max}
 use native.Mathlib.Omega.{arith}
-use native.Mathlib.Nat.{zero-add}
 use lib.ListN.{length}
 use Rattle.rows.specs.Node.{Nodes}
-use Rattle.rows.specs.View.{View, viewOf, nodesAt}
+use Rattle.rows.specs.View.{viewOf, nodesAt}
 use Rattle.renderer.specs.Renderer.{Page, Renderer, renders}
 use Rattle.renderer.specs.Page.{pageOf}
 use Rattle.renderer.specs.Check.{wrongPlace}
@@ -18,7 +17,7 @@ use Rattle.renderer.proofs.Joined.{renders-ranges}
 use Rattle.cut.specs.Laws.{SameBefore}
 use Rattle.cut.specs.Parts.{Pen, Drawn}
 use Rattle.cut.specs.PartLaws.{withPast, thenDrawn, RenderPartLaws}
-use Rattle.format.specs.Parts.{marksFrom, taken-up, left, drawn, parts}
+use Rattle.format.specs.Parts.{marksFrom, rendererOf, drawnBy, drawn, parts}
 use Rattle.format.proofs.Local.{nodes-local, rows-same}
 use Rattle.format.proofs.Past.{Unders, ext, renders-length, renders-ext}
 use Rattle.format.proofs.Marks.{marks-local, marks-add, nodes-under}
@@ -50,19 +49,19 @@ abbrev onto : Renderer → Drawn → Drawn
 onto r d = record { pen = d .pen; marks = d .marks; text = r .buf ++ d .text }
 
 abbrev penOf : Renderer → Pen
-penOf r = left r .pen
+penOf r = drawnBy r .pen
 
 abbrev remade : Renderer → List ℕ → List ℕ → Renderer
 remade r t m = record { buf = t; indent = r .indent; nextIndent = r .nextIndent; column = r .column; marks = m }
 
 -- to go on with a text is to go on without it, and to put it ahead
 resumed : (p : Page) (ns : Nodes) (r : Renderer) → Unders (length (r .marks)) ns
-    → left (renders p ns true r) ≡ onto r (left (renders p ns true (taken-up (penOf r) (r .marks))))
+    → drawnBy (renders p ns true r) ≡ onto r (drawnBy (renders p ns true (rendererOf (penOf r) (r .marks))))
 resumed p ns r u =
-    let t = taken-up (penOf r) (r .marks) in
+    let t = rendererOf (penOf r) (r .marks) in
     let e : _≡_ {A = Renderer} (ext (r .buf) [] t) r = ap₂ (remade r) (append-nil (r .buf)) (append-nil (r .marks)) in
-    ap (λ (x : Renderer). left (renders p ns true x)) (sym e)
-    ∙ ap left (renders-ext (r .buf) [] p ns true t u)
+    ap (λ (x : Renderer). drawnBy (renders p ns true x)) (sym e)
+    ∙ ap drawnBy (renders-ext (r .buf) [] p ns true t u)
     ∙ ap (λ (m : List ℕ). onto r (record { pen = penOf (renders p ns true t); marks = m; text = renders p ns true t .buf }))
     (append-nil (renders p ns true t .marks))
 
@@ -73,22 +72,22 @@ module _ (s b : List ℕ) where
   draw-local : (z : Pen) (marks store other : List ℕ) (i n : ℕ) → SameBefore n store other
       → drawn s b z marks store i n ≡ drawn s b z marks other i n
   draw-local z marks store other i n e =
-      ap (λ (ns : Nodes). left (renders page ns true (taken-up z marks)))
+      ap (λ (ns : Nodes). drawnBy (renders page ns true (rendererOf z marks)))
       (nodes-local (viewOf store) (viewOf other) i n (rows-same n store other e i))
 
   draw-past : (z : Pen) (marks past store : List ℕ) (n : ℕ) → needed store 0 n ≤ length marks
       → drawn s b z (marks ++ past) store 0 n ≡ withPast (drawn s b z marks store 0 n) past
   draw-past z marks past store n h =
-      ap left (renders-ext [] past page (nodesAt (viewOf store) 0 n) true (taken-up z marks) (under-marks store marks 0 n h))
+      ap drawnBy (renders-ext [] past page (nodesAt (viewOf store) 0 n) true (rendererOf z marks) (under-marks store marks 0 n h))
 
   draw-join : (z : Pen) (marks store : List ℕ) (n m : ℕ) → n ≤ m → wrongPlace s b store 0 n ≡ none → needed store 0 m ≤ length marks
       → drawn s b z marks store 0 m ≡ thenDrawn (drawn s b z marks store 0 n) (λ y ms. drawn s b y ms store n m)
   draw-join z marks store n m h e g =
       let v = viewOf store in
-      let one = renders page (nodesAt v 0 n) true (taken-up z marks) in
-      ap left (renders-ranges page m true (taken-up z marks) (right s b store 0 n (omega arith) e .nests) h)
+      let one = renders page (nodesAt v 0 n) true (rendererOf z marks) in
+      ap drawnBy (renders-ranges page m true (rendererOf z marks) (right s b store 0 n (omega arith) e .nests) h)
       ∙ resumed page (nodesAt v n m) one
-      (subst (λ (k : ℕ). Unders k (nodesAt v n m)) (sym (renders-length page (nodesAt v 0 n) true (taken-up z marks))) (under-marks store marks n m g))
+      (subst (λ (k : ℕ). Unders k (nodesAt v n m)) (sym (renders-length page (nodesAt v 0 n) true (rendererOf z marks))) (under-marks store marks n m g))
 
   pub render-parts : RenderPartLaws (parts s b)
   render-parts = record {
@@ -101,7 +100,7 @@ module _ (s b : List ℕ) where
         λ store other n e f. none-found s b other 0 n (right-same s b store other n e (right s b store 0 n (omega arith) f));
     needed-local = needed-local;
     draw-local = draw-local;
-    draw-marks = λ z marks store i n. renders-length page (nodesAt (viewOf store) i n) true (taken-up z marks);
+    draw-marks = λ z marks store i n. renders-length page (nodesAt (viewOf store) i n) true (rendererOf z marks);
     draw-past = λ z marks past store n e h. draw-past z marks past store n h;
     draw-join = λ z marks store n m h e f g. draw-join z marks store n m h e g;
   }

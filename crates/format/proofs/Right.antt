@@ -5,12 +5,12 @@ use mathlib.Core.Path.{_≡_, refl, sym, ap, subst, _∙_}
 use mathlib.Core.Bool.{Bool, true, false, cond, _&&_}
 use mathlib.Core.Option.{Option, none, some}
 use mathlib.Core.List.{List}
-use Prim.Native.Nat.{ℕ, zero, suc, _+_, _*_, _-_, _≤_, _<_, min}
+use Prim.Native.Nat.{ℕ, zero, suc, _*_, _-_, _≤_, _<_}
 use native.Mathlib.Omega.{arith}
 use native.Mathlib.Decide.{decLt}
 use lib.Dec.{ltb, leb}
-use lib.ListN.{length, take, length-take}
-use borrow.Author.Tests.{ltb-true, ltb-false, leb-true, le-leb}
+use lib.ListN.{length, length-take}
+use borrow.Author.Tests.{ltb-false, leb-true, le-leb}
 use Rattle.rows.specs.View.{View, viewOf}
 use Rattle.rows.specs.Nesting.{Within, Nests, over}
 use Rattle.rows.proofs.Nested.{nests-join}

@@ -1,6 +1,6 @@
 -- Document 01's rules for one source s and one image b, as the cut rule takes them. Each part is a definition of a lower layer; here they are
 -- only put together.
-use mathlib.Core.Bool.{Bool, true, cond, not}
+use mathlib.Core.Bool.{true, cond, not}
 use mathlib.Core.Option.{Option, none, some}
 use mathlib.Core.List.{List, [], _∷_, map}
 use Prim.Native.Nat.{ℕ, zero, suc, _+_, _-_, max}
@@ -8,8 +8,9 @@ use lib.Dec.{eqb}
 use lib.ListN.{length}
 use Rattle.text.specs.Space.{trimEnd}
 use Rattle.image.specs.Read.{Read, got, bad, Image, header, sourceFits, readAll}
-use Rattle.tree.specs.Syntax.{Span, Declaration, SyntaxTree}
+use Rattle.tree.specs.Syntax.{Declaration, SyntaxTree}
 use Rattle.tree.specs.Records.{syntaxTree}
+use Rattle.rows.specs.Node.{line}
 use Rattle.rows.specs.Rows.{sizes, rows}
 use Rattle.rows.specs.View.{View, viewOf, nodesAt}
 use Rattle.state.specs.Act.{Act, skip, push}
@@ -22,7 +23,6 @@ use Rattle.renderer.specs.Check.{usesNumber, usesNumber2, wrongPlace}
 use Rattle.cut.specs.Rules.{Refusal}
 use Rattle.cut.specs.CutRule.{Text}
 use Rattle.cut.specs.Parts.{Cursor, Piece, Pen, Drawn, Parts, first, when}
-use Rattle.rows.specs.Node.{line}
 
 -- ---- source and image
 -- 1 to 7
@@ -68,16 +68,16 @@ unfoldable pub marksFrom : ℕ → View → ℕ → ℕ
 marksFrom zero v i = 0
 marksFrom (suc n) v i = max (marksOf v i) (marksFrom n v (suc i))
 
--- `Renderer` as a call takes it up, and what it leaves
-abbrev pub taken-up : Pen → List ℕ → Renderer
-taken-up z marks = record { buf = []; indent = z .indent; nextIndent = z .next-indent; column = z .column; marks = marks }
+-- `Renderer` as a call makes it, and what a call takes from it
+abbrev pub rendererOf : Pen → List ℕ → Renderer
+rendererOf z marks = record { buf = []; indent = z .indent; nextIndent = z .next-indent; column = z .column; marks = marks }
 
-abbrev pub left : Renderer → Drawn
-left r = record { pen = record { indent = r .indent; next-indent = r .nextIndent; column = r .column }; marks = r .marks; text = r .buf }
+abbrev pub drawnBy : Renderer → Drawn
+drawnBy r = record { pen = record { indent = r .indent; next-indent = r .nextIndent; column = r .column }; marks = r .marks; text = r .buf }
 
 -- the rows from i up to a stop, at 80 columns; what is read counts as top rows, so that `wrap` is true
 abbrev pub drawn : List ℕ → List ℕ → Pen → List ℕ → List ℕ → ℕ → ℕ → Drawn
-drawn s b z marks store i stop = left (renders (pageOf 80 s b) (nodesAt (viewOf store) i stop) true (taken-up z marks))
+drawn s b z marks store i stop = drawnBy (renders (pageOf 80 s b) (nodesAt (viewOf store) i stop) true (rendererOf z marks))
 
 -- ---- the whole
 abbrev pub parts : List ℕ → List ℕ → Parts
