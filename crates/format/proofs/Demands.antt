@@ -2,10 +2,14 @@
 -- Assumes nothing.
 use Rattle.cut.proofs.Document as Document
 use Rattle.format.specs.Parts.{parts, listed}
-use Rattle.format.specs.Demands.{Demand3}
+use Rattle.format.specs.Demands.{Demand3, DueIsFmtParsed}
 use Rattle.format.proofs.LayoutParts.{layout-parts, comment-parts}
 use Rattle.format.proofs.RenderParts.{render-parts}
+use Rattle.format.proofs.Whole.{fmt-parsed}
 
 pub demand-3 : Demand3
 demand-3 s b store₀ marks₀ calls h =
     Document.demand-3 (parts s b) (listed s b) (layout-parts s b) (render-parts s b) (comment-parts s b) store₀ marks₀ calls h
+
+pub due-is-fmt-parsed : DueIsFmtParsed
+due-is-fmt-parsed s b = fmt-parsed s b

@@ -149,7 +149,7 @@ module _ (s b : List ℕ) where
 
   places-one : (n : ℕ) (d : Option Declaration) → StepPlaces g (declarationAct s b n d)
   places-one n nothing = places-skip
-  places-one n (some d) = places-declaration g d (eqb n 0)
+  places-one n (some d) = places-declaration g d _
 
   places-final : StepPlaces g (push line)
   unfolding commentsOfNode

@@ -4,5 +4,6 @@ pub mod Marks
 pub mod Right
 pub mod RenderParts
 pub mod LayoutParts
+pub mod Whole
 pub mod Demands
 pub mod Edges

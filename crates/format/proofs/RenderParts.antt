@@ -11,13 +11,12 @@ use lib.ListN.{length}
 use Rattle.rows.specs.Node.{Nodes}
 use Rattle.rows.specs.View.{viewOf, nodesAt}
 use Rattle.renderer.specs.Renderer.{Page, Renderer, renders}
-use Rattle.renderer.specs.Page.{pageOf}
 use Rattle.renderer.specs.Check.{wrongPlace}
 use Rattle.renderer.proofs.Joined.{renders-ranges}
 use Rattle.cut.specs.Laws.{SameBefore}
 use Rattle.cut.specs.Parts.{Pen, Drawn}
 use Rattle.cut.specs.PartLaws.{withPast, thenDrawn, RenderPartLaws}
-use Rattle.format.specs.Parts.{marksFrom, rendererOf, drawnBy, drawn, parts}
+use Rattle.format.specs.Parts.{marksFrom, rendererOf, drawnBy, page, drawn, parts}
 use Rattle.format.proofs.Local.{nodes-local, rows-same}
 use Rattle.format.proofs.Past.{Unders, ext, renders-length, renders-ext}
 use Rattle.format.proofs.Marks.{marks-local, marks-add, nodes-under}
@@ -66,28 +65,25 @@ resumed p ns r u =
     (append-nil (renders p ns true t .marks))
 
 module _ (s b : List ℕ) where
-  abbrev page : Page
-  page = pageOf 80 s b
-
   draw-local : (z : Pen) (marks store other : List ℕ) (i n : ℕ) → SameBefore n store other
       → drawn s b z marks store i n ≡ drawn s b z marks other i n
   draw-local z marks store other i n e =
-      ap (λ (ns : Nodes). drawnBy (renders page ns true (rendererOf z marks)))
+      ap (λ (ns : Nodes). drawnBy (renders (page s b) ns true (rendererOf z marks)))
       (nodes-local (viewOf store) (viewOf other) i n (rows-same n store other e i))
 
   draw-past : (z : Pen) (marks past store : List ℕ) (n : ℕ) → needed store 0 n ≤ length marks
       → drawn s b z (marks ++ past) store 0 n ≡ withPast (drawn s b z marks store 0 n) past
   draw-past z marks past store n h =
-      ap drawnBy (renders-ext [] past page (nodesAt (viewOf store) 0 n) true (rendererOf z marks) (under-marks store marks 0 n h))
+      ap drawnBy (renders-ext [] past (page s b) (nodesAt (viewOf store) 0 n) true (rendererOf z marks) (under-marks store marks 0 n h))
 
   draw-join : (z : Pen) (marks store : List ℕ) (n m : ℕ) → n ≤ m → wrongPlace s b store 0 n ≡ none → needed store 0 m ≤ length marks
       → drawn s b z marks store 0 m ≡ thenDrawn (drawn s b z marks store 0 n) (λ y ms. drawn s b y ms store n m)
   draw-join z marks store n m h e g =
       let v = viewOf store in
-      let one = renders page (nodesAt v 0 n) true (rendererOf z marks) in
-      ap drawnBy (renders-ranges page m true (rendererOf z marks) (right s b store 0 n (omega arith) e .nests) h)
-      ∙ resumed page (nodesAt v n m) one
-      (subst (λ (k : ℕ). Unders k (nodesAt v n m)) (sym (renders-length page (nodesAt v 0 n) true (rendererOf z marks))) (under-marks store marks n m g))
+      let one = renders (page s b) (nodesAt v 0 n) true (rendererOf z marks) in
+      ap drawnBy (renders-ranges (page s b) m true (rendererOf z marks) (right s b store 0 n (omega arith) e .nests) h)
+      ∙ resumed (page s b) (nodesAt v n m) one
+      (subst (λ (k : ℕ). Unders k (nodesAt v n m)) (sym (renders-length (page s b) (nodesAt v 0 n) true (rendererOf z marks))) (under-marks store marks n m g))
 
   pub render-parts : RenderPartLaws (parts s b)
   render-parts = record {
@@ -100,7 +96,7 @@ module _ (s b : List ℕ) where
         λ store other n e f. none-found s b other 0 n (right-same s b store other n e (right s b store 0 n (omega arith) f));
     needed-local = needed-local;
     draw-local = draw-local;
-    draw-marks = λ z marks store i n. renders-length page (nodesAt (viewOf store) i n) true (rendererOf z marks);
+    draw-marks = λ z marks store i n. renders-length (page s b) (nodesAt (viewOf store) i n) true (rendererOf z marks);
     draw-past = λ z marks past store n e h. draw-past z marks past store n h;
     draw-join = λ z marks store n m h e f g. draw-join z marks store n m h e g;
   }

@@ -1,21 +1,55 @@
--- What is claimed of the whole. Proved in proofs/Demands.antt.
+-- What is claimed of the whole, top-down. proofs/Demands.antt proves it.
+use mathlib.Core.Path.{_≡_}
+use mathlib.Core.Bool.{Bool, true, false}
 use mathlib.Core.List.{List}
-use Prim.Native.Nat.{ℕ}
-use Rattle.cut.specs.Rules.{Rules}
+use Prim.Native.Nat.{ℕ, _-_, _≤_}
+use lib.ListN.{length, take}
+use Rattle.image.specs.Read.{readAll}
+use Rattle.tree.specs.Syntax.{SyntaxTree}
+use Rattle.rows.specs.Rows.{sizes, rows}
+use Rattle.state.specs.Act.{Out}
+use Rattle.comments.specs.Listed.{commentsOf, given}
+use Rattle.layout.specs.Layout.{fmtParsed}
+use Rattle.facts.specs.Accepted.{fresh, upTo}
+use Rattle.cut.specs.Rules.{Laid, Rules}
 use Rattle.cut.specs.Run.{Call, start}
 use Rattle.cut.specs.Plain.{AllReadLaid}
 use Rattle.cut.specs.CutRule.{CutRule}
-use Rattle.cut.specs.Parts.{rules}
-use Rattle.format.specs.Parts.{parts, listed}
+use Rattle.cut.specs.Parts.{LayoutState, layoutFresh, laidOf, rules}
+use Rattle.format.specs.Parts.{treeOf, listed, parts}
 
 -- the rules and the table for one source s and one image b
 abbrev pub rulesOf : List ℕ → List ℕ → Rules
 rulesOf s b = rules (parts s b)
 
--- Demand 3, the cut rule: for every source and image, whatever store and marks held at first, and every list of calls in which no accepted
--- call reads rows not yet laid out.
+-- ---- demand 3
+-- The cut rule: for every source and image, whatever store and marks held at first, and every list of calls in which no accepted call reads
+-- rows not yet laid out.
 abbrev pub Demand3 : Type 0
 Demand3 =
     (s b store₀ marks₀ : List ℕ) (calls : List (Call (rulesOf s b)))
     → AllReadLaid (rulesOf s b) (start (rulesOf s b) store₀ marks₀) calls
     → CutRule (rulesOf s b) (listed s b) store₀ marks₀ calls
+
+-- ---- what is due at a stop
+-- what layout gives is what a step of the layout rules gives: its nodes as rows, its numbers, its position, the comments that it placed
+pub record Gives (s b : List ℕ) (o : Out) (l : Laid LayoutState) : Type 0 where
+  pub rows-due : l .rows ≡ rows (o .nodes) 0
+  pub row-due : l .state .cursor .row ≡ sizes (o .nodes)
+  pub number-due : l .state .cursor .number ≡ o .taken
+  pub position-due : l .state .cursor .position ≡ o .pos
+  pub placed-due : l .state .cursor .placed ≡ o .placed
+  pub left-due : l .left ≡ length (commentsOf b) - o .placed
+
+-- layout from fresh, in one go
+abbrev pub laidTo : List ℕ → List ℕ → ℕ → Bool → Laid LayoutState
+laidTo s b stop close = laidOf (parts s b) layoutFresh (record { stop = stop; close = close; choice = tt })
+
+-- "The rows and state due at a stop are those `fmt_parsed` has when its loop reaches that declaration", and closed, those that it has in the
+-- end. (s and b are any; of an image that is refused nothing is laid out but the final `Line`.)
+pub record FmtParsed (s b : List ℕ) (t : SyntaxTree) : Type 0 where
+  pub at-stop : (n : ℕ) → n ≤ length (t .declarations) → Gives s b (upTo (given s b) t (take n (t .declarations)) fresh) (laidTo s b n false)
+  pub closed : Gives s b (fmtParsed (given s b) t fresh) (laidTo s b (length (t .declarations)) true)
+
+abbrev pub DueIsFmtParsed : Type 0
+DueIsFmtParsed = (s b : List ℕ) → FmtParsed s b (treeOf b (readAll s b))

@@ -17,7 +17,7 @@ use Rattle.state.specs.Act.{Act, skip, push}
 use Rattle.comments.specs.Comments.{nth}
 use Rattle.comments.specs.Listed.{commentsOf, given}
 use Rattle.layout.specs.Layout.{shebangRule, declaration}
-use Rattle.renderer.specs.Renderer.{Renderer, renders}
+use Rattle.renderer.specs.Renderer.{Page, Renderer, renders}
 use Rattle.renderer.specs.Page.{pageOf}
 use Rattle.renderer.specs.Check.{usesNumber, usesNumber2, wrongPlace}
 use Rattle.cut.specs.Rules.{Refusal}
@@ -75,9 +75,13 @@ rendererOf z marks = record { buf = []; indent = z .indent; nextIndent = z .next
 abbrev pub drawnBy : Renderer → Drawn
 drawnBy r = record { pen = record { indent = r .indent; next-indent = r .nextIndent; column = r .column }; marks = r .marks; text = r .buf }
 
--- the rows from i up to a stop, at 80 columns; what is read counts as top rows, so that `wrap` is true
+-- 80 columns
+abbrev pub page : List ℕ → List ℕ → Page
+page s b = pageOf 80 s b
+
+-- the rows from i up to a stop; what is read counts as top rows, so that `wrap` is true
 abbrev pub drawn : List ℕ → List ℕ → Pen → List ℕ → List ℕ → ℕ → ℕ → Drawn
-drawn s b z marks store i stop = drawnBy (renders (pageOf 80 s b) (nodesAt (viewOf store) i stop) true (rendererOf z marks))
+drawn s b z marks store i stop = drawnBy (renders (page s b) (nodesAt (viewOf store) i stop) true (rendererOf z marks))
 
 -- ---- the whole
 abbrev pub parts : List ℕ → List ℕ → Parts

@@ -1,0 +1,168 @@
+-- Layout from fresh is `fmt_parsed`: the rows of steps in sequence are the rows of each, one after the other, so that the declarations laid one
+-- at a time are the loop over them.
+-- Assumes nothing.
+use mathlib.Core.Path.{_≡_, refl, sym, ap, subst, _∙_}
+use mathlib.Core.Bool.{Bool, true, false}
+use mathlib.Core.Option.{Option, none as nothing, some}
+use mathlib.Core.List.{List, [], _∷_, _++_, append-assoc, append-nil}
+use Prim.Native.Nat.{ℕ, zero, suc, _+_, _-_, _≤_, _<_}
+use native.Mathlib.Omega.{arith}
+use native.Mathlib.Nat.{zero-add, add-zero, sub-zero}
+use borrow.Author.Tests.{ne-eqb}
+use lib.ListN.{length, take}
+use lib.Seq.{take-length}
+use Rattle.image.specs.Read.{readAll}
+use Rattle.tree.specs.Syntax.{Declaration, SyntaxTree}
+use Rattle.rows.specs.Node.{line}
+use Rattle.rows.specs.Rows.{sizes, rows}
+use Rattle.state.specs.Act.{Given, St, Out, Act, _⨟_, skip, push, next, join}
+use Rattle.state.proofs.Joins.{sizes-join, rows-join}
+use Rattle.comments.specs.Comments.{nth}
+use Rattle.comments.specs.Listed.{commentsOf, given}
+use Rattle.layout.specs.Layout.{shebangRule, declaration, declarationsRule, fmtParsed}
+use Rattle.facts.specs.Accepted.{fresh, upTo}
+use Rattle.cut.specs.Parts.{Cursor, Piece, layoutFresh, still, andThen, several, end, laidOf}
+use Rattle.format.specs.Parts.{treeOf, pieceOf, declarationAct, parts}
+use Rattle.format.specs.Demands.{Gives, laidTo, FmtParsed}
+
+-- ---- pieces
+piece-then : (a b : Act) (c : Cursor) → pieceOf (a ⨟ b) c ≡ andThen (pieceOf a c) (pieceOf b)
+unfolding _⨟_
+piece-then a b c =
+    let z : St = record { number = c .number; pos = c .position; placed = c .placed } in
+    let o = a z in
+    let p = b (next z o) in
+    let e : c .row + sizes (join (o .nodes) (p .nodes)) ≡ c .row + sizes (o .nodes) + sizes (p .nodes) =
+        omega (arith, sizes-join (o .nodes) (p .nodes))
+    in
+    let f : c .number + (o .taken + p .taken) ≡ c .number + o .taken + p .taken = omega arith in
+    let r = rows-join (o .nodes) (p .nodes) (c .row) in
+    λ t. record { cursor = record { row = e t; number = f t; placed = p .placed; position = p .pos }; rows = r t }
+
+piece-skip : (c : Cursor) → pieceOf skip c ≡ still c
+unfolding rows sizes
+piece-skip c =
+    λ t. record { cursor = record { row = add-zero (c .row) t; number = add-zero (c .number) t; placed = c .placed; position = c .position }; rows = [] }
+
+then-at : (p : Piece) (f g : Cursor → Piece) → f (p .cursor) ≡ g (p .cursor) → andThen p f ≡ andThen p g
+then-at p f g e = λ t. record { cursor = e t .cursor; rows = p .rows ++ e t .rows }
+
+then-then : (p : Piece) (f g : Cursor → Piece) → andThen (andThen p f) g ≡ andThen p (λ c. andThen (f c) g)
+then-then p f g =
+    λ t. record { cursor = g (f (p .cursor) .cursor) .cursor; rows = append-assoc (p .rows) (f (p .cursor) .rows) (g (f (p .cursor) .cursor) .rows) t }
+
+then-still : (p : Piece) → andThen p still ≡ p
+then-still p = λ t. record { cursor = p .cursor; rows = append-nil (p .rows) t }
+
+then-skip : (p : Piece) → andThen p (pieceOf skip) ≡ p
+then-skip p = then-at p (pieceOf skip) still (piece-skip (p .cursor)) ∙ then-still p
+
+-- ---- one declaration more
+abbrev flag : ℕ → Bool → Bool
+flag zero first = first
+flag (suc n) first = false
+
+flag-false : (n : ℕ) → flag n false ≡ false
+flag-false zero = refl
+flag-false (suc n) = refl
+
+abbrev one : Given → Bool → Option Declaration → Act
+one g first nothing = skip
+one g first (some d) = declaration g d first
+
+module _ (g : Given) where
+  more : (n : ℕ) (ds : List Declaration) (first : Bool) (c : Cursor) → n < length ds
+      → pieceOf (declarationsRule g (take (suc n) ds) first) c
+      ≡ andThen (pieceOf (declarationsRule g (take n ds) first) c) (pieceOf (one g (flag n first) (nth ds n)))
+  unfolding declarationsRule nth
+  more n [] first c h = absurd (omega arith)
+  more zero (d ∷ ds) first c h =
+      piece-then (declaration g d first) skip c
+      ∙ then-skip (pieceOf (declaration g d first) c)
+      ∙ ap (λ (p : Piece). andThen p (pieceOf (declaration g d first))) (sym (piece-skip c))
+  more (suc n) (d ∷ ds) first c h =
+      let a = declaration g d first in
+      let last = pieceOf (one g (flag n false) (nth ds n)) in
+      piece-then a (declarationsRule g (take (suc n) ds) false) c
+      ∙ then-at (pieceOf a c) (pieceOf (declarationsRule g (take (suc n) ds) false))
+      (λ x. andThen (pieceOf (declarationsRule g (take n ds) false) x) last)
+      (more n ds false (pieceOf a c .cursor) (omega arith))
+      ∙ sym (then-then (pieceOf a c) (pieceOf (declarationsRule g (take n ds) false)) last)
+      ∙ ap (λ (p : Piece). andThen p last) (sym (piece-then a (declarationsRule g (take n ds) false) c))
+      ∙ ap (λ (x : Bool). andThen (pieceOf (a ⨟ declarationsRule g (take n ds) false) c) (pieceOf (one g x (nth ds n)))) (flag-false n)
+
+-- ---- the whole
+module _ (s b : List ℕ) where
+  abbrev g : Given
+  g = given s b
+
+  abbrev tree : SyntaxTree
+  tree = treeOf b (readAll s b)
+
+  abbrev ds : List Declaration
+  ds = tree .declarations
+
+  same-act : (n : ℕ) (d : Option Declaration) → declarationAct s b n d ≡ one g (flag n true) d
+  same-act n nothing = refl
+  same-act zero (some d) = refl
+  same-act (suc n) (some d) = ap (declaration g d) (ne-eqb (suc n) 0 (λ e. omega arith))
+
+  -- n declarations are the loop over the first n
+  loop : (n : ℕ) (p : Piece) → n ≤ length ds → several (parts s b) n 0 p ≡ andThen p (pieceOf (declarationsRule g (take n ds) true))
+  unfolding declarationsRule
+  loop zero p h = sym (then-skip p)
+  loop (suc n) p h =
+      let rule = pieceOf (declarationsRule g (take n ds) true) in
+      let last = pieceOf (one g (flag n true) (nth ds n)) in
+      ap (λ (x : Piece). andThen x (pieceOf (declarationAct s b (0 + n) (nth ds (0 + n))))) (loop n p (omega arith))
+      ∙ ap (λ (k : ℕ). andThen (andThen p rule) (pieceOf (declarationAct s b k (nth ds k)))) (zero-add n)
+      ∙ ap (λ (a : Act). andThen (andThen p rule) (pieceOf a)) (same-act n (nth ds n))
+      ∙ then-then p rule last
+      ∙ then-at p (λ c. andThen (rule c) last) (pieceOf (declarationsRule g (take (suc n) ds) true)) (sym (more g n ds true (p .cursor) h))
+
+  abbrev start : Cursor
+  start = layoutFresh .cursor
+
+  laid : (n : ℕ) → n ≤ length ds → several (parts s b) (n - 0) 0 (parts s b .shebang start) ≡ pieceOf (upTo g tree (take n ds)) start
+  laid n h =
+      let one = pieceOf (shebangRule g (tree .shebang)) start in
+      ap (λ (k : ℕ). several (parts s b) k 0 one) (sub-zero n)
+      ∙ loop n one h
+      ∙ sym (piece-then (shebangRule g (tree .shebang)) (declarationsRule g (take n ds) true) start)
+
+  -- a piece from the fresh cursor is what its step gives
+  gives : (n : ℕ) (close : Bool) (a : Act) → laidTo s b n close .rows ≡ pieceOf a start .rows
+      → laidTo s b n close .state .cursor ≡ pieceOf a start .cursor
+      → Gives s b (a fresh) (laidTo s b n close)
+  gives n close a e f = record {
+    rows-due = e;
+    row-due = ap (λ (c : Cursor). c .row) f ∙ zero-add (sizes (a fresh .nodes));
+    number-due = ap (λ (c : Cursor). c .number) f ∙ zero-add (a fresh .taken);
+    position-due = ap (λ (c : Cursor). c .position) f;
+    placed-due = ap (λ (c : Cursor). c .placed) f;
+    left-due = ap (λ (c : Cursor). length (commentsOf b) - c .placed) f;
+  }
+
+  pub fmt-parsed : FmtParsed s b tree
+  unfolding fmtParsed
+  fmt-parsed = record {
+    at-stop =
+        λ n h.
+        let e = laid n h in
+        gives n false (upTo g tree (take n ds)) (ap (λ (p : Piece). p .rows) e) (ap (λ (p : Piece). p .cursor) e);
+    closed =
+        let e = closes in
+        gives (length ds) true (fmtParsed g tree) (ap (λ (p : Piece). p .rows) e) (ap (λ (p : Piece). p .cursor) e);
+  }
+    where
+      closes : andThen (several (parts s b) (length ds - 0) 0 (parts s b .shebang start)) (pieceOf (push line)) ≡ pieceOf (fmtParsed g tree) start
+      closes =
+          let one = shebangRule g (tree .shebang) in
+          let rule = declarationsRule g ds true in
+          ap (λ (p : Piece). andThen p (pieceOf (push line))) (laid (length ds) (omega arith))
+          ∙ ap (λ (xs : List Declaration). andThen (pieceOf (upTo g tree xs) start) (pieceOf (push line))) (take-length ds)
+          ∙ ap (λ (p : Piece). andThen p (pieceOf (push line))) (piece-then one rule start)
+          ∙ then-then (pieceOf one start) (pieceOf rule) (pieceOf (push line))
+          ∙ then-at (pieceOf one start) (λ c. andThen (pieceOf rule c) (pieceOf (push line))) (pieceOf (rule ⨟ push line))
+          (sym (piece-then rule (push line) (pieceOf one start .cursor)))
+          ∙ sym (piece-then one (rule ⨟ push line) start)
