@@ -147,6 +147,22 @@ nests-local {v} {i} {j} {d} u s (pair a w t q g h l) =
     (subst₂ (λ (k m : ℕ). Nests u k m (suc d)) (x .second) (x .after) (nests-local u (λ k m n. s k (omega (arith, t .up)) (omega (arith, w .to))) h))
     (subst (λ (k : ℕ). Nests u k j d) (x .after) (nests-local u (λ k m n. s k (omega (arith, w .up)) n) l))
 
+-- ---- that their places are right
+pub places-by-cells : (s b store other : List ℕ) (k l : ℕ) → ((c : ℕ) → c < 9 → cell store k c ≡ cell other l c)
+    → placesFit s b store k ≡ placesFit s b other l
+unfolding placesFit
+places-by-cells s b store other k l at =
+    rw (
+      at 0 (omega arith),
+      at 1 (omega arith),
+      at 2 (omega arith),
+      at 3 (omega arith),
+      at 5 (omega arith),
+      at 6 (omega arith),
+      at 7 (omega arith),
+      at 8 (omega arith),
+    )
+
 -- ---- stores with the same rows before a stop
 module _ (n : ℕ) (store other : List ℕ) (e : SameBefore n store other) where
   pub cell-same : (k c : ℕ) → k < n → c < 9 → cell store k c ≡ cell other k c
@@ -170,16 +186,4 @@ module _ (n : ℕ) (store other : List ℕ) (e : SameBefore n store other) where
       }
 
   pub places-same : (s b : List ℕ) (k : ℕ) → k < n → placesFit s b store k ≡ placesFit s b other k
-  unfolding placesFit
-  places-same s b k q =
-      let at : (c : ℕ) → c < 9 → cell store k c ≡ cell other k c = λ c l. cell-same k c q l in
-      rw (
-        at 0 (omega arith),
-        at 1 (omega arith),
-        at 2 (omega arith),
-        at 3 (omega arith),
-        at 5 (omega arith),
-        at 6 (omega arith),
-        at 7 (omega arith),
-        at 8 (omega arith),
-      )
+  places-same s b k q = places-by-cells s b store other k k (λ c l. cell-same k c q l)

@@ -1,7 +1,7 @@
 -- Layout from fresh is `fmt_parsed`: the rows of steps in sequence are the rows of each, one after the other, so that the declarations laid one
 -- at a time are the loop over them.
 -- Assumes nothing.
-use mathlib.Core.Path.{_≡_, refl, sym, ap, subst, _∙_}
+use mathlib.Core.Path.{_≡_, refl, sym, ap, ap₂, _∙_}
 use mathlib.Core.Bool.{Bool, true, false}
 use mathlib.Core.Option.{Option, none as nothing, some}
 use mathlib.Core.List.{List, [], _∷_, _++_, append-assoc, append-nil}
@@ -13,16 +13,19 @@ use lib.ListN.{length, take}
 use lib.Seq.{take-length}
 use Rattle.image.specs.Read.{readAll}
 use Rattle.tree.specs.Syntax.{Declaration, SyntaxTree}
-use Rattle.rows.specs.Node.{line}
+use Rattle.rows.specs.Node.{Nodes, line}
 use Rattle.rows.specs.Rows.{sizes, rows}
+use Rattle.rows.specs.View.{viewOf, nodesAt}
+use Rattle.rows.proofs.Flatten.{flattened}
 use Rattle.state.specs.Act.{Given, St, Out, Act, _⨟_, skip, push, next, join}
 use Rattle.state.proofs.Joins.{sizes-join, rows-join}
 use Rattle.comments.specs.Comments.{nth}
 use Rattle.comments.specs.Listed.{commentsOf, given}
 use Rattle.layout.specs.Layout.{shebangRule, declaration, declarationsRule, fmtParsed}
 use Rattle.facts.specs.Accepted.{fresh, upTo}
-use Rattle.cut.specs.Parts.{Cursor, Piece, layoutFresh, still, andThen, several, end, laidOf}
-use Rattle.format.specs.Parts.{treeOf, pieceOf, declarationAct, parts}
+use Rattle.renderer.specs.Renderer.{renders}
+use Rattle.cut.specs.Parts.{Cursor, Piece, Pen, layoutFresh, still, andThen, several, end, laidOf}
+use Rattle.format.specs.Parts.{treeOf, pieceOf, declarationAct, rendererOf, drawnBy, page, drawn, parts}
 use Rattle.format.specs.Demands.{Gives, laidTo, FmtParsed}
 
 -- ---- pieces
@@ -130,6 +133,13 @@ module _ (s b : List ℕ) where
       ∙ loop n one h
       ∙ sym (piece-then (shebangRule g (tree .shebang)) (declarationsRule g (take n ds) true) start)
 
+  -- rows of nodes render as the nodes do, since they are read back as those
+  read-back : (ns : Nodes) (z : Pen) (marks : List ℕ)
+      → drawn s b z marks (rows ns 0) 0 (sizes ns) ≡ drawnBy (renders (page s b) ns true (rendererOf z marks))
+  read-back ns z marks =
+      ap (λ (x : Nodes). drawnBy (renders (page s b) x true (rendererOf z marks)))
+      (ap (nodesAt (viewOf (rows ns 0)) 0) (sym (zero-add (sizes ns))) ∙ flattened ns (rows ns 0) 0 (take-length (rows ns 0)))
+
   -- a piece from the fresh cursor is what its step gives
   gives : (n : ℕ) (close : Bool) (a : Act) → laidTo s b n close .rows ≡ pieceOf a start .rows
       → laidTo s b n close .state .cursor ≡ pieceOf a start .cursor
@@ -141,6 +151,10 @@ module _ (s b : List ℕ) where
     position-due = ap (λ (c : Cursor). c .position) f;
     placed-due = ap (λ (c : Cursor). c .placed) f;
     left-due = ap (λ (c : Cursor). length (commentsOf b) - c .placed) f;
+    drawn-due =
+        λ z marks.
+        ap₂ (λ (x : List ℕ) (k : ℕ). drawn s b z marks x 0 k) e (ap (λ (c : Cursor). c .row) f ∙ zero-add (sizes (a fresh .nodes)))
+        ∙ read-back (a fresh .nodes) z marks;
   }
 
   pub fmt-parsed : FmtParsed s b tree
