@@ -2,10 +2,11 @@
 -- Assumes nothing.
 use Rattle.cut.proofs.Document as Document
 use Rattle.format.specs.Parts.{parts, listed}
-use Rattle.format.specs.Demands.{Demand3, DueIsFmtParsed}
+use Rattle.format.specs.Demands.{Demand3, DueIsFmtParsed, LaidWithinLimits}
 use Rattle.format.proofs.LayoutParts.{layout-parts, comment-parts}
 use Rattle.format.proofs.RenderParts.{render-parts}
 use Rattle.format.proofs.Whole.{fmt-parsed}
+use Rattle.format.proofs.Limits.{all-limited}
 
 pub demand-3 : Demand3
 demand-3 s b store₀ marks₀ calls h =
@@ -13,3 +14,6 @@ demand-3 s b store₀ marks₀ calls h =
 
 pub due-is-fmt-parsed : DueIsFmtParsed
 due-is-fmt-parsed s b = fmt-parsed s b
+
+pub laid-within-limits : LaidWithinLimits
+laid-within-limits s b h = all-limited s b h

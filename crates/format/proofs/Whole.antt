@@ -17,14 +17,14 @@ use Rattle.rows.specs.Node.{Nodes, line}
 use Rattle.rows.specs.Rows.{sizes, rows}
 use Rattle.rows.specs.View.{viewOf, nodesAt}
 use Rattle.rows.proofs.Flatten.{flattened}
-use Rattle.state.specs.Act.{Given, St, Out, Act, _⨟_, skip, push, next, join}
+use Rattle.state.specs.Act.{Given, St, Act, _⨟_, skip, push, next, join}
 use Rattle.state.proofs.Joins.{sizes-join, rows-join}
 use Rattle.comments.specs.Comments.{nth}
 use Rattle.comments.specs.Listed.{commentsOf, given}
 use Rattle.layout.specs.Layout.{shebangRule, declaration, declarationsRule, fmtParsed}
 use Rattle.facts.specs.Accepted.{fresh, upTo}
 use Rattle.renderer.specs.Renderer.{renders}
-use Rattle.cut.specs.Parts.{Cursor, Piece, Pen, layoutFresh, still, andThen, several, end, laidOf}
+use Rattle.cut.specs.Parts.{Cursor, Piece, Pen, layoutFresh, still, andThen, several}
 use Rattle.format.specs.Parts.{treeOf, pieceOf, declarationAct, rendererOf, drawnBy, page, drawn, parts}
 use Rattle.format.specs.Demands.{Gives, laidTo, FmtParsed}
 
@@ -36,7 +36,7 @@ piece-then a b c =
     let o = a z in
     let p = b (next z o) in
     let e : c .row + sizes (join (o .nodes) (p .nodes)) ≡ c .row + sizes (o .nodes) + sizes (p .nodes) =
-        omega (arith, sizes-join (o .nodes) (p .nodes))
+    omega (arith, sizes-join (o .nodes) (p .nodes))
     in
     let f : c .number + (o .taken + p .taken) ≡ c .number + o .taken + p .taken = omega arith in
     let r = rows-join (o .nodes) (p .nodes) (c .row) in

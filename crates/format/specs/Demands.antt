@@ -1,4 +1,6 @@
--- What is claimed of the whole, top-down. proofs/Demands.antt proves it.
+-- What is claimed of the whole; proofs/Demands.antt proves it. From here down: the run, the plain run and the rule are crates/cut's (Run.antt,
+-- Plain.antt, CutRule.antt), so are the states and the table (Parts.antt there); this crate's Parts.antt says by which definition of which layer
+-- each part of them goes. The marked edges are in Edges.antt.
 use mathlib.Core.Path.{_≡_}
 use mathlib.Core.Bool.{Bool, true, false}
 use mathlib.Core.List.{List}

@@ -1,0 +1,96 @@
+-- What is laid out of an accepted image is within the limits: crates/facts has it of the nodes that `fmt_parsed` gives, and layout gives their
+-- rows.
+-- Assumes nothing.
+use mathlib.Core.Path.{_≡_, refl, sym, ap, subst, subst₂, _∙_}
+use mathlib.Core.Bool.{true, false}
+use mathlib.Core.Option.{none, some}
+use mathlib.Core.List.{List}
+use Prim.Native.Nat.{ℕ, _+_, _*_, _≤_}
+use native.Mathlib.Omega.{arith}
+use lib.ListN.{length, take, drop, take-append-drop}
+use borrow.Author.Tests.{le-leb}
+use Rattle.text.specs.Utf8.{wellFormed}
+use Rattle.image.specs.Read.{Read, got, bad, Image, sourceFits, readImage, readAll, answerOf}
+use Rattle.image.proofs.Accepted.{accepted}
+use Rattle.tree.specs.Syntax.{Span, SyntaxTree}
+use Rattle.tree.specs.Records.{syntaxTree}
+use Rattle.rows.specs.Rows.{rows}
+use Rattle.state.specs.Act.{Given, Out}
+use Rattle.comments.specs.Comments.{nth}
+use Rattle.comments.specs.Listed.{pairAt, commentsOf, given}
+use Rattle.comments.proofs.Fronts.{count-of, at-front, inside}
+use Rattle.facts.specs.Accepted.{Paired, Stands, Within}
+use Rattle.facts.proofs.Limits.{stands, whole-within, upTo-within}
+use Rattle.renderer.specs.Check.{wrongPlace}
+use Rattle.cut.specs.Rules.{Laid}
+use Rattle.cut.specs.Parts.{LayoutState}
+use Rattle.format.specs.Parts.{refusalOf, treeOf}
+use Rattle.format.specs.Demands.{Gives, Limited, AllLimited}
+use Rattle.format.proofs.Whole.{fmt-parsed}
+use Rattle.format.proofs.Fitting.{nothing-wrong}
+
+module _ (s b : List ℕ) where
+  abbrev g : Given
+  g = given s b
+
+  -- ---- the tree of an accepted image stands in it
+  paired : Paired g
+  paired = record {
+    start = λ k c e. ap (λ (p : Span). p .start) (same k c e);
+    end = λ k c e. ap (λ (p : Span). p .end) (same k c e);
+  }
+    where
+      same : (k : ℕ) (c : Span) → nth (commentsOf b) k ≡ some c → pairAt b (7 + 8 * k) ≡ c
+      same k c e = cc (at-front b k (inside b k c e))
+
+  reads-image : length s ≤ 65536 → wellFormed s ≡ true → readAll s b ≡ readImage false s b
+  unfolding readAll sourceFits
+  reads-image h w = rw (le-leb (length s) 65536 h, w)
+
+  -- where the tree stands
+  record Stood : Type 0 where
+    at : ℕ
+    stood : Stands g (treeOf b (readAll s b)) at
+
+  stood : refusalOf (readAll s b) ≡ none → Stood
+  stood h = go (readAll s b) refl h
+    where
+      go : (r : Read Image) → readAll s b ≡ r → refusalOf r ≡ none → Stood
+      go (bad n p) e h = let z : _≡_ {A = ℕ} 0 1 = cc in absurd (omega arith)
+      go (got i end) e h =
+          let a = accepted s b (i .comments) (i .at) (ap answerOf e) in
+          let c = a .root in
+          let same : got i end ≡ got (record { comments = i .comments; tree = c .tree; at = i .at }) (length b) =
+          sym e ∙ reads-image (a .short) (a .well) ∙ c .whole
+          in
+          let tree : i ≡ record { comments = i .comments; tree = c .tree; at = i .at } = cc in
+          let is : treeOf b (readAll s b) ≡ syntaxTree b (c .tree) = ap (treeOf b) e ∙ ap (λ (j : Image). syntaxTree b (j .tree)) tree in
+          record {
+            at = i .at;
+            stood = subst (λ (t : SyntaxTree). Stands g t (i .at)) (sym is) (stands false g (i .comments) (i .at) c (omega (arith, count-of b, c .count)) paired);
+          }
+
+  -- ---- limits
+  limited : (o : Out) (l : Laid LayoutState) → Gives s b o l → Within g o → Limited s b l
+  limited o l e w = record {
+    right =
+        subst₂ (λ (x : List ℕ) (k : ℕ). wrongPlace s b x 0 k ≡ none) (sym (e .rows-due)) (sym (e .row-due))
+        (nothing-wrong g (o .nodes) (omega (arith, w .rows)) (w .deep) (w .texts));
+    rows-few = omega (arith, e .row-due, w .rows);
+    numbers-few = omega (arith, e .number-due, w .numbers);
+    position-in = omega (arith, e .position-due, w .position);
+    placed-in = omega (arith, e .placed-due, w .placed);
+  }
+
+  pub all-limited : refusalOf (readAll s b) ≡ none → AllLimited s b (treeOf b (readAll s b))
+  all-limited h =
+      let t = treeOf b (readAll s b) in
+      let a = stood h in
+      let f = fmt-parsed s b in
+      record {
+        at-stop =
+            λ n i.
+            limited _ _ (f .at-stop n i)
+            (upTo-within (a .stood) (take n (t .declarations)) (drop n (t .declarations)) (take-append-drop n (t .declarations)));
+        closed = limited _ _ (f .closed) (whole-within (a .stood));
+      }
