@@ -4,8 +4,8 @@
 use std::ops::Range;
 
 use judge::{
-    examples,
-    image::{Tree, chosen, node, text},
+    examples, frame,
+    image::{self, Tree, chosen, node, text},
     program::{self, Widths},
     script,
 };
@@ -54,16 +54,111 @@ fn texts() {
     }
 }
 
+/// What the page says beside its blocks.
+#[test]
+fn texts_said_in_passing() {
+    let pairs = [
+        ("record R {} // c", "record R {\n} // c\n"),
+        ("enum E {} // c", "enum E {\n} // c\n"),
+        (
+            "import a.{b // c\n}; import d;",
+            "import a.b; // c\nimport d;\n",
+        ),
+        ("import a // c\n; import d;", "import a; // c\nimport d;\n"),
+        (
+            "fn f() { if a {} // c\nelse {} }",
+            "fn f() {\n    if a {} else {\n        // c\n    }\n}\n",
+        ),
+        (
+            "const A: T = g( // c\na);",
+            "const A: T = g(\n    // c\n    a,\n);\n",
+        ),
+        (
+            "const A: T = g(a // c\n);",
+            "const A: T = g(\n    a, // c\n);\n",
+        ),
+        (
+            "const A: T = g(a.b // c\n);",
+            "const A: T = g(\n    a.b // c\n    ,\n);\n",
+        ),
+        (
+            "fn f() { 1 + // c\n2; return // d\n3 }",
+            "fn f() {\n    1\n        +  // c\n        2;\n    \
+             return  // d\n    3\n}\n",
+        ),
+        ("const A: u32 = 1 // c\n;", "const A: u32 = 1 // c\n;\n"),
+        (
+            "record R {} // c\n\nrecord S {}",
+            "record R {\n} // c\nrecord S {}\n",
+        ),
+        ("const A: T = [a,\n\nb];", "const A: T = [a, b];\n"),
+        (
+            "fn f() { let a = !b.c(); !d.e }",
+            "fn f() {\n    let a = !b\n    .c();\n    !d\n    .e\n}\n",
+        ),
+        (
+            "fn f() { match a { _ => !b.c } }",
+            "fn f() {\n    match a {\n        _ => !b\n        .c,\n    }\n}\n",
+        ),
+        ("fn f() { g(!b.c); }", "fn f() {\n    g(!b.c);\n}\n"),
+    ];
+    for (source, expected) in pairs {
+        assert_eq!(formatted(source), expected, "{source}");
+    }
+}
+
+#[test]
+fn return_types_are_not_counted() {
+    let x = "x".repeat(71);
+    let header = format!("fn f(a: {x}) -> u32 {{");
+    assert_eq!(header.len(), 89);
+    let source = format!("{header}}}");
+    assert_eq!(formatted(&source), format!("{header}\n}}\n"));
+}
+
+#[test]
+fn f_string_text_is_counted_in_bytes() {
+    let text = |count| format!("const A: T = [f\"{}\"];", "日".repeat(count));
+    assert_eq!(formatted(&text(20)).lines().count(), 1);
+    assert_eq!(formatted(&text(21)).lines().count(), 3);
+}
+
+#[test]
+fn deep_lists_break() {
+    let nested = |depth: usize| {
+        let source =
+            format!("fn f() {}g(){}", "{".repeat(depth), "}".repeat(depth));
+        formatted(&source)
+    };
+    assert!(nested(19).contains("g()\n"));
+    assert!(nested(20).contains("g(\n"));
+}
+
+/// The smallest inputs are smallest: one column less, and all is as usual.
+#[test]
+fn edges() {
+    let x = |count| "x".repeat(count);
+    let call = format!("const {}: T = h(1);", x(65));
+    let broken = format!("const {}: T = h(\n    1,\n);\n", x(65));
+    assert_eq!(formatted(&call), broken);
+    let function = format!("fn {}() {{}}", x(75));
+    assert!(formatted(&function).contains("()"));
+    let wide = format!("const A: T = [\"{}\"];", "日".repeat(21));
+    assert_eq!(formatted(&wide), wide.clone() + "\n");
+    let lines = format!("const A: T = [\"{}\n{}\"];", x(31), x(31));
+    assert_eq!(formatted(&lines), lines.clone() + "\n");
+}
+
 #[test]
 fn frames() {
-    for block in blocks("hex") {
-        let [frame, expected] = &block[..] else {
-            panic!("{block:?}");
-        };
-        assert_eq!(output(&bytes(frame)), *expected);
+    let sources = ["// c\n", "import a // c\n;\n"];
+    let blocks = blocks("hex");
+    assert_eq!(blocks.len(), sources.len());
+    for (block, source) in blocks.iter().zip(sources) {
+        let frame = bytes(&block[0]);
+        assert_eq!(frame, script::frame(source).unwrap());
+        assert_eq!(output(&frame), block[1]);
     }
-    let comment_alone = script::frame("// c\n").unwrap();
-    assert_eq!(bytes(&blocks("hex")[0][0]), comment_alone);
 }
 
 fn bytes(hex: &str) -> Vec<u8> {
@@ -149,24 +244,25 @@ fn spans_of_nothing() {
     let first = "all spans 0, 0, a name as value, the source `// c` with \
                  its comment";
     assert_row(first, &output(&frame));
+    let declaration = constant(name("A"), value("a"));
+    let frame =
+        examples::of_source("a // c\n", vec![2..7], vec![declaration]);
+    let run = program::answer(&frame, Widths::Supplied).unwrap();
+    assert_eq!(run.comments_left, 1);
 }
 
 /// `source` read as it is but for its comments.
 fn with_comments(source: &str, comments: &[Range<usize>]) -> String {
-    let frame = script::frame(source).unwrap();
-    let split = judge::frame::split(&frame).unwrap();
-    let accepted = judge::reader::read(split.source, split.image).unwrap();
-    let tree_at = 7 + 8 * accepted.comments.len();
-    let number = |value: usize| u32::try_from(value).unwrap().to_be_bytes();
-    let count = u16::try_from(comments.len()).unwrap();
-    let mut body = count.to_be_bytes().to_vec();
-    for comment in comments {
-        body.extend(number(comment.start));
-        body.extend(number(comment.end));
+    let (_, tree) = script::read(source).unwrap();
+    let image = image::write(comments, &tree);
+    output(&frame::join(source.as_bytes(), &image))
+}
+
+fn cut_statements(tree: &mut Tree) {
+    if tree.kind == 30 {
+        tree.span.end -= 1;
     }
-    body.extend(&split.image[tree_at..]);
-    let image = judge::image::with_header(&body);
-    output(&judge::frame::join(split.source, &image))
+    tree.children.iter_mut().flatten().for_each(cut_statements);
 }
 
 #[test]
@@ -178,7 +274,13 @@ fn comment_lists() {
     let source = "fn f() {\nlet a = 1; // c\n\nlet b = 2;\n}";
     let first = "`let a = 1; // c`, a blank line, `let b = 2;` in `fn f`, \
                  the comment's span without its newline";
-    assert_row(first, &with_comments(source, &[20..24]));
+    let kept = with_comments(source, &[20..24]);
+    assert_row(first, &kept);
+    // Statements that end before their `;` do the same.
+    let (comments, mut tree) = script::read(source).unwrap();
+    cut_statements(&mut tree);
+    let image = image::write(&comments, &tree);
+    assert_eq!(output(&frame::join(source.as_bytes(), &image)), kept);
     let first = "a comment of one blank before `a` in `fn f() { a }`";
     assert_row(first, &with_comments("fn f() { a }", &[8..9]));
 }

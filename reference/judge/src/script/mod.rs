@@ -21,6 +21,13 @@ type Read<T> = Result<T, usize>;
 
 /// A frame for a text, or the place that could not be read.
 pub fn frame(source: &str) -> Read<Vec<u8>> {
+    let (comments, tree) = read(source)?;
+    let image = image::write(&comments, &tree);
+    Ok(frame::join(source.as_bytes(), &image))
+}
+
+/// The comments and the tree of a text.
+pub fn read(source: &str) -> Read<(Vec<Range<usize>>, Tree)> {
     let mut reader = Reader {
         source,
         at: 0,
@@ -28,8 +35,7 @@ pub fn frame(source: &str) -> Read<Vec<u8>> {
         records: true,
     };
     let tree = reader.file()?;
-    let image = image::write(&reader.comments, &tree);
-    Ok(frame::join(source.as_bytes(), &image))
+    Ok((reader.comments, tree))
 }
 
 struct Reader<'s> {
