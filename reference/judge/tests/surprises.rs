@@ -55,55 +55,56 @@ fn texts() {
 }
 
 /// What the page says beside its blocks.
+const SAID: &[(&str, &str)] = &[
+    ("record R {} // c", "record R {\n} // c\n"),
+    ("enum E {} // c", "enum E {\n} // c\n"),
+    (
+        "import a.{b // c\n}; import d;",
+        "import a.b; // c\nimport d;\n",
+    ),
+    ("import a // c\n; import d;", "import a; // c\nimport d;\n"),
+    (
+        "fn f() { if a {} // c\nelse {} }",
+        "fn f() {\n    if a {} else {\n        // c\n    }\n}\n",
+    ),
+    (
+        "const A: T = g( // c\na);",
+        "const A: T = g(\n    // c\n    a,\n);\n",
+    ),
+    (
+        "const A: T = g(a // c\n);",
+        "const A: T = g(\n    a, // c\n);\n",
+    ),
+    (
+        "const A: T = g(a.b // c\n);",
+        "const A: T = g(\n    a.b // c\n    ,\n);\n",
+    ),
+    (
+        "fn f() { 1 + // c\n2; return // d\n3 }",
+        "fn f() {\n    1\n        +  // c\n        2;\n    \
+             return  // d\n    3\n}\n",
+    ),
+    ("const A: u32 = 1 // c\n;", "const A: u32 = 1 // c\n;\n"),
+    (
+        "record R {} // c\n\nrecord S {}",
+        "record R {\n} // c\nrecord S {}\n",
+    ),
+    ("const A: T = [a,\n\nb];", "const A: T = [a, b];\n"),
+    (
+        "fn f() { let a = !b.c(); !d.e }",
+        "fn f() {\n    let a = !b\n    .c();\n    !d\n    .e\n}\n",
+    ),
+    (
+        "fn f() { match a { _ => !b.c } }",
+        "fn f() {\n    match a {\n        _ => !b\n        .c,\n    }\n}\n",
+    ),
+    ("fn f() { g(!b.c); }", "fn f() {\n    g(!b.c);\n}\n"),
+];
+
 #[test]
 fn texts_said_in_passing() {
-    let pairs = [
-        ("record R {} // c", "record R {\n} // c\n"),
-        ("enum E {} // c", "enum E {\n} // c\n"),
-        (
-            "import a.{b // c\n}; import d;",
-            "import a.b; // c\nimport d;\n",
-        ),
-        ("import a // c\n; import d;", "import a; // c\nimport d;\n"),
-        (
-            "fn f() { if a {} // c\nelse {} }",
-            "fn f() {\n    if a {} else {\n        // c\n    }\n}\n",
-        ),
-        (
-            "const A: T = g( // c\na);",
-            "const A: T = g(\n    // c\n    a,\n);\n",
-        ),
-        (
-            "const A: T = g(a // c\n);",
-            "const A: T = g(\n    a, // c\n);\n",
-        ),
-        (
-            "const A: T = g(a.b // c\n);",
-            "const A: T = g(\n    a.b // c\n    ,\n);\n",
-        ),
-        (
-            "fn f() { 1 + // c\n2; return // d\n3 }",
-            "fn f() {\n    1\n        +  // c\n        2;\n    \
-             return  // d\n    3\n}\n",
-        ),
-        ("const A: u32 = 1 // c\n;", "const A: u32 = 1 // c\n;\n"),
-        (
-            "record R {} // c\n\nrecord S {}",
-            "record R {\n} // c\nrecord S {}\n",
-        ),
-        ("const A: T = [a,\n\nb];", "const A: T = [a, b];\n"),
-        (
-            "fn f() { let a = !b.c(); !d.e }",
-            "fn f() {\n    let a = !b\n    .c();\n    !d\n    .e\n}\n",
-        ),
-        (
-            "fn f() { match a { _ => !b.c } }",
-            "fn f() {\n    match a {\n        _ => !b\n        .c,\n    }\n}\n",
-        ),
-        ("fn f() { g(!b.c); }", "fn f() {\n    g(!b.c);\n}\n"),
-    ];
-    for (source, expected) in pairs {
-        assert_eq!(formatted(source), expected, "{source}");
+    for (source, expected) in SAID {
+        assert_eq!(formatted(source), *expected, "{source}");
     }
 }
 
@@ -185,7 +186,7 @@ fn white_space() {
         "const A: u32 = 1;\u{2028}\u{2028}const B: u32 = 2;",
         "// c\t\u{3000}\u{85}\nconst A: u32 = 1;",
         "// c\u{200b}\nconst A: u32 = 1;",
-        "//\tc\nconst A:\tu32 = 1;",
+        "//\tc\nconst A:\tT = '\t';",
     ];
     for source in texts {
         assert_row(&format!("`{source:?}`"), &formatted(source));
