@@ -10,17 +10,58 @@ use lib.ListN.{length}
 use Rattle.text.specs.Space.{trimEnd}
 use Rattle.image.specs.Bytes.{be32}
 use Rattle.tree.specs.Syntax.{
-    Span, Ident, Idents, TypeExpr, Types, noTypes, _∷ᵗ_, Fields, Variants, noVariants, variant, Declaration, filterMap, const, recordDecl,
-    enumDecl, function, test, importDecl, SyntaxTree
+  Span,
+  Ident,
+  Idents,
+  TypeExpr,
+  Types,
+  noTypes,
+  _∷ᵗ_,
+  Fields,
+  Variants,
+  noVariants,
+  variant,
+  Declaration,
+  filterMap,
+  const,
+  recordDecl,
+  enumDecl,
+  function,
+  test,
+  importDecl,
+  SyntaxTree,
 }
 use Rattle.tree.specs.At.{
-    Head, Record, Done, past, IdentAt, ListAt, Maybe, TypesAt, FieldsAt, VariantsAt, DeclarationAt, DeclarationsAt, TreeAt
+  Head,
+  Record,
+  Done,
+  past,
+  IdentAt,
+  ListAt,
+  Maybe,
+  TypesAt,
+  FieldsAt,
+  VariantsAt,
+  DeclarationAt,
+  DeclarationsAt,
+  TreeAt,
 }
 use Rattle.rows.specs.Words.{placeIn}
 use Rattle.state.specs.Act.{Given, Act, skip}
 use Rattle.comments.specs.Comments.{popWhitespace}
 use Rattle.layout.specs.Layout.{
-    Tight, Wrap, Bottom, params, recordTypeRule, typeParams, opening, variantElems, declaration, shebangRule, declarationsRule, fmtParsed
+  Tight,
+  Wrap,
+  Bottom,
+  params,
+  recordTypeRule,
+  typeParams,
+  opening,
+  variantElems,
+  declaration,
+  shebangRule,
+  declarationsRule,
+  fmtParsed,
 }
 use Rattle.facts.specs.Sound.{Inside, Ranged, Commented, Sounds}
 use Rattle.facts.specs.Height.{typesHeight, fieldsHeight, variantsHeight, declarationHeight, declarationsHeight, treeHeight}
@@ -28,8 +69,22 @@ use Rattle.facts.proofs.Tests.{importSpan, unlessEmpty}
 use Rattle.facts.proofs.Steps.{_⨾_, deeper, fewer, sound-skip, sound-line, sound-emptyLine, sound-str, sound-when, sound-asks}
 use Rattle.facts.proofs.Gaps.{trimEnd-le, sound-gap}
 use Rattle.facts.proofs.Parts.{
-    sound-says, ranged, from-start, sound-ident, All, none, also, sound-separated, sound-idents, sound-type, all-types, all-fields, last-ranged,
-    import-ranged, import-long, sound-import
+  sound-says,
+  ranged,
+  from-start,
+  sound-ident,
+  All,
+  none,
+  also,
+  sound-separated,
+  sound-idents,
+  sound-type,
+  all-types,
+  all-fields,
+  last-ranged,
+  import-ranged,
+  import-long,
+  sound-import,
 }
 use Rattle.facts.proofs.Exprs.{sound-expr, sound-block}
 
@@ -81,7 +136,7 @@ module _ {g : Given} (commented : Commented g) where
   all-variants (variant s i (t ∷ᵗ ts) vs) at end {d} a h =
       let v : ℕ = past (g .source) (g .image) (at + 13) in
       let last : Ranged (g .source) _ =
-          last-ranged commented ts t (v + 13) (past (g .source) (g .image) (v + 13)) (past (g .source) (g .image) v) (a .3 .0) (a .3 .2)
+      last-ranged commented ts t (v + 13) (past (g .source) (g .image) (v + 13)) (past (g .source) (g .image) v) (a .3 .0) (a .3 .2)
       in
       also (from-start (ranged (a .0)))
       (sound-ident (a .1)

@@ -12,37 +12,183 @@ use lib.Dec.{ltb, leb, eqb}
 use Rattle.text.proofs.Tests.{and-left, and-right}
 use Rattle.image.specs.Bytes.{be32}
 use Rattle.tree.specs.Syntax.{
-    Span, Ident, Path, TypeExpr, Import, Pattern, Expr, expr, Form, return′, literal, block, match′, functionCall, access, path, record′,
-    typedRecord, list, not′, assign, compoundAssign, binOp, negate, ifElse, while, for, questionMark, fString, parentheses, Exprs, noExprs,
-    _∷ᵉ_, MaybeExpr, noExpr, someExpr, Entries, noEntries, entry, Arms, noArms, arm, Parts, noParts, string, value, Block, braces, MaybeBlock,
-    noBlock, someBlock, Stmts, noStmts, _∷ˢ_, Stmt, stmt, StmtForm, let′, importStmt, does
+  Span,
+  Ident,
+  Path,
+  TypeExpr,
+  Import,
+  Pattern,
+  Expr,
+  expr,
+  Form,
+  return′,
+  literal,
+  block,
+  match′,
+  functionCall,
+  access,
+  path,
+  record′,
+  typedRecord,
+  list,
+  not′,
+  assign,
+  compoundAssign,
+  binOp,
+  negate,
+  ifElse,
+  while,
+  for,
+  questionMark,
+  fString,
+  parentheses,
+  Exprs,
+  noExprs,
+  _∷ᵉ_,
+  MaybeExpr,
+  noExpr,
+  someExpr,
+  Entries,
+  noEntries,
+  entry,
+  Arms,
+  noArms,
+  arm,
+  Parts,
+  noParts,
+  string,
+  value,
+  Block,
+  braces,
+  MaybeBlock,
+  noBlock,
+  someBlock,
+  Stmts,
+  noStmts,
+  _∷ˢ_,
+  Stmt,
+  stmt,
+  StmtForm,
+  let′,
+  importStmt,
+  does,
 }
 use Rattle.tree.specs.At.{
-    Head, Record, Absent, Done, Before, past, formKind, IdentAt, PathAt, Maybe, TypeAt, ByteAt, OpAt, ExprAt, FormAt, ExprsAt,
-    MaybeExprAt, EntriesAt, ArmsAt, PartsAt, BlockAt, MaybeBlockAt, StmtsAt, StmtAt, StmtFormAt
+  Head,
+  Record,
+  Absent,
+  Done,
+  Before,
+  past,
+  formKind,
+  IdentAt,
+  PathAt,
+  Maybe,
+  TypeAt,
+  ByteAt,
+  OpAt,
+  ExprAt,
+  FormAt,
+  ExprsAt,
+  MaybeExprAt,
+  EntriesAt,
+  ArmsAt,
+  PartsAt,
+  BlockAt,
+  MaybeBlockAt,
+  StmtsAt,
+  StmtAt,
+  StmtFormAt,
 }
 use Rattle.rows.specs.Node.{Text, ascii, line}
 use Rattle.rows.specs.Words.{table, placeIn}
 use Rattle.state.specs.Act.{Given, Act, _⨟_, skip, push, told, grouped, indented, says, content}
 use Rattle.comments.specs.Comments.{popWhitespace, popTrailingComment}
 use Rattle.layout.specs.Layout.{
-    WrapStyle, Tight, Spaced, Wrap, Spine, Look, Bottom, Chain, Unit′, binopPrecedence, symbol, assignSymbol, returnWord, separated, ident, operation,
-    chained, literalRule, look, lookForm, returned, otherwise, exprElems, groupedElems, entryElems, armElems, guard, partsRule, blockRule,
-    stmtsRule, lastRule, stmtRule, stmtForm
+  WrapStyle,
+  Tight,
+  Spaced,
+  Wrap,
+  Spine,
+  Look,
+  Bottom,
+  Chain,
+  Unit′,
+  binopPrecedence,
+  symbol,
+  assignSymbol,
+  returnWord,
+  separated,
+  ident,
+  operation,
+  chained,
+  literalRule,
+  look,
+  lookForm,
+  returned,
+  otherwise,
+  exprElems,
+  groupedElems,
+  entryElems,
+  armElems,
+  guard,
+  partsRule,
+  blockRule,
+  stmtsRule,
+  lastRule,
+  stmtRule,
+  stmtForm,
 }
 use Rattle.facts.specs.Sound.{Inside, Ranged, Commented, Sounds}
 use Rattle.facts.specs.Height.{
-    typeHeight, importHeight, exprHeight, formHeight, exprsHeight, maybeHeight, entriesHeight, armsHeight, partsHeight, blockHeight,
-    maybeBlockHeight, stmtsHeight, stmtHeight, stmtFormHeight
+  typeHeight,
+  importHeight,
+  exprHeight,
+  formHeight,
+  exprsHeight,
+  maybeHeight,
+  entriesHeight,
+  armsHeight,
+  partsHeight,
+  blockHeight,
+  maybeBlockHeight,
+  stmtsHeight,
+  stmtHeight,
+  stmtFormHeight,
 }
 use Rattle.facts.proofs.Tests.{exprSpan, stmtSpan, noneOf, isEmpty, isBlock, isBraced}
 use Rattle.facts.proofs.Steps.{
-    _⨾_, deeper, fewer, sound-skip, sound-line, sound-lineOrSpace, sound-wrapParent, sound-ascii, sound-when, sound-cond, sound-grouped,
-    sound-indented, sound-indentedNext, sound-called, sound-asks
+  _⨾_,
+  deeper,
+  fewer,
+  sound-skip,
+  sound-line,
+  sound-lineOrSpace,
+  sound-wrapParent,
+  sound-ascii,
+  sound-when,
+  sound-cond,
+  sound-grouped,
+  sound-indented,
+  sound-indentedNext,
+  sound-called,
+  sound-asks,
 }
 use Rattle.facts.proofs.Gaps.{sound-gap, sound-trailing}
 use Rattle.facts.proofs.Parts.{
-    Fits, sound-says, ranged, from-start, sound-ident, All, none, also, sound-separated, sound-path, sound-type, sound-import, sound-pattern
+  Fits,
+  sound-says,
+  ranged,
+  from-start,
+  sound-ident,
+  All,
+  none,
+  also,
+  sound-separated,
+  sound-path,
+  sound-type,
+  sound-import,
+  sound-pattern,
 }
 
 -- ---- the words chosen by a number: each of a list fits, and so does the one that stands for none
@@ -192,10 +338,10 @@ module _ {g : Given} (commented : Commented g) where
     sound-form (functionCall e t es) s at d r l a h =
         let q : ℕ = past (g .source) (g .image) (at + 13) in
         let call : Sounds g (4 + be32 (g .image) q) (d - 1) (separated g "(" ")" "," (exprElems g es) t Tight) =
-            fewer
-            (sound-separated commented "(" ")" "," refl refl refl
-            (all-exprs es (q + 13) (past (g .source) (g .image) q) {d = d - 3} (a .2) (omega arith)) t (ranged (a .1) .fits) Tight (omega arith) (omega arith))
-            (omega (arith, a .1 .long))
+        fewer
+        (sound-separated commented "(" ")" "," refl refl refl
+        (all-exprs es (q + 13) (past (g .source) (g .image) q) {d = d - 3} (a .2) (omega arith)) t (ranged (a .1) .fits) Tight (omega arith) (omega arith))
+        (omega (arith, a .1 .long))
         in
         let callee : Sounds g (be32 (g .image) (at + 13)) (d - 1) (look g e .whole Chain) = sound-expr e (at + 13) Chain (a .0) (omega arith) in
         sound-plain (λ p.
@@ -204,7 +350,7 @@ module _ {g : Given} (commented : Commented g) where
     sound-form (access e i) s at d r l a h =
         let q : ℕ = past (g .source) (g .image) (at + 13) in
         let inner : Sounds g (be32 (g .image) (at + 13) + 3) (d - 2) (look g e .whole Chain ⨟ push line ⨟ says "." ⨟ ident g i) =
-            sound-expr e (at + 13) Chain (a .0) (omega arith) ⨾ sound-line ⨾ sound-says "." refl ⨾ sound-ident (a .1)
+        sound-expr e (at + 13) Chain (a .0) (omega arith) ⨾ sound-line ⨾ sound-says "." refl ⨾ sound-ident (a .1)
         in
         sound-plain (λ p.
         sound-cond (ltb p Chain)
@@ -264,12 +410,12 @@ module _ {g : Given} (commented : Commented g) where
         let n : ℕ = be32 (g .image) w in
         let starts : t .start ≤ length (g .source) = from-start (ranged (a .1 .head)) in
         let chain : (c p : ℕ) → 2 * max (exprHeight x) (exprHeight y) ≤ c → SoundSpine (m + (4 + n)) c _ =
-            λ c p i.
-            sound-extend (look g x .under p) t op starts (sound-look x (at + 13) c (a .0) (omega arith) .under p)
-            (sound-expr y w Bottom (a .3) (omega arith))
+        λ c p i.
+        sound-extend (look g x .under p) t op starts (sound-look x (at + 13) c (a .0) (omega arith) .under p)
+        (sound-expr y w Bottom (a .3) (omega arith))
         in
         let whole : Sounds g (be32 (g .image) at) d _ =
-            fewer (sound-chained _ {d = d} (omega arith) (chain (d - 2) q (omega arith)) ⨾ sound-trailing commented) (omega (arith, a .4 .same, a .1 .head .long))
+        fewer (sound-chained _ {d = d} (omega arith) (chain (d - 2) q (omega arith)) ⨾ sound-trailing commented) (omega (arith, a .4 .same, a .1 .head .long))
         in
         record {
           whole = λ p. whole;

@@ -20,12 +20,29 @@ use Rattle.rows.specs.Node.{Text, Nodes, comment, line, emptyLine, none, _then_
 use Rattle.rows.specs.Rows.{size, sizes}
 use Rattle.state.specs.Act.{Given, St, Out, Act, Asking, next, join, _⨟_, _⨟!_, skip, push, moveTo, pop, told, answering}
 use Rattle.comments.specs.Comments.{
-    nth, front, remark, newlines, ignoreNewlines, popComment, waits, popComments, popWhitespace, popTrailingComment
+  nth,
+  front,
+  remark,
+  newlines,
+  ignoreNewlines,
+  popComment,
+  waits,
+  popComments,
+  popWhitespace,
+  popTrailingComment,
 }
 use Rattle.facts.specs.Placing.{trimmed}
 use Rattle.facts.specs.Sound.{depth, depths, Inside, TextsOf, TextsIn, Ranged, Commented, Sound, Sounds}
 use Rattle.facts.proofs.Steps.{
-    sound-then, _⨾_, fewer, sound-skip, sound-moveTo, sound-line, sound-emptyLine, sound-comment, sound-cond
+  sound-then,
+  _⨾_,
+  fewer,
+  sound-skip,
+  sound-moveTo,
+  sound-line,
+  sound-emptyLine,
+  sound-comment,
+  sound-cond,
 }
 
 -- trimming doesn't move the end forward

@@ -117,7 +117,7 @@ module _ {g : Given} {t : SyntaxTree} {at : ℕ} (a : Stands g t at) where
       let q = parted (g .source) (g .image) ys zs (p .mid) end (p .rest) in
       let o = declarations-order (g .source) (g .image) xs from (p .mid) (p .first) in
       let h : declarationsHeight ys ≤ 66 =
-          omega (arith, height-first ys zs, height-rest xs (ys ++ zs), ap declarationsHeight e, low)
+      omega (arith, height-first ys zs, height-rest xs (ys ++ zs), ap declarationsHeight e, low)
       in
       fewer (sound-declarations (a .comments) ys (p .mid) (q .mid) first (q .first) (omega arith)) (omega (arith, o, q .order))
 

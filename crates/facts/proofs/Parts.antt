@@ -14,29 +14,116 @@ use borrow.Author.Tests.{leb-true}
 use Rattle.text.proofs.Counts.{range-inside}
 use Rattle.image.specs.Bytes.{be32}
 use Rattle.tree.specs.Syntax.{
-    Span, Ident, Path, Idents, TypeExpr, type, TypeForm, option, typePath, never, unit, recordType, TypeArgs, noArgs, args, Types, noTypes,
-    _∷ᵗ_, Fields, noFields, field, Import, import, ImportGroup, noGroup, group, Imports, noImports, _∷ⁱ_, Pattern, underscore, enumVariant
+  Span,
+  Ident,
+  Path,
+  Idents,
+  TypeExpr,
+  type,
+  TypeForm,
+  option,
+  typePath,
+  never,
+  unit,
+  recordType,
+  TypeArgs,
+  noArgs,
+  args,
+  Types,
+  noTypes,
+  _∷ᵗ_,
+  Fields,
+  noFields,
+  field,
+  Import,
+  import,
+  ImportGroup,
+  noGroup,
+  group,
+  Imports,
+  noImports,
+  _∷ⁱ_,
+  Pattern,
+  underscore,
+  enumVariant,
 }
 use Rattle.tree.specs.At.{
-    Head, Record, Absent, Done, Before, past, IdentAt, IdentsAt, PathAt, ListAt, Maybe, TypeAt, TypeFormAt, TypeArgsAt, TypesAt,
-    FieldsAt, ImportAt, ImportGroupAt, ImportsAt, PatternAt
+  Head,
+  Record,
+  Absent,
+  Done,
+  Before,
+  past,
+  IdentAt,
+  IdentsAt,
+  PathAt,
+  ListAt,
+  Maybe,
+  TypeAt,
+  TypeFormAt,
+  TypeArgsAt,
+  TypesAt,
+  FieldsAt,
+  ImportAt,
+  ImportGroupAt,
+  ImportsAt,
+  PatternAt,
 }
 use Rattle.rows.specs.Node.{Text, ascii, str, line, lineOrSpace, wrapParent, ifWrap}
 use Rattle.rows.specs.Ascii.{bytes}
 use Rattle.rows.specs.Words.{table, words, joined, placeIn, word}
 use Rattle.state.specs.Act.{Given, Act, skip, push, says}
 use Rattle.layout.specs.Layout.{
-    WrapStyle, Tight, Spaced, Wrap, Elem, elements, separated, pathMore, pathRule, ident, identElems, typeExpr, typeForm, typeArgs, typeElems,
-    fieldElems, lastSpan, importPath, importGroup, importItems, importElems, pattern
+  WrapStyle,
+  Tight,
+  Spaced,
+  Wrap,
+  Elem,
+  elements,
+  separated,
+  pathMore,
+  pathRule,
+  ident,
+  identElems,
+  typeExpr,
+  typeForm,
+  typeArgs,
+  typeElems,
+  fieldElems,
+  lastSpan,
+  importPath,
+  importGroup,
+  importItems,
+  importElems,
+  pattern,
 }
 use Rattle.facts.specs.Sound.{Inside, Ranged, Commented, Sounds}
 use Rattle.facts.specs.Height.{
-    typeHeight, typeFormHeight, argsHeight, typesHeight, fieldsHeight, importHeight, groupHeight, importsHeight
+  typeHeight,
+  typeFormHeight,
+  argsHeight,
+  typesHeight,
+  fieldsHeight,
+  importHeight,
+  groupHeight,
+  importsHeight,
 }
 use Rattle.facts.proofs.Tests.{typeSpan, importSpan, isGroup, oneOr}
 use Rattle.facts.proofs.Steps.{
-    _⨾_, wider, fewer, sound-skip, sound-line, sound-lineOrSpace, sound-wrapParent, sound-ascii, sound-str, sound-ifWrap, sound-when, sound-cond,
-    sound-grouped, sound-indented
+  _⨾_,
+  wider,
+  fewer,
+  sound-skip,
+  sound-line,
+  sound-lineOrSpace,
+  sound-wrapParent,
+  sound-ascii,
+  sound-str,
+  sound-ifWrap,
+  sound-when,
+  sound-cond,
+  sound-grouped,
+  sound-indented,
 }
 use Rattle.facts.proofs.Gaps.{sound-gap, sound-trailing}
 

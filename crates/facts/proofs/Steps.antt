@@ -7,12 +7,47 @@ use mathlib.Core.List.{List, [], _∷_}
 use native.Mathlib.Omega.{arith}
 use lib.ListN.{length}
 use Rattle.rows.specs.Node.{
-    Text, Node, Nodes, group, indent, indentNext, wrapParent, comment, str, ascii, line, emptyLine, lineOrSpace, ifWrap, call, none, _then_
+  Text,
+  Node,
+  Nodes,
+  group,
+  indent,
+  indentNext,
+  wrapParent,
+  comment,
+  str,
+  ascii,
+  line,
+  emptyLine,
+  lineOrSpace,
+  ifWrap,
+  call,
+  none,
+  _then_,
 }
 use Rattle.rows.specs.Rows.{size, sizes}
 use Rattle.state.specs.Act.{
-    Given, St, Out, Act, Asking, next, join, _⨟_, _⨟?_, _⨟!_, skip, when, push, moveTo, pop, told, answering, grouped, indented, indentedNext,
-    called
+  Given,
+  St,
+  Out,
+  Act,
+  Asking,
+  next,
+  join,
+  _⨟_,
+  _⨟?_,
+  _⨟!_,
+  skip,
+  when,
+  push,
+  moveTo,
+  pop,
+  told,
+  answering,
+  grouped,
+  indented,
+  indentedNext,
+  called,
 }
 use Rattle.state.proofs.Joins.{sizes-join}
 use Rattle.facts.specs.Sound.{depth, depths, Inside, TextsOf, TextsIn, Sound, Sounds}
@@ -47,7 +82,6 @@ pub _⨾_ : {g : Given} {a b : Act} {m n d : ℕ} → Sounds g m d a → Sounds 
 _⨾_ {g} {a} {b} p q = record { from = λ s. sound-then a b s (p .from s) (q .from (next s (a s))) }
 
 infixr 50 _⨾_
-
 -- fewer and less deep is sound too
 pub wider : {g : Given} {a : Act} {m n d e : ℕ} → Sounds g m d a → m ≤ n → d ≤ e → Sounds g n e a
 wider {g} {a} {m} {n} {d} {e} p h i =

@@ -6,7 +6,23 @@ use mathlib.Core.Option.{some}
 use lib.ListN.{length, getD}
 use Rattle.tree.specs.Syntax.{Span}
 use Rattle.rows.specs.Node.{
-    Text, Node, Nodes, group, indent, indentNext, wrapParent, comment, str, ascii, line, emptyLine, lineOrSpace, ifWrap, call, none, _then_
+  Text,
+  Node,
+  Nodes,
+  group,
+  indent,
+  indentNext,
+  wrapParent,
+  comment,
+  str,
+  ascii,
+  line,
+  emptyLine,
+  lineOrSpace,
+  ifWrap,
+  call,
+  none,
+  _then_,
 }
 use Rattle.rows.specs.Rows.{sizes}
 use Rattle.rows.specs.Words.{words}
