@@ -1,20 +1,17 @@
 -- Declarations and the whole document are laid soundly.
 -- Assumes nothing.
-use Prim.Native.Nat.{ℕ, zero, suc, _+_, _*_, _-_, _≤_, _<_, max}
-use mathlib.Core.Path.{_≡_, refl, sym, ap, subst, _∙_}
-use mathlib.Core.Bool.{Bool, true, false, cond, not, _&&_}
-use mathlib.Core.List.{List, [], _∷_, _++_}
+use Prim.Native.Nat.{ℕ, _+_, _*_, _-_, _≤_}
+use mathlib.Core.Path.{refl}
+use mathlib.Core.Bool.{Bool, true, false, not, _&&_}
+use mathlib.Core.List.{List, [], _∷_}
 use mathlib.Core.Option.{Option, none as nothing, some}
 use native.Mathlib.Omega.{arith}
 use lib.ListN.{length}
-use Rattle.text.specs.Space.{trimEnd}
 use Rattle.image.specs.Bytes.{be32}
 use Rattle.tree.specs.Syntax.{
   Span,
   Ident,
   Idents,
-  TypeExpr,
-  Types,
   noTypes,
   _∷ᵗ_,
   Fields,
@@ -31,21 +28,7 @@ use Rattle.tree.specs.Syntax.{
   importDecl,
   SyntaxTree,
 }
-use Rattle.tree.specs.At.{
-  Head,
-  Record,
-  Done,
-  past,
-  IdentAt,
-  ListAt,
-  Maybe,
-  TypesAt,
-  FieldsAt,
-  VariantsAt,
-  DeclarationAt,
-  DeclarationsAt,
-  TreeAt,
-}
+use Rattle.tree.specs.At.{Head, past, IdentAt, ListAt, Maybe, TypesAt, FieldsAt, VariantsAt, DeclarationAt, DeclarationsAt, TreeAt}
 use Rattle.rows.specs.Words.{placeIn}
 use Rattle.state.specs.Act.{Given, Act, skip}
 use Rattle.comments.specs.Comments.{popWhitespace}
@@ -63,10 +46,10 @@ use Rattle.layout.specs.Layout.{
   declarationsRule,
   fmtParsed,
 }
-use Rattle.facts.specs.Sound.{Inside, Ranged, Commented, Sounds}
-use Rattle.facts.specs.Height.{typesHeight, fieldsHeight, variantsHeight, declarationHeight, declarationsHeight, treeHeight}
+use Rattle.facts.specs.Sound.{Ranged, Commented, Sounds}
+use Rattle.facts.specs.Height.{fieldsHeight, variantsHeight, declarationHeight, declarationsHeight, treeHeight}
 use Rattle.facts.proofs.Tests.{importSpan, unlessEmpty}
-use Rattle.facts.proofs.Steps.{_⨾_, deeper, fewer, sound-skip, sound-line, sound-emptyLine, sound-str, sound-when, sound-asks}
+use Rattle.facts.proofs.Steps.{_⨾_, fewer, sound-skip, sound-line, sound-emptyLine, sound-str, sound-when, sound-asks}
 use Rattle.facts.proofs.Gaps.{trimEnd-le, sound-gap}
 use Rattle.facts.proofs.Parts.{
   sound-says,

@@ -1,11 +1,11 @@
 -- Expressions, blocks and statements are laid soundly: a record of n bytes takes n rows at most, and goes two rows deeper with each record.
 -- Assumes nothing.
-use Prim.Native.Nat.{ℕ, zero, suc, _+_, _*_, _-_, _≤_, _<_, max}
+use Prim.Native.Nat.{ℕ, zero, suc, _+_, _*_, _-_, _≤_, max}
 use Prim.Native.String.{String, len}
-use mathlib.Core.Path.{_≡_, refl, sym, ap, subst, _∙_}
+use mathlib.Core.Path.{_≡_, refl}
 use mathlib.Core.Bool.{Bool, true, false, cond, not, _&&_}
 use mathlib.Core.List.{List, [], _∷_}
-use mathlib.Core.Option.{Option, none as nothing, some}
+use mathlib.Core.Option.{none as nothing, some}
 use native.Mathlib.Omega.{arith}
 use lib.ListN.{length, getD}
 use lib.Dec.{ltb, leb, eqb}
@@ -13,11 +13,6 @@ use Rattle.text.proofs.Tests.{and-left, and-right}
 use Rattle.image.specs.Bytes.{be32}
 use Rattle.tree.specs.Syntax.{
   Span,
-  Ident,
-  Path,
-  TypeExpr,
-  Import,
-  Pattern,
   Expr,
   expr,
   Form,
@@ -74,19 +69,8 @@ use Rattle.tree.specs.Syntax.{
   does,
 }
 use Rattle.tree.specs.At.{
-  Head,
-  Record,
-  Absent,
-  Done,
-  Before,
   past,
-  formKind,
-  IdentAt,
-  PathAt,
   Maybe,
-  TypeAt,
-  ByteAt,
-  OpAt,
   ExprAt,
   FormAt,
   ExprsAt,
@@ -100,12 +84,11 @@ use Rattle.tree.specs.At.{
   StmtAt,
   StmtFormAt,
 }
-use Rattle.rows.specs.Node.{Text, ascii, line}
+use Rattle.rows.specs.Node.{ascii, line}
 use Rattle.rows.specs.Words.{table, placeIn}
 use Rattle.state.specs.Act.{Given, Act, _⨟_, skip, push, told, grouped, indented, says, content}
 use Rattle.comments.specs.Comments.{popWhitespace, popTrailingComment}
 use Rattle.layout.specs.Layout.{
-  WrapStyle,
   Tight,
   Spaced,
   Wrap,
@@ -139,10 +122,8 @@ use Rattle.layout.specs.Layout.{
   stmtRule,
   stmtForm,
 }
-use Rattle.facts.specs.Sound.{Inside, Ranged, Commented, Sounds}
+use Rattle.facts.specs.Sound.{Ranged, Commented, Sounds}
 use Rattle.facts.specs.Height.{
-  typeHeight,
-  importHeight,
   exprHeight,
   formHeight,
   exprsHeight,

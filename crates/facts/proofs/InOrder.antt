@@ -2,7 +2,7 @@
 -- Assumes nothing.
 use Prim.Native.Nat.{ℕ, zero, suc}
 use Prim.Native.String.{String}
-use mathlib.Core.Path.{_≡_, refl}
+use mathlib.Core.Path.{refl}
 use mathlib.Core.Bool.{Bool, true, false, cond, not, _&&_}
 use mathlib.Core.List.{List, [], _∷_}
 use mathlib.Core.Option.{Option, none as nothing, some}
@@ -108,7 +108,7 @@ use Rattle.tree.specs.Syntax.{
   importDecl,
   SyntaxTree,
 }
-use Rattle.rows.specs.Node.{Text, ascii, str, line, emptyLine, lineOrSpace, wrapParent, ifWrap}
+use Rattle.rows.specs.Node.{Text, ascii, str, line, lineOrSpace, wrapParent, ifWrap}
 use Rattle.state.specs.Act.{Given, Act, _⨟_, skip, push}
 use Rattle.layout.specs.Layout.{
   WrapStyle,

@@ -3,62 +3,19 @@
 -- and nothing is asked of the grammar.
 -- Assumes nothing.
 use Prim.Native.Nat.{ℕ, zero, suc, _+_, _≤_, max}
-use mathlib.Core.Path.{_≡_, refl, sym, ap, _∙_}
+use mathlib.Core.Path.{_≡_, refl, ap}
 use mathlib.Core.Bool.{Bool, true, false, cond, false≢true}
 use mathlib.Core.List.{List, [], _∷_}
-use mathlib.Core.Option.{Option, none, some}
 use native.Mathlib.Omega.{arith}
-use lib.ListN.{length, getD}
+use lib.ListN.{length}
 use lib.Dec.{ltb, eqb}
 use Rattle.image.specs.Grammar.{bare, place, after, over}
-use Rattle.image.specs.Read.{
-  Read,
-  got,
-  bad,
-  bind,
-  Head,
-  headAt,
-  Tree,
-  Trees,
-  absent,
-  node,
-  nil,
-  _▸_,
-  skips,
-  childBy,
-  recordAt,
-  childrenAt,
-  treeAt,
-}
+use Rattle.image.specs.Read.{Read, got, bad, bind, Head, Tree, Trees, absent, node, nil, _▸_, skips, childBy, recordAt, childrenAt, treeAt}
 use Rattle.image.proofs.Shapes.{isGot}
 use Rattle.image.proofs.Inside.{inside, none-deep}
-use Rattle.tree.specs.Syntax.{
-  Span,
-  Path,
-  Idents,
-  TypeExpr,
-  TypeArgs,
-  Types,
-  Fields,
-  Import,
-  ImportGroup,
-  Imports,
-  Expr,
-  MaybeExpr,
-  Exprs,
-  Entries,
-  Arms,
-  Parts,
-  Block,
-  MaybeBlock,
-  Stmts,
-  Stmt,
-  Variants,
-  Declaration,
-  SyntaxTree,
-}
+use Rattle.tree.specs.Syntax.{Span, TypeExpr, Types, Fields, Imports, Expr, Entries, Arms, Parts, Block, Variants}
 use Rattle.tree.specs.Records as records
-use Rattle.tree.specs.Records.{Views, Forms, else, _⇒_∣_, form, nothing, viewsOf, views, each, treeOf, syntaxTree}
+use Rattle.tree.specs.Records.{Views, Forms, else, _⇒_∣_, form, nothing, viewsOf, views, each, syntaxTree}
 use Rattle.facts.specs.Height.{
   levels,
   levelsIn,

@@ -1,29 +1,25 @@
 -- What follows for an accepted image: the rows and the numbers of a document fit, from the fresh state within the limits of document 01;
 -- its rows are 133 deep at most; its texts lie inside their origins; its position stays in the source.
 -- Assumes nothing.
-use Prim.Native.Nat.{ℕ, zero, suc, _+_, _*_, _-_, _≤_, _<_}
-use mathlib.Core.Path.{_≡_, refl, sym, ap, subst, _∙_}
-use mathlib.Core.Bool.{Bool, true, false}
+use Prim.Native.Nat.{ℕ, _+_, _*_, _≤_}
+use mathlib.Core.Path.{_≡_, refl, ap}
+use mathlib.Core.Bool.{Bool, true}
 use mathlib.Core.List.{List, [], _∷_, _++_}
-use mathlib.Core.Option.{Option, none as nothing, some}
 use native.Mathlib.Omega.{arith}
 use lib.ListN.{length}
 use Rattle.text.proofs.Counts.{range-inside}
-use Rattle.image.specs.Bytes.{be16, be32}
-use Rattle.image.proofs.CommentList.{Comment}
+use Rattle.image.specs.Bytes.{be32}
 use Rattle.image.proofs.Accepted.{Root}
-use Rattle.tree.specs.Syntax.{Span, Declaration, SyntaxTree}
-use Rattle.tree.specs.At.{past, DeclarationsAt, TreeAt}
+use Rattle.tree.specs.Syntax.{Declaration, SyntaxTree}
+use Rattle.tree.specs.At.{past, DeclarationsAt}
 use Rattle.tree.specs.Records.{syntaxTree}
 use Rattle.tree.proofs.Whole.{root-at}
-use Rattle.rows.specs.Rows.{sizes}
-use Rattle.state.specs.Act.{Given, St, Out, Act, _⨟_}
-use Rattle.state.specs.Laid.{st, top, Room}
+use Rattle.state.specs.Act.{Given, Act}
+use Rattle.state.specs.Laid.{st, Room}
 use Rattle.state.specs.declared.Cursor.{Cursor}
-use Rattle.comments.specs.Comments.{nth}
-use Rattle.layout.specs.Layout.{shebangRule, declarationsRule, fmtParsed}
-use Rattle.facts.specs.Placing.{Placed, Places}
-use Rattle.facts.specs.Sound.{depths, TextsIn, Ranged, Commented, Sound, Sounds}
+use Rattle.layout.specs.Layout.{declarationsRule, fmtParsed}
+use Rattle.facts.specs.Placing.{Places}
+use Rattle.facts.specs.Sound.{Commented, Sounds}
 use Rattle.facts.specs.Height.{declarationsHeight, treeHeight}
 use Rattle.facts.specs.Accepted.{Paired, Stands, fresh, upTo, Within}
 use Rattle.facts.proofs.Placing.{front-is, places-then}

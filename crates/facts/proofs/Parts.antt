@@ -1,11 +1,11 @@
 -- The rules without expressions are sound: a part whose record has n bytes takes n rows at most, and goes two rows deeper with each record.
 -- Assumes nothing.
-use Prim.Native.Nat.{ℕ, zero, suc, _+_, _*_, _-_, _≤_, _<_, max}
+use Prim.Native.Nat.{ℕ, _+_, _*_, _-_, _≤_}
 use Prim.Native.String.{String, len}
-use mathlib.Core.Path.{_≡_, refl, sym, ap, subst, _∙_}
-use mathlib.Core.Bool.{Bool, true, false, cond, not, _&&_}
+use mathlib.Core.Path.{_≡_, refl}
+use mathlib.Core.Bool.{Bool, true, false, not, _&&_}
 use mathlib.Core.List.{List, [], _∷_}
-use mathlib.Core.Option.{Option, none as nothing, some}
+use mathlib.Core.Option.{none as nothing, some}
 use native.Mathlib.Omega.{arith}
 use lib.ListN.{length}
 use lib.Dec.{leb}
@@ -49,10 +49,6 @@ use Rattle.tree.specs.Syntax.{
 }
 use Rattle.tree.specs.At.{
   Head,
-  Record,
-  Absent,
-  Done,
-  Before,
   past,
   IdentAt,
   IdentsAt,
@@ -69,10 +65,10 @@ use Rattle.tree.specs.At.{
   ImportsAt,
   PatternAt,
 }
-use Rattle.rows.specs.Node.{Text, ascii, str, line, lineOrSpace, wrapParent, ifWrap}
+use Rattle.rows.specs.Node.{line, lineOrSpace}
 use Rattle.rows.specs.Ascii.{bytes}
 use Rattle.rows.specs.Words.{table, words, joined, placeIn, word}
-use Rattle.state.specs.Act.{Given, Act, skip, push, says}
+use Rattle.state.specs.Act.{Given, Act, push, says}
 use Rattle.layout.specs.Layout.{
   WrapStyle,
   Tight,
@@ -111,7 +107,6 @@ use Rattle.facts.specs.Height.{
 use Rattle.facts.proofs.Tests.{typeSpan, importSpan, isGroup, oneOr}
 use Rattle.facts.proofs.Steps.{
   _⨾_,
-  wider,
   fewer,
   sound-skip,
   sound-line,
@@ -121,7 +116,6 @@ use Rattle.facts.proofs.Steps.{
   sound-str,
   sound-ifWrap,
   sound-when,
-  sound-cond,
   sound-grouped,
   sound-indented,
 }

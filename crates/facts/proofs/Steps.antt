@@ -1,30 +1,11 @@
 -- Laws of sound steps: each way of joining steps has one.
 -- Assumes nothing.
-use Prim.Native.Nat.{ℕ, zero, suc, _+_, _*_, _-_, _≤_, _<_, max, min}
-use mathlib.Core.Path.{_≡_, refl, sym, ap, ap₂, subst, _∙_}
-use mathlib.Core.Bool.{Bool, true, false, cond, _&&_}
-use mathlib.Core.List.{List, [], _∷_}
+use Prim.Native.Nat.{ℕ, _+_, _≤_, _<_, max}
+use mathlib.Core.Path.{_≡_, refl}
+use mathlib.Core.Bool.{Bool, true, false, cond}
 use native.Mathlib.Omega.{arith}
 use lib.ListN.{length}
-use Rattle.rows.specs.Node.{
-  Text,
-  Node,
-  Nodes,
-  group,
-  indent,
-  indentNext,
-  wrapParent,
-  comment,
-  str,
-  ascii,
-  line,
-  emptyLine,
-  lineOrSpace,
-  ifWrap,
-  call,
-  none,
-  _then_,
-}
+use Rattle.rows.specs.Node.{Text, Node, Nodes, wrapParent, comment, str, ascii, line, emptyLine, lineOrSpace, ifWrap, none, _then_}
 use Rattle.rows.specs.Rows.{size, sizes}
 use Rattle.state.specs.Act.{
   Given,
@@ -36,14 +17,11 @@ use Rattle.state.specs.Act.{
   join,
   _⨟_,
   _⨟?_,
-  _⨟!_,
   skip,
   when,
   push,
   moveTo,
-  pop,
   told,
-  answering,
   grouped,
   indented,
   indentedNext,

@@ -1,5 +1,5 @@
 -- The tests and choices of the layout rules that are private there, under their names, so that a law can speak of them.
-use Prim.Native.Nat.{ℕ}
+
 use mathlib.Core.Bool.{Bool, true, false}
 use mathlib.Core.List.{List, [], _∷_}
 use Rattle.tree.specs.Syntax.{

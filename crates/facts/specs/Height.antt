@@ -5,10 +5,6 @@ use mathlib.Core.List.{List, [], _∷_}
 use mathlib.Core.Option.{Option, none, some}
 use Rattle.image.specs.Read.{Tree, Trees, absent, node, nil, _▸_}
 use Rattle.tree.specs.Syntax.{
-  Span,
-  Ident,
-  Path,
-  Idents,
   TypeExpr,
   type,
   TypeForm,
