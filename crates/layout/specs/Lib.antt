@@ -1,1 +1,3 @@
 pub mod Layout
+pub mod Contracts
+pub mod Elems

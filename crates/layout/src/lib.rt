@@ -1,1 +1,5 @@
-// Layout.
+// The layout functions: `State` of fmt.rs from `separated` on.
+pub mod kinds;
+mod numbers;
+mod paths;
+mod pieces;

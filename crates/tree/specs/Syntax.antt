@@ -147,7 +147,6 @@ mutual
     does : Expr → StmtForm
 
 infixr 40 _∷ᵗ_ _∷ⁱ_ _∷ᵉ_ _∷ˢ_
-
 -- `Vec<Meta<Variant>>`
 pub data Variants : Type 0 where
   noVariants : Variants
