@@ -32,10 +32,14 @@ commentsOf b = pairsAt b (be16 b 5) 7
 abbrev pub given : List ℕ → List ℕ → Given
 given s b = record { source = s; image = b; comments = commentsOf b; columns = λ i. i .width }
 
+-- the comment list lies within the image
+abbrev pub ListFits : List ℕ → Type 0
+ListFits b = 7 + 8 * be16 b 5 ≤ length b
+
 -- the comment list of an accepted image: 8,192 at most, within the image, each not empty and a range of the source
 pub record Listed (s b : List ℕ) : Type 0 where
   pub few : be16 b 5 ≤ 8192
-  pub within : 7 + 8 * be16 b 5 ≤ length b
+  pub within : ListFits b
   pub order : (k : ℕ) → k < be16 b 5 → be32 b (7 + 8 * k) < be32 b (7 + 8 * k + 4)
   pub range : (k : ℕ) → k < be16 b 5 → isRange s (be32 b (7 + 8 * k)) (be32 b (7 + 8 * k + 4)) ≡ true
 

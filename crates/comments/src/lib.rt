@@ -4,10 +4,9 @@ ghost use mathlib.Core.Path.{_≡_};
 ghost use mathlib.Core.Bool.{cond};
 ghost use mathlib.Core.List.{List};
 ghost use mathlib.Core.Option.{some};
-ghost use Prim.Native.Nat.{ℕ, _+_, _*_, _≤_, _<_};
+ghost use Prim.Native.Nat.{ℕ, _+_, _≤_};
 ghost use lib.ListN.{length};
 ghost use lib.Dec.{eqb};
-ghost use Rattle.image.specs.Bytes.{be16};
 ghost use Rattle.rows.specs.Node.{line, emptyLine};
 ghost use Rattle.state.specs.Act.{skip, push, told};
 ghost use Rattle.state.specs.Laid.{cursor, st, Laid, LaidAsking};
@@ -22,7 +21,7 @@ ghost use Rattle.comments.specs.Comments.{
   popWhitespace,
   popTrailingComment,
 };
-ghost use Rattle.comments.specs.Listed.{span, commentsOf, given, Listed, pendingOf};
+ghost use Rattle.comments.specs.Listed.{span, commentsOf, given, ListFits, Listed, pendingOf};
 use image::bytes::num16;
 use image::bytes::num32;
 use state::Asked;
@@ -44,7 +43,7 @@ pub enum Pending {
 
 // `comments.front()`
 fn front(image: &[u8], c: Cursor) -> Pending
-    requires { ⌜ 7 + 8 * be16 (now image) 5 ≤ length (now image) ⌝ }
+    requires { ⌜ ListFits (now image) ⌝ }
     ensures { λ r. ⌜ r ≡ pendingOf (nth (commentsOf (now (image .entry))) (c .placed)) ⌝ }
 {
     let k = c.placed as usize;
@@ -59,7 +58,7 @@ fn front(image: &[u8], c: Cursor) -> Pending
 
 // Whether a comment waits before the position.
 fn is_waiting(image: &[u8], c: Cursor, position: u32) -> bool
-    requires { ⌜ 7 + 8 * be16 (now image) 5 ≤ length (now image) ⌝ }
+    requires { ⌜ ListFits (now image) ⌝ }
     ensures { λ r. ⌜ ((s : List ℕ) → r ≡ waits (given s (now (image .entry))) position (st c)) ⌝ }
 {
     match front(image, c) {
@@ -90,6 +89,7 @@ fn break_line(store: &mut [u32], c: Cursor, n: usize) -> Cursor
     empty_line(store, c)
 }
 
+// A line for one newline up to the position, an empty line for more; it answers whether there is any.
 fn newlines(store: &mut [u32], c: Cursor, source: &[u8], position: u32) -> Asked
     ensures { λ r. ⌜ ((b : List ℕ) → LaidAsking (newlines (given (now (source .entry)) b) position) (now (store .entry)) c (now (store .exit)) r) ⌝ }
 {
@@ -101,8 +101,9 @@ fn newlines(store: &mut [u32], c: Cursor, source: &[u8], position: u32) -> Asked
     }
 }
 
+// Goes to the position, or to the comment at the front where that starts before it.
 fn ignore_newlines(image: &[u8], c: Cursor, position: u32) -> Cursor
-    requires { ⌜ 7 + 8 * be16 (now image) 5 ≤ length (now image) ⌝ }
+    requires { ⌜ ListFits (now image) ⌝ }
     ensures { λ r. ⌜ ((s : List ℕ) → r ≡ cursor (c .row) (c .number) (ignoreNewlines (given s (now (image .entry))) position (st c) .pos) (c .placed)) ⌝ }
 {
     match front(image, c) {
@@ -125,7 +126,7 @@ fn before_comment(
     leading: bool,
     start: u32,
 ) -> Cursor
-    requires { ⌜ 7 + 8 * be16 (now image) 5 ≤ length (now image) ⌝ }
+    requires { ⌜ ListFits (now image) ⌝ }
     ensures { λ r. ⌜ Laid (cond leading (told (newlines (given (now (source .entry)) (now (image .entry))) start)) (ignoreNewlines (given (now (source .entry)) (now (image .entry))) start)) (now (store .entry)) c (now (store .exit)) r ⌝ }
 {
     if leading {
@@ -184,6 +185,8 @@ fn pop_comments(
     }
 }
 
+// Places the comments that start before the position, and goes there. The flags say which newlines are kept: `preserve_leading_whitespace`,
+// `preserve_trailing_whitespace` and `preserve_only_whitespace` of the Rust.
 pub fn pop_whitespace(
     store: &mut [u32],
     c: Cursor,
@@ -216,6 +219,7 @@ pub fn pop_whitespace(
     }
 }
 
+// Places the comment at the front, if it starts at the first place that is not white space or is a newline.
 pub fn pop_trailing_comment(store: &mut [u32], c: Cursor, source: &[u8], image: &[u8]) -> Cursor
     requires { ⌜ Listed (now source) (now image) ⌝ }
     ensures { λ r. ⌜ Laid (popTrailingComment (given (now (source .entry)) (now (image .entry)))) (now (store .entry)) c (now (store .exit)) r ⌝ }

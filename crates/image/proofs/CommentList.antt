@@ -1,8 +1,8 @@
 -- What the reading of the comment list says, one comment at a time, and of each comment of an accepted list.
 -- Assumes nothing.
-use mathlib.Core.Path.{_≡_, refl, sym, ap, _∙_}
+use mathlib.Core.Path.{_≡_, refl}
 use mathlib.Core.List.{List}
-use mathlib.Core.Bool.{Bool, true, false, cond, _&&_, false≢true}
+use mathlib.Core.Bool.{Bool, true, false, cond, _&&_}
 use Prim.Native.Nat.{ℕ, zero, suc, _+_, _*_, _-_, _≤_, _<_}
 use native.Mathlib.Omega.{arith}
 use native.Mathlib.Numerals.{sub-one}
@@ -13,8 +13,8 @@ use borrow.Author.Tests.{leb-true, ltb-true}
 use Rattle.text.specs.Newlines.{isRange}
 use Rattle.text.proofs.Tests.{and-left, and-right}
 use Rattle.image.specs.Bytes.{be16, be32}
-use Rattle.image.specs.Read.{Read, got, bad, commentFits, commentsFrom, comments, stepOf}
-use Rattle.image.specs.declared.records.Step.the-variants.{Next, Fault}
+use Rattle.image.specs.Read.{got, bad, commentFits, commentsFrom, comments, stepOf}
+use Rattle.image.specs.declared.records.Step.the-variants.{Next}
 
 -- where the comment after the one at `at` may start at the earliest
 abbrev pub least-after : Bool → List ℕ → ℕ → ℕ

@@ -4,3 +4,9 @@ pub mod Shapes
 pub mod Reading
 pub mod CommentList
 pub mod Whole
+pub mod Inside
+pub mod Rows
+pub mod Accepted
+pub mod Exact
+pub mod Examples
+pub mod Numbers

@@ -11,33 +11,11 @@ use lib.Dec.{ltb, eqb}
 use borrow.Author.Tests.{lt-ltb, le-ltb, eq-eqb, ne-eqb}
 use Rattle.image.specs.Bytes.{be32}
 use Rattle.image.specs.Grammar.{bare, place, after, over, rowUnder, firstChild}
-use Rattle.image.specs.Read.{
-  Read,
-  got,
-  bad,
-  bind,
-  Head,
-  headAt,
-  stopAt,
-  kindAt,
-  Tree,
-  Trees,
-  absent,
-  node,
-  nil,
-  _▸_,
-  opens,
-  skips,
-  childAt,
-  recordAt,
-  childrenAt,
-  openOf,
-  stepOf,
-}
+use Rattle.image.specs.Read.{Read, got, bad, bind, Head, headAt, stopAt, kindAt, Tree, Trees, absent, node, nil, _▸_, opens, skips, childAt, recordAt, childrenAt, openOf, stepOf}
 use Rattle.image.specs.declared.records.Step.{Step}
 use Rattle.image.specs.declared.records.Step.the-variants.{Next, Fault}
 use Rattle.image.specs.declared.records.Open.the-variants.{Record, Wrong}
-use Rattle.image.proofs.Shapes.{Opened, opened, opened-after, opened-order, is-opened, skips-within}
+use Rattle.image.proofs.Shapes.{Opened, opened, is-opened, skips-within}
 
 -- ---- one record
 pub record-bad : (s b : List ℕ) (v left p at end n q : ℕ) → opens s b v left p at end ≡ bad n q → recordAt s b v left p at end ≡ bad n q

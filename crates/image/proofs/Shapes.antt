@@ -1,17 +1,18 @@
 -- What the tests of one record say: where its payload and the record itself end.
 -- Assumes nothing.
-use mathlib.Core.Path.{_≡_, refl, sym, ap, _∙_}
+use mathlib.Core.Path.{_≡_, refl, ap}
 use mathlib.Core.List.{List}
-use mathlib.Core.Bool.{Bool, true, false, cond, not, _&&_, _||_, false≢true, true≢false}
-use Prim.Native.Nat.{ℕ, zero, suc, _+_, _-_, _≤_, _<_}
+use mathlib.Core.Bool.{Bool, true, false, cond, not, _&&_, false≢true, true≢false}
+use Prim.Native.Nat.{ℕ, _+_, _/_, _%_, _≤_, _<_}
 use native.Mathlib.Omega.{arith}
-use lib.ListN.{length, getD}
+use lib.ListN.{getD}
 use lib.Dec.{leb, ltb, eqb}
 use borrow.Author.Tests.{leb-true, ltb-true, eqb-false, eqb-true, ne-eqb, le-leb}
+use Rattle.text.specs.Utf8.{wellFormed}
 use Rattle.text.specs.Newlines.{isRange}
 use Rattle.text.proofs.Tests.{and-left, and-right}
-use Rattle.image.specs.Bytes.{be32}
-use Rattle.image.specs.Grammar.{isOptional, kindFits, payloadFits, firstChild, hasByte}
+use Rattle.image.specs.Bytes.{be32, part}
+use Rattle.image.specs.Grammar.{isList, isOptional, kindFits, payloadFits, firstChild, hasByte, topByte}
 use Rattle.image.specs.Read.{Read, got, bad, Head, headAt, stopAt, kindAt, shape, opens, skips}
 
 pub record Shaped (b : List ℕ) (v p at end : ℕ) : Type 0 where
@@ -67,6 +68,39 @@ pub first-after : (k from stop : ℕ) → from ≤ stop → from ≤ firstChild 
 unfolding firstChild
 first-after k from stop le = starts-first (eqb k 2) (hasByte k) from stop le
 
+-- a text is its width, in v bytes, then well-formed UTF-8
+pub text-payload : (b : List ℕ) (v p from stop : ℕ) → payloadFits b v p 2 from stop ≡ true
+    → (from + v ≤ stop) × (wellFormed (part (from + v) stop b) ≡ true)
+unfolding payloadFits
+text-payload b v p from stop e =
+    let t₁ = leb (from + v) stop in
+    let t₂ = wellFormed (part (from + v) stop b) in
+    (leb-true (from + v) stop (and-left t₁ t₂ e), and-right t₁ t₂ e)
+
+-- a payload byte is there, and no larger than its kind and place allow
+pub byte-payload : (b : List ℕ) (v p k from stop : ℕ) → eqb k 2 ≡ false → hasByte k ≡ true → payloadFits b v p k from stop ≡ true
+    → (from < stop) × (getD b from 0 ≤ topByte p k)
+unfolding payloadFits
+byte-payload b v p k from stop n h e =
+    let t₁ = ltb from stop in
+    let t₂ = leb (getD b from 0) (topByte p k) in
+    let both : t₁ && t₂ ≡ true = simp (n, h) at e in
+    (ltb-true from stop (and-left t₁ t₂ both), leb-true (getD b from 0) (topByte p k) (and-right t₁ t₂ both))
+
+-- ---- the kind
+-- a list at a list's place; elsewhere one of the place's range
+pub kind-list : (p k : ℕ) → isList p ≡ true → kindFits p k ≡ true → k ≡ 3
+unfolding kindFits
+kind-list p k l e = eqb-true k 3 (simp l at e)
+
+pub kind-range : (p k : ℕ) → isList p ≡ false → kindFits p k ≡ true → (p % 128 ≤ k) × (k ≤ p % 128 + p / 128 % 32)
+unfolding kindFits
+kind-range p k l e =
+    let t₁ = leb (p % 128) k in
+    let t₂ = leb k (p % 128 + p / 128 % 32) in
+    let both : t₁ && t₂ ≡ true = simp l at e in
+    (leb-true (p % 128) k (and-left t₁ t₂ both), leb-true k (p % 128 + p / 128 % 32) (and-right t₁ t₂ both))
+
 -- ---- a record that passes the tests
 pub record Opened (s b : List ℕ) (v left p at end : ℕ) : Type 0 where
   pub more : ¬ (left ≡ 0)
@@ -81,7 +115,7 @@ pub opened-order : {s b : List ℕ} {v left p at end : ℕ} → Opened s b v lef
 opened-order {b = b} {v = v} {p = p} {at = at} o =
     first-within b v p (kindAt b at) (at + 13) (stopAt b at) (omega (arith, o .right .long)) (o .right .payload)
 
-abbrev isGot : {A : Type 0} → Read A → Bool
+abbrev pub isGot : {A : Type 0} → Read A → Bool
 isGot (got a n) = true
 isGot (bad n p) = false
 

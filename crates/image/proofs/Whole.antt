@@ -1,8 +1,8 @@
 -- The whole reading by its parts: what each part answers decides what the whole answers.
 -- Assumes nothing.
-use mathlib.Core.Path.{_≡_, refl, sym, ap, _∙_}
+use mathlib.Core.Path.{_≡_, ap, _∙_}
 use mathlib.Core.List.{List}
-use mathlib.Core.Bool.{Bool, true, false, cond, _&&_}
+use mathlib.Core.Bool.{Bool, true, cond, _&&_}
 use Prim.Native.Nat.{ℕ, _+_, _≤_, _<_}
 use native.Mathlib.Omega.{arith}
 use lib.ListN.{length, getD}
@@ -10,23 +10,7 @@ use lib.Dec.{ltb, leb, eqb}
 use borrow.Author.Tests.{lt-ltb, le-ltb}
 use Rattle.text.proofs.Tests.{and-left, and-right}
 use Rattle.image.specs.Bytes.{be16, be32}
-use Rattle.image.specs.Read.{
-  Read,
-  got,
-  bad,
-  bind,
-  Tree,
-  Image,
-  header,
-  widthBytes,
-  comments,
-  recordAt,
-  treeAt,
-  readTree,
-  readImage,
-  stepOf,
-  answerOf,
-}
+use Rattle.image.specs.Read.{Read, got, bad, bind, Tree, Image, header, widthBytes, comments, recordAt, treeAt, readTree, readImage, stepOf, answerOf}
 use Rattle.image.specs.declared.records.Step.the-variants.{Next, Fault}
 use Rattle.image.specs.declared.Answer.the-variants.{Accepted, Refused}
 

@@ -1,7 +1,7 @@
 -- Bytes of an image: its numbers, all big-endian, and its parts.
-use Prim.Native.Nat.{ℕ, _+_, _*_, _-_, _^_, _<_}
 use mathlib.Core.Path.{_≡_}
 use mathlib.Core.List.{List}
+use Prim.Native.Nat.{ℕ, _+_, _*_, _-_, _^_, _<_}
 use lib.ListN.{getD, take, drop}
 
 -- the number in the two bytes at `at`

@@ -1,8 +1,8 @@
 -- Which payload and which children a record has, kind by kind: document 01, "Kinds and children".
 -- A place is where a child may stand, and a row is the places of a record in order. Both are numbers, the same in the code.
-use Prim.Native.Nat.{ℕ, _+_, _*_, _/_, _%_, _-_}
 use mathlib.Core.List.{List}
 use mathlib.Core.Bool.{Bool, true, cond, _&&_, _||_}
+use Prim.Native.Nat.{ℕ, _+_, _*_, _/_, _%_, _-_}
 use lib.ListN.{getD}
 use lib.Dec.{ltb, leb, eqb}
 use Rattle.text.specs.Utf8.{wellFormed}
@@ -29,6 +29,7 @@ may p = 16384 + p
 abbrev pub many : ℕ → ℕ
 many p = 32768 + p
 
+-- the marks of a place
 abbrev pub isList : ℕ → Bool
 isList p = eqb (p / 4096 % 2) 1
 
@@ -49,6 +50,7 @@ bare p = p % 16384
 abbrev pub element : ℕ → ℕ
 element p = p % 4096
 
+-- the kinds that document 01 names together
 abbrev pub declaration : ℕ
 declaration = upTo 10 16
 
@@ -64,6 +66,7 @@ expr = upTo 50 70
 -- ---- rows
 infixr 40 _⊳_
 infixr 30 _⇒_∣_
+-- no place
 abbrev pub none : ℕ
 none = 0
 
@@ -88,6 +91,7 @@ pub data Rules : Type 0 where
   others : Rules
   _⇒_∣_ : ℕ → ℕ → Rules → Rules
 
+-- document 01's table
 abbrev pub rules : Rules
 rules =
     1 ⇒ may 2 ⊳ many declaration ⊳ none ∣
@@ -136,6 +140,7 @@ rules =
     85 ⇒ expr ⊳ none ∣
     others
 
+-- the row of kind k
 abbrev pub look : ℕ → Rules → ℕ
 look k others = none
 look k (n ⇒ r ∣ rs) = cond (eqb k n) r (look k rs)

@@ -1,8 +1,8 @@
 -- What a source and an image read as: document 01, "The tree image", and refusals 1 to 7 of "When a call is turned down".
 -- s is the source and b the image. An offset `at` counts from b's first byte.
-use Prim.Native.Nat.{ℕ, zero, suc, _+_, _*_}
 use mathlib.Core.List.{List}
-use mathlib.Core.Bool.{Bool, true, false, cond, not, _&&_}
+use mathlib.Core.Bool.{Bool, false, cond, not, _&&_}
+use Prim.Native.Nat.{ℕ, zero, suc, _+_, _*_}
 use lib.ListN.{length, getD}
 use lib.Dec.{ltb, leb, eqb}
 use Rattle.text.specs.Utf8.{prefix, wellFormed}
@@ -26,6 +26,7 @@ pub record Head : Type 0 where
   pub first : ℕ
   pub stop : ℕ
 
+-- what stands at a child's place, and the children of a record in order
 mutual
   pub data Tree : Type 0 where
     absent : Tree
@@ -53,10 +54,11 @@ bind (got a n) k = k a n
 bind (bad n p) k = bad n p
 
 -- ---- refusal 3
+-- five bytes at least, version 1, the length of the bytes that follow, and no more of them than allowed
 unfoldable pub header : List ℕ → Bool
 header b = leb 5 (length b) && eqb (getD b 0 0) 1 && eqb (5 + be32 b 1) (length b) && leb (be32 b 1) 1048576
 
--- how many bytes a text's width has, by the image's version
+-- how many bytes a text's width has, by the image's version: two in version 1
 abbrev pub widthBytes : ℕ → ℕ
 widthBytes version = cond (eqb version 1) 2 0
 
@@ -78,13 +80,15 @@ comments ordered s b =
     cond (leb 7 (length b) && leb (be16 b 5) 8192 && leb (7 + 8 * be16 b 5) (length b)) (commentsFrom ordered s b (be16 b 5) 0 7) (bad 7 5)
 
 -- ---- refusals 4, 5 and 6, in reading order
--- where the record at `at` ends, and its kind
+-- where the record at `at` ends
 abbrev pub stopAt : List ℕ → ℕ → ℕ
 stopAt b at = at + 4 + be32 b at
 
+-- its kind
 abbrev pub kindAt : List ℕ → ℕ → ℕ
 kindAt b at = getD b (at + 4) 0
 
+-- what its bytes say of it
 abbrev pub headAt : List ℕ → ℕ → Head
 headAt b at =
     record {
@@ -136,6 +140,7 @@ recordAt s b v (suc left) p at end =
     (λ h first.
     bind (childrenAt (childBy b (recordAt s b v left)) (suc (length b)) (rowUnder p (h .kind)) first (h .stop)) (λ ts next. got (node h ts) next))
 
+-- the child at `at`, at place p of a parent that ends at `end`
 abbrev pub childAt : List ℕ → List ℕ → ℕ → ℕ → ℕ → ℕ → ℕ → Read Tree
 childAt s b v left = childBy b (recordAt s b v left)
 
@@ -156,7 +161,7 @@ readImage ordered s b =
     cond (not (header b)) (bad 3 0)
     (bind (comments ordered s b) (λ done at. readTree s b (widthBytes (getD b 0 0)) at))
 
--- refusal 1
+-- no refusal 1
 unfoldable pub sourceFits : List ℕ → Bool
 sourceFits s = leb (length s) 65536
 

@@ -1,6 +1,6 @@
 -- The bytes that a tree is written as.
-use Prim.Native.Nat.{ℕ, _+_, _/_, _%_}
 use mathlib.Core.List.{List, [], _∷_, _++_}
+use Prim.Native.Nat.{ℕ, _+_, _/_, _%_}
 use lib.ListN.{length}
 use Rattle.image.specs.Bytes.{part}
 use Rattle.image.specs.Read.{Tree, Trees, absent, node, nil, _▸_}

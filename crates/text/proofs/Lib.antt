@@ -1,7 +1,15 @@
+pub mod Boundaries
+pub mod Bytes
 pub mod Characters
+pub mod CommentEnds
 pub mod Counts
+pub mod Parts
+pub mod Prefixes
 pub mod Ranges
+pub mod Reached
 pub mod Runs
+pub mod Searches
 pub mod Sequences
 pub mod Tests
+pub mod Trims
 pub mod Walks

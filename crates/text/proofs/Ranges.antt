@@ -1,14 +1,14 @@
 -- Membership in a list of ranges that ascend without overlap: it is enough to look at the first range that ends at the number or after it.
 -- Assumes nothing.
-use mathlib.Core.Path.{_≡_, refl, sym, _∙_}
+use mathlib.Core.Path.{_≡_, refl}
 use mathlib.Core.Bool.{Bool, true, false, cond, _&&_, _||_}
 use mathlib.Core.List.{List, [], _∷_}
-use Prim.Native.Nat.{ℕ, suc, _≤_, _<_}
+use Prim.Native.Nat.{ℕ, suc, _<_}
 use native.Mathlib.Omega.{arith}
 use lib.Dec.{leb}
-use borrow.Author.Tests.{leb-true, leb-false}
+use borrow.Author.Tests.{leb-true}
 use Rattle.text.specs.Utf8.{within}
-use Rattle.text.specs.Space.{Range, range, oneOf, whiteSpace, isWhite}
+use Rattle.text.specs.Space.{Range, oneOf, whiteSpace, isWhite}
 use Rattle.text.proofs.Tests.{and-left, and-right, and-false, and-true, within-below}
 
 -- the ranges ascend from n on, and none overlaps the next

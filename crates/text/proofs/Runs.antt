@@ -1,14 +1,12 @@
 -- Laws of `run` and `prefix`: a text read one sequence after the other.
 -- Assumes nothing.
 use mathlib.Core.Path.{_≡_, refl, sym, ap, _∙_}
-use mathlib.Core.Bool.{Bool, true, false, cond}
 use mathlib.Core.List.{List}
 use Prim.Native.Nat.{ℕ, zero, suc, _+_, _≤_, _<_}
 use native.Mathlib.Omega.{arith}
 use lib.ListN.{length}
-use lib.Dec.{eqb, ltb}
 use borrow.Author.Tests.{eq-eqb, ne-eqb, le-ltb}
-use Rattle.text.specs.Utf8.{sequence, followed, run, prefix, wellFormed, checked}
+use Rattle.text.specs.Utf8.{sequence, run, prefix, wellFormed, checked}
 use Rattle.text.specs.declared.utf8.Checked.the-variants.{WellFormed, Bad}
 
 pub none-past : (s : List ℕ) (at : ℕ) → length s ≤ at → sequence s at ≡ 0

@@ -1,7 +1,7 @@
 -- Laws about the tests that definitions of specs/ go by.
 -- Assumes nothing.
 use mathlib.Core.Path.{_≡_, refl}
-use mathlib.Core.Bool.{Bool, true, false, _&&_}
+use mathlib.Core.Bool.{Bool, true, false, _&&_, _||_}
 use Prim.Native.Nat.{ℕ, zero, suc, _≤_, _<_}
 use native.Mathlib.Omega.{arith}
 use native.Mathlib.Nat.{not-suc-le-zero}
@@ -24,6 +24,12 @@ and-false false = refl
 pub and-true : (x : Bool) → x && true ≡ x
 and-true true = refl
 and-true false = refl
+
+pub or-right : (x y : Bool) → x || y ≡ true → x ≡ false → y ≡ true
+or-right x y e f = simp f at e
+
+pub clash : (x : Bool) → x ≡ true → x ≡ false → ⊥
+clash x e f = let z : _≡_ {A = ℕ} 0 1 = cc in omega arith
 
 pub within-in : (low high x : ℕ) → low ≤ x → x ≤ high → within low high x ≡ true
 unfolding within

@@ -133,18 +133,11 @@ pub record Absent (b : List ℕ) (at : ℕ) : Type 0 where
   pub zero : be32 b at ≡ 0
   pub fits : at + 4 ≤ length b
 
--- the last child ends where its record does
-pub record Ends (b : List ℕ) (last at : ℕ) : Type 0 where
-  pub same : stopAt b last ≡ stopAt b at
-
--- no child: the record ends at `from`
-pub record Bare (b : List ℕ) (from at : ℕ) : Type 0 where
-  pub same : from ≡ stopAt b at
-
--- the elements of a list end where it does, or there is one more, which ends by then
+-- nothing more stands from `at` to `end`
 pub record Done (at end : ℕ) : Type 0 where
   pub same : at ≡ end
 
+-- one more record stands there, and ends by `end`
 pub record Before (b : List ℕ) (at end : ℕ) : Type 0 where
   pub least : stopAt b at ≤ end
 
@@ -217,6 +210,10 @@ module _ (s b : List ℕ) where
   abbrev pub past : ℕ → ℕ
   past = stopAt b
 
+  -- the last child ends where its record does
+  abbrev pub Ends : ℕ → ℕ → Type 0
+  Ends last at = Done (past last) (past at)
+
   -- a text: its width in two bytes, then its bytes to the record's end
   pub record IdentAt (i : Ident) (at : ℕ) : Type 0 where
     pub head : Head s b 2 (i .span) at
@@ -252,11 +249,11 @@ module _ (s b : List ℕ) where
     TypeAt (type p f) at = Head s b (typeKind f) p at × TypeFormAt f at
 
     pub TypeFormAt : TypeForm → ℕ → Type 0
-    TypeFormAt (option t) at = TypeAt t (at + 13) × Ends b (at + 13) at
-    TypeFormAt (typePath p a) at = PathAt p (at + 13) × TypeArgsAt a (past (at + 13)) × Ends b (past (at + 13)) at
-    TypeFormAt never at = Bare b (at + 13) at
-    TypeFormAt unit at = Bare b (at + 13) at
-    TypeFormAt (recordType p fs) at = Head s b 3 p (at + 13) × FieldsAt fs (at + 26) (past (at + 13)) × Ends b (at + 13) at
+    TypeFormAt (option t) at = TypeAt t (at + 13) × Ends (at + 13) at
+    TypeFormAt (typePath p a) at = PathAt p (at + 13) × TypeArgsAt a (past (at + 13)) × Ends (past (at + 13)) at
+    TypeFormAt never at = Done (at + 13) (past at)
+    TypeFormAt unit at = Done (at + 13) (past at)
+    TypeFormAt (recordType p fs) at = Head s b 3 p (at + 13) × FieldsAt fs (at + 13 + 13) (past (at + 13)) × Ends (at + 13) at
 
     pub TypeArgsAt : TypeArgs → ℕ → Type 0
     TypeArgsAt noArgs at = Absent b at
@@ -273,7 +270,7 @@ module _ (s b : List ℕ) where
         Head s b 20 p at
         × IdentAt i (at + 13)
         × TypeAt t (past (at + 13))
-        × Ends b (past (at + 13)) at
+        × Ends (past (at + 13)) at
         × Before b at end
         × FieldsAt fs (past at) end
 
@@ -281,7 +278,7 @@ module _ (s b : List ℕ) where
   unfoldable mutual
     pub ImportAt : Import → ℕ → Type 0
     ImportAt (import p q g) at =
-        Head s b 16 p at × Maybe PathAt q (at + 13) × ImportGroupAt g (past (at + 13)) × Ends b (past (at + 13)) at
+        Head s b 16 p at × Maybe PathAt q (at + 13) × ImportGroupAt g (past (at + 13)) × Ends (past (at + 13)) at
 
     pub ImportGroupAt : ImportGroup → ℕ → Type 0
     ImportGroupAt noGroup at = Absent b at
@@ -293,15 +290,15 @@ module _ (s b : List ℕ) where
 
   -- ---- patterns: 82, 83
   unfoldable pub PatternAt : Pattern → ℕ → Type 0
-  PatternAt underscore at = Record s b 82 at × Bare b (at + 13) at
+  PatternAt underscore at = Record s b 82 at × Done (at + 13) (past at)
   PatternAt (enumVariant i is) at =
-      Record s b 83 at × IdentAt i (at + 13) × Maybe ListAt is (past (at + 13)) × Ends b (past (at + 13)) at
+      Record s b 83 at × IdentAt i (at + 13) × Maybe ListAt is (past (at + 13)) × Ends (past (at + 13)) at
 
   -- 86 and 87: a payload byte and nothing more
   pub record ByteAt (kind : ℕ) (p : Span) (n at : ℕ) : Type 0 where
     pub head : Head s b kind p at
     pub which : Payload b n at
-    pub ends : Bare b (at + 14) at
+    pub ends : Done (at + 14) (past at)
 
   -- an operator whose span isn't read
   pub record OpAt (n at : ℕ) : Type 0 where
@@ -314,58 +311,58 @@ module _ (s b : List ℕ) where
     ExprAt (expr p f) at = Head s b (formKind f) p at × FormAt f at
 
     pub FormAt : Form → ℕ → Type 0
-    FormAt (return′ k e) at = Payload b k at × (k < 3) × MaybeExprAt e (at + 14) × Ends b (at + 14) at
-    FormAt (literal p w) at = ByteAt 87 p w (at + 13) × (w < 4) × Ends b (at + 13) at
-    FormAt (block k) at = BlockAt k (at + 13) × Ends b (at + 13) at
+    FormAt (return′ k e) at = Payload b k at × (k < 3) × MaybeExprAt e (at + 14) × Ends (at + 14) at
+    FormAt (literal p w) at = ByteAt 87 p w (at + 13) × (w < 4) × Ends (at + 13) at
+    FormAt (block k) at = BlockAt k (at + 13) × Ends (at + 13) at
     FormAt (match′ e p a) at =
         ExprAt e (at + 13)
         × Head s b 3 p (past (at + 13))
         × ArmsAt a (past (at + 13) + 13) (past (past (at + 13)))
-        × Ends b (past (at + 13)) at
+        × Ends (past (at + 13)) at
     FormAt (functionCall e p es) at =
         ExprAt e (at + 13)
         × Head s b 3 p (past (at + 13))
         × ExprsAt es (past (at + 13) + 13) (past (past (at + 13)))
-        × Ends b (past (at + 13)) at
-    FormAt (access e i) at = ExprAt e (at + 13) × IdentAt i (past (at + 13)) × Ends b (past (at + 13)) at
-    FormAt (path p) at = PathAt p (at + 13) × Ends b (at + 13) at
-    FormAt (record′ p es) at = Head s b 80 p (at + 13) × EntriesAt es (at + 26) (past (at + 13)) × Ends b (at + 13) at
+        × Ends (past (at + 13)) at
+    FormAt (access e i) at = ExprAt e (at + 13) × IdentAt i (past (at + 13)) × Ends (past (at + 13)) at
+    FormAt (path p) at = PathAt p (at + 13) × Ends (at + 13) at
+    FormAt (record′ p es) at = Head s b 80 p (at + 13) × EntriesAt es (at + 13 + 13) (past (at + 13)) × Ends (at + 13) at
     FormAt (typedRecord q p es) at =
         PathAt q (at + 13)
         × Head s b 80 p (past (at + 13))
         × EntriesAt es (past (at + 13) + 13) (past (past (at + 13)))
-        × Ends b (past (at + 13)) at
-    FormAt (list es) at = Record s b 3 (at + 13) × ExprsAt es (at + 26) (past (at + 13)) × Ends b (at + 13) at
-    FormAt (not′ e) at = ExprAt e (at + 13) × Ends b (at + 13) at
-    FormAt (assign p e) at = PathAt p (at + 13) × ExprAt e (past (at + 13)) × Ends b (past (at + 13)) at
+        × Ends (past (at + 13)) at
+    FormAt (list es) at = Record s b 3 (at + 13) × ExprsAt es (at + 13 + 13) (past (at + 13)) × Ends (at + 13) at
+    FormAt (not′ e) at = ExprAt e (at + 13) × Ends (at + 13) at
+    FormAt (assign p e) at = PathAt p (at + 13) × ExprAt e (past (at + 13)) × Ends (past (at + 13)) at
     FormAt (compoundAssign p o e) at =
         PathAt p (at + 13)
         × OpAt o (past (at + 13))
         × (o < 5)
         × ExprAt e (past (past (at + 13)))
-        × Ends b (past (past (at + 13))) at
+        × Ends (past (past (at + 13))) at
     FormAt (binOp l p o r) at =
         ExprAt l (at + 13)
         × ByteAt 86 p o (past (at + 13))
         × (o < 14)
         × ExprAt r (past (past (at + 13)))
-        × Ends b (past (past (at + 13))) at
+        × Ends (past (past (at + 13))) at
         × (1 + leftDepth l ≤ 64)
-    FormAt (negate e) at = ExprAt e (at + 13) × Ends b (at + 13) at
+    FormAt (negate e) at = ExprAt e (at + 13) × Ends (at + 13) at
     FormAt (ifElse c k e) at =
         ExprAt c (at + 13)
         × BlockAt k (past (at + 13))
         × MaybeBlockAt e (past (past (at + 13)))
-        × Ends b (past (past (at + 13))) at
-    FormAt (while c k) at = ExprAt c (at + 13) × BlockAt k (past (at + 13)) × Ends b (past (at + 13)) at
+        × Ends (past (past (at + 13))) at
+    FormAt (while c k) at = ExprAt c (at + 13) × BlockAt k (past (at + 13)) × Ends (past (at + 13)) at
     FormAt (for i e k) at =
         IdentAt i (at + 13)
         × ExprAt e (past (at + 13))
         × BlockAt k (past (past (at + 13)))
-        × Ends b (past (past (at + 13))) at
-    FormAt (questionMark e) at = ExprAt e (at + 13) × Ends b (at + 13) at
-    FormAt (fString ps) at = Record s b 3 (at + 13) × PartsAt ps (at + 26) (past (at + 13)) × Ends b (at + 13) at
-    FormAt (parentheses e) at = ExprAt e (at + 13) × Ends b (at + 13) at
+        × Ends (past (past (at + 13))) at
+    FormAt (questionMark e) at = ExprAt e (at + 13) × Ends (at + 13) at
+    FormAt (fString ps) at = Record s b 3 (at + 13) × PartsAt ps (at + 13 + 13) (past (at + 13)) × Ends (at + 13) at
+    FormAt (parentheses e) at = ExprAt e (at + 13) × Ends (at + 13) at
 
     pub ExprsAt : Exprs → ℕ → ℕ → Type 0
     ExprsAt noExprs at end = Done at end
@@ -382,7 +379,7 @@ module _ (s b : List ℕ) where
         Head s b 22 p at
         × IdentAt i (at + 13)
         × ExprAt e (past (at + 13))
-        × Ends b (past (at + 13)) at
+        × Ends (past (at + 13)) at
         × Before b at end
         × EntriesAt es (past at) end
 
@@ -394,24 +391,24 @@ module _ (s b : List ℕ) where
         × PatternAt q (at + 13)
         × MaybeExprAt g (past (at + 13))
         × ExprAt e (past (past (at + 13)))
-        × Ends b (past (past (at + 13))) at
+        × Ends (past (past (at + 13))) at
         × Before b at end
         × ArmsAt more (past at) end
 
     -- 84 and 85, one after the other
     pub PartsAt : Parts → ℕ → ℕ → Type 0
     PartsAt noParts at end = Done at end
-    PartsAt (string p ps) at end = Head s b 84 p at × Bare b (at + 13) at × Before b at end × PartsAt ps (past at) end
+    PartsAt (string p ps) at end = Head s b 84 p at × Done (at + 13) (past at) × Before b at end × PartsAt ps (past at) end
     PartsAt (value e ps) at end =
-        Record s b 85 at × ExprAt e (at + 13) × Ends b (at + 13) at × Before b at end × PartsAt ps (past at) end
+        Record s b 85 at × ExprAt e (at + 13) × Ends (at + 13) at × Before b at end × PartsAt ps (past at) end
 
     pub BlockAt : Block → ℕ → Type 0
     BlockAt (braces p ss last) at =
         Head s b 23 p at
         × Record s b 3 (at + 13)
-        × StmtsAt ss (at + 26) (past (at + 13))
+        × StmtsAt ss (at + 13 + 13) (past (at + 13))
         × MaybeExprAt last (past (at + 13))
-        × Ends b (past (at + 13)) at
+        × Ends (past (at + 13)) at
 
     pub MaybeBlockAt : MaybeBlock → ℕ → Type 0
     MaybeBlockAt noBlock at = Absent b at
@@ -429,9 +426,9 @@ module _ (s b : List ℕ) where
         IdentAt i (at + 13)
         × Maybe TypeAt t (past (at + 13))
         × ExprAt e (past (past (at + 13)))
-        × Ends b (past (past (at + 13))) at
-    StmtFormAt (importStmt p) at = ImportAt p (at + 13) × Ends b (at + 13) at
-    StmtFormAt (does e) at = ExprAt e (at + 13) × Ends b (at + 13) at
+        × Ends (past (past (at + 13))) at
+    StmtFormAt (importStmt p) at = ImportAt p (at + 13) × Ends (at + 13) at
+    StmtFormAt (does e) at = ExprAt e (at + 13) × Ends (at + 13) at
 
   -- ---- declarations
   -- 21, one after the other
@@ -442,7 +439,7 @@ module _ (s b : List ℕ) where
       × IdentAt i (at + 13)
       × Record s b 3 (past (at + 13))
       × TypesAt ts (past (at + 13) + 13) (past (past (at + 13)))
-      × Ends b (past (at + 13)) at
+      × Ends (past (at + 13)) at
       × Before b at end
       × VariantsAt vs (past at) end
 
@@ -453,27 +450,27 @@ module _ (s b : List ℕ) where
       × Head s b 3 p (past (at + 13))
       × FieldsAt fs (past (at + 13) + 13) (past (past (at + 13)))
       × BlockAt k (past (past (at + 13)))
-      × Ends b (past (past (at + 13))) at
+      × Ends (past (past (at + 13))) at
   DeclarationAt (const i t e) at =
       Record s b 11 at
       × IdentAt i (at + 13)
       × TypeAt t (past (at + 13))
       × ExprAt e (past (past (at + 13)))
-      × Ends b (past (past (at + 13))) at
+      × Ends (past (past (at + 13))) at
   DeclarationAt (recordDecl i ps p fs) at =
       Record s b 12 at
       × IdentAt i (at + 13)
       × Maybe ListAt ps (past (at + 13))
       × Head s b 3 p (past (past (at + 13)))
       × FieldsAt fs (past (past (at + 13)) + 13) (past (past (past (at + 13))))
-      × Ends b (past (past (at + 13))) at
+      × Ends (past (past (at + 13))) at
   DeclarationAt (enumDecl i ps p vs) at =
       Record s b 13 at
       × IdentAt i (at + 13)
       × Maybe ListAt ps (past (at + 13))
       × Head s b 3 p (past (past (at + 13)))
       × VariantsAt vs (past (past (at + 13)) + 13) (past (past (past (at + 13))))
-      × Ends b (past (past (at + 13))) at
+      × Ends (past (past (at + 13))) at
   DeclarationAt (function i p fs t k) at =
       Record s b 14 at
       × IdentAt i (at + 13)
@@ -481,9 +478,9 @@ module _ (s b : List ℕ) where
       × FieldsAt fs (past (at + 13) + 13) (past (past (at + 13)))
       × Maybe TypeAt t (past (past (at + 13)))
       × BlockAt k (past (past (past (at + 13))))
-      × Ends b (past (past (past (at + 13)))) at
+      × Ends (past (past (past (at + 13)))) at
   DeclarationAt (test i k) at =
-      Record s b 15 at × IdentAt i (at + 13) × BlockAt k (past (at + 13)) × Ends b (past (at + 13)) at
+      Record s b 15 at × IdentAt i (at + 13) × BlockAt k (past (at + 13)) × Ends (past (at + 13)) at
   DeclarationAt (importDecl p) at = ImportAt p at
 
   unfoldable pub DeclarationsAt : List Declaration → ℕ → ℕ → Type 0

@@ -1,5 +1,5 @@
--- The syntax tree that the records of an image are: a total function on the trees that the reader gives. Where the grammar rules a tree
--- out, what it gives does not matter.
+-- The syntax tree of src/ast.rs that the records of an image are: a total function on the trees that the reader gives. Where the grammar
+-- rules a tree out, what it gives does not matter.
 use Prim.Native.Nat.{ℕ, _+_, _-_}
 use mathlib.Core.List.{List, [], _∷_}
 use mathlib.Core.Bool.{Bool, true, false, cond}
@@ -109,39 +109,293 @@ use Rattle.tree.specs.Syntax.{
   SyntaxTree,
 }
 
--- ---- a record and its children
-abbrev pub noHead : Head
-noHead = record { at = 0; kind = 0; from = 0; to = 0; first = 0; stop = 0 }
+-- A record, taken as each part of the syntax tree; its place says which of them it is. An element that has no type of its own is a
+-- function of the elements after it.
+pub record Views : Type 0 where
+  pub there : Bool
+  pub span : Span
+  pub byte : ℕ
+  pub ident : Ident  -- 2
+  pub path : Path  -- 4
+  pub type : TypeExpr  -- 40 to 44
+  pub field : Fields → Fields  -- 20
+  pub import : Import  -- 16
+  pub pattern : Pattern  -- 82, 83
+  pub expr : Expr  -- 50 to 70
+  pub entry : Entries → Entries  -- 22
+  pub arm : Arms → Arms  -- 81
+  pub part : Parts → Parts  -- 84, 85
+  pub block : Block  -- 23
+  pub stmt : Stmt  -- 30 to 32
+  pub variant : Variants → Variants  -- 21
+  pub declaration : Declaration  -- 10 to 16
+  -- its children, as the elements of each list
+  pub idents : List Ident
+  pub types : Types
+  pub fields : Fields
+  pub imports : Imports
+  pub exprs : Exprs
+  pub entries : Entries
+  pub arms : Arms
+  pub parts : Parts
+  pub stmts : Stmts
+  pub variants : Variants
 
-abbrev pub headOf : Tree → Head
-headOf absent = noHead
-headOf (node h ts) = h
+-- ---- no record
+abbrev pub noSpan : Span
+noSpan = record { start = 0; end = 0 }
 
-abbrev pub childrenOf : Tree → Trees
-childrenOf absent = nil
-childrenOf (node h ts) = ts
+abbrev pub noIdent : Ident
+noIdent = record { span = noSpan; width = 0; start = 0; size = 0 }
 
-abbrev pub first : Trees → Tree
-first nil = absent
-first (t ▸ ts) = t
+abbrev pub nothing : Views
+nothing =
+    let e = expr noSpan (list noExprs) in
+    record {
+      there = false;
+      span = noSpan;
+      byte = 0;
+      ident = noIdent;
+      path = record { first = noIdent; more = [] };
+      type = type noSpan unit;
+      field = λ more. more;
+      import = import noSpan none noGroup;
+      pattern = underscore;
+      expr = e;
+      entry = λ more. more;
+      arm = λ more. more;
+      part = λ more. more;
+      block = braces noSpan noStmts noExpr;
+      stmt = stmt noSpan (does e);
+      variant = λ more. more;
+      declaration = importDecl (import noSpan none noGroup);
+      idents = [];
+      types = noTypes;
+      fields = noFields;
+      imports = noImports;
+      exprs = noExprs;
+      entries = noEntries;
+      arms = noArms;
+      parts = noParts;
+      stmts = noStmts;
+      variants = noVariants;
+    }
 
-abbrev pub rest : Trees → Trees
-rest nil = nil
-rest (t ▸ ts) = ts
+-- ---- children by their place
+abbrev pub first : List Views → Views
+first [] = nothing
+first (x ∷ xs) = x
 
-abbrev pub second : Trees → Tree
-second ts = first (rest ts)
+abbrev pub rest : List Views → List Views
+rest [] = []
+rest (x ∷ xs) = xs
 
-abbrev pub third : Trees → Tree
-third ts = second (rest ts)
+abbrev pub second : List Views → Views
+second xs = first (rest xs)
 
-abbrev pub fourth : Trees → Tree
-fourth ts = third (rest ts)
+abbrev pub third : List Views → Views
+third xs = second (rest xs)
 
-abbrev pub spanOf : Tree → Span
-spanOf t = record { start = headOf t .from; end = headOf t .to }
+abbrev pub fourth : List Views → Views
+fourth xs = third (rest xs)
 
--- an optional child
-abbrev pub there : {A : Type 0} → Tree → A → Option A
-there absent a = none
-there (node h ts) a = some a
+-- ---- a child that may be absent
+abbrev pub maybe : {A : Type 0} → Bool → A → Option A
+maybe true a = some a
+maybe false a = none
+
+abbrev pub maybeArgs : Bool → Span → Types → TypeArgs
+maybeArgs true s ts = args s ts
+maybeArgs false s ts = noArgs
+
+abbrev pub maybeGroup : Bool → Span → Imports → ImportGroup
+maybeGroup true s is = group s is
+maybeGroup false s is = noGroup
+
+abbrev pub maybeExpr : Bool → Expr → MaybeExpr
+maybeExpr true e = someExpr e
+maybeExpr false e = noExpr
+
+abbrev pub maybeBlock : Bool → Block → MaybeBlock
+maybeBlock true k = someBlock k
+maybeBlock false k = noBlock
+
+abbrev pub listOf : Views → Idents
+listOf x = record { span = x .span; elems = x .idents }
+
+-- ---- the elements of a list
+abbrev pub idents : List Views → List Ident
+idents [] = []
+idents (x ∷ xs) = x .ident ∷ idents xs
+
+abbrev pub types : List Views → Types
+types [] = noTypes
+types (x ∷ xs) = x .type ∷ᵗ types xs
+
+abbrev pub fields : List Views → Fields
+fields [] = noFields
+fields (x ∷ xs) = x .field (fields xs)
+
+abbrev pub imports : List Views → Imports
+imports [] = noImports
+imports (x ∷ xs) = x .import ∷ⁱ imports xs
+
+abbrev pub exprs : List Views → Exprs
+exprs [] = noExprs
+exprs (x ∷ xs) = x .expr ∷ᵉ exprs xs
+
+abbrev pub entries : List Views → Entries
+entries [] = noEntries
+entries (x ∷ xs) = x .entry (entries xs)
+
+abbrev pub arms : List Views → Arms
+arms [] = noArms
+arms (x ∷ xs) = x .arm (arms xs)
+
+abbrev pub parts : List Views → Parts
+parts [] = noParts
+parts (x ∷ xs) = x .part (parts xs)
+
+abbrev pub stmts : List Views → Stmts
+stmts [] = noStmts
+stmts (x ∷ xs) = x .stmt ∷ˢ stmts xs
+
+abbrev pub variants : List Views → Variants
+variants [] = noVariants
+variants (x ∷ xs) = x .variant (variants xs)
+
+abbrev pub declarations : List Views → List Declaration
+declarations [] = []
+declarations (x ∷ xs) = x .declaration ∷ declarations xs
+
+-- ---- the forms of a part, by the record's kind, from its children in order: document 01, "Kinds and children"
+-- `else` is the one kind left: 44, 83, 70, 85, 32 and 16.
+infixr 30 _⇒_∣_
+pub data Forms (A : Type 0) : Type 0 where
+  else : A → Forms A
+  _⇒_∣_ : ℕ → A → Forms A → Forms A
+
+abbrev pub form : {A : Type 0} → ℕ → Forms A → A
+form k (else a) = a
+form k (n ⇒ a ∣ fs) = cond (eqb k n) a (form k fs)
+
+abbrev pub typeForms : List Views → Forms TypeForm
+typeForms xs =
+    40 ⇒ option (first xs .type) ∣
+    41 ⇒ typePath (first xs .path) (maybeArgs (second xs .there) (second xs .span) (second xs .types)) ∣
+    42 ⇒ never ∣
+    43 ⇒ unit ∣
+    else (recordType (first xs .span) (first xs .fields))
+
+abbrev pub patterns : List Views → Forms Pattern
+patterns xs = 82 ⇒ underscore ∣ else (enumVariant (first xs .ident) (maybe (second xs .there) (listOf (second xs))))
+
+-- n is the payload byte of `return`
+abbrev pub exprForms : ℕ → List Views → Forms Form
+exprForms n xs =
+    50 ⇒ return′ n (maybeExpr (first xs .there) (first xs .expr)) ∣
+    51 ⇒ literal (first xs .span) (first xs .byte) ∣
+    52 ⇒ block (first xs .block) ∣
+    53 ⇒ match′ (first xs .expr) (second xs .span) (second xs .arms) ∣
+    54 ⇒ functionCall (first xs .expr) (second xs .span) (second xs .exprs) ∣
+    55 ⇒ access (first xs .expr) (second xs .ident) ∣
+    56 ⇒ path (first xs .path) ∣
+    57 ⇒ record′ (first xs .span) (first xs .entries) ∣
+    58 ⇒ typedRecord (first xs .path) (second xs .span) (second xs .entries) ∣
+    59 ⇒ list (first xs .exprs) ∣
+    60 ⇒ not′ (first xs .expr) ∣
+    61 ⇒ assign (first xs .path) (second xs .expr) ∣
+    62 ⇒ compoundAssign (first xs .path) (second xs .byte) (third xs .expr) ∣
+    63 ⇒ binOp (first xs .expr) (second xs .span) (second xs .byte) (third xs .expr) ∣
+    64 ⇒ negate (first xs .expr) ∣
+    65 ⇒ ifElse (first xs .expr) (second xs .block) (maybeBlock (third xs .there) (third xs .block)) ∣
+    66 ⇒ while (first xs .expr) (second xs .block) ∣
+    67 ⇒ for (first xs .ident) (second xs .expr) (third xs .block) ∣
+    68 ⇒ questionMark (first xs .expr) ∣
+    69 ⇒ fString (first xs .parts) ∣
+    else (parentheses (first xs .expr))
+
+abbrev pub fstringParts : Span → List Views → Forms (Parts → Parts)
+fstringParts s xs = 84 ⇒ (λ ps. string s ps) ∣ else (λ ps. value (first xs .expr) ps)
+
+abbrev pub stmtForms : List Views → Forms StmtForm
+stmtForms xs =
+    30 ⇒ let′ (first xs .ident) (maybe (second xs .there) (second xs .type)) (third xs .expr) ∣
+    31 ⇒ importStmt (first xs .import) ∣
+    else (does (first xs .expr))
+
+abbrev pub importOf : Span → List Views → Import
+importOf s xs = import s (maybe (first xs .there) (first xs .path)) (maybeGroup (second xs .there) (second xs .span) (second xs .imports))
+
+abbrev pub declarationForms : Span → List Views → Forms Declaration
+declarationForms s xs =
+    10 ⇒ filterMap (first xs .ident) (second xs .span) (second xs .fields) (third xs .block) ∣
+    11 ⇒ const (first xs .ident) (second xs .type) (third xs .expr) ∣
+    12 ⇒ recordDecl (first xs .ident) (maybe (second xs .there) (listOf (second xs))) (third xs .span) (third xs .fields) ∣
+    13 ⇒ enumDecl (first xs .ident) (maybe (second xs .there) (listOf (second xs))) (third xs .span) (third xs .variants) ∣
+    14 ⇒ function (first xs .ident) (second xs .span) (second xs .fields) (maybe (third xs .there) (third xs .type)) (fourth xs .block) ∣
+    15 ⇒ test (first xs .ident) (second xs .block) ∣
+    else (importDecl (importOf s xs))
+
+-- ---- a record, and records one after the other
+abbrev pub spanOf : Head → Span
+spanOf h = record { start = h .from; end = h .to }
+
+module _ (b : List ℕ) where
+  abbrev pub byteOf : Head → ℕ
+  byteOf h = getD b (h .at + 13) 0
+
+  -- a text's width stands in two bytes, then its bytes up to the record's end
+  abbrev pub identOf : Head → Ident
+  identOf h = record { span = spanOf h; width = be16 b (h .at + 13); start = h .at + 15; size = h .stop - (h .at + 15) }
+
+  abbrev pub viewsOf : Head → List Views → Views
+  viewsOf h xs =
+      let s = spanOf h in
+      let k = h .kind in
+      record {
+        there = true;
+        span = s;
+        byte = byteOf h;
+        ident = identOf h;
+        path = record { first = first xs .ident; more = idents (rest xs) };
+        type = type s (form k (typeForms xs));
+        field = field s (first xs .ident) (second xs .type);
+        import = importOf s xs;
+        pattern = form k (patterns xs);
+        expr = expr s (form k (exprForms (byteOf h) xs));
+        entry = entry s (first xs .ident) (second xs .expr);
+        arm = arm s (first xs .pattern) (maybeExpr (second xs .there) (second xs .expr)) (third xs .expr);
+        part = form k (fstringParts s xs);
+        block = braces s (first xs .stmts) (maybeExpr (second xs .there) (second xs .expr));
+        stmt = stmt s (form k (stmtForms xs));
+        variant = variant s (first xs .ident) (second xs .types);
+        declaration = form k (declarationForms s xs);
+        idents = idents xs;
+        types = types xs;
+        fields = fields xs;
+        imports = imports xs;
+        exprs = exprs xs;
+        entries = entries xs;
+        arms = arms xs;
+        parts = parts xs;
+        stmts = stmts xs;
+        variants = variants xs;
+      }
+
+  unfoldable mutual
+    pub views : Tree → Views
+    views absent = nothing
+    views (node h ts) = viewsOf h (each ts)
+
+    pub each : Trees → List Views
+    each nil = []
+    each (t ▸ ts) = views t ∷ each ts
+
+-- ---- the whole: the shebang, then the declarations
+abbrev pub treeOf : List Views → SyntaxTree
+treeOf xs = record { shebang = maybe (first xs .there) (first xs .ident); declarations = declarations (rest xs) }
+
+unfoldable pub syntaxTree : List ℕ → Tree → SyntaxTree
+syntaxTree b absent = treeOf []
+syntaxTree b (node h ts) = treeOf (each b ts)

@@ -1,3 +1,4 @@
+-- The pair at the place that the number of comments placed gives.
 use mathlib.Core.Path.{sym, ap, ap₂, _∙_}
 use native.Mathlib.Omega.{arith}
 use Rattle.comments.proofs.Fronts.{at-front, none-left}

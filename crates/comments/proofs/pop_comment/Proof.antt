@@ -1,3 +1,5 @@
+-- The steps in their order. The number of comments placed is set from the one at entry, so that it rises by 1 also where the row numbers have
+-- stopped at the largest: the loop of `pop_comments` ends by it.
 use mathlib.Core.Path.{ap}
 use native.Mathlib.Omega.{arith}
 use Rattle.comments.proofs.Fronts.{inside, good}

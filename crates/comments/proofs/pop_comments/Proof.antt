@@ -1,3 +1,4 @@
+-- The invariant: whatever finishes the loop from here finishes it from its start. The measure: the comments that are left.
 use mathlib.Core.Path.{_≡_, refl, _∙_}
 use Prim.Native.Nat.{_-_}
 use native.Mathlib.Omega.{arith}

@@ -1,3 +1,4 @@
+-- The definition by the place that was found, and by what waits at the front.
 use mathlib.Core.Path.{sym, _∙_}
 use native.Mathlib.Omega.{arith}
 use Rattle.comments.proofs.Fronts.{inside, good, is-none, is-some}

@@ -1,3 +1,4 @@
+-- The loop, and then one of three ends, by the tests that led there.
 use mathlib.Core.Path.{sym, _∙_}
 use Rattle.comments.proofs.Pops.{laid-ignored, laid-trailing, laid-only, laid-neither}
 use Rattle.comments.specs.Listed.{given}

@@ -1,5 +1,6 @@
+-- Trimming at the end keeps the start, so that the length is no less than 0.
 use native.Mathlib.Omega.{arith}
-use Rattle.comments.proofs.Trims.{trimmed-within}
+use Rattle.text.proofs.Trims.{trim-before, trim-after}
 use borrow.Author.Needs.{needs}
 use Rattle.comments.proofs.remark.Statement.{statement}
 use Rattle.comments.proofs.remark.Tie as tie
@@ -8,10 +9,10 @@ trim-end-requires : tie.Need-trim-end-requires
 trim-end-requires c κs = search needs
 
 cast-comment : tie.Need-cast-comment
-cast-comment c = omega (arith, c .before .trim-end .ensures, trimmed-within (c .before .before .before .before .args .source .now) (c .before .before .before .before .args .start) (c .before .before .before .before .args .end) (c .before .before .before .before .pre) .1, c .before .before .before .before .fits .end)
+cast-comment c = omega (arith, c .before .trim-end .ensures, trim-before (c .before .before .before .before .args .source .now) (c .before .before .before .before .args .start) (c .before .before .before .before .args .end), c .before .before .before .before .fits .end)
 
 sub-comment : tie.Need-sub-comment
-sub-comment c = omega (arith, c .before .trim-end .ensures, trimmed-within (c .before .before .before .before .args .source .now) (c .before .before .before .before .args .start) (c .before .before .before .before .args .end) (c .before .before .before .before .pre) .0)
+sub-comment c = omega (arith, c .before .trim-end .ensures, trim-after (c .before .before .before .before .args .source .now) (c .before .before .before .before .args .start) (c .before .before .before .before .args .end) (c .before .before .before .before .pre))
 
 comment-requires : tie.Need-comment-requires
 comment-requires c κs = search needs

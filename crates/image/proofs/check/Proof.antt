@@ -1,48 +1,37 @@
+-- Refusals 1 and 2 by their tests; else the answer is the image's.
+-- Assumes nothing.
 use mathlib.Core.Path.{sym, _∙_, ap}
 use borrow.Author.Tests.{not-true, not-false}
+use borrow.Author.Needs.{needs}
 use Rattle.image.specs.Read.{readAll}
 use Rattle.image.specs.declared.Answer.the-variants.{Refused}
 use Rattle.image.proofs.Texts.{checked-well, checked-bad, checked-place}
-use borrow.Author.Needs.{needs}
 use Rattle.image.proofs.check.Statement.{statement}
 use Rattle.image.proofs.check.Tie as tie
-use Rattle.image.proofs.check.Reads as reads
-use Rattle.image.proofs.check.Lts as lts
-use Rattle.image.proofs.read_image.Reads as read-image-reads
-use Rattle.image.proofs.source_fits.Reads as source-fits-reads
-use Rattle.text.proofs.utf8.check.Reads as check-reads
 
--- src/lib.rt:84:9
 source-fits-requires : tie.Need-source-fits-requires
 source-fits-requires c κs = search needs
 
--- src/lib.rt:85:9
 returns : tie.Need-returns
 unfolding readAll
 returns c = simp (sym (c .before .source-fits .ensures) ∙ not-true _ (c .if1 .taken))
 
--- src/lib.rt:87:11
 check-requires : tie.Need-check-requires
 check-requires c κs = search needs
 
--- src/lib.rt:88:22
 enum-known-at : tie.Need-enum-known-at
 enum-known-at c = search needs
 
--- src/lib.rt:89:32
 enum-told : tie.Need-enum-told
 enum-told c = search needs
 
--- src/lib.rt:89:32
 read-image-requires : tie.Need-read-image-requires
 read-image-requires c κs = search needs
 
--- src/lib.rt:81:1
 returns-2 : tie.Need-returns-2
 unfolding readAll
 returns-2 c = let e = sym (c .before .before .before .check .ensures) ∙ c .before .at .given .1 in simp (sym (c .before .before .before .before .before .source-fits .ensures) ∙ not-false _ (c .before .before .before .before .if1 .left), checked-bad _ _ e) (ap (Refused 2) (checked-place _ _ e))
 
--- src/lib.rt:81:1
 returns-3 : tie.Need-returns-3
 unfolding readAll
 returns-3 c = simp (sym (c .before .before .before .before .before .source-fits .ensures) ∙ not-false _ (c .before .before .before .before .if1 .left), checked-well _ (sym (c .before .before .before .check .ensures) ∙ c .before .enum-told .given .1)) (c .read-image .ensures)

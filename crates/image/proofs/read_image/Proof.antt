@@ -1,48 +1,37 @@
+-- A right header says version 1, whose texts have two bytes of width; then the comments' answer decides.
+-- Assumes nothing.
 use mathlib.Core.Path.{sym, _∙_, ap}
 use native.Mathlib.Omega.{arith}
 use borrow.Author.Tests.{not-true, not-false}
+use borrow.Author.Needs.{needs}
 use Rattle.image.specs.Read.{readImage, answerOf}
 use Rattle.image.proofs.Whole.{image-bad, image-next}
 use Rattle.image.proofs.CommentList.{listed}
-use borrow.Author.Needs.{needs}
 use Rattle.image.proofs.read_image.Statement.{statement}
 use Rattle.image.proofs.read_image.Tie as tie
-use Rattle.image.proofs.read_image.Reads as reads
-use Rattle.image.proofs.read_image.Lts as lts
-use Rattle.image.proofs.comments.read_comments.Reads as read-comments-reads
-use Rattle.image.proofs.header_fits.Reads as header-fits-reads
-use Rattle.image.proofs.read_tree.Reads as read-tree-reads
 
--- src/lib.rt:71:9
 header-fits-requires : tie.Need-header-fits-requires
 header-fits-requires c κs = search needs
 
--- src/lib.rt:72:9
 returns : tie.Need-returns
 unfolding readImage
 returns c = simp (sym (c .before .header-fits .ensures) ∙ not-true _ (c .if1 .taken))
 
--- src/lib.rt:74:11
 read-comments-requires : tie.Need-read-comments-requires
 read-comments-requires c κs = search needs
 
--- src/lib.rt:75:21
 enum-known-n : tie.Need-enum-known-n
 enum-known-n c = search needs
 
--- src/lib.rt:76:20
 enum-known-at : tie.Need-enum-known-at
 enum-known-at c = search needs
 
--- src/lib.rt:76:27
 read-tree-requires : tie.Need-read-tree-requires
 read-tree-requires c κs = let w = listed _ _ _ _ (sym (c .before .before .before .read-comments .ensures) ∙ c .before .at .given .1) in omega (arith, w .within, w .list .stop)
 
--- src/lib.rt:68:1
 returns-2 : tie.Need-returns-2
 returns-2 c = sym (image-bad _ _ _ _ _ (sym (c .before .before .before .before .before .header-fits .ensures) ∙ not-false _ (c .before .before .before .before .if1 .left)) (sym (c .before .before .before .read-comments .ensures) ∙ c .before .n .given .1))
 
--- src/lib.rt:68:1
 returns-3 : tie.Need-returns-3
 returns-3 c = c .read-tree .ensures ∙ sym (ap answerOf (image-next _ _ _ _ (sym (c .before .before .before .before .before .before .header-fits .ensures) ∙ not-false _ (c .before .before .before .before .before .if1 .left)) (sym (c .before .before .before .before .read-comments .ensures) ∙ c .before .before .at .given .1)))
 

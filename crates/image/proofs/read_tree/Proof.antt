@@ -1,39 +1,30 @@
+-- What the record's reading answers, and whether bytes are left, decides the answer.
+-- Assumes nothing.
 use mathlib.Core.Path.{sym, _∙_, ap}
-use Rattle.image.proofs.Whole.{tree-bad, tree-spare, tree-whole}
-use Rattle.image.specs.declared.Answer.the-variants.{Accepted}
 use borrow.Author.Needs.{needs}
+use Rattle.image.specs.declared.Answer.the-variants.{Accepted}
+use Rattle.image.proofs.Whole.{tree-bad, tree-spare, tree-whole}
 use Rattle.image.proofs.read_tree.Statement.{statement}
 use Rattle.image.proofs.read_tree.Tie as tie
-use Rattle.image.proofs.read_tree.Reads as reads
-use Rattle.image.proofs.read_tree.Lts as lts
-use Rattle.image.proofs.bytes.num16.Reads as num16-reads
-use Rattle.image.proofs.records.read_record.Reads as read-record-reads
 
--- src/lib.rt:54:11
 read-record-requires : tie.Need-read-record-requires
 read-record-requires c κs = search needs
 
--- src/lib.rt:55:21
 enum-known-n : tie.Need-enum-known-n
 enum-known-n c = search needs
 
--- src/lib.rt:56:20
 enum-known-next : tie.Need-enum-known-next
 enum-known-next c = search needs
 
--- src/lib.rt:58:17
 returns : tie.Need-returns
 returns c = sym (tree-spare _ _ _ _ _ (sym (c .before .before .before .before .read-record .ensures) ∙ c .before .before .next .given .1) (c .if1 .taken))
 
--- src/lib.rt:61:27
 num16-requires : tie.Need-num16-requires
 num16-requires c κs = search needs
 
--- src/lib.rt:50:1
 returns-2 : tie.Need-returns-2
 returns-2 c = sym (tree-bad _ _ _ _ _ _ (sym (c .before .before .before .read-record .ensures) ∙ c .before .n .given .1))
 
--- src/lib.rt:50:1
 returns-3 : tie.Need-returns-3
 returns-3 c = ap (λ n. Accepted n (c .before .before .before .before .before .before .before .before .args .at)) (c .num16 .ensures .same) ∙ sym (tree-whole _ _ _ _ _ (sym (c .before .before .before .before .before .read-record .ensures) ∙ c .before .before .before .next .given .1) (c .before .if1 .left))
 

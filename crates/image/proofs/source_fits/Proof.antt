@@ -2,10 +2,7 @@ use mathlib.Core.Path.{refl}
 use Rattle.image.specs.Read.{sourceFits}
 use Rattle.image.proofs.source_fits.Statement.{statement}
 use Rattle.image.proofs.source_fits.Tie as tie
-use Rattle.image.proofs.source_fits.Reads as reads
-use Rattle.image.proofs.source_fits.Lts as lts
 
--- src/lib.rt:27:1
 returns : tie.Need-returns
 unfolding sourceFits
 returns c = refl

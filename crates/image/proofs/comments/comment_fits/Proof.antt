@@ -1,40 +1,31 @@
-use borrow.Author.Tests.{lt-ltb, le-ltb, le-leb, lt-leb, eq-eqb, ne-eqb, not-true, not-false}
-use Rattle.image.specs.Read.{commentFits}
+-- Each return is the definition under the tests that led to it.
+-- Assumes nothing.
+use borrow.Author.Tests.{lt-ltb, le-ltb, le-leb, lt-leb}
 use borrow.Author.Needs.{needs}
+use Rattle.image.specs.Read.{commentFits}
 use Rattle.image.proofs.comments.comment_fits.Statement.{statement}
 use Rattle.image.proofs.comments.comment_fits.Tie as tie
-use Rattle.image.proofs.comments.comment_fits.Reads as reads
-use Rattle.image.proofs.comments.comment_fits.Lts as lts
-use Rattle.image.proofs.bytes.num32.Reads as num32-reads
-use Rattle.text.proofs.newlines.is_range.Reads as is-range-reads
 
--- src/comments.rt:17:9
 num32-requires : tie.Need-num32-requires
 num32-requires c κs = search needs
 
--- src/comments.rt:18:24
 add-num32 : tie.Need-add-num32
 add-num32 c = search needs
 
--- src/comments.rt:18:9
 num32-requires-2 : tie.Need-num32-requires-2
 num32-requires-2 c κs = search needs
 
--- src/comments.rt:20:9
 returns : tie.Need-returns
 unfolding commentFits
 returns c = simp (← c .before .before .num32 .ensures .same, ← c .before .num322 .ensures .same, lt-leb _ _ (c .if1 .taken))
 
--- src/comments.rt:23:9
 returns-2 : tie.Need-returns-2
 unfolding commentFits
 returns-2 c = simp (← c .before .before .before .num32 .ensures .same, ← c .before .before .num322 .ensures .same, le-leb _ _ (c .before .if1 .left), le-ltb _ _ (c .if2 .taken))
 
--- src/comments.rt:25:5
 is-range-requires : tie.Need-is-range-requires
 is-range-requires c κs = search needs
 
--- src/comments.rt:13:1
 returns-3 : tie.Need-returns-3
 unfolding commentFits
 returns-3 c = simp (← c .before .before .before .before .num32 .ensures .same, ← c .before .before .before .num322 .ensures .same, le-leb _ _ (c .before .before .if1 .left), lt-ltb _ _ (c .before .if2 .left)) (c .is-range .ensures)

@@ -1,17 +1,15 @@
-use borrow.Author.Tests.{lt-ltb, le-ltb, le-leb, lt-leb, eq-eqb, ne-eqb, not-true, not-false}
-use borrow.Author.Needs.{needs}
-use native.Mathlib.Omega.{arith}
-use Prim.Native.Nat.{_+_, _*_, _≤_}
+-- The loop keeps that the whole list is read as the comments that are left are, and that these stand in the image.
+-- Assumes nothing.
 use mathlib.Core.Path.{_≡_, refl, sym, _∙_, ap}
+use Prim.Native.Nat.{_+_, _*_, _≤_}
+use native.Mathlib.Omega.{arith}
 use lib.ListN.{length}
+use borrow.Author.Tests.{not-true, not-false}
+use borrow.Author.Needs.{needs}
 use Rattle.image.specs.Read.{commentsFrom, stepOf}
 use Rattle.image.proofs.CommentList.{from-on, from-off, from-end}
 use Rattle.image.proofs.comments.comments_from.Statement.{statement}
 use Rattle.image.proofs.comments.comments_from.Tie as tie
-use Rattle.image.proofs.comments.comments_from.Reads as reads
-use Rattle.image.proofs.comments.comments_from.Lts as lts
-use Rattle.image.proofs.comments.comment_fits.Reads as comment-fits-reads
-use Rattle.image.proofs.comments.least_after.Reads as least-after-reads
 
 abbrev Inv-loop : tie.InvT-loop
 Inv-loop s b ordered count left₀ least₀ at₀ left least at =
@@ -20,39 +18,30 @@ Inv-loop s b ordered count left₀ least₀ at₀ left least at =
 abbrev μ-loop : tie.MeasureT-loop
 μ-loop s b ordered count left₀ least₀ at₀ left least at = left
 
--- src/comments.rt:46:5
 loop-holds : tie.Need-loop-holds Inv-loop μ-loop
 loop-holds c = (search needs, refl)
 
--- src/comments.rt:47:13
 comment-fits-requires : tie.Need-comment-fits-requires Inv-loop μ-loop
 comment-fits-requires c κs = omega arith
 
--- src/comments.rt:48:13
 returns : tie.Need-returns Inv-loop μ-loop
 returns c = sym (ap stepOf (c .before .before .before .loop .inv .1 ∙ from-off _ _ _ _ _ _ (c .before .before .loop-test .taken) (sym (c .before .comment-fits .ensures) ∙ not-true _ (c .if1 .taken))))
 
--- src/comments.rt:50:9
 least-after-requires : tie.Need-least-after-requires Inv-loop μ-loop
 least-after-requires c κs = omega arith
 
--- src/comments.rt:51:9
 add-at : tie.Need-add-at Inv-loop μ-loop
 add-at c = omega arith
 
--- src/comments.rt:52:9
 sub-left : tie.Need-sub-left Inv-loop μ-loop
 sub-left c = omega arith
 
--- src/comments.rt:46:5
 loop-less : tie.Need-loop-less Inv-loop μ-loop
 loop-less c = omega arith
 
--- src/comments.rt:46:5
 loop-again : tie.Need-loop-again Inv-loop μ-loop
 loop-again c = (omega arith, c .before .before .before .before .loop .inv .1 ∙ from-on _ _ _ _ _ _ (c .before .before .before .loop-test .taken) (sym (c .before .before .comment-fits .ensures) ∙ not-false _ (c .before .if1 .left)) ∙ rw (c .least-after .ensures))
 
--- src/comments.rt:39:1
 returns-2 : tie.Need-returns-2 Inv-loop μ-loop
 returns-2 c = sym (ap stepOf (c .before .loop .inv .1 ∙ from-end _ _ _ _ _ _ (omega arith)))
 

@@ -1,23 +1,16 @@
 use borrow.Author.Needs.{needs}
 use Rattle.image.proofs.comments.least_after.Statement.{statement}
 use Rattle.image.proofs.comments.least_after.Tie as tie
-use Rattle.image.proofs.comments.least_after.Reads as reads
-use Rattle.image.proofs.comments.least_after.Lts as lts
-use Rattle.image.proofs.bytes.num32.Reads as num32-reads
 
--- src/comments.rt:34:25
 add-num32 : tie.Need-add-num32
 add-num32 c = search needs
 
--- src/comments.rt:34:9
 num32-requires : tie.Need-num32-requires
 num32-requires c κs = search needs
 
--- src/comments.rt:34:9
 returns : tie.Need-returns
 returns c = simp (c .before .if1 .taken) (c .num32 .ensures .same)
 
--- src/comments.rt:29:1
 returns-2 : tie.Need-returns-2
 returns-2 c = simp (c .if1 .left)
 

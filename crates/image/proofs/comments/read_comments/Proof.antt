@@ -1,45 +1,35 @@
-use borrow.Author.Tests.{lt-ltb, le-ltb, le-leb, lt-leb, eq-eqb, ne-eqb, not-true, not-false}
-use Rattle.image.specs.Read.{comments}
+-- Each return is the definition under the tests that led to it.
+-- Assumes nothing.
+use borrow.Author.Tests.{le-leb, lt-leb}
 use borrow.Author.Needs.{needs}
+use Rattle.image.specs.Read.{comments}
 use Rattle.image.proofs.comments.read_comments.Statement.{statement}
 use Rattle.image.proofs.comments.read_comments.Tie as tie
-use Rattle.image.proofs.comments.read_comments.Reads as reads
-use Rattle.image.proofs.comments.read_comments.Lts as lts
-use Rattle.image.proofs.bytes.num16.Reads as num16-reads
-use Rattle.image.proofs.comments.comments_from.Reads as comments-from-reads
 
--- src/comments.rt:62:9
 returns : tie.Need-returns
 unfolding comments
 returns c = simp (lt-leb _ _ (c .if1 .taken))
 
--- src/comments.rt:64:9
 num16-requires : tie.Need-num16-requires
 num16-requires c κs = search needs
 
--- src/comments.rt:66:9
 returns-2 : tie.Need-returns-2
 unfolding comments
 returns-2 c = simp (le-leb _ _ (c .before .before .if1 .left), ← c .before .num16 .ensures .same, lt-leb _ _ (c .if2 .taken))
 
--- src/comments.rt:68:22
 mul-if3 : tie.Need-mul-if3
 mul-if3 c = search needs
 
--- src/comments.rt:68:18
 add-if3 : tie.Need-add-if3
 add-if3 c = search needs
 
--- src/comments.rt:69:9
 returns-3 : tie.Need-returns-3
 unfolding comments
 returns-3 c = simp (le-leb _ _ (c .before .before .before .if1 .left), ← c .before .before .num16 .ensures .same, le-leb _ _ (c .before .if2 .left), lt-leb _ _ (c .if3 .taken))
 
--- src/comments.rt:71:5
 comments-from-requires : tie.Need-comments-from-requires
 comments-from-requires c κs = search needs
 
--- src/comments.rt:58:1
 returns-4 : tie.Need-returns-4
 unfolding comments
 returns-4 c = simp (le-leb _ _ (c .before .before .before .before .if1 .left), ← c .before .before .before .num16 .ensures .same, le-leb _ _ (c .before .before .if2 .left), le-leb _ _ (c .before .if3 .left)) (c .comments-from .ensures)

@@ -1,18 +1,13 @@
-use borrow.Author.Tests.{lt-ltb, le-ltb, le-leb, lt-leb, eq-eqb, ne-eqb, not-true, not-false}
+use borrow.Author.Tests.{eq-eqb, ne-eqb}
 use Rattle.image.proofs.grammar.has_byte.Statement.{statement}
 use Rattle.image.proofs.grammar.has_byte.Tie as tie
-use Rattle.image.proofs.grammar.has_byte.Reads as reads
-use Rattle.image.proofs.grammar.has_byte.Lts as lts
 
--- src/grammar.rt:193:9
 returns : tie.Need-returns
 returns c = simp (eq-eqb _ _ (c .if1 .taken))
 
--- src/grammar.rt:196:9
 returns-2 : tie.Need-returns-2
 returns-2 c = simp (ne-eqb _ _ (c .before .if1 .left), eq-eqb _ _ (c .if2 .taken))
 
--- src/grammar.rt:189:1
 returns-3 : tie.Need-returns-3
 returns-3 c = simp (ne-eqb _ _ (c .before .if1 .left), ne-eqb _ _ (c .if2 .left))
 

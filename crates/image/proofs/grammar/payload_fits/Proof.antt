@@ -1,67 +1,51 @@
-use borrow.Author.Tests.{lt-ltb, le-ltb, le-leb, lt-leb, eq-eqb, ne-eqb, not-true, not-false}
-use mathlib.Core.Path.{sym, _∙_, ap}
-use native.Mathlib.Omega.{arith}
+-- Each return is the definition under the tests that led to it.
+-- Assumes nothing.
+use mathlib.Core.Path.{sym, _∙_}
 use Prim.Native.Nat.{_+_}
-use Rattle.image.specs.Grammar.{payloadFits}
+use native.Mathlib.Omega.{arith}
+use borrow.Author.Tests.{lt-ltb, le-ltb, le-leb, lt-leb, eq-eqb, ne-eqb}
 use borrow.Author.Needs.{needs}
+use Rattle.image.specs.Grammar.{payloadFits}
 use Rattle.image.proofs.grammar.payload_fits.Statement.{statement}
 use Rattle.image.proofs.grammar.payload_fits.Tie as tie
-use Rattle.image.proofs.grammar.payload_fits.Reads as reads
-use Rattle.image.proofs.grammar.payload_fits.Lts as lts
-use Rattle.image.proofs.bytes.wide.Reads as wide-reads
-use Rattle.image.proofs.grammar.has_byte.Reads as has-byte-reads
-use Rattle.image.proofs.grammar.is_text.Reads as is-text-reads
-use Rattle.image.proofs.grammar.top_byte.Reads as top-byte-reads
 
--- src/grammar.rt:234:12
 sub-if2 : tie.Need-sub-if2
 sub-if2 c = search needs
 
--- src/grammar.rt:235:13
 returns : tie.Need-returns
 unfolding payloadFits
 returns c = simp (eq-eqb _ _ (c .before .if1 .taken), lt-leb (c .before .before .before .args .from + c .before .before .before .args .v) (c .before .before .before .args .stop) (omega arith))
 
--- src/grammar.rt:237:27
 add-is-text : tie.Need-add-is-text
 add-is-text c = search needs
 
--- src/grammar.rt:237:9
 is-text-requires : tie.Need-is-text-requires
 is-text-requires c κs = search needs
 
--- src/grammar.rt:237:9
 returns-2 : tie.Need-returns-2
 unfolding payloadFits
 returns-2 c = simp (eq-eqb _ _ (c .before .before .if1 .taken), le-leb (c .before .before .before .before .args .from + c .before .before .before .before .args .v) (c .before .before .before .before .args .stop) (omega arith)) (c .is-text .ensures)
 
--- src/grammar.rt:239:8
 has-byte-requires : tie.Need-has-byte-requires
 has-byte-requires c κs = search needs
 
--- src/grammar.rt:241:13
 returns-3 : tie.Need-returns-3
 unfolding payloadFits
 returns-3 c = simp (ne-eqb _ _ (c .before .before .before .if1 .left), sym (c .before .before .has-byte .ensures) ∙ c .before .if3 .taken, le-ltb _ _ (c .if4 .taken))
 
--- src/grammar.rt:243:21
 shared-slice-read-wide : tie.Need-shared-slice-read-wide
 shared-slice-read-wide c = search needs
 
--- src/grammar.rt:243:16
 wide-requires : tie.Need-wide-requires
 wide-requires c κs = search needs
 
--- src/grammar.rt:243:33
 top-byte-requires : tie.Need-top-byte-requires
 top-byte-requires c κs = search needs
 
--- src/grammar.rt:243:9
 returns-4 : tie.Need-returns-4
 unfolding payloadFits
 returns-4 c = simp (ne-eqb _ _ (c .before .before .before .before .before .before .if1 .left), sym (c .before .before .before .before .before .has-byte .ensures) ∙ c .before .before .before .before .if3 .taken, lt-ltb _ _ (c .before .before .before .if4 .left), ← c .before .wide .ensures .0, ← c .top-byte .ensures)
 
--- src/grammar.rt:229:1
 returns-5 : tie.Need-returns-5
 unfolding payloadFits
 returns-5 c = simp (ne-eqb _ _ (c .before .before .if1 .left), sym (c .before .has-byte .ensures) ∙ c .if3 .left)

@@ -1,16 +1,16 @@
-use borrow.Author.Tests.{ne-eqb}
-use native.Mathlib.Omega.{arith}
-use mathlib.Core.Path.{_≡_, refl, sym, _∙_}
+-- The table in the code holds the rows of kinds 0 to 87 in order, by computation; no rule is for a kind from 88 on.
+-- Assumes nothing.
+use mathlib.Core.Path.{_≡_, refl, sym}
 use mathlib.Core.Bool.{Bool, true, false}
 use Prim.Native.Nat.{ℕ, _≤_}
+use native.Mathlib.Omega.{arith}
 use lib.Dec.{T, when, ltb, ltb→lt}
+use borrow.Author.Tests.{ne-eqb}
+use borrow.Author.Needs.{needs}
 use Rattle.image.specs.Grammar.{rowOf, Rules, others, _⇒_∣_, rules, look}
 use Rattle.image.proofs.Table.{at}
-use borrow.Author.Needs.{needs}
 use Rattle.image.proofs.grammar.row_of.Statement.{statement}
 use Rattle.image.proofs.grammar.row_of.Tie as tie
-use Rattle.image.proofs.grammar.row_of.Reads as reads
-use Rattle.image.proofs.grammar.row_of.Lts as lts
 
 -- every rule is for a kind below 88, so a kind from 88 on has none
 abbrev Small : Rules → Type 0
@@ -28,20 +28,16 @@ high k (n ⇒ r ∣ rs) t h =
     let l = ltb→lt n 88 here in
     rw (ne-eqb k n (omega arith)) (high k rs rest h)
 
--- src/grammar.rt:140:16
 mul-result : tie.Need-mul-result
 mul-result c = search needs
 
--- src/grammar.rt:140:16
 array-read-result : tie.Need-array-read-result
 array-read-result c = search needs
 
--- src/grammar.rt:140:9
 returns : tie.Need-returns
 unfolding rowOf
 returns c = at rowOf 88 (c .before .args .k) (c .if1 .taken)
 
--- src/grammar.rt:136:1
 returns-2 : tie.Need-returns-2
 unfolding rowOf
 returns-2 c = sym (high (c .before .args .k) rules tt (c .if1 .left))

@@ -1,13 +1,16 @@
+-- The levels left fall at each record, and three functions take turns within a level, so that the measure is three times the levels and a
+-- place among the three. The loop over the children keeps that the whole reading ends as the reading from here on does.
+-- Assumes nothing.
+use mathlib.Core.Path.{refl, sym, ap, _∙_}
 use Prim.Native.Nat.{ℕ, suc, _+_, _-_, _*_, _<_, _≤_}
 use native.Mathlib.Omega.{arith}
-use mathlib.Core.Path.{_≡_, refl, sym, ap, _∙_}
 use lib.ListN.{length}
 use borrow.Author.Needs.{needs}
+use borrow.Fn.Kinds.{In}
+use borrow.Fn.PlainCycle.{Measures, is, falls, and}
 use Rattle.image.specs.Read.{childAt, childrenAt, stepOf}
 use Rattle.image.proofs.Shapes.{opened-order, skips-within}
 use Rattle.image.proofs.Reading.{Going, go-on, go-bad, spare, missing, ended, child-within, open-wrong, open-record, record-steps}
-use borrow.Fn.Kinds.{In}
-use borrow.Fn.PlainCycle.{Measures, is, falls, and}
 use Rattle.image.proofs.records.read_child.Reads as read-child
 use Rattle.image.proofs.records.read_child.Kinds as read-child-kinds
 use Rattle.image.proofs.records.+read_child+read_children+read_record.Lts-read_child as read-child-lts
@@ -61,49 +64,28 @@ abbrev read-record-below : ℕ → In 2 read-record-kinds.ps
 read-record-below t =
     and 2 read-record-kinds.ps (falls 2 read-record-kinds.ps _<_ μ-read-record t) read-record.Pre
 
--- src/records.rt:95:8
-read-child-skip-fits-requires : (t : ℕ) → read-child-lts.Need-skip-fits-requires (
-  skip-fits-reads.Asked,
-  skip-fits-reads.Learnt,
-  read-record-below t,
-  read-record.Post,
-) (read-child-at t) read-child.Post
+abbrev read-child-calls : ℕ → read-child-lts.Claims
+read-child-calls t = (skip-fits-reads.Asked, skip-fits-reads.Learnt, read-record-below t, read-record.Post)
+
+abbrev read-children-calls : ℕ → read-children-lts.Claims
+read-children-calls t = (read-child-below t, read-child.Post, after-row-reads.Asked, after-row-reads.Learnt, is-over-reads.Asked, is-over-reads.Learnt)
+
+abbrev read-record-calls : ℕ → read-record-lts.Claims
+read-record-calls t = (opening-reads.Asked, opening-reads.Learnt, read-children-below t, read-children.Post)
+
+read-child-skip-fits-requires : (t : ℕ) → read-child-lts.Need-skip-fits-requires (read-child-calls t) (read-child-at t) read-child.Post
 read-child-skip-fits-requires t c κs = search needs
 
--- src/records.rt:96:27
-read-child-add-t9 : (t : ℕ) → read-child-lts.Need-add-t9 (
-  skip-fits-reads.Asked,
-  skip-fits-reads.Learnt,
-  read-record-below t,
-  read-record.Post,
-) (read-child-at t) read-child.Post
+read-child-add-t9 : (t : ℕ) → read-child-lts.Need-add-t9 (read-child-calls t) (read-child-at t) read-child.Post
 read-child-add-t9 t c = omega (arith, skips-within _ _ _ _ (sym (c .before .skip-fits .ensures) ∙ c .if1 .taken))
 
--- src/records.rt:96:9
-read-child-returns : (t : ℕ) → read-child-lts.Need-returns (
-  skip-fits-reads.Asked,
-  skip-fits-reads.Learnt,
-  read-record-below t,
-  read-record.Post,
-) (read-child-at t) read-child.Post
+read-child-returns : (t : ℕ) → read-child-lts.Need-returns (read-child-calls t) (read-child-at t) read-child.Post
 read-child-returns t c = simp (sym (c .before .skip-fits .ensures) ∙ c .if1 .taken)
 
--- src/records.rt:98:5
-read-child-read-record-requires : (t : ℕ) → read-child-lts.Need-read-record-requires (
-  skip-fits-reads.Asked,
-  skip-fits-reads.Learnt,
-  read-record-below t,
-  read-record.Post,
-) (read-child-at t) read-child.Post
+read-child-read-record-requires : (t : ℕ) → read-child-lts.Need-read-record-requires (read-child-calls t) (read-child-at t) read-child.Post
 read-child-read-record-requires t c κs = (omega arith, omega arith)
 
--- src/records.rt:91:1
-read-child-returns-2 : (t : ℕ) → read-child-lts.Need-returns-2 (
-  skip-fits-reads.Asked,
-  skip-fits-reads.Learnt,
-  read-record-below t,
-  read-record.Post,
-) (read-child-at t) read-child.Post
+read-child-returns-2 : (t : ℕ) → read-child-lts.Need-returns-2 (read-child-calls t) (read-child-at t) read-child.Post
 read-child-returns-2 t c = simp (sym (c .before .before .skip-fits .ensures) ∙ c .before .if1 .left) (c .read-record .ensures)
 
 abbrev read-children-Inv-loop : read-children-lts.InvT-loop
@@ -113,209 +95,66 @@ read-children-Inv-loop s b v left places first stop at₀ row₀ at row =
 abbrev read-children-μ-loop : read-children-lts.MeasureT-loop
 read-children-μ-loop s b v left places first stop at₀ row₀ at row = stop - at
 
--- src/records.rt:127:5
-read-children-loop-holds : (t : ℕ) → read-children-lts.Need-loop-holds (
-  read-child-below t,
-  read-child.Post,
-  after-row-reads.Asked,
-  after-row-reads.Learnt,
-  is-over-reads.Asked,
-  is-over-reads.Learnt,
-) (read-children-at t) read-children.Post read-children-Inv-loop read-children-μ-loop
+read-children-loop-holds : (t : ℕ) → read-children-lts.Need-loop-holds (read-children-calls t) (read-children-at t) read-children.Post read-children-Inv-loop read-children-μ-loop
 read-children-loop-holds t c = (search needs, record { turns = length (c .before .before .args .b .now); enough = omega arith; same = refl })
 
--- src/records.rt:129:13
-read-children-returns : (t : ℕ) → read-children-lts.Need-returns (
-  read-child-below t,
-  read-child.Post,
-  after-row-reads.Asked,
-  after-row-reads.Learnt,
-  is-over-reads.Asked,
-  is-over-reads.Learnt,
-) (read-children-at t) read-children.Post read-children-Inv-loop read-children-μ-loop
+read-children-returns : (t : ℕ) → read-children-lts.Need-returns (read-children-calls t) (read-children-at t) read-children.Post read-children-Inv-loop read-children-μ-loop
 read-children-returns t c = sym (c .before .before .loop .inv .1 .same ∙ ap stepOf (spare _ _ _ _ _ (c .before .loop-test .taken) (c .if1 .taken)))
 
--- src/records.rt:131:15
-read-children-read-child-requires : (t : ℕ) → read-children-lts.Need-read-child-requires (
-  read-child-below t,
-  read-child.Post,
-  after-row-reads.Asked,
-  after-row-reads.Learnt,
-  is-over-reads.Asked,
-  is-over-reads.Learnt,
-) (read-children-at t) read-children.Post read-children-Inv-loop read-children-μ-loop
+read-children-read-child-requires : (t : ℕ) → read-children-lts.Need-read-child-requires (read-children-calls t) (read-children-at t) read-children.Post read-children-Inv-loop read-children-μ-loop
 read-children-read-child-requires t c κs = (omega arith, omega arith)
 
--- src/records.rt:132:25
-read-children-enum-known-n : (t : ℕ) → read-children-lts.Need-enum-known-n (
-  read-child-below t,
-  read-child.Post,
-  after-row-reads.Asked,
-  after-row-reads.Learnt,
-  is-over-reads.Asked,
-  is-over-reads.Learnt,
-) (read-children-at t) read-children.Post read-children-Inv-loop read-children-μ-loop
+read-children-enum-known-n : (t : ℕ) → read-children-lts.Need-enum-known-n (read-children-calls t) (read-children-at t) read-children.Post read-children-Inv-loop read-children-μ-loop
 read-children-enum-known-n t c = search needs
 
--- src/records.rt:133:17
-read-children-returns-2 : (t : ℕ) → read-children-lts.Need-returns-2 (
-  read-child-below t,
-  read-child.Post,
-  after-row-reads.Asked,
-  after-row-reads.Learnt,
-  is-over-reads.Asked,
-  is-over-reads.Learnt,
-) (read-children-at t) read-children.Post read-children-Inv-loop read-children-μ-loop
+read-children-returns-2 : (t : ℕ) → read-children-lts.Need-returns-2 (read-children-calls t) (read-children-at t) read-children.Post read-children-Inv-loop read-children-μ-loop
 read-children-returns-2 t c = sym (go-bad _ _ _ _ _ _ _ (c .before .before .before .before .before .loop-test .taken) (c .before .before .before .before .if1 .left) (sym (c .before .before .before .read-child .ensures) ∙ c .before .n .given .1) (c .before .before .before .before .before .before .loop .inv .1))
 
--- src/records.rt:135:24
-read-children-enum-known-next : (t : ℕ) → read-children-lts.Need-enum-known-next (
-  read-child-below t,
-  read-child.Post,
-  after-row-reads.Asked,
-  after-row-reads.Learnt,
-  is-over-reads.Asked,
-  is-over-reads.Learnt,
-) (read-children-at t) read-children.Post read-children-Inv-loop read-children-μ-loop
+read-children-enum-known-next : (t : ℕ) → read-children-lts.Need-enum-known-next (read-children-calls t) (read-children-at t) read-children.Post read-children-Inv-loop read-children-μ-loop
 read-children-enum-known-next t c = search needs
 
--- src/records.rt:137:17
-read-children-after-row-requires : (t : ℕ) → read-children-lts.Need-after-row-requires (
-  read-child-below t,
-  read-child.Post,
-  after-row-reads.Asked,
-  after-row-reads.Learnt,
-  is-over-reads.Asked,
-  is-over-reads.Learnt,
-) (read-children-at t) read-children.Post read-children-Inv-loop read-children-μ-loop
+read-children-after-row-requires : (t : ℕ) → read-children-lts.Need-after-row-requires (read-children-calls t) (read-children-at t) read-children.Post read-children-Inv-loop read-children-μ-loop
 read-children-after-row-requires t c κs = search needs
 
--- src/records.rt:127:5
-read-children-loop-less : (t : ℕ) → read-children-lts.Need-loop-less (
-  read-child-below t,
-  read-child.Post,
-  after-row-reads.Asked,
-  after-row-reads.Learnt,
-  is-over-reads.Asked,
-  is-over-reads.Learnt,
-) (read-children-at t) read-children.Post read-children-Inv-loop read-children-μ-loop
+read-children-loop-less : (t : ℕ) → read-children-lts.Need-loop-less (read-children-calls t) (read-children-at t) read-children.Post read-children-Inv-loop read-children-μ-loop
 read-children-loop-less t c = omega (arith, child-within _ _ _ _ _ _ _ _ (sym (c .before .before .before .before .read-child .ensures) ∙ c .before .before .next .given .1))
 
--- src/records.rt:127:5
-read-children-loop-again : (t : ℕ) → read-children-lts.Need-loop-again (
-  read-child-below t,
-  read-child.Post,
-  after-row-reads.Asked,
-  after-row-reads.Learnt,
-  is-over-reads.Asked,
-  is-over-reads.Learnt,
-) (read-children-at t) read-children.Post read-children-Inv-loop read-children-μ-loop
+read-children-loop-again : (t : ℕ) → read-children-lts.Need-loop-again (read-children-calls t) (read-children-at t) read-children.Post read-children-Inv-loop read-children-μ-loop
 read-children-loop-again t c = let w = child-within _ _ _ _ _ _ _ _ (sym (c .before .before .before .before .read-child .ensures) ∙ c .before .before .next .given .1) in (w .1, rw (c .after-row .ensures) (go-on _ _ _ _ _ _ (c .before .before .before .before .before .before .loop-test .taken) (c .before .before .before .before .before .if1 .left) (sym (c .before .before .before .before .read-child .ensures) ∙ c .before .before .next .given .1) (w .0) (c .before .before .before .before .before .before .before .loop .inv .1)))
 
--- src/records.rt:141:8
-read-children-is-over-requires : (t : ℕ) → read-children-lts.Need-is-over-requires (
-  read-child-below t,
-  read-child.Post,
-  after-row-reads.Asked,
-  after-row-reads.Learnt,
-  is-over-reads.Asked,
-  is-over-reads.Learnt,
-) (read-children-at t) read-children.Post read-children-Inv-loop read-children-μ-loop
+read-children-is-over-requires : (t : ℕ) → read-children-lts.Need-is-over-requires (read-children-calls t) (read-children-at t) read-children.Post read-children-Inv-loop read-children-μ-loop
 read-children-is-over-requires t c κs = search needs
 
--- src/records.rt:142:9
-read-children-returns-3 : (t : ℕ) → read-children-lts.Need-returns-3 (
-  read-child-below t,
-  read-child.Post,
-  after-row-reads.Asked,
-  after-row-reads.Learnt,
-  is-over-reads.Asked,
-  is-over-reads.Learnt,
-) (read-children-at t) read-children.Post read-children-Inv-loop read-children-μ-loop
+read-children-returns-3 : (t : ℕ) → read-children-lts.Need-returns-3 (read-children-calls t) (read-children-at t) read-children.Post read-children-Inv-loop read-children-μ-loop
 read-children-returns-3 t c = sym (c .before .before .before .loop .inv .1 .same ∙ ap stepOf (ended _ _ _ _ _ (c .before .before .loop-test .left) (sym (c .before .is-over .ensures) ∙ c .if2 .taken)))
 
--- src/records.rt:113:1
-read-children-returns-4 : (t : ℕ) → read-children-lts.Need-returns-4 (
-  read-child-below t,
-  read-child.Post,
-  after-row-reads.Asked,
-  after-row-reads.Learnt,
-  is-over-reads.Asked,
-  is-over-reads.Learnt,
-) (read-children-at t) read-children.Post read-children-Inv-loop read-children-μ-loop
+read-children-returns-4 : (t : ℕ) → read-children-lts.Need-returns-4 (read-children-calls t) (read-children-at t) read-children.Post read-children-Inv-loop read-children-μ-loop
 read-children-returns-4 t c = sym (c .before .before .before .loop .inv .1 .same ∙ ap stepOf (missing _ _ _ _ _ (c .before .before .loop-test .left) (sym (c .before .is-over .ensures) ∙ c .if2 .left)))
 
--- src/records.rt:106:11
-read-record-opening-requires : (t : ℕ) → read-record-lts.Need-opening-requires (
-  opening-reads.Asked,
-  opening-reads.Learnt,
-  read-children-below t,
-  read-children.Post,
-) (read-record-at t) read-record.Post
+read-record-opening-requires : (t : ℕ) → read-record-lts.Need-opening-requires (read-record-calls t) (read-record-at t) read-record.Post
 read-record-opening-requires t c κs = search needs
 
--- src/records.rt:107:21
-read-record-enum-known-n : (t : ℕ) → read-record-lts.Need-enum-known-n (
-  opening-reads.Asked,
-  opening-reads.Learnt,
-  read-children-below t,
-  read-children.Post,
-) (read-record-at t) read-record.Post
+read-record-enum-known-n : (t : ℕ) → read-record-lts.Need-enum-known-n (read-record-calls t) (read-record-at t) read-record.Post
 read-record-enum-known-n t c = search needs
 
--- src/records.rt:108:24
-read-record-enum-known-first : (t : ℕ) → read-record-lts.Need-enum-known-first (
-  opening-reads.Asked,
-  opening-reads.Learnt,
-  read-children-below t,
-  read-children.Post,
-) (read-record-at t) read-record.Post
+read-record-enum-known-first : (t : ℕ) → read-record-lts.Need-enum-known-first (read-record-calls t) (read-record-at t) read-record.Post
 read-record-enum-known-first t c = search needs
 
--- src/records.rt:108:69
-read-record-sub-read-children : (t : ℕ) → read-record-lts.Need-sub-read-children (
-  opening-reads.Asked,
-  opening-reads.Learnt,
-  read-children-below t,
-  read-children.Post,
-) (read-record-at t) read-record.Post
+read-record-sub-read-children : (t : ℕ) → read-record-lts.Need-sub-read-children (read-record-calls t) (read-record-at t) read-record.Post
 read-record-sub-read-children t c = let w = open-record _ _ _ _ _ _ _ _ _ _ (sym (c .before .before .before .opening .ensures) ∙ c .before .first .given .1) in omega (arith, w .held .more)
 
--- src/records.rt:108:46
-read-record-read-children-requires : (t : ℕ) → read-record-lts.Need-read-children-requires (
-  opening-reads.Asked,
-  opening-reads.Learnt,
-  read-children-below t,
-  read-children.Post,
-) (read-record-at t) read-record.Post
+read-record-read-children-requires : (t : ℕ) → read-record-lts.Need-read-children-requires (read-record-calls t) (read-record-at t) read-record.Post
 read-record-read-children-requires t c κs = let w = open-record _ _ _ _ _ _ _ _ _ _ (sym (c .before .before .before .opening .ensures) ∙ c .before .first .given .1) in (omega (arith, w .held .more), (omega (arith, w .first, w .stop, opened-order (w .held)), omega (arith, w .stop, w .held .right .within)))
 
--- src/records.rt:102:1
-read-record-returns : (t : ℕ) → read-record-lts.Need-returns (
-  opening-reads.Asked,
-  opening-reads.Learnt,
-  read-children-below t,
-  read-children.Post,
-) (read-record-at t) read-record.Post
+read-record-returns : (t : ℕ) → read-record-lts.Need-returns (read-record-calls t) (read-record-at t) read-record.Post
 read-record-returns t c = sym (ap stepOf (open-wrong _ _ _ _ _ _ _ _ _ (sym (c .before .before .before .opening .ensures) ∙ c .before .n .given .1)))
 
--- src/records.rt:102:1
-read-record-returns-2 : (t : ℕ) → read-record-lts.Need-returns-2 (
-  opening-reads.Asked,
-  opening-reads.Learnt,
-  read-children-below t,
-  read-children.Post,
-) (read-record-at t) read-record.Post
+read-record-returns-2 : (t : ℕ) → read-record-lts.Need-returns-2 (read-record-calls t) (read-record-at t) read-record.Post
 read-record-returns-2 t c = c .read-children .ensures ∙ sym (record-steps _ _ _ _ _ _ _ _ _ _ (open-record _ _ _ _ _ _ _ _ _ _ (sym (c .before .before .before .before .opening .ensures) ∙ c .before .before .first .given .1)))
 
 pub +read-child+read-children+read-record-spec : {M : Type 1} → statement M
 +read-child+read-children+read-record-spec =
-    close μ-read-child μ-read-children μ-read-record (λ t. read-child-lts.spec (
-      skip-fits-reads.Asked,
-      skip-fits-reads.Learnt,
-      read-record-below t,
-      read-record.Post,
-    )
+    close μ-read-child μ-read-children μ-read-record (λ t. read-child-lts.spec (read-child-calls t)
     (read-child-at t)
     read-child.Post
     (read-child-skip-fits-requires t)
@@ -323,14 +162,7 @@ pub +read-child+read-children+read-record-spec : {M : Type 1} → statement M
     (read-child-returns t)
     (read-child-read-record-requires t)
     (read-child-returns-2 t))
-    (λ t. read-children-lts.spec (
-      read-child-below t,
-      read-child.Post,
-      after-row-reads.Asked,
-      after-row-reads.Learnt,
-      is-over-reads.Asked,
-      is-over-reads.Learnt,
-    )
+    (λ t. read-children-lts.spec (read-children-calls t)
     (read-children-at t)
     read-children.Post
     read-children-Inv-loop
@@ -347,8 +179,7 @@ pub +read-child+read-children+read-record-spec : {M : Type 1} → statement M
     (read-children-is-over-requires t)
     (read-children-returns-3 t)
     (read-children-returns-4 t))
-    λ t. read-record-lts.spec
-    (opening-reads.Asked, opening-reads.Learnt, read-children-below t, read-children.Post)
+    λ t. read-record-lts.spec (read-record-calls t)
     (read-record-at t)
     read-record.Post
     (read-record-opening-requires t)

@@ -1,97 +1,72 @@
-use Rattle.image.proofs.Reading.{is-record}
-use borrow.Author.Tests.{lt-ltb, le-ltb, le-leb, lt-leb, eq-eqb, ne-eqb, not-true, not-false}
-use mathlib.Core.Path.{sym, _∙_, ap}
+-- Each return is the definition under the tests that led to it; a right shape puts the thirteen bytes that are read in the image.
+-- Assumes nothing.
+use mathlib.Core.Path.{sym, _∙_}
 use native.Mathlib.Omega.{arith}
-use Rattle.image.specs.Read.{opens}
-use Rattle.image.proofs.Shapes.{shaped}
+use borrow.Author.Tests.{eq-eqb, ne-eqb, not-true, not-false}
 use borrow.Author.Needs.{needs}
+use Rattle.image.specs.Read.{opens}
+use Rattle.image.proofs.Reading.{is-record}
+use Rattle.image.proofs.Shapes.{shaped}
 use Rattle.image.proofs.records.opening.Statement.{statement}
 use Rattle.image.proofs.records.opening.Tie as tie
-use Rattle.image.proofs.records.opening.Reads as reads
-use Rattle.image.proofs.records.opening.Lts as lts
-use Rattle.image.proofs.bytes.num32.Reads as num32-reads
-use Rattle.image.proofs.bytes.wide.Reads as wide-reads
-use Rattle.image.proofs.grammar.first_child.Reads as first-child-reads
-use Rattle.image.proofs.grammar.row_under.Reads as row-under-reads
-use Rattle.image.proofs.records.shape_fits.Reads as shape-fits-reads
-use Rattle.text.proofs.newlines.is_range.Reads as is-range-reads
 
--- src/records.rt:58:9
 shape-fits-requires : tie.Need-shape-fits-requires
 shape-fits-requires c κs = search needs
 
--- src/records.rt:59:9
 returns : tie.Need-returns
 unfolding opens
 returns c = simp (sym (c .before .shape-fits .ensures) ∙ not-true _ (c .if1 .taken))
 
--- src/records.rt:62:9
 returns-2 : tie.Need-returns-2
 unfolding opens
 returns-2 c = simp (sym (c .before .before .shape-fits .ensures) ∙ not-false _ (c .before .if1 .left), eq-eqb _ _ (c .if2 .taken))
 
--- src/records.rt:64:46
 add-num32 : tie.Need-add-num32
 add-num32 c = search needs
 
--- src/records.rt:64:37
 num32-requires : tie.Need-num32-requires
 num32-requires c κs = let w = shaped _ _ _ _ _ (sym (c .before .before .shape-fits .ensures) ∙ not-false _ (c .before .if1 .left)) in omega (arith, w .long, w .within)
 
--- src/records.rt:64:64
 add-num32-2 : tie.Need-add-num32-2
 add-num32-2 c = search needs
 
--- src/records.rt:64:55
 num32-requires-2 : tie.Need-num32-requires-2
 num32-requires-2 c κs = let w = shaped _ _ _ _ _ (sym (c .before .before .before .shape-fits .ensures) ∙ not-false _ (c .before .before .if1 .left)) in omega (arith, w .long, w .within)
 
--- src/records.rt:64:9
 is-range-requires : tie.Need-is-range-requires
 is-range-requires c κs = search needs
 
--- src/records.rt:65:9
 returns-3 : tie.Need-returns-3
 unfolding opens
 returns-3 c = simp (sym (c .before .before .before .before .before .before .shape-fits .ensures) ∙ not-false _ (c .before .before .before .before .before .if1 .left), ne-eqb _ _ (c .before .before .before .before .if2 .left), ← c .before .before .before .num32 .ensures .same, ← c .before .before .num322 .ensures .same, sym (c .before .is-range .ensures) ∙ not-true _ (c .if3 .taken))
 
--- src/records.rt:67:20
 add-wide : tie.Need-add-wide
 add-wide c = search needs
 
--- src/records.rt:67:18
 shared-slice-read-wide : tie.Need-shared-slice-read-wide
 shared-slice-read-wide c = let w = shaped _ _ _ _ _ (sym (c .before .before .before .before .before .before .before .shape-fits .ensures) ∙ not-false _ (c .before .before .before .before .before .before .if1 .left)) in omega (arith, w .long, w .within)
 
--- src/records.rt:67:9
 wide-requires : tie.Need-wide-requires
 wide-requires c κs = search needs
 
--- src/records.rt:68:16
 add-stop : tie.Need-add-stop
 add-stop c = search needs
 
--- src/records.rt:68:25
 num32-requires-3 : tie.Need-num32-requires-3
 num32-requires-3 c κs = let w = shaped _ _ _ _ _ (sym (c .before .before .before .before .before .before .before .before .shape-fits .ensures) ∙ not-false _ (c .before .before .before .before .before .before .before .if1 .left)) in omega (arith, w .long, w .within)
 
--- src/records.rt:68:16
 add-stop-2 : tie.Need-add-stop-2
 add-stop-2 c = search needs
 
--- src/records.rt:70:31
 add-first-child : tie.Need-add-first-child
 add-first-child c = search needs
 
--- src/records.rt:70:16
 first-child-requires : tie.Need-first-child-requires
 first-child-requires c κs = search needs
 
--- src/records.rt:72:14
 row-under-requires : tie.Need-row-under-requires
 row-under-requires c κs = search needs
 
--- src/records.rt:54:1
 returns-4 : tie.Need-returns-4
 returns-4 c = is-record _ _ _ _ _ _ _ _ _ _ _ (record { more = c .before .before .before .before .before .before .before .before .before .if2 .left; right = shaped _ _ _ _ _ (sym (c .before .before .before .before .before .before .before .before .before .before .before .shape-fits .ensures) ∙ not-false _ (c .before .before .before .before .before .before .before .before .before .before .if1 .left)); span = rw (← c .before .before .before .before .before .before .before .before .num32 .ensures .same, ← c .before .before .before .before .before .before .before .num322 .ensures .same) (sym (c .before .before .before .before .before .before .is-range .ensures) ∙ not-false _ (c .before .before .before .before .before .if3 .left)) }) (c .before .before .before .wide .ensures .0) (c .before .before .num323 .ensures .same) (c .before .first-child .ensures) (c .row-under .ensures)
 

@@ -4,25 +4,17 @@ use Rattle.text.proofs.Counts.{range-inside}
 use borrow.Author.Needs.{needs}
 use Rattle.text.proofs.newlines.count_newlines.Statement.{statement}
 use Rattle.text.proofs.newlines.count_newlines.Tie as tie
-use Rattle.text.proofs.newlines.count_newlines.Reads as reads
-use Rattle.text.proofs.newlines.count_newlines.Lts as lts
-use Rattle.text.proofs.newlines.is_range.Reads as is-range-reads
-use Rattle.text.proofs.newlines.newlines_between.Reads as newlines-between-reads
 
--- src/newlines.rt:25:8
 is-range-requires : tie.Need-is-range-requires
 is-range-requires c κs = search needs
 
--- src/newlines.rt:26:9
 newlines-between-requires : tie.Need-newlines-between-requires
 newlines-between-requires c κs = range-inside _ _ _ (sym (c .before .is-range .ensures) ∙ c .if1 .taken)
 
--- src/newlines.rt:26:9
 returns : tie.Need-returns
 unfolding countNewlines
 returns c = simp (sym (c .before .before .is-range .ensures) ∙ c .before .if1 .taken) (c .newlines-between .ensures)
 
--- src/newlines.rt:22:1
 returns-2 : tie.Need-returns-2
 unfolding countNewlines
 returns-2 c = sym (simp (sym (c .before .is-range .ensures) ∙ c .if1 .left))

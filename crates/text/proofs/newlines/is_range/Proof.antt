@@ -4,29 +4,21 @@ use borrow.Author.Tests.{le-leb, lt-leb}
 use borrow.Author.Needs.{needs}
 use Rattle.text.proofs.newlines.is_range.Statement.{statement}
 use Rattle.text.proofs.newlines.is_range.Tie as tie
-use Rattle.text.proofs.newlines.is_range.Reads as reads
-use Rattle.text.proofs.newlines.is_range.Lts as lts
-use Rattle.text.proofs.utf8.is_boundary.Reads as is-boundary-reads
 
--- src/newlines.rt:13:9
 returns : tie.Need-returns
 unfolding isRange
 returns c = sym (simp (lt-leb _ _ (c .if1 .taken)))
 
--- src/newlines.rt:15:8
 is-boundary-requires : tie.Need-is-boundary-requires
 is-boundary-requires c κs = search needs
 
--- src/newlines.rt:16:9
 is-boundary-requires-2 : tie.Need-is-boundary-requires-2
 is-boundary-requires-2 c κs = search needs
 
--- src/newlines.rt:16:9
 returns-2 : tie.Need-returns-2
 unfolding isRange
 returns-2 c = simp (le-leb _ _ (c .before .before .before .if1 .left), sym (c .before .before .is-boundary .ensures) ∙ c .before .if2 .taken) (c .is-boundary2 .ensures)
 
--- src/newlines.rt:9:1
 returns-3 : tie.Need-returns-3
 unfolding isRange
 returns-3 c = sym (simp (le-leb _ _ (c .before .before .if1 .left), sym (c .before .is-boundary .ensures) ∙ c .if2 .left))

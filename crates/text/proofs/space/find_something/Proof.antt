@@ -1,3 +1,4 @@
+-- The loop's invariant, `Seeking`: the answer is what a search from `here` on gives. A character passed is one step of `seek`.
 use mathlib.Core.Path.{sym, _∙_}
 use native.Mathlib.Omega.{arith}
 use borrow.Author.Needs.{needs}
@@ -8,10 +9,6 @@ use lib.ListN.{length}
 use Rattle.text.proofs.Walks.{Seeking, seek-start, seek-next, seek-found, seek-nothing}
 use Rattle.text.proofs.space.find_something.Statement.{statement}
 use Rattle.text.proofs.space.find_something.Tie as tie
-use Rattle.text.proofs.space.find_something.Reads as reads
-use Rattle.text.proofs.space.find_something.Lts as lts
-use Rattle.text.proofs.space.is_passed.Reads as is-passed-reads
-use Rattle.text.proofs.utf8.char_at.Reads as char-at-reads
 
 abbrev Inv-loop : tie.InvT-loop
 Inv-loop s at here₀ here = Seeking s at here
@@ -19,47 +16,36 @@ Inv-loop s at here₀ here = Seeking s at here
 abbrev μ-loop : tie.MeasureT-loop
 μ-loop s at here₀ here = length s - here
 
--- src/space.rt:86:5
 loop-holds : tie.Need-loop-holds Inv-loop μ-loop
 loop-holds c = seek-start _ _
 
--- src/space.rt:87:15
 char-at-requires : tie.Need-char-at-requires Inv-loop μ-loop
 char-at-requires c κs = search needs
 
--- src/space.rt:88:33
 enum-told : tie.Need-enum-told Inv-loop μ-loop
 enum-told c = search needs
 
--- src/space.rt:88:33
 returns : tie.Need-returns Inv-loop μ-loop
 returns c = seek-nothing _ _ _ (sym (c .before .before .char-at .ensures) ∙ c .enum-told .given .1) (c .before .before .before .before .loop .inv)
 
--- src/space.rt:89:27
 enum-known-c : tie.Need-enum-known-c Inv-loop μ-loop
 enum-known-c c = search needs
 
--- src/space.rt:90:21
 is-passed-requires : tie.Need-is-passed-requires Inv-loop μ-loop
 is-passed-requires c κs = search needs
 
--- src/space.rt:91:21
 returns-2 : tie.Need-returns-2 Inv-loop μ-loop
 returns-2 c = seek-found _ _ _ _ _ (c .before .before .before .before .before .before .loop-test .taken) (sym (c .before .before .before .before .before .char-at .ensures) ∙ c .before .before .before .c .given .1) (sym (c .before .is-passed .ensures) ∙ not-true _ (c .if1 .taken)) (c .before .before .before .before .before .before .before .loop .inv)
 
--- src/space.rt:93:17
 add-here : tie.Need-add-here Inv-loop μ-loop
 add-here c = let inside = at-inside (c .before .before .before .before .before .before .before .before .before .args .s .now) (c .before .before .before .before .before .before .before .loop .here) _ _ (sym (c .before .before .before .before .before .char-at .ensures) ∙ c .before .before .before .c .given .1) in omega arith
 
--- src/space.rt:86:5
 loop-less : tie.Need-loop-less Inv-loop μ-loop
 loop-less c = let inside = at-inside (c .before .before .before .before .before .before .before .before .before .args .s .now) (c .before .before .before .before .before .before .before .loop .here) _ _ (sym (c .before .before .before .before .before .char-at .ensures) ∙ c .before .before .before .c .given .1) in omega arith
 
--- src/space.rt:86:5
 loop-again : tie.Need-loop-again Inv-loop μ-loop
 loop-again c = seek-next _ _ _ _ _ (c .before .before .before .before .before .before .loop-test .taken) (sym (c .before .before .before .before .before .char-at .ensures) ∙ c .before .before .before .c .given .1) (sym (c .before .is-passed .ensures) ∙ not-false _ (c .if1 .left)) (c .before .before .before .before .before .before .before .loop .inv)
 
--- src/space.rt:82:1
 returns-3 : tie.Need-returns-3 Inv-loop μ-loop
 returns-3 c = seek-nothing _ _ _ (none-at-end _ _ (c .loop-test .left)) (c .before .loop .inv)
 

@@ -3,18 +3,13 @@ use lib.ListN.{List·getD-eq-default}
 use borrow.Author.Needs.{needs}
 use Rattle.text.proofs.utf8.byte.Statement.{statement}
 use Rattle.text.proofs.utf8.byte.Tie as tie
-use Rattle.text.proofs.utf8.byte.Reads as reads
-use Rattle.text.proofs.utf8.byte.Lts as lts
 
--- src/utf8.rt:28:23
 shared-slice-read-result : tie.Need-shared-slice-read-result
 shared-slice-read-result c = search needs
 
--- src/utf8.rt:25:1
 returns : tie.Need-returns
 returns c = search needs
 
--- src/utf8.rt:25:1
 returns-2 : tie.Need-returns-2
 returns-2 c = sym (List·getD-eq-default (c .before .args .s .now) 0 (c .if1 .left))
 

@@ -1,26 +1,19 @@
+-- A sequence stands in the text, so its code point can be read.
 use native.Mathlib.Omega.{arith}
 use Rattle.text.proofs.Characters.{sequence-inside, decoded-none, decoded-char, at-decoded}
 use borrow.Author.Needs.{needs}
 use Rattle.text.proofs.utf8.char_at.Statement.{statement}
 use Rattle.text.proofs.utf8.char_at.Tie as tie
-use Rattle.text.proofs.utf8.char_at.Reads as reads
-use Rattle.text.proofs.utf8.char_at.Lts as lts
-use Rattle.text.proofs.utf8.code_point.Reads as code-point-reads
-use Rattle.text.proofs.utf8.sequence.Reads as sequence-reads
 
--- src/utf8.rt:171:9
 sequence-requires : tie.Need-sequence-requires
 sequence-requires c κs = search needs
 
--- src/utf8.rt:173:9
 returns : tie.Need-returns
 returns c = at-decoded _ _ _ _ (c .before .sequence .ensures) (decoded-none _ _ _ (c .if1 .taken))
 
--- src/utf8.rt:175:19
 code-point-requires : tie.Need-code-point-requires
 code-point-requires c κs = omega (arith, c .before .sequence .ensures, sequence-inside (c .before .before .before .args .s .now) (c .before .before .before .args .at) (omega (arith, c .before .sequence .ensures)))
 
--- src/utf8.rt:168:1
 returns-2 : tie.Need-returns-2
 returns-2 c = at-decoded _ _ _ _ (c .before .before .sequence .ensures) (decoded-char _ _ _ _ (c .before .if1 .left) (c .code-point .ensures))
 

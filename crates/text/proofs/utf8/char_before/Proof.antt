@@ -1,33 +1,24 @@
-use mathlib.Core.Path.{ap}
+-- A sequence that ends at `to` stands in the text, so its code point can be read.
 use native.Mathlib.Omega.{arith}
 use Prim.Native.Nat.{_-_}
-use Rattle.text.specs.Utf8.{sequence, ending}
+use Rattle.text.specs.Utf8.{ending}
 use Rattle.text.proofs.Characters.{sequence-inside, decoded-none, decoded-char, before-decoded, ending-fits}
 use borrow.Author.Needs.{needs}
 use Rattle.text.proofs.utf8.char_before.Statement.{statement}
 use Rattle.text.proofs.utf8.char_before.Tie as tie
-use Rattle.text.proofs.utf8.char_before.Reads as reads
-use Rattle.text.proofs.utf8.char_before.Lts as lts
-use Rattle.text.proofs.utf8.code_point.Reads as code-point-reads
-use Rattle.text.proofs.utf8.ending.Reads as ending-reads
 
--- src/utf8.rt:214:9
 ending-requires : tie.Need-ending-requires
 ending-requires c κs = search needs
 
--- src/utf8.rt:216:9
 returns : tie.Need-returns
 returns c = before-decoded _ _ _ _ _ (c .before .ending .ensures) (decoded-none _ _ _ (c .if1 .taken))
 
--- src/utf8.rt:218:33
 sub-code-point : tie.Need-sub-code-point
 sub-code-point c = let some = ending-fits (c .before .before .before .args .s .now) (c .before .before .before .args .from) (c .before .before .before .args .to) (omega (arith, c .before .ending .ensures)) in omega (arith, c .before .ending .ensures)
 
--- src/utf8.rt:218:19
 code-point-requires : tie.Need-code-point-requires
 code-point-requires c κs = let some = ending-fits (c .before .before .before .args .s .now) (c .before .before .before .args .from) (c .before .before .before .args .to) (omega (arith, c .before .ending .ensures)) in let inside = sequence-inside (c .before .before .before .args .s .now) (c .before .before .before .args .to - ending (c .before .before .before .args .s .now) (c .before .before .before .args .from) (c .before .before .before .args .to)) (omega (arith, c .before .ending .ensures)) in omega (arith, c .before .ending .ensures)
 
--- src/utf8.rt:211:1
 returns-2 : tie.Need-returns-2
 returns-2 c = before-decoded _ _ _ _ _ (c .before .before .ending .ensures) (decoded-char _ _ _ _ (c .before .if1 .left) (c .code-point .ensures))
 

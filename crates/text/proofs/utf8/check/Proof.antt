@@ -1,5 +1,6 @@
+-- The loop's invariant, `Going`: the prefix is found by going on from `at`. It ends where no sequence starts.
 use mathlib.Core.Path.{sym, _∙_}
-use Prim.Native.Nat.{_+_, _-_, _≤_}
+use Prim.Native.Nat.{_-_, _≤_}
 use native.Mathlib.Omega.{arith}
 use borrow.Author.Needs.{needs}
 use lib.ListN.{length}
@@ -8,9 +9,6 @@ use Rattle.text.proofs.Sequences.{sequence-fits}
 use Rattle.text.proofs.Runs.{Going, start, next, stop, none-past, checked-bad, checked-good}
 use Rattle.text.proofs.utf8.check.Statement.{statement}
 use Rattle.text.proofs.utf8.check.Tie as tie
-use Rattle.text.proofs.utf8.check.Reads as reads
-use Rattle.text.proofs.utf8.check.Lts as lts
-use Rattle.text.proofs.utf8.sequence.Reads as sequence-reads
 
 abbrev Inv-loop : tie.InvT-loop
 Inv-loop s at₀ at = (at ≤ length s) × Going s at
@@ -18,31 +16,24 @@ Inv-loop s at₀ at = (at ≤ length s) × Going s at
 abbrev μ-loop : tie.MeasureT-loop
 μ-loop s at₀ at = length s - at
 
--- src/utf8.rt:120:5
 loop-holds : tie.Need-loop-holds Inv-loop μ-loop
 loop-holds c = (omega arith, start _)
 
--- src/utf8.rt:121:13
 sequence-requires : tie.Need-sequence-requires Inv-loop μ-loop
 sequence-requires c κs = search needs
 
--- src/utf8.rt:123:13
 returns : tie.Need-returns Inv-loop μ-loop
 returns c = checked-bad _ _ (stop _ _ (sym (c .before .sequence .ensures) ∙ c .if1 .taken) (c .before .before .before .loop .inv .1)) (c .before .before .loop-test .taken)
 
--- src/utf8.rt:125:9
 add-at : tie.Need-add-at Inv-loop μ-loop
 add-at c = omega (arith, c .before .sequence .ensures, sequence-fits (c .before .before .before .before .before .args .s .now) (c .before .before .before .loop .at) (c .before .before .before .loop .inv .0))
 
--- src/utf8.rt:120:5
 loop-less : tie.Need-loop-less Inv-loop μ-loop
 loop-less c = omega (arith, c .before .sequence .ensures)
 
--- src/utf8.rt:120:5
 loop-again : tie.Need-loop-again Inv-loop μ-loop
 loop-again c = (omega (arith, c .before .sequence .ensures, sequence-fits (c .before .before .before .before .before .args .s .now) (c .before .before .before .loop .at) (c .before .before .before .loop .inv .0)), next _ _ _ (c .before .before .loop-test .taken) (c .before .sequence .ensures) (omega arith) (c .before .before .before .loop .inv .1))
 
--- src/utf8.rt:116:1
 returns-2 : tie.Need-returns-2 Inv-loop μ-loop
 returns-2 c = checked-good _ (stop _ _ (none-past _ _ (c .loop-test .left)) (c .before .loop .inv .1) ∙ omega arith)
 

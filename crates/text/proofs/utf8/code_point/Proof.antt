@@ -1,18 +1,14 @@
+-- The numbers fit a u32 since each byte is below 256; which case of `scalar` it is follows from the tests on n.
 use mathlib.Core.List.{List}
 use mathlib.Core.Path.{_≡_, refl}
 use Prim.Native.Nat.{ℕ, _+_, _*_, _%_, _<_}
 use lib.ListN.{getD}
-use mathlib.Core.Path.{sym, ap, _∙_}
-use native.Mathlib.Omega.{arith}
+use mathlib.Core.Path.{sym, _∙_}
 use borrow.Author.Tests.{le-leb, lt-leb, eq-eqb, ne-eqb}
 use Rattle.text.specs.Utf8.{scalar}
 use borrow.Author.Needs.{needs}
 use Rattle.text.proofs.utf8.code_point.Statement.{statement}
 use Rattle.text.proofs.utf8.code_point.Tie as tie
-use Rattle.text.proofs.utf8.code_point.Reads as reads
-use Rattle.text.proofs.utf8.code_point.Lts as lts
-use Rattle.text.proofs.utf8.byte.Reads as byte-reads
-use Rattle.text.proofs.utf8.wide.Reads as wide-reads
 
 -- the code point by the number of bytes, at numbers that the bytes are
 module _ (s : List ℕ) (at n w x y z : ℕ) (p : w ≡ getD s at 0) (q : x ≡ getD s (at + 1) 0) (r : y ≡ getD s (at + 2) 0) (u : z ≡ getD s (at + 3) 0) where
@@ -28,112 +24,85 @@ module _ (s : List ℕ) (at n w x y z : ℕ) (p : w ≡ getD s at 0) (q : x ≡ 
   unfolding scalar
   of-four h d e = rw (p, q, r, u) (sym (simp (lt-leb n 1 h, ne-eqb n 2 d, ne-eqb n 3 e)))
 
--- src/utf8.rt:145:22
 byte-requires : tie.Need-byte-requires
 byte-requires c κs = search needs
 
--- src/utf8.rt:145:9
 wide-requires : tie.Need-wide-requires
 wide-requires c κs = search needs
 
--- src/utf8.rt:147:9
 returns : tie.Need-returns
 unfolding scalar
 returns c = simp (le-leb _ _ (c .if1 .taken)) (c .before .wide .ensures .0 ∙ c .before .before .byte .ensures)
 
--- src/utf8.rt:149:31
 add-byte : tie.Need-add-byte
 add-byte c = search needs
 
--- src/utf8.rt:149:23
 byte-requires-2 : tie.Need-byte-requires-2
 byte-requires-2 c κs = search needs
 
--- src/utf8.rt:149:18
 wide-requires-2 : tie.Need-wide-requires-2
 wide-requires-2 c κs = search needs
 
--- src/utf8.rt:151:16
 mul-result : tie.Need-mul-result
 mul-result c = search needs
 
--- src/utf8.rt:151:16
 add-result : tie.Need-add-result
 add-result c = search needs
 
--- src/utf8.rt:151:9
 returns-2 : tie.Need-returns-2
 returns-2 c = of-two _ _ _ _ _ _ _ (c .before .before .before .before .wide .ensures .0 ∙ c .before .before .before .before .before .byte .ensures) (c .before .wide2 .ensures .0 ∙ c .before .before .byte2 .ensures) refl refl (c .before .before .before .if1 .left) (c .if2 .taken)
 
--- src/utf8.rt:153:30
 add-byte-2 : tie.Need-add-byte-2
 add-byte-2 c = search needs
 
--- src/utf8.rt:153:22
 byte-requires-3 : tie.Need-byte-requires-3
 byte-requires-3 c κs = search needs
 
--- src/utf8.rt:153:17
 wide-requires-3 : tie.Need-wide-requires-3
 wide-requires-3 c κs = search needs
 
--- src/utf8.rt:155:16
 mul-result-2 : tie.Need-mul-result-2
 mul-result-2 c = search needs
 
--- src/utf8.rt:155:36
 mul-result-3 : tie.Need-mul-result-3
 mul-result-3 c = search needs
 
--- src/utf8.rt:155:16
 add-result-2 : tie.Need-add-result-2
 add-result-2 c = search needs
 
--- src/utf8.rt:155:16
 add-result-3 : tie.Need-add-result-3
 add-result-3 c = search needs
 
--- src/utf8.rt:155:9
 returns-3 : tie.Need-returns-3
 returns-3 c = of-three _ _ _ _ _ _ _ (c .before .before .before .before .before .before .before .wide .ensures .0 ∙ c .before .before .before .before .before .before .before .before .byte .ensures) (c .before .before .before .before .wide2 .ensures .0 ∙ c .before .before .before .before .before .byte2 .ensures) (c .before .wide3 .ensures .0 ∙ c .before .before .byte3 .ensures) refl (c .before .before .before .before .before .before .if1 .left) (c .before .before .before .if2 .left) (c .if3 .taken)
 
--- src/utf8.rt:157:31
 add-byte-3 : tie.Need-add-byte-3
 add-byte-3 c = search needs
 
--- src/utf8.rt:157:23
 byte-requires-4 : tie.Need-byte-requires-4
 byte-requires-4 c κs = search needs
 
--- src/utf8.rt:157:18
 wide-requires-4 : tie.Need-wide-requires-4
 wide-requires-4 c κs = search needs
 
--- src/utf8.rt:158:5
 mul-result-4 : tie.Need-mul-result-4
 mul-result-4 c = search needs
 
--- src/utf8.rt:158:26
 mul-result-5 : tie.Need-mul-result-5
 mul-result-5 c = search needs
 
--- src/utf8.rt:158:5
 add-result-4 : tie.Need-add-result-4
 add-result-4 c = search needs
 
--- src/utf8.rt:158:42
 mul-result-6 : tie.Need-mul-result-6
 mul-result-6 c = search needs
 
--- src/utf8.rt:158:5
 add-result-5 : tie.Need-add-result-5
 add-result-5 c = search needs
 
--- src/utf8.rt:158:5
 add-result-6 : tie.Need-add-result-6
 add-result-6 c = search needs
 
--- src/utf8.rt:141:1
 returns-4 : tie.Need-returns-4
 returns-4 c = of-four _ _ _ _ _ _ _ (c .before .before .before .before .before .before .before .before .before .wide .ensures .0 ∙ c .before .before .before .before .before .before .before .before .before .before .byte .ensures) (c .before .before .before .before .before .before .wide2 .ensures .0 ∙ c .before .before .before .before .before .before .before .byte2 .ensures) (c .before .before .before .wide3 .ensures .0 ∙ c .before .before .before .before .byte3 .ensures) (c .wide4 .ensures .0 ∙ c .before .byte4 .ensures) (c .before .before .before .before .before .before .before .before .if1 .left) (c .before .before .before .before .before .if2 .left) (c .before .before .if3 .left)
 

@@ -1,49 +1,38 @@
+-- The code tries the four lengths in the order of the definition.
 use mathlib.Core.Path.{sym, _∙_}
 use Rattle.text.specs.Utf8.{ending}
 use borrow.Author.Needs.{needs}
 use Rattle.text.proofs.utf8.ending.Statement.{statement}
 use Rattle.text.proofs.utf8.ending.Tie as tie
-use Rattle.text.proofs.utf8.ending.Reads as reads
-use Rattle.text.proofs.utf8.ending.Lts as lts
-use Rattle.text.proofs.utf8.is_ending.Reads as is-ending-reads
 
--- src/utf8.rt:195:8
 is-ending-requires : tie.Need-is-ending-requires
 is-ending-requires c κs = search needs
 
--- src/utf8.rt:196:9
 returns : tie.Need-returns
 unfolding ending
 returns c = sym (simp (sym (c .before .is-ending .ensures) ∙ c .if1 .taken))
 
--- src/utf8.rt:198:8
 is-ending-requires-2 : tie.Need-is-ending-requires-2
 is-ending-requires-2 c κs = search needs
 
--- src/utf8.rt:199:9
 returns-2 : tie.Need-returns-2
 unfolding ending
 returns-2 c = sym (simp (sym (c .before .before .before .is-ending .ensures) ∙ c .before .before .if1 .left, sym (c .before .is-ending2 .ensures) ∙ c .if2 .taken))
 
--- src/utf8.rt:201:8
 is-ending-requires-3 : tie.Need-is-ending-requires-3
 is-ending-requires-3 c κs = search needs
 
--- src/utf8.rt:202:9
 returns-3 : tie.Need-returns-3
 unfolding ending
 returns-3 c = sym (simp (sym (c .before .before .before .before .before .is-ending .ensures) ∙ c .before .before .before .before .if1 .left, sym (c .before .before .before .is-ending2 .ensures) ∙ c .before .before .if2 .left, sym (c .before .is-ending3 .ensures) ∙ c .if3 .taken))
 
--- src/utf8.rt:204:8
 is-ending-requires-4 : tie.Need-is-ending-requires-4
 is-ending-requires-4 c κs = search needs
 
--- src/utf8.rt:205:9
 returns-4 : tie.Need-returns-4
 unfolding ending
 returns-4 c = sym (simp (sym (c .before .before .before .before .before .before .before .is-ending .ensures) ∙ c .before .before .before .before .before .before .if1 .left, sym (c .before .before .before .before .before .is-ending2 .ensures) ∙ c .before .before .before .before .if2 .left, sym (c .before .before .before .is-ending3 .ensures) ∙ c .before .before .if3 .left, sym (c .before .is-ending4 .ensures) ∙ c .if4 .taken))
 
--- src/utf8.rt:192:1
 returns-5 : tie.Need-returns-5
 unfolding ending
 returns-5 c = sym (simp (sym (c .before .before .before .before .before .before .before .is-ending .ensures) ∙ c .before .before .before .before .before .before .if1 .left, sym (c .before .before .before .before .before .is-ending2 .ensures) ∙ c .before .before .before .before .if2 .left, sym (c .before .before .before .is-ending3 .ensures) ∙ c .before .before .if3 .left, sym (c .before .is-ending4 .ensures) ∙ c .if4 .left))

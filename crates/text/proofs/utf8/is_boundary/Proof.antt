@@ -6,25 +6,17 @@ use mathlib.Core.Path.{ap, _∙_}
 use borrow.Author.Needs.{needs}
 use Rattle.text.proofs.utf8.is_boundary.Statement.{statement}
 use Rattle.text.proofs.utf8.is_boundary.Tie as tie
-use Rattle.text.proofs.utf8.is_boundary.Reads as reads
-use Rattle.text.proofs.utf8.is_boundary.Lts as lts
-use Rattle.text.proofs.utf8.byte.Reads as byte-reads
-use Rattle.text.proofs.utf8.is_continuation.Reads as is-continuation-reads
 
--- src/utf8.rt:135:9
 returns : tie.Need-returns
 unfolding boundary
 returns c = simp (lt-leb _ _ (c .if1 .taken))
 
--- src/utf8.rt:137:22
 byte-requires : tie.Need-byte-requires
 byte-requires c κs = search needs
 
--- src/utf8.rt:137:6
 is-continuation-requires : tie.Need-is-continuation-requires
 is-continuation-requires c κs = search needs
 
--- src/utf8.rt:131:1
 returns-2 : tie.Need-returns-2
 unfolding boundary
 returns-2 c = simp (le-leb _ _ (c .before .before .if1 .left)) (ap not (c .is-continuation .ensures ∙ ap continues (c .before .byte .ensures)))

@@ -2,15 +2,11 @@ use borrow.Author.Tests.{lt-leb, le-leb}
 use Rattle.text.specs.Utf8.{within}
 use Rattle.text.proofs.utf8.is_continuation.Statement.{statement}
 use Rattle.text.proofs.utf8.is_continuation.Tie as tie
-use Rattle.text.proofs.utf8.is_continuation.Reads as reads
-use Rattle.text.proofs.utf8.is_continuation.Lts as lts
 
--- src/utf8.rt:31:1
 returns : tie.Need-returns
 unfolding within
 returns c = simp (lt-leb _ _ (c .if1 .taken))
 
--- src/utf8.rt:31:1
 returns-2 : tie.Need-returns-2
 unfolding within
 returns-2 c = simp (le-leb _ _ (c .if1 .left))

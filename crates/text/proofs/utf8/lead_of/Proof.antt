@@ -1,3 +1,4 @@
+-- The code's tests give the row of table 3-7 at each of the 256 bytes, by computation.
 use Prim.Native.Nat.{ℕ, _<_}
 use native.Mathlib.Omega.{arith}
 use mathlib.Core.Path.{_≡_, refl, _∙_}
@@ -9,8 +10,6 @@ use Rattle.text.specs.declared.utf8.Lead.{Lead}
 use Rattle.text.proofs.Tests.{below-at, and-left, and-right}
 use Rattle.text.proofs.utf8.lead_of.Statement.{statement}
 use Rattle.text.proofs.utf8.lead_of.Tie as tie
-use Rattle.text.proofs.utf8.lead_of.Reads as reads
-use Rattle.text.proofs.utf8.lead_of.Lts as lts
 
 abbrev lead : ℕ → ℕ → ℕ → Lead
 lead low high n = record { 0 = low; 1 = high; 2 = n }
@@ -50,43 +49,33 @@ equal x y e =
 by-tests : (b : ℕ) → b < 256 → (l : Lead) → l ≡ ladder b → l ≡ leadOf (rowOf b)
 by-tests b h l e = e ∙ equal (ladder b) (leadOf (rowOf b)) (right b h)
 
--- src/utf8.rt:41:9
 returns : tie.Need-returns
 returns c = by-tests _ (omega arith) _ (simp (lt-ltb _ _ (c .if1 .taken)))
 
--- src/utf8.rt:44:9
 returns-2 : tie.Need-returns-2
 returns-2 c = by-tests _ (omega arith) _ (simp (le-ltb _ _ (c .before .if1 .left), lt-ltb _ _ (c .if2 .taken)))
 
--- src/utf8.rt:47:9
 returns-3 : tie.Need-returns-3
 returns-3 c = by-tests _ (omega arith) _ (simp (le-ltb _ _ (c .before .before .if1 .left), le-ltb _ _ (c .before .if2 .left), lt-ltb _ _ (c .if3 .taken)))
 
--- src/utf8.rt:50:9
 returns-4 : tie.Need-returns-4
 returns-4 c = by-tests _ (omega arith) _ (simp (le-ltb _ _ (c .before .before .before .if1 .left), le-ltb _ _ (c .before .before .if2 .left), le-ltb _ _ (c .before .if3 .left), eq-eqb _ _ (c .if4 .taken)))
 
--- src/utf8.rt:53:9
 returns-5 : tie.Need-returns-5
 returns-5 c = by-tests _ (omega arith) _ (simp (le-ltb _ _ (c .before .before .before .before .if1 .left), le-ltb _ _ (c .before .before .before .if2 .left), le-ltb _ _ (c .before .before .if3 .left), ne-eqb _ _ (c .before .if4 .left), eq-eqb _ _ (c .if5 .taken)))
 
--- src/utf8.rt:56:9
 returns-6 : tie.Need-returns-6
 returns-6 c = by-tests _ (omega arith) _ (simp (le-ltb _ _ (c .before .before .before .before .before .if1 .left), le-ltb _ _ (c .before .before .before .before .if2 .left), le-ltb _ _ (c .before .before .before .if3 .left), ne-eqb _ _ (c .before .before .if4 .left), ne-eqb _ _ (c .before .if5 .left), lt-ltb _ _ (c .if6 .taken)))
 
--- src/utf8.rt:59:9
 returns-7 : tie.Need-returns-7
 returns-7 c = by-tests _ (omega arith) _ (simp (le-ltb _ _ (c .before .before .before .before .before .before .if1 .left), le-ltb _ _ (c .before .before .before .before .before .if2 .left), le-ltb _ _ (c .before .before .before .before .if3 .left), ne-eqb _ _ (c .before .before .before .if4 .left), ne-eqb _ _ (c .before .before .if5 .left), le-ltb _ _ (c .before .if6 .left), eq-eqb _ _ (c .if7 .taken)))
 
--- src/utf8.rt:62:9
 returns-8 : tie.Need-returns-8
 returns-8 c = by-tests _ (omega arith) _ (simp (le-ltb _ _ (c .before .before .before .before .before .before .before .if1 .left), le-ltb _ _ (c .before .before .before .before .before .before .if2 .left), le-ltb _ _ (c .before .before .before .before .before .if3 .left), ne-eqb _ _ (c .before .before .before .before .if4 .left), ne-eqb _ _ (c .before .before .before .if5 .left), le-ltb _ _ (c .before .before .if6 .left), ne-eqb _ _ (c .before .if7 .left), lt-ltb _ _ (c .if8 .taken)))
 
--- src/utf8.rt:65:9
 returns-9 : tie.Need-returns-9
 returns-9 c = by-tests _ (omega arith) _ (simp (le-ltb _ _ (c .before .before .before .before .before .before .before .before .if1 .left), le-ltb _ _ (c .before .before .before .before .before .before .before .if2 .left), le-ltb _ _ (c .before .before .before .before .before .before .if3 .left), ne-eqb _ _ (c .before .before .before .before .before .if4 .left), ne-eqb _ _ (c .before .before .before .before .if5 .left), le-ltb _ _ (c .before .before .before .if6 .left), ne-eqb _ _ (c .before .before .if7 .left), le-ltb _ _ (c .before .if8 .left), eq-eqb _ _ (c .if9 .taken)))
 
--- src/utf8.rt:37:1
 returns-10 : tie.Need-returns-10
 returns-10 c = by-tests _ (omega arith) _ (simp (le-ltb _ _ (c .before .before .before .before .before .before .before .before .if1 .left), le-ltb _ _ (c .before .before .before .before .before .before .before .if2 .left), le-ltb _ _ (c .before .before .before .before .before .before .if3 .left), ne-eqb _ _ (c .before .before .before .before .before .if4 .left), ne-eqb _ _ (c .before .before .before .before .if5 .left), le-ltb _ _ (c .before .before .before .if6 .left), ne-eqb _ _ (c .before .before .if7 .left), le-ltb _ _ (c .before .if8 .left), ne-eqb _ _ (c .if9 .left)))
 

@@ -1,3 +1,4 @@
+-- Each return settles one test of `after`: a byte out of its range makes the answer 0, and the row's last byte in range makes it n.
 use mathlib.Core.Path.{_≡_, sym, ap, _∙_}
 use mathlib.Core.Bool.{true, false}
 use mathlib.Core.List.{List}
@@ -12,10 +13,6 @@ use Rattle.text.proofs.Tests.{within-in, within-below, within-above}
 use borrow.Author.Needs.{needs}
 use Rattle.text.proofs.utf8.led_by.Statement.{statement}
 use Rattle.text.proofs.utf8.led_by.Tie as tie
-use Rattle.text.proofs.utf8.led_by.Reads as reads
-use Rattle.text.proofs.utf8.led_by.Lts as lts
-use Rattle.text.proofs.utf8.byte.Reads as byte-reads
-use Rattle.text.proofs.utf8.is_continuation.Reads as is-continuation-reads
 
 -- what the code's tests, in their order, say of the sequence
 module _ (s : List ℕ) (at : ℕ) (l : Lead) (inside : at < length s) (led : l ≡ leadOf (rowOf (getD s at 0))) where
@@ -54,67 +51,51 @@ module _ (s : List ℕ) (at : ℕ) (l : Lead) (inside : at < length s) (led : l 
         sym (sequence-by s at l inside led
         ∙ simp (lt-leb (l .2) 1 (omega arith), within-in (l .0) (l .1) (getD s (at + 1) 0) low high, lt-leb (l .2) 2 (omega arith), j, lt-leb (l .2) 3 h, k))
 
--- src/utf8.rt:91:9
 returns : tie.Need-returns
 returns c = by-first _ _ _ (c .before .before .pre .0) (c .before .before .pre .1) (c .if1 .taken)
 
--- src/utf8.rt:93:26
 add-byte : tie.Need-add-byte
 add-byte c = search needs
 
--- src/utf8.rt:93:9
 byte-requires : tie.Need-byte-requires
 byte-requires c κs = search needs
 
--- src/utf8.rt:95:9
 returns-2 : tie.Need-returns-2
 returns-2 c = second-low _ _ _ (c .before .before .before .before .before .pre .0) (c .before .before .before .before .before .pre .1) (c .before .before .before .if1 .left) (omega (arith, c .before .before .byte .ensures))
 
--- src/utf8.rt:98:9
 returns-3 : tie.Need-returns-3
 returns-3 c = second-high _ _ _ (c .before .before .before .before .before .before .before .pre .0) (c .before .before .before .before .before .before .before .pre .1) (c .before .before .before .before .before .if1 .left) (omega (arith, c .before .before .before .before .byte .ensures)) (omega (arith, c .before .before .before .before .byte .ensures))
 
--- src/utf8.rt:101:9
 returns-4 : tie.Need-returns-4
 returns-4 c = by-second _ _ _ (c .before .before .before .before .before .before .before .before .pre .0) (c .before .before .before .before .before .before .before .before .pre .1) (omega (arith, c .before .before .before .before .before .byte .ensures)) (omega (arith, c .before .before .before .before .before .byte .ensures)) (c .if4 .taken)
 
--- src/utf8.rt:103:33
 add-byte-2 : tie.Need-add-byte-2
 add-byte-2 c = search needs
 
--- src/utf8.rt:103:25
 byte-requires-2 : tie.Need-byte-requires-2
 byte-requires-2 c κs = search needs
 
--- src/utf8.rt:103:9
 is-continuation-requires : tie.Need-is-continuation-requires
 is-continuation-requires c κs = search needs
 
--- src/utf8.rt:104:9
 returns-5 : tie.Need-returns-5
 returns-5 c = third-off _ _ _ (c .before .before .before .before .before .before .before .before .before .before .before .pre .0) (c .before .before .before .before .before .before .before .before .before .before .before .pre .1) (omega (arith, c .before .before .before .before .before .before .before .before .byte .ensures)) (omega (arith, c .before .before .before .before .before .before .before .before .byte .ensures)) (omega arith) (ap continues (sym (c .before .before .byte2 .ensures)) ∙ sym (c .before .is-continuation .ensures) ∙ not-true _ (c .if5 .taken))
 
--- src/utf8.rt:107:9
 returns-6 : tie.Need-returns-6
 returns-6 c = by-third _ _ _ (c .before .before .before .before .before .before .before .before .before .before .before .before .pre .0) (c .before .before .before .before .before .before .before .before .before .before .before .before .pre .1) (omega (arith, c .before .before .before .before .before .before .before .before .before .byte .ensures)) (omega (arith, c .before .before .before .before .before .before .before .before .before .byte .ensures)) (c .if6 .taken) (ap continues (sym (c .before .before .before .byte2 .ensures)) ∙ sym (c .before .before .is-continuation .ensures) ∙ not-false _ (c .before .if5 .left))
 
--- src/utf8.rt:109:33
 add-byte-3 : tie.Need-add-byte-3
 add-byte-3 c = search needs
 
--- src/utf8.rt:109:25
 byte-requires-3 : tie.Need-byte-requires-3
 byte-requires-3 c κs = search needs
 
--- src/utf8.rt:109:9
 is-continuation-requires-2 : tie.Need-is-continuation-requires-2
 is-continuation-requires-2 c κs = search needs
 
--- src/utf8.rt:110:9
 returns-7 : tie.Need-returns-7
 returns-7 c = fourth-off _ _ _ (c .before .before .before .before .before .before .before .before .before .before .before .before .before .before .before .pre .0) (c .before .before .before .before .before .before .before .before .before .before .before .before .before .before .before .pre .1) (omega (arith, c .before .before .before .before .before .before .before .before .before .before .before .before .byte .ensures)) (omega (arith, c .before .before .before .before .before .before .before .before .before .before .before .before .byte .ensures)) (omega arith) (ap continues (sym (c .before .before .before .before .before .before .byte2 .ensures)) ∙ sym (c .before .before .before .before .before .is-continuation .ensures) ∙ not-false _ (c .before .before .before .before .if5 .left)) (ap continues (sym (c .before .before .byte3 .ensures)) ∙ sym (c .before .is-continuation2 .ensures) ∙ not-true _ (c .if7 .taken))
 
--- src/utf8.rt:85:1
 returns-8 : tie.Need-returns-8
 returns-8 c = by-fourth _ _ _ (c .before .before .before .before .before .before .before .before .before .before .before .before .before .before .before .pre .0) (c .before .before .before .before .before .before .before .before .before .before .before .before .before .before .before .pre .1) (omega (arith, c .before .before .before .before .before .before .before .before .before .before .before .before .byte .ensures)) (omega (arith, c .before .before .before .before .before .before .before .before .before .before .before .before .byte .ensures)) (omega arith) (ap continues (sym (c .before .before .before .before .before .before .byte2 .ensures)) ∙ sym (c .before .before .before .before .before .is-continuation .ensures) ∙ not-false _ (c .before .before .before .before .if5 .left)) (ap continues (sym (c .before .before .byte3 .ensures)) ∙ sym (c .before .is-continuation2 .ensures) ∙ not-false _ (c .if7 .left))
 

@@ -1,0 +1,7 @@
+pub mod Children
+pub mod Texts
+pub mod Types
+pub mod Exprs
+pub mod Declarations
+pub mod Whole
+pub mod Examples

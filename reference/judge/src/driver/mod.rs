@@ -1,0 +1,31 @@
+//! A child module of `fmt`, so that it sees `State`, `Node` and `Renderer`.
+//!
+//! It runs them as `fmt_parsed` does, and keeps what `fmt_parsed` drops: the
+//! nodes as rows, the state at each declaration, the groups that wrapped.
+
+mod decode;
+mod layout;
+mod render;
+
+pub use decode::{RenderedRows, Texts, render_rows};
+pub use layout::{Layout, Stop, run};
+pub use render::Pen;
+
+use crate::rows::Row;
+
+/// All that a run of the formatter on one file gives.
+#[derive(Debug)]
+pub struct Run {
+    /// The whole document, the final `Line` included.
+    pub rows: Vec<Row>,
+    /// The state before each declaration, and after the last one.
+    pub stops: Vec<Stop>,
+    /// The state after closing.
+    pub closed: Stop,
+    pub comments_left: usize,
+    pub text: String,
+    /// A byte for each group number, 1 for wrapped.
+    pub marks: Vec<u8>,
+    /// The rendering state at the end.
+    pub pen: Pen,
+}

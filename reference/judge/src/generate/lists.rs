@@ -1,0 +1,252 @@
+//! Lists of calls to try, and single calls from states of any kind.
+
+use super::{Draft, damaged, edges, random_rows, realistic, wild};
+use crate::{
+    calls::{Call, LayoutState, RenderState, World},
+    driver::{Pen, Run, Stop},
+    frame::{self, Frame},
+    program::{self, Widths},
+    random::Random,
+    reader::MOST_SOURCE,
+    rows::Row,
+};
+
+/// Calls, what they are given and what stands before them.
+#[derive(Clone, Debug)]
+pub struct CallCase {
+    pub source: Vec<u8>,
+    pub image: Vec<u8>,
+    pub world: World,
+    pub calls: Vec<Call>,
+}
+
+/// A case by seed and index.
+pub fn case(seed: u64, index: u64) -> CallCase {
+    let random = &mut Random::new(100, seed, index);
+    match random.below(8) {
+        0 => unreadable(random),
+        1 => one_layout(random),
+        2 | 3 => one_rendering(random),
+        _ => list(random),
+    }
+}
+
+fn draft(random: &mut Random) -> Draft {
+    match random.below(4) {
+        0 => wild::draft(random),
+        1 => edges::draft(random),
+        _ => realistic::draft(random),
+    }
+}
+
+fn formatted(draft: &Draft, image: &[u8]) -> Option<Run> {
+    let source = draft.source.as_bytes();
+    program::format(Frame { source, image }, Widths::Supplied).ok()
+}
+
+/// Store and marks about as large as needed, with anything in them.
+fn world(random: &mut Random, rows: usize, numbers: usize) -> World {
+    let near = |random: &mut Random, size: usize| match random.below(6) {
+        0 => size.saturating_sub(1),
+        1 => size,
+        _ => size + random.below(4),
+    };
+    let cells = near(random, rows) * Row::CELLS + random.below(Row::CELLS);
+    let marks = near(random, numbers);
+    let junk = random.below(3);
+    World {
+        store: (0..cells).map(|_| cell(random, junk)).collect(),
+        marks: (0..marks).map(|_| random.byte()).collect(),
+        ..World::default()
+    }
+}
+
+fn cell(random: &mut Random, junk: usize) -> u32 {
+    match junk {
+        0 => 0,
+        1 => random.below(12) as u32,
+        _ => u32::from_be_bytes([(); 4].map(|()| random.byte())),
+    }
+}
+
+/// Calls from fresh states; most stop where a caller would.
+fn list(random: &mut Random) -> CallCase {
+    let draft = draft(random);
+    let image = draft.image();
+    let Some(run) = formatted(&draft, &image) else {
+        return unreadable(random);
+    };
+    let world = world(random, run.rows.len(), run.marks.len());
+    let mut calls = Vec::new();
+    let mut laid = 0;
+    for _ in 0..random.between(1, 9) {
+        calls.push(if random.once_in(2) {
+            layout(random, &run, &mut laid)
+        } else {
+            rendering(random, &run, laid)
+        });
+    }
+    CallCase {
+        source: draft.source.into_bytes(),
+        image,
+        world,
+        calls,
+    }
+}
+
+fn layout(random: &mut Random, run: &Run, laid: &mut usize) -> Call {
+    let declarations = run.stops.len() - 1;
+    let stop = match random.below(8) {
+        0 => random.between(0, declarations + 1),
+        1 => declarations,
+        _ => random.between((*laid).min(declarations), declarations),
+    };
+    let close = if stop == declarations {
+        random.once_in(2)
+    } else {
+        random.once_in(10)
+    };
+    *laid = stop;
+    Call::Layout { stop, close }
+}
+
+fn rendering(random: &mut Random, run: &Run, laid: usize) -> Call {
+    let last = run.rows.len();
+    let declaration = random.between(0, laid.min(run.stops.len() - 1));
+    let stop = match random.below(8) {
+        0 => random.between(0, last + 4),
+        1 => last,
+        _ => run.stops[declaration].next_row,
+    };
+    let room = match random.below(6) {
+        0 => random.below(40),
+        1 => run.text.len(),
+        _ => 1 << 16,
+    };
+    Call::Render { stop, room }
+}
+
+/// A source or an image that the reader turns down.
+fn unreadable(random: &mut Random) -> CallCase {
+    let bytes = damaged::frame(random);
+    let empty = Frame {
+        source: b"",
+        image: b"",
+    };
+    let frame = frame::split_any_size(&bytes).unwrap_or(empty);
+    let mut source = frame.source.to_vec();
+    if random.once_in(30) {
+        source = vec![b' '; MOST_SOURCE + 1];
+    }
+    CallCase {
+        source,
+        image: frame.image.to_vec(),
+        world: world(random, 9, 3),
+        calls: vec![
+            Call::Layout {
+                stop: 0,
+                close: random.once_in(2),
+            },
+            Call::Render { stop: 0, room: 10 },
+        ],
+    }
+}
+
+/// One layout call from a state that no call need have answered.
+fn one_layout(random: &mut Random) -> CallCase {
+    let draft = draft(random);
+    let image = draft.image();
+    let Some(run) = formatted(&draft, &image) else {
+        return unreadable(random);
+    };
+    let mut world = world(random, run.rows.len() + 3, 1);
+    world.laying = layout_state(random, &run, &draft, &world);
+    let declarations = run.stops.len() - 1;
+    let past = usize::from(random.once_in(9));
+    let stop = random.between(0, declarations + past);
+    let close = stop == declarations && random.once_in(2);
+    CallCase {
+        source: draft.source.into_bytes(),
+        image,
+        world,
+        calls: vec![Call::Layout { stop, close }],
+    }
+}
+
+fn layout_state(
+    random: &mut Random,
+    run: &Run,
+    draft: &Draft,
+    world: &World,
+) -> LayoutState {
+    let rows = world.room_for_rows();
+    let past = usize::from(random.once_in(12));
+    let state = LayoutState {
+        begun: !random.once_in(8),
+        closed: random.once_in(12),
+        next_declaration: random.between(0, run.stops.len() - 1 + past),
+        at: Stop {
+            next_row: *random.pick(&[0, 0, 1, rows / 2, rows, rows + past]),
+            next_number: *random.pick(&[0, 7, 1_048_576, 1_048_576 + past]),
+            comments_placed: random.between(0, draft.comments.len() + past),
+            position: random.between(0, draft.source.len() + past),
+        },
+    };
+    if random.once_in(12) {
+        LayoutState::default()
+    } else {
+        state
+    }
+}
+
+/// One rendering call on rows of any shape from a state of any kind.
+fn one_rendering(random: &mut Random) -> CallCase {
+    let source: Vec<u8> = (0..40).map(|_| random.byte()).collect();
+    let image = b"\x01\0\0\0\x07\0\0abcde".to_vec();
+    let sizes = [source.len(), image.len()];
+    let from = random.below(3);
+    let mut rows = vec![Row::default(); from];
+    rows.extend(random_rows::rows(random, sizes, from));
+    if random.once_in(3) {
+        random_rows::damage(random, &mut rows);
+    }
+    let mut world = world(random, rows.len(), 12);
+    let fitting = world.room_for_rows().min(rows.len());
+    world.put_rows(0, &rows[..fitting]);
+    world.rendering = render_state(random, &mut world, from);
+    let room = *random.pick(&[0, 50, 1 << 20, 1 << 20, 1 << 20]);
+    let stop = match random.below(10) {
+        0 => random.between(0, rows.len() + 2),
+        _ => fitting,
+    };
+    CallCase {
+        source,
+        image,
+        world,
+        calls: vec![Call::Render { stop, room }],
+    }
+}
+
+fn render_state(
+    random: &mut Random,
+    world: &mut World,
+    next_row: usize,
+) -> RenderState {
+    let past = usize::from(random.once_in(15));
+    let in_use = random.between(0, world.marks.len() + past);
+    if !random.once_in(15) {
+        for mark in world.marks.iter_mut().take(in_use) {
+            *mark &= 1;
+        }
+    }
+    let column = (1 << 56) + past;
+    RenderState {
+        pen: Pen {
+            indent: *random.pick(&[0, 0, 1, 3, 20, 64, 64 + past]),
+            next_indent: *random.pick(&[0, 0, 0, 1, 2, 64, 64 + past]),
+            column: *random.pick(&[0, 0, 1, 40, 79, 80, column]),
+        },
+        marks_in_use: in_use,
+        next_row: next_row + past,
+    }
+}

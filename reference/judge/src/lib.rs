@@ -1,0 +1,36 @@
+//! The judge: NLnet Labs' formatter, unchanged, run on tree images.
+//!
+//! Document 01 (docs/01-scope.md) sets the image, the refusals and the rows.
+//! What is formatted, and how, is left to `fmt_parsed` of src/fmt.rs.
+
+// The original's own modules, at the paths it imports them by.
+#[path = "../../roto/src/ast.rs"]
+#[allow(dead_code)]
+mod ast;
+#[path = "shim/load.rs"]
+mod load;
+#[path = "shim/parser.rs"]
+mod parser;
+#[path = "shim/report.rs"]
+mod report;
+use report::{RotoError, RotoReport};
+
+include!(concat!(env!("OUT_DIR"), "/declare_fmt.rs"));
+
+pub use fmt::driver;
+
+pub mod answers;
+pub mod calls;
+pub mod examples;
+pub mod explain;
+pub mod frame;
+pub mod generate;
+pub mod grammar;
+pub mod image;
+pub mod program;
+mod random;
+pub mod reader;
+pub mod refusal;
+pub mod rows;
+pub mod table;
+pub mod tree;

@@ -1,0 +1,125 @@
+//! The judge on the command line.
+
+use std::{
+    env,
+    io::{self, Read, Write},
+    process::ExitCode,
+};
+
+use judge::{
+    answers, examples, explain, frame,
+    generate::{self, Class},
+    program::{self, Widths},
+    table,
+};
+
+const USAGE: &str = "\
+usage: judge run [--true-widths] < frame      what the program must write
+       judge explain [--true-widths] < frame  rows, marks, states and text
+       judge example NAME                     a frame of document 01
+       judge generate CLASS SEED COUNT        frames, each led by its length
+       judge table SEED COUNT                 what frames of all classes reach
+       judge answers CLASS SEED COUNT         frames with what is due for them
+       judge call-answers SEED COUNT          lists of calls with their answers
+       judge size-answers                     the same for all sizes
+       judge text-answers                     answers of Rust's text functions
+CLASS: realistic, wild, edges, damaged or sizes
+";
+
+/// What a command writes, piece by piece: large sets are never held whole.
+type Pieces = Box<dyn Iterator<Item = Vec<u8>>>;
+
+fn main() -> ExitCode {
+    let arguments: Vec<String> = env::args().skip(1).collect();
+    let words: Vec<&str> = arguments.iter().map(String::as_str).collect();
+    let pieces = match command(&words) {
+        Ok(pieces) => pieces,
+        Err(message) => {
+            eprint!("{message}");
+            return ExitCode::FAILURE;
+        }
+    };
+    let mut output = io::BufWriter::new(io::stdout().lock());
+    for piece in pieces {
+        // A reader that has seen enough is no fault.
+        if output.write_all(&piece).is_err() {
+            return ExitCode::FAILURE;
+        }
+    }
+    match output.flush() {
+        Ok(()) => ExitCode::SUCCESS,
+        Err(_) => ExitCode::FAILURE,
+    }
+}
+
+/// What a command writes, or why it cannot.
+fn command(words: &[&str]) -> Result<Pieces, String> {
+    Ok(match words {
+        ["run", flags @ ..] => one(program::output(&input(), widths(flags)?)),
+        ["explain", flags @ ..] => {
+            one(explain::explain(&input(), widths(flags)?))
+        }
+        ["example", name] => one(examples::frame(name).ok_or_else(names)?),
+        ["generate", class, seed, count] => {
+            Box::new(frames(class, seed, count)?.map(|f| frame::led(&f)))
+        }
+        ["answers", class, seed, count] => Box::new(
+            frames(class, seed, count)?
+                .map(|f| answers::frames::answered(&f)),
+        ),
+        ["call-answers", seed, count] => {
+            let seed = number(seed)?;
+            let cases = (0..number(count)?)
+                .map(move |index| generate::call_case(seed, index));
+            Box::new(cases.map(|case| answers::calls::answered(&case)))
+        }
+        ["size-answers"] => {
+            let cases = generate::size_call_cases();
+            Box::new(cases.map(|case| answers::calls::answered(&case)))
+        }
+        ["text-answers"] => one(answers::text::answers()),
+        ["table", seed, count] => {
+            one(table::table(number(seed)?, number(count)?))
+        }
+        _ => return Err(USAGE.into()),
+    })
+}
+
+fn one(piece: impl Into<Vec<u8>>) -> Pieces {
+    Box::new(std::iter::once(piece.into()))
+}
+
+fn input() -> Vec<u8> {
+    let mut bytes = Vec::new();
+    io::stdin()
+        .read_to_end(&mut bytes)
+        .expect("input can be read");
+    bytes
+}
+
+fn widths(flags: &[&str]) -> Result<Widths, String> {
+    match flags {
+        [] => Ok(Widths::Supplied),
+        ["--true-widths"] => Ok(Widths::True),
+        _ => Err(USAGE.into()),
+    }
+}
+
+fn frames(
+    class: &str,
+    seed: &str,
+    count: &str,
+) -> Result<impl Iterator<Item = Vec<u8>> + use<>, String> {
+    let class = Class::from_name(class).ok_or(USAGE)?;
+    Ok(generate::frames(class, number(seed)?, number(count)?))
+}
+
+fn number(word: &str) -> Result<u64, String> {
+    word.parse().map_err(|_| USAGE.into())
+}
+
+fn names() -> String {
+    let lines =
+        examples::NAMES.map(|(name, what)| format!("{name:16}{what}\n"));
+    lines.concat()
+}

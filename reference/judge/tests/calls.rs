@@ -1,0 +1,281 @@
+//! Calls, their refusals, and the cut rule on the original itself.
+
+use judge::{
+    calls::{self, Answer, Call, Given, LayoutState, RenderState, World},
+    driver::{Pen, Texts, render_rows},
+    examples,
+    frame::{self, Frame},
+    generate::{self, Class},
+    program::{self, Widths},
+    rows::{self, Row},
+};
+
+const SEED: u64 = 5;
+
+/// The two constants with a comment between: 21 rows, 2 group numbers.
+fn two_constants() -> Vec<u8> {
+    examples::frame("two-consts").unwrap()
+}
+
+fn world(rows: usize, marks: usize) -> World {
+    World {
+        store: vec![0xDEAD; rows * Row::CELLS + 2],
+        marks: vec![9; marks],
+        ..World::default()
+    }
+}
+
+fn given<'g>(frame: &Frame<'g>) -> Given<'g> {
+    Given {
+        source: frame.source,
+        image: frame.image,
+    }
+}
+
+fn layout(stop: usize, close: bool) -> Call {
+    Call::Layout { stop, close }
+}
+
+fn render(stop: usize) -> Call {
+    Call::Render { stop, room: 1_000 }
+}
+
+/// Number and place of each refusal, or `None`.
+fn refusals(world: &mut World, calls: &[Call]) -> Vec<Option<(u8, u64)>> {
+    let bytes = two_constants();
+    let frame = frame::split(&bytes).unwrap();
+    let answers = calls::run(given(&frame), world, calls);
+    let number = |answer: Result<Answer, judge::refusal::Refusal>| {
+        answer.err().map(|refusal| (refusal.number, refusal.place))
+    };
+    answers.into_iter().map(number).collect()
+}
+
+#[test]
+fn layout_and_rendering_in_pieces() {
+    let bytes = two_constants();
+    let run = program::answer(&bytes, Widths::Supplied).unwrap();
+    let mut world = world(25, 3);
+    let calls = [
+        layout(0, false),
+        layout(1, false),
+        render(9),
+        layout(1, false),
+        layout(2, false),
+        layout(2, true),
+        render(20),
+        render(21),
+    ];
+    assert_eq!(refusals(&mut world, &calls), [None; 8]);
+    assert_eq!(world.text, run.text.as_bytes());
+    assert_eq!(world.rows(21), run.rows);
+    assert_eq!(world.store[21 * Row::CELLS..], [0xDEAD; 4 * 9 + 2]);
+    assert_eq!(world.marks, [0, 0, 9]);
+    assert_eq!(world.laying.at, run.closed);
+    assert!(world.laying.closed);
+}
+
+#[test]
+fn refused_calls_leave_all_as_it_was() {
+    let mut world_ = world(20, 1);
+    let calls = [layout(2, true), layout(3, false), layout(1, true)];
+    let refused = [Some((8, 21)), Some((12, 0)), Some((12, 0))];
+    assert_eq!(refusals(&mut world_, &calls), refused);
+    assert_eq!(world_, world(20, 1));
+    let calls = [layout(2, false), layout(1, false), layout(2, true)];
+    let refused = [None, Some((12, 0)), Some((8, 21))];
+    assert_eq!(refusals(&mut world_, &calls), refused);
+    let before = world_.clone();
+    let calls = [render(20), render(21), Call::Render { stop: 9, room: 16 }];
+    let refused = [Some((9, 2)), Some((11, 0)), Some((10, 17))];
+    assert_eq!(refusals(&mut world_, &calls), refused);
+    assert_eq!(world_, before);
+}
+
+#[test]
+fn a_closed_layout_takes_no_more_calls() {
+    let mut world = world(21, 2);
+    let calls = [layout(2, true), layout(2, false), layout(2, true)];
+    let refused = [None, Some((12, 0)), Some((12, 0))];
+    assert_eq!(refusals(&mut world, &calls), refused);
+}
+
+#[test]
+fn rendering_states_are_tested() {
+    let mut laid = world(21, 2);
+    refusals(&mut laid, &[layout(2, true)]);
+    let with = |state: RenderState, marks: [u8; 2]| {
+        let mut world = laid.clone();
+        world.rendering = state;
+        world.marks = marks.to_vec();
+        refusals(&mut world, &[render(9)])[0]
+    };
+    let fresh = RenderState::default();
+    assert_eq!(with(fresh, [9, 9]), None);
+    let past = RenderState {
+        next_row: 10,
+        ..fresh
+    };
+    assert_eq!(with(past, [0, 0]), Some((12, 0)));
+    let mut pen = fresh;
+    (pen.pen.indent, pen.pen.next_indent, pen.pen.column) = (64, 64, 1 << 56);
+    assert_eq!(with(pen, [0, 0]), None);
+    pen.pen.column += 1;
+    assert_eq!(with(pen, [0, 0]), Some((12, 0)));
+    let marks = |marks_in_use| RenderState {
+        marks_in_use,
+        ..fresh
+    };
+    assert_eq!(with(marks(1), [1, 2]), None);
+    assert_eq!(with(marks(2), [1, 2]), Some((12, 0)));
+    assert_eq!(with(marks(3), [1, 1]), Some((12, 0)));
+}
+
+#[test]
+fn layout_states_are_tested() {
+    let with = |change: fn(&mut LayoutState)| {
+        let mut world = world(30, 2);
+        refusals(&mut world, &[layout(1, false)]);
+        change(&mut world.laying);
+        refusals(&mut world, &[layout(2, false)])[0]
+    };
+    assert_eq!(with(|_| ()), None);
+    assert_eq!(with(|s| s.at.position = 40), None);
+    assert_eq!(with(|s| s.at.position = 41), Some((12, 0)));
+    assert_eq!(with(|s| s.at.comments_placed = 1), None);
+    assert_eq!(with(|s| s.at.comments_placed = 2), Some((12, 0)));
+    assert_eq!(with(|s| s.at.next_number = 1_048_576), None);
+    assert_eq!(with(|s| s.at.next_number = 1_048_577), Some((12, 0)));
+    assert_eq!(with(|s| s.at.next_row = 30), Some((8, 41)));
+    assert_eq!(with(|s| s.at.next_row = 31), Some((12, 0)));
+    assert_eq!(with(|s| s.begun = false), Some((12, 0)));
+    assert_eq!(with(|s| s.closed = true), Some((12, 0)));
+    assert_eq!(with(|s| s.next_declaration = 3), Some((12, 0)));
+}
+
+/// The first wrong row among these, by a rendering from row 0.
+fn wrong_row(rows: &[Row]) -> Option<u64> {
+    let mut world = world(rows.len(), 4);
+    world.put_rows(0, rows);
+    let answer = refusals(&mut world, &[render(rows.len())])[0];
+    answer.map(|(number, place)| {
+        assert_eq!(number, 11);
+        place
+    })
+}
+
+fn row(kind: u32, second_part: u32, after: u32) -> Row {
+    Row {
+        kind,
+        second_part,
+        after,
+        ..Row::default()
+    }
+}
+
+#[test]
+fn whose_fault_a_wrong_row_is() {
+    let line = |after| row(rows::LINE, 0, after);
+    assert_eq!(wrong_row(&[line(1), line(2)]), None);
+    assert_eq!(wrong_row(&[line(1), line(3)]), Some(1));
+    assert_eq!(wrong_row(&[line(1), line(1)]), Some(1));
+    assert_eq!(wrong_row(&[row(12, 0, 1)]), Some(0));
+    // A group's part that outgrows it is at fault itself.
+    let group = |after| row(rows::GROUP, 0, after);
+    assert_eq!(wrong_row(&[group(2), line(3), line(3)]), Some(1));
+    assert_eq!(wrong_row(&[group(3), group(4), line(3), line(4)]), Some(1));
+    // The part of an `IfWrap` that misses the second part is the parent's.
+    let choice = |second, after| row(rows::IF_WRAP, second, after);
+    assert_eq!(wrong_row(&[choice(2, 3), line(2), line(3)]), None);
+    assert_eq!(wrong_row(&[choice(2, 3), line(3), line(3)]), Some(0));
+    assert_eq!(wrong_row(&[choice(1, 3), line(2), line(3)]), Some(0));
+    assert_eq!(wrong_row(&[choice(2, 2), line(2), line(3)]), Some(0));
+    let three = [choice(2, 4), line(2), line(3), line(4)];
+    assert_eq!(wrong_row(&three), Some(0));
+    // A `Call`'s second part starts at a part or at the end.
+    let call = |second, after| row(rows::CALL, second, after);
+    for second in 1..=3 {
+        assert_eq!(wrong_row(&[call(second, 3), line(2), line(3)]), None);
+    }
+    assert_eq!(wrong_row(&[call(0, 3), line(2), line(3)]), Some(0));
+    assert_eq!(wrong_row(&[call(4, 3), line(2), line(3)]), Some(0));
+    assert_eq!(wrong_row(&[call(2, 3), group(3), line(3)]), Some(0));
+    assert_eq!(wrong_row(&[call(1, 3), line(2), line(4), line(4)]), Some(2));
+}
+
+#[test]
+fn rows_nest_256_deep() {
+    let nested = |count: u32| -> Vec<Row> {
+        (0..count).map(|_| row(rows::INDENT, 0, count)).collect()
+    };
+    assert_eq!(wrong_row(&nested(256)), None);
+    assert_eq!(wrong_row(&nested(257)), Some(256));
+}
+
+#[test]
+fn the_cut_rule_holds_of_the_original() {
+    let mut spoken_of = 0;
+    for index in 0..600 {
+        let case = generate::call_case(SEED, index);
+        let given = Given {
+            source: &case.source,
+            image: &case.image,
+        };
+        let (store, marks) = (&case.world.store, &case.world.marks);
+        let fresh = case.world.laying == LayoutState::default()
+            && case.world.rendering == RenderState::default();
+        if !fresh
+            || !calls::reads_laid_rows_alone(given, store, marks, &case.calls)
+        {
+            continue;
+        }
+        spoken_of += 1;
+        let mut world = case.world.clone();
+        let answers = calls::run(given, &mut world, &case.calls);
+        let plain = calls::plain_run(given, store, marks, &case.calls);
+        assert_eq!((answers, world), plain, "case {index}");
+    }
+    assert!(spoken_of > 200, "{spoken_of}");
+}
+
+#[test]
+fn rows_render_as_the_nodes_they_came_from() {
+    let words = rows::fixed_words();
+    for (class, _) in Class::ALL {
+        for bytes in generate::frames(class, SEED, 200) {
+            let Ok(run) = program::answer(&bytes, Widths::Supplied) else {
+                continue;
+            };
+            let frame = frame::split(&bytes).unwrap();
+            let texts = Texts {
+                source: frame.source,
+                image: frame.image,
+                words: words.as_bytes(),
+            };
+            let rendered =
+                render_rows(texts, &run.rows, 0, Pen::default(), &[]);
+            assert_eq!(rendered.text, run.text.as_bytes());
+            assert_eq!(rendered.marks, run.marks);
+            assert_eq!(rendered.pen, run.pen);
+        }
+    }
+}
+
+#[test]
+fn no_row_lies_past_the_limit() {
+    let limit = calls::MOST_ROWS;
+    let mut world = World {
+        store: vec![0; (limit + 2) * Row::CELLS],
+        ..World::default()
+    };
+    world.rendering.next_row = limit;
+    assert_eq!(
+        refusals(&mut world, &[render(limit), render(limit + 1)]),
+        [None, Some((11, 0))]
+    );
+    world.laying.begun = true;
+    world.laying.at.next_row = limit;
+    assert_eq!(refusals(&mut world, &[layout(0, false)]), [None]);
+    world.laying.at.next_row = limit + 1;
+    assert_eq!(refusals(&mut world, &[layout(0, false)]), [Some((12, 0))]);
+}
