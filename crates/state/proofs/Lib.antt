@@ -1,5 +1,6 @@
 pub mod Stores
 pub mod Joins
 pub mod Laws
+pub mod Keeps
 pub mod Nested
 pub mod Places

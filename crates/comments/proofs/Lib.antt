@@ -1,0 +1,4 @@
+pub mod Accepted
+pub mod Bounds
+pub mod Fronts
+pub mod Pops
