@@ -32,23 +32,12 @@ use Rattle.tree.specs.At.{Head, past, IdentAt, ListAt, Maybe, TypesAt, FieldsAt
 use Rattle.rows.specs.Words.{placeIn}
 use Rattle.state.specs.Act.{Given, Act, skip}
 use Rattle.comments.specs.Comments.{popWhitespace}
+use Rattle.layout.specs.declared.kinds.WrapStyle.the-variants.{Tight, Wrap}
 use Rattle.layout.specs.Layout.{
-  Tight,
-  Wrap,
-  Bottom,
-  params,
-  recordTypeRule,
-  typeParams,
-  opening,
-  variantElems,
-  declaration,
-  shebangRule,
-  declarationsRule,
-  fmtParsed,
+    someTypeParams, Bottom, params, recordTypeRule, typeParams, opening, variantElems, declaration, shebangRule, declarationsRule, fmtParsed, importSpan, unlessEmpty
 }
 use Rattle.facts.specs.Sound.{Ranged, Commented, Sounds}
 use Rattle.facts.specs.Height.{fieldsHeight, variantsHeight, declarationHeight, declarationsHeight, treeHeight}
-use Rattle.facts.proofs.Tests.{importSpan, unlessEmpty}
 use Rattle.facts.proofs.Steps.{_⨾_, fewer, sound-skip, sound-line, sound-emptyLine, sound-str, sound-when, sound-asks}
 use Rattle.facts.proofs.Gaps.{trimEnd-le, sound-gap}
 use Rattle.facts.proofs.Parts.{
@@ -89,10 +78,6 @@ module _ {g : Given} (commented : Commented g) where
       (omega (arith, l .long))
 
   -- the parameters of a record or of an enum, which are left out where there are none
-  abbrev someTypeParams : Option Idents → Act
-  someTypeParams nothing = skip
-  someTypeParams (some is) = unlessEmpty (is .elems) (typeParams g is)
-
   sound-unlessEmpty : (is : List Ident) {a : Act} {n d : ℕ} → Sounds g n d a → Sounds g n d (unlessEmpty is a)
   sound-unlessEmpty [] p = fewer sound-skip (omega arith)
   sound-unlessEmpty (i ∷ is) p = p
@@ -103,7 +88,7 @@ module _ {g : Given} (commented : Commented g) where
   sound-typeParams is at h a = sound-idents commented "[" "]" refl refl is at h a
 
   some-params : (ps : Option Idents) (at : ℕ) {d : ℕ} → 3 ≤ d → Maybe (g .source) (g .image) (ListAt (g .source) (g .image)) ps at
-      → Sounds g (4 + be32 (g .image) at) d (someTypeParams ps)
+      → Sounds g (4 + be32 (g .image) at) d (someTypeParams g ps)
   unfolding Maybe
   some-params nothing at h a = fewer sound-skip (omega arith)
   some-params (some is) at h a = sound-unlessEmpty (is .elems) (sound-typeParams is at h a)

@@ -1,4 +1,3 @@
-pub mod Tests
 pub mod Placing
 pub mod InOrder
 pub mod Steps
