@@ -1,11 +1,13 @@
 -- Every layout rule places comments: each that it takes from the list, once and in order. A rule joins steps that do.
 -- Assumes nothing.
-use Prim.Native.Nat.{ℕ, zero, suc}
+use Prim.Native.Nat.{ℕ, zero, suc, _-_}
 use Prim.Native.String.{String}
-use mathlib.Core.Path.{refl}
+use mathlib.Core.Path.{_≡_, refl, ap, _∙_}
 use mathlib.Core.Bool.{Bool, true, false, cond, not, _&&_}
-use mathlib.Core.List.{List, [], _∷_}
+use mathlib.Core.List.{List, [], _∷_, map}
 use mathlib.Core.Option.{Option, none as nothing, some}
+use native.Mathlib.Omega.{arith}
+use lib.ListN.{take}
 use lib.Dec.{ltb, eqb}
 use lib.Text.{eqt}
 use Rattle.tree.specs.Syntax.{
@@ -166,7 +168,8 @@ use Rattle.layout.specs.Layout.{
   fmtParsed,
 }
 use Rattle.comments.specs.Comments.{popWhitespace, popTrailingComment}
-use Rattle.facts.specs.Placing.{commentsOf, Places}
+use Rattle.facts.specs.Placing.{commentsOf, commentsIn, trimmed, Places}
+use Rattle.facts.specs.Accepted.{fresh}
 use Rattle.facts.proofs.Tests.{importSpan, noneOf, isEmpty, isBlock, isBraced, unlessEmpty, oneOr}
 use Rattle.facts.proofs.Placing.{
   _⨾_,
@@ -570,3 +573,12 @@ module _ (g : Given) where
   pub places-fmtParsed : (t : SyntaxTree) → Places g (fmtParsed g t)
   unfolding fmtParsed
   places-fmtParsed t = places-shebang (t .shebang) ⨾ places-declarations (t .declarations) true ⨾ lined
+
+  -- From the fresh state: the comments among the nodes of a document are the first of the list, as many as it placed. Those left are the
+  -- others.
+  pub in-order : (t : SyntaxTree)
+      → commentsIn (fmtParsed g t fresh .nodes) ≡ take (fmtParsed g t fresh .placed) (map (trimmed g) (g .comments))
+  in-order t =
+      let n : ℕ = fmtParsed g t fresh .placed in
+      let same : n - 0 ≡ n = omega arith in
+      places-fmtParsed t .from fresh (omega arith) .same ∙ ap (λ (k : ℕ). take k (map (trimmed g) (g .comments))) same
