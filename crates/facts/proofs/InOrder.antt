@@ -169,7 +169,7 @@ use Rattle.layout.specs.Layout.{
 }
 use Rattle.comments.specs.Comments.{popWhitespace, popTrailingComment}
 use Rattle.facts.specs.Placing.{commentsOf, commentsIn, trimmed, Places}
-use Rattle.facts.specs.Accepted.{fresh}
+use Rattle.facts.specs.Accepted.{fresh, callRule}
 use Rattle.facts.proofs.Tests.{importSpan, noneOf, isEmpty, isBlock, isBraced, unlessEmpty, oneOr}
 use Rattle.facts.proofs.Placing.{
   _⨾_,
@@ -573,6 +573,11 @@ module _ (g : Given) where
   pub places-fmtParsed : (t : SyntaxTree) → Places g (fmtParsed g t)
   unfolding fmtParsed
   places-fmtParsed t = places-shebang (t .shebang) ⨾ places-declarations (t .declarations) true ⨾ lined
+
+  pub places-call : (t : SyntaxTree) (begins : Bool) (ds : List Declaration) (first closes : Bool)
+      → Places g (callRule g t begins ds first closes)
+  places-call t begins ds first closes =
+      places-when begins (places-shebang (t .shebang)) ⨾ places-declarations ds first ⨾ places-when closes lined
 
   -- From the fresh state: the comments among the nodes of a document are the first of the list, as many as it placed. Those left are the
   -- others.
