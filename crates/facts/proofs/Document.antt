@@ -30,11 +30,23 @@ use Rattle.tree.specs.Syntax.{
 }
 use Rattle.tree.specs.At.{Head, past, IdentAt, ListAt, Maybe, TypesAt, FieldsAt, VariantsAt, DeclarationAt, DeclarationsAt, TreeAt}
 use Rattle.rows.specs.Words.{placeIn}
-use Rattle.state.specs.Act.{Given, Act, skip}
+use Rattle.state.specs.Act.{Given, Act}
 use Rattle.comments.specs.Comments.{popWhitespace}
 use Rattle.layout.specs.declared.kinds.WrapStyle.the-variants.{Tight, Wrap}
 use Rattle.layout.specs.Layout.{
-    someTypeParams, Bottom, params, recordTypeRule, typeParams, opening, variantElems, declaration, shebangRule, declarationsRule, fmtParsed, importSpan, unlessEmpty
+  someTypeParams,
+  Bottom,
+  params,
+  recordTypeRule,
+  typeParams,
+  opening,
+  variantElems,
+  declaration,
+  shebangRule,
+  declarationsRule,
+  fmtParsed,
+  importSpan,
+  unlessEmpty,
 }
 use Rattle.facts.specs.Sound.{Ranged, Commented, Sounds}
 use Rattle.facts.specs.Height.{fieldsHeight, variantsHeight, declarationHeight, declarationsHeight, treeHeight}

@@ -1,6 +1,6 @@
 -- Expressions, blocks and statements are laid soundly: a record of n bytes takes n rows at most, and goes two rows deeper with each record.
 -- Assumes nothing.
-use Prim.Native.Nat.{ℕ, zero, suc, _+_, _*_, _-_, _≤_, max}
+use Prim.Native.Nat.{ℕ, zero, suc, _+_, _*_, _-_, _≤_, max, _<_}
 use Prim.Native.String.{String, len}
 use mathlib.Core.Path.{_≡_, refl}
 use mathlib.Core.Bool.{Bool, true, false, cond, not, _&&_}
@@ -84,13 +84,54 @@ use Rattle.tree.specs.At.{
   StmtAt,
   StmtFormAt,
 }
-use Rattle.rows.specs.Node.{ascii, line}
+use Rattle.rows.specs.Node.{ascii}
 use Rattle.rows.specs.Words.{table, placeIn}
-use Rattle.state.specs.Act.{Given, Act, _⨟_, skip, push, told, grouped, indented, says, content}
+use Rattle.state.specs.Act.{Given, Act, _⨟_, push, grouped, content, indentedNext, called}
 use Rattle.comments.specs.Comments.{popWhitespace, popTrailingComment}
 use Rattle.layout.specs.declared.kinds.WrapStyle.the-variants.{Tight, Spaced, Wrap}
 use Rattle.layout.specs.Layout.{
-    operator, whole, maybeExpr, placeholder, clause, blockStart, beforeStmt, afterStmt, lone, pickSpine, plain, extend, Spine, Look, Bottom, Chain, Unit′, binopPrecedence, symbol, assignSymbol, returnWord, separated, ident, chained, literalRule, look, lookForm, otherwise, exprElems, groupedElems, entryElems, armElems, partsRule, blockRule, stmtsRule, lastRule, stmtRule, stmtForm, exprSpan, stmtSpan, noneOf, isEmpty, isBlock, isBraced
+  operator,
+  whole,
+  maybeExpr,
+  placeholder,
+  clause,
+  blockStart,
+  beforeStmt,
+  afterStmt,
+  lone,
+  pickSpine,
+  plain,
+  extend,
+  Spine,
+  Look,
+  Bottom,
+  Chain,
+  Unit′,
+  binopPrecedence,
+  symbol,
+  assignSymbol,
+  returnWord,
+  chained,
+  literalRule,
+  look,
+  lookForm,
+  otherwise,
+  exprElems,
+  groupedElems,
+  entryElems,
+  armElems,
+  partsRule,
+  blockRule,
+  stmtsRule,
+  lastRule,
+  stmtRule,
+  stmtForm,
+  exprSpan,
+  stmtSpan,
+  noneOf,
+  isEmpty,
+  isBlock,
+  isBraced,
 }
 use Rattle.facts.specs.Sound.{Ranged, Commented, Sounds}
 use Rattle.facts.specs.Height.{
@@ -252,6 +293,19 @@ module _ {g : Given} (commented : Commented g) where
   unfolding afterStmt
   sound-after p h = sound-whole (sound-gap commented p false false false h)
 
+  -- ---- a call and an access, with a node of their own or without
+  sound-call : (p : ℕ) {e a : Act} {m n c d : ℕ} → c < d → Sounds g m c e → Sounds g n c a
+      → Sounds g (2 + (m + n)) d (cond (ltb p Chain) (called e a) (e ⨟ a))
+  sound-call p h i j =
+      sound-cond (ltb p Chain) (sound-called h i j) (fewer (deeper i (omega arith) ⨾ deeper j (omega arith)) (omega arith))
+
+  sound-access : (p : ℕ) {a : Act} {n c d : ℕ} → c + 2 ≤ d → Sounds g n c a
+      → Sounds g (2 + n) d (cond (ltb p Chain) (grouped (λ id. indentedNext a)) a)
+  sound-access p {c = c} h i =
+      sound-cond (ltb p Chain)
+      (fewer (sound-grouped {c = c + 1} (omega arith) (λ id. sound-indentedNext {c = c} (omega arith) i)) (omega arith))
+      (fewer (deeper i (omega arith)) (omega arith))
+
   -- ---- where a record starts, and that there is one
   pub expr-ranged : (e : Expr) (at : ℕ) → ExprAt (g .source) (g .image) e at → Ranged (g .source) (exprSpan e)
   unfolding ExprAt
@@ -296,27 +350,18 @@ module _ {g : Given} (commented : Commented g) where
         (omega (arith, a .1 .long, a .3 .same)))
     sound-form (functionCall e t es) s at d r l a h =
         let q : ℕ = past (g .source) (g .image) (at + 13) in
-        let call : Sounds g (4 + be32 (g .image) q) (d - 1) (separated g "(" ")" "," (exprElems g es) t Tight) =
+        sound-plain (λ p.
         fewer
+        (sound-call p {c = d - 1} (omega arith) (sound-expr e (at + 13) Chain (a .0) (omega arith))
         (sound-separated commented "(" ")" "," refl refl refl
-        (all-exprs es (q + 13) (past (g .source) (g .image) q) {d = d - 3} (a .2) (omega arith)) t (ranged (a .1) .fits) Tight (omega arith) (omega arith))
-        (omega (arith, a .1 .long))
-        in
-        let callee : Sounds g (be32 (g .image) (at + 13)) (d - 1) (whole g (look g e) Chain) = sound-expr e (at + 13) Chain (a .0) (omega arith) in
-        sound-plain (λ p.
-        sound-cond (ltb p Chain) (fewer (sound-called {c = d - 1} (omega arith) callee call) (omega (arith, a .3 .same)))
-        (fewer (deeper callee (omega arith) ⨾ deeper call (omega arith)) (omega (arith, a .3 .same))))
+        (all-exprs es (q + 13) (past (g .source) (g .image) q) {d = d - 3} (a .2) (omega arith)) t (ranged (a .1) .fits) Tight (omega arith) (omega arith)))
+        (omega (arith, a .1 .long, a .3 .same)))
     sound-form (access e i) s at d r l a h =
-        let q : ℕ = past (g .source) (g .image) (at + 13) in
-        let inner : Sounds g (be32 (g .image) (at + 13) + 3) (d - 2) (whole g (look g e) Chain ⨟ push line ⨟ says "." ⨟ ident g i) =
-        sound-expr e (at + 13) Chain (a .0) (omega arith) ⨾ sound-line ⨾ sound-says "." refl ⨾ sound-ident (a .1)
-        in
         sound-plain (λ p.
-        sound-cond (ltb p Chain)
-        (fewer
-        (sound-grouped {c = d - 1} (omega arith) (λ id. sound-indentedNext {c = d - 2} (omega arith) inner))
+        fewer
+        (sound-access p {c = d - 2} (omega arith)
+        (sound-expr e (at + 13) Chain (a .0) (omega arith) ⨾ sound-line ⨾ sound-says "." refl ⨾ sound-ident (a .1)))
         (omega (arith, a .2 .same, a .1 .head .long)))
-        (fewer (deeper inner (omega arith)) (omega (arith, a .2 .same, a .1 .head .long))))
     sound-form (path q) s at d r l a h =
         sound-plain (λ p. fewer (sound-path commented q (at + 13) (ltb p Chain) true (omega arith) (a .0)) (omega (arith, a .1 .same)))
     sound-form (record′ t es) s at d r l a h =
@@ -369,13 +414,13 @@ module _ {g : Given} (commented : Commented g) where
         let n : ℕ = be32 (g .image) w in
         let starts : t .start ≤ length (g .source) = from-start (ranged (a .1 .head)) in
         let chain : (c p : ℕ) → 2 * max (exprHeight x) (exprHeight y) ≤ c
-            → SoundSpine (m + (4 + n)) c (extend g (look g x .under p) t op (whole g (look g y) Bottom)) =
-            λ c p i.
-            sound-extend (look g x .under p) t op starts (sound-look x (at + 13) c (a .0) (omega arith) .under p)
-            (sound-expr y w Bottom (a .3) (omega arith))
+        → SoundSpine (m + (4 + n)) c (extend g (look g x .under p) t op (whole g (look g y) Bottom)) =
+        λ c p i.
+        sound-extend (look g x .under p) t op starts (sound-look x (at + 13) c (a .0) (omega arith) .under p)
+        (sound-expr y w Bottom (a .3) (omega arith))
         in
         let own : Sounds g (be32 (g .image) at) d (chained (extend g (look g x .under q) t op (whole g (look g y) Bottom))) =
-            fewer (sound-chained _ {d = d} (omega arith) (chain (d - 2) q (omega arith))) (omega (arith, a .4 .same, a .1 .head .long))
+        fewer (sound-chained _ {d = d} (omega arith) (chain (d - 2) q (omega arith))) (omega (arith, a .4 .same, a .1 .head .long))
         in
         record {
           form = λ p. own;

@@ -1,11 +1,13 @@
 -- Every layout rule places comments: each that it takes from the list, once and in order. A rule joins steps that do.
 -- Assumes nothing.
-use Prim.Native.Nat.{ℕ, zero, suc}
+use Prim.Native.Nat.{ℕ, zero, suc, _-_}
 use Prim.Native.String.{String}
-use mathlib.Core.Path.{refl}
-use mathlib.Core.Bool.{Bool, true, false, cond, not, _&&_}
-use mathlib.Core.List.{List, [], _∷_}
+use mathlib.Core.Path.{_≡_, refl, ap, _∙_}
+use mathlib.Core.Bool.{Bool, true, false, not, _&&_}
+use mathlib.Core.List.{List, [], _∷_, map}
 use mathlib.Core.Option.{Option, none as nothing, some}
+use native.Mathlib.Omega.{arith}
+use lib.ListN.{take}
 use lib.Dec.{ltb, eqb}
 use lib.Text.{eqt}
 use Rattle.tree.specs.Syntax.{
@@ -109,14 +111,13 @@ use Rattle.tree.specs.Syntax.{
   SyntaxTree,
 }
 use Rattle.rows.specs.Node.{Text, ascii, str, line, lineOrSpace, wrapParent, ifWrap}
-use Rattle.state.specs.Act.{Given, Act, _⨟_, skip, push}
+use Rattle.state.specs.Act.{Given, Act, push}
 use Rattle.layout.specs.declared.kinds.WrapStyle.{WrapStyle}
 use Rattle.layout.specs.declared.kinds.WrapStyle.the-variants.{Tight, Spaced, Wrap}
-use Rattle.layout.specs.Layout.{
-    edge, isWrap, opens, ends, inside, beforeElem, pathNext, operator, whole, maybeExpr, placeholder, clause, blockStart, beforeStmt, afterStmt, lone, pickSpine, plain, extend, joined, someTypeParams, Elem, Spine, Look, Bottom, Chain, Unit′, binopPrecedence, elements, separated, pathMore, pathRule, identElems, typeExpr, typeForm, typeArgs, typeElems, fieldElems, params, recordTypeRule, typeParams, importPath, importGroup, importItems, importElems, pattern, chained, literalRule, look, lookForm, otherwise, exprElems, groupedElems, entryElems, armElems, partsRule, blockRule, stmtsRule, lastRule, stmtRule, stmtForm, opening, variantElems, declaration, shebangRule, declarationsRule, fmtParsed, importSpan, noneOf, isEmpty, isBlock, isBraced, unlessEmpty, oneOr
-}
-use Rattle.comments.specs.Comments.{popWhitespace, popTrailingComment}
-use Rattle.facts.specs.Placing.{commentsOf, Places}
+use Rattle.layout.specs.Layout.{edge, isWrap, opens, ends, inside, beforeElem, pathNext, operator, whole, maybeExpr, placeholder, clause, blockStart, beforeStmt, afterStmt, lone, pickSpine, plain, extend, someTypeParams, Elem, Spine, Look, Bottom, Chain, Unit′, binopPrecedence, elements, separated, pathMore, pathRule, identElems, typeExpr, typeForm, typeArgs, typeElems, fieldElems, params, recordTypeRule, typeParams, importPath, importGroup, importItems, importElems, pattern, chained, literalRule, look, lookForm, otherwise, exprElems, groupedElems, entryElems, armElems, partsRule, blockRule, stmtsRule, lastRule, stmtRule, stmtForm, opening, variantElems, declaration, shebangRule, declarationsRule, fmtParsed, importSpan, noneOf, isEmpty, isBlock, isBraced, unlessEmpty, oneOr}
+use Rattle.comments.specs.Comments.{popWhitespace}
+use Rattle.facts.specs.Placing.{commentsOf, commentsIn, trimmed, Places}
+use Rattle.facts.specs.Accepted.{fresh, callRule}
 use Rattle.facts.proofs.Placing.{
   _⨾_,
   places-skip,
@@ -347,7 +348,7 @@ module _ (g : Given) where
     places-form (binOp l t op r) s =
         let q : ℕ = binopPrecedence op in
         let chain : (p : ℕ) → PlacesSpine (extend g (look g l .under p) t op (whole g (look g r) Bottom)) =
-            λ p. places-extend (look g l .under p) t op (places-look l .under p) (places-expr r Bottom)
+        λ p. places-extend (look g l .under p) t op (places-look l .under p) (places-expr r Bottom)
         in
         let own : Places g (chained (extend g (look g l .under q) t op (whole g (look g r) Bottom))) = places-chained _ (chain q) in
         record { form = λ p. own; under = λ p. places-pick (eqb q p) (chain p) (places-lone (own ⨾ places-trailing)) }
@@ -501,3 +502,17 @@ module _ (g : Given) where
   pub places-fmtParsed : (t : SyntaxTree) → Places g (fmtParsed g t)
   unfolding fmtParsed
   places-fmtParsed t = places-shebang (t .shebang) ⨾ places-declarations (t .declarations) true ⨾ lined
+
+  pub places-call : (t : SyntaxTree) (begins : Bool) (ds : List Declaration) (first closes : Bool)
+      → Places g (callRule g t begins ds first closes)
+  places-call t begins ds first closes =
+      places-when begins (places-shebang (t .shebang)) ⨾ places-declarations ds first ⨾ places-when closes lined
+
+  -- From the fresh state: the comments among the nodes of a document are the first of the list, as many as it placed. Those left are the
+  -- others.
+  pub in-order : (t : SyntaxTree)
+      → commentsIn (fmtParsed g t fresh .nodes) ≡ take (fmtParsed g t fresh .placed) (map (trimmed g) (g .comments))
+  in-order t =
+      let n : ℕ = fmtParsed g t fresh .placed in
+      let same : n - 0 ≡ n = omega arith in
+      places-fmtParsed t .from fresh (omega arith) .same ∙ ap (λ (k : ℕ). take k (map (trimmed g) (g .comments))) same

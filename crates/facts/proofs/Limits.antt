@@ -1,7 +1,7 @@
 -- What follows for an accepted image: the rows and the numbers of a document fit, from the fresh state within the limits of document 01;
 -- its rows are 133 deep at most; its texts lie inside their origins; its position stays in the source.
 -- Assumes nothing.
-use Prim.Native.Nat.{ℕ, _+_, _*_, _≤_}
+use Prim.Native.Nat.{ℕ, _+_, _≤_}
 use mathlib.Core.Path.{_≡_, refl, ap}
 use mathlib.Core.Bool.{Bool, true}
 use mathlib.Core.List.{List, [], _∷_, _++_}
@@ -19,14 +19,14 @@ use Rattle.state.specs.Laid.{st, Room}
 use Rattle.state.specs.declared.Cursor.{Cursor}
 use Rattle.comments.specs.Listed.{given, Listed}
 use Rattle.comments.proofs.Fronts.{count-of, good}
-use Rattle.layout.specs.Layout.{declarationsRule, fmtParsed}
+use Rattle.layout.specs.Layout.{fmtParsed}
 use Rattle.facts.specs.Placing.{Places}
 use Rattle.facts.specs.Sound.{Commented, Sounds}
 use Rattle.facts.specs.Height.{declarationsHeight, treeHeight}
-use Rattle.facts.specs.Accepted.{Stands, fresh, upTo, Within}
+use Rattle.facts.specs.Accepted.{Stands, fresh, upTo, callRule, Within}
 use Rattle.facts.proofs.Placing.{places-then}
-use Rattle.facts.proofs.InOrder.{places-shebang, places-declarations, places-fmtParsed}
-use Rattle.facts.proofs.Steps.{_⨾_, fewer}
+use Rattle.facts.proofs.InOrder.{places-shebang, places-declarations, places-fmtParsed, places-call}
+use Rattle.facts.proofs.Steps.{_⨾_, fewer, sound-when, sound-line}
 use Rattle.facts.proofs.Document.{sound-shebang, sound-declarations, sound-fmtParsed}
 use Rattle.facts.proofs.Levels.{accepted-high}
 
@@ -43,12 +43,12 @@ commented {s} l =
 pub stands : (ordered : Bool) (s b : List ℕ) (n at : ℕ) (r : Root ordered s b n at) → Stands (given s b) (syntaxTree b (r .tree)) at
 stands ordered s b n at r =
     let l : Listed s b =
-        record {
-          few = r .list .few;
-          within = r .list .within;
-          order = λ k h. r .list .list .each k h .order;
-          range = λ k h. r .list .list .each k h .range;
-        }
+    record {
+      few = r .list .few;
+      within = r .list .within;
+      order = λ k h. r .list .list .each k h .order;
+      range = λ k h. r .list .list .each k h .range;
+    }
     in
     record {
       tree = root-at s b ordered n at r;
@@ -110,18 +110,20 @@ module _ {g : Given} {t : SyntaxTree} {at : ℕ} (a : Stands g t at) where
       ⨾ sound-declarations (a .comments) xs from (p .mid) true (p .first) (omega arith))
       (omega (arith, p .order, a .tree .inside .least))
 
-  pub between-sound : (xs ys zs : List Declaration) (first : Bool) → xs ++ (ys ++ zs) ≡ t .declarations
-      → Sounds g (be32 (g .image) at) 132 (declarationsRule g ys first)
-  between-sound xs ys zs first e =
+  pub call-sound : (xs ys zs : List Declaration) (begins first closes : Bool) → xs ++ (ys ++ zs) ≡ t .declarations
+      → Sounds g (be32 (g .image) at) 132 (callRule g t begins ys first closes)
+  call-sound xs ys zs begins first closes e =
       let from : ℕ = past (g .source) (g .image) (at + 13) in
       let end : ℕ = past (g .source) (g .image) at in
       let p = parted (g .source) (g .image) xs (ys ++ zs) from end (rw e (a .tree .declarations)) in
       let q = parted (g .source) (g .image) ys zs (p .mid) end (p .rest) in
       let o = declarations-order (g .source) (g .image) xs from (p .mid) (p .first) in
-      let h : declarationsHeight ys ≤ 66 =
-      omega (arith, height-first ys zs, height-rest xs (ys ++ zs), ap declarationsHeight e, low)
-      in
-      fewer (sound-declarations (a .comments) ys (p .mid) (q .mid) first (q .first) (omega arith)) (omega (arith, o, q .order))
+      let h : declarationsHeight ys ≤ 66 = omega (arith, height-first ys zs, height-rest xs (ys ++ zs), ap declarationsHeight e, low) in
+      fewer
+      (sound-when begins (sound-shebang (a .comments) (t .shebang) (at + 13) (a .tree .shebang))
+      ⨾ sound-declarations (a .comments) ys (p .mid) (q .mid) first (q .first) (omega arith)
+      ⨾ sound-when closes sound-line)
+      (omega (arith, o, q .order, a .tree .inside .least))
 
   -- ---- the limits, from the fresh state: two rows a comment are less than its eight bytes
   within : {d : ℕ} (s : Act) → d ≤ 255 → Sounds g (be32 (g .image) at) d s → Places g s → Within g (s fresh)
@@ -144,8 +146,8 @@ module _ {g : Given} {t : SyntaxTree} {at : ℕ} (a : Stands g t at) where
   upTo-within xs ys e =
       within (upTo g t xs) (omega arith) (upTo-sound xs ys e) (places-then (places-shebang g (t .shebang)) (places-declarations g xs true))
 
-  -- ---- room for the rows of a step, from any state that refusal 12 lets pass
-  pub room : {d : ℕ} (s : Act) → Sounds g (be32 (g .image) at) d s → Places g s → (c : Cursor) → c .row ≤ 2097152 → c .number ≤ 1048576
+  -- ---- room for the rows of a layout call, from any state that refusal 12 lets pass
+  room : {d : ℕ} (s : Act) → Sounds g (be32 (g .image) at) d s → Places g s → (c : Cursor) → c .row ≤ 2097152 → c .number ≤ 1048576
       → c .placed ≤ length (g .comments) → Room (s (st c)) c
   room s p q c h i j =
       let r = p .from (st c) in
@@ -154,3 +156,8 @@ module _ {g : Given} {t : SyntaxTree} {at : ℕ} (a : Stands g t at) where
         rows-fit = omega (arith, r .rows, w .within, a .tree .end, a .place, a .small);
         numbers-fit = omega (arith, r .taken, a .tree .end, a .place, a .small);
       }
+
+  pub call-room : (xs ys zs : List Declaration) (begins first closes : Bool) → xs ++ (ys ++ zs) ≡ t .declarations → (c : Cursor)
+      → c .row ≤ 2097152 → c .number ≤ 1048576 → c .placed ≤ length (g .comments) → Room (callRule g t begins ys first closes (st c)) c
+  call-room xs ys zs begins first closes e =
+      room (callRule g t begins ys first closes) (call-sound xs ys zs begins first closes e) (places-call g t begins ys first closes)

@@ -65,14 +65,41 @@ use Rattle.tree.specs.At.{
   ImportsAt,
   PatternAt,
 }
-use Rattle.rows.specs.Node.{line, lineOrSpace}
 use Rattle.rows.specs.Ascii.{bytes}
 use Rattle.rows.specs.Words.{table, words, joined, placeIn, word}
-use Rattle.state.specs.Act.{Given, Act, push, says}
+use Rattle.state.specs.Act.{Given, Act, says}
 use Rattle.layout.specs.declared.kinds.WrapStyle.{WrapStyle}
 use Rattle.layout.specs.declared.kinds.WrapStyle.the-variants.{Tight, Spaced, Wrap}
 use Rattle.layout.specs.Layout.{
-    edge, isWrap, opens, ends, inside, beforeElem, pathNext, Elem, elements, separated, pathMore, pathRule, ident, identElems, typeExpr, typeForm, typeArgs, typeElems, fieldElems, lastSpan, importPath, importGroup, importItems, importElems, pattern, typeSpan, importSpan, isGroup, oneOr
+  edge,
+  isWrap,
+  opens,
+  ends,
+  inside,
+  beforeElem,
+  pathNext,
+  Elem,
+  elements,
+  separated,
+  pathMore,
+  pathRule,
+  ident,
+  identElems,
+  typeExpr,
+  typeForm,
+  typeArgs,
+  typeElems,
+  fieldElems,
+  lastSpan,
+  importPath,
+  importGroup,
+  importItems,
+  importElems,
+  pattern,
+  typeSpan,
+  importSpan,
+  isGroup,
+  oneOr,
 }
 use Rattle.facts.specs.Sound.{Inside, Ranged, Commented, Sounds}
 use Rattle.facts.specs.Height.{

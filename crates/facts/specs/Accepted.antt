@@ -1,13 +1,14 @@
 -- What layout may take for granted of an accepted image, and the steps of a layout call.
 use Prim.Native.Nat.{ℕ, _+_, _*_, _≤_}
 use mathlib.Core.Path.{_≡_}
-use mathlib.Core.Bool.{true}
+use mathlib.Core.Bool.{Bool, true}
 use mathlib.Core.List.{List}
 use lib.ListN.{length}
 use Rattle.tree.specs.Syntax.{Declaration, SyntaxTree}
 use Rattle.tree.specs.At.{TreeAt}
+use Rattle.rows.specs.Node.{line}
 use Rattle.rows.specs.Rows.{sizes}
-use Rattle.state.specs.Act.{Given, St, Out, Act, _⨟_}
+use Rattle.state.specs.Act.{Given, St, Out, Act, _⨟_, when, push}
 use Rattle.layout.specs.Layout.{shebangRule, declarationsRule}
 use Rattle.facts.specs.Sound.{depths, TextsIn, Commented}
 use Rattle.facts.specs.Height.{treeHeight}
@@ -28,6 +29,12 @@ fresh = record { number = 0; pos = 0; placed = 0 }
 -- what `fmt_parsed` has done when its loop has laid the declarations ds
 abbrev pub upTo : Given → SyntaxTree → List Declaration → Act
 upTo g t ds = shebangRule g (t .shebang) ⨟ declarationsRule g ds true
+
+-- what one layout call lays: the shebang, if the call begins the document; the declarations ds, the first of which is the document's first
+-- or not; the final line, if the call closes the document
+abbrev pub callRule : Given → SyntaxTree → Bool → List Declaration → Bool → Bool → Act
+callRule g t begins ds first closes =
+    when begins (shebangRule g (t .shebang)) ⨟ declarationsRule g ds first ⨟ when closes (push line)
 
 -- The rows and the state due are within the limits of document 01: rows and numbers for the next call's state, rows not over 256 deep, texts
 -- inside their origins, the position in the source, the comments placed in the list.
