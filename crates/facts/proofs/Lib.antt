@@ -6,4 +6,5 @@ pub mod Parts
 pub mod Exprs
 pub mod Document
 pub mod Levels
+pub mod Rights
 pub mod Limits

@@ -14,7 +14,8 @@ use Rattle.tree.specs.Syntax.{Declaration, SyntaxTree}
 use Rattle.tree.specs.At.{past, DeclarationsAt}
 use Rattle.tree.specs.Records.{syntaxTree}
 use Rattle.tree.proofs.Whole.{root-at}
-use Rattle.state.specs.Act.{Given, Act}
+use Rattle.rows.specs.Rows.{rows}
+use Rattle.state.specs.Act.{Given, St, Act}
 use Rattle.state.specs.Laid.{st, Room}
 use Rattle.state.specs.declared.Cursor.{Cursor}
 use Rattle.comments.specs.Listed.{given, Listed}
@@ -23,11 +24,13 @@ use Rattle.layout.specs.Layout.{fmtParsed}
 use Rattle.facts.specs.Placing.{Places}
 use Rattle.facts.specs.Sound.{Commented, Sounds}
 use Rattle.facts.specs.Height.{declarationsHeight, treeHeight}
+use Rattle.facts.specs.Right.{RightRows}
 use Rattle.facts.specs.Accepted.{Stands, fresh, upTo, callRule, Within}
 use Rattle.facts.proofs.Placing.{places-then}
 use Rattle.facts.proofs.InOrder.{places-shebang, places-declarations, places-fmtParsed, places-call}
 use Rattle.facts.proofs.Steps.{_⨾_, fewer, sound-when, sound-line}
 use Rattle.facts.proofs.Document.{sound-shebang, sound-declarations, sound-fmtParsed}
+use Rattle.facts.proofs.Rights.{right-rows}
 use Rattle.facts.proofs.Levels.{accepted-high}
 
 -- ---- an accepted image
@@ -124,6 +127,12 @@ module _ {g : Given} {t : SyntaxTree} {at : ℕ} (a : Stands g t at) where
       ⨾ sound-declarations (a .comments) ys (p .mid) (q .mid) first (q .first) (omega arith)
       ⨾ sound-when closes sound-line)
       (omega (arith, o, q .order, a .tree .inside .least))
+
+  -- the rows of a layout call are right, from any state
+  pub call-right : (xs ys zs : List Declaration) (begins first closes : Bool) → xs ++ (ys ++ zs) ≡ t .declarations → (s : St) (r : ℕ)
+      → RightRows g (rows (callRule g t begins ys first closes s .nodes) r)
+  call-right xs ys zs begins first closes e s r =
+      right-rows (callRule g t begins ys first closes s .nodes) g r (call-sound xs ys zs begins first closes e .from s .texts)
 
   -- ---- the limits, from the fresh state: two rows a comment are less than its eight bytes
   within : {d : ℕ} (s : Act) → d ≤ 255 → Sounds g (be32 (g .image) at) d s → Places g s → Within g (s fresh)
