@@ -1,1 +1,241 @@
-// Comment placing.
+// Comment placing, after `pop_trailing_comment`, `pop_whitespace`, `newlines` and `ignore_newlines` of fmt.rs. The comments stand in the
+// image, and the cursor says how many of them are placed.
+ghost use mathlib.Core.Path.{_≡_};
+ghost use mathlib.Core.Bool.{cond};
+ghost use mathlib.Core.List.{List};
+ghost use mathlib.Core.Option.{some};
+ghost use Prim.Native.Nat.{ℕ, _+_, _≤_};
+ghost use lib.ListN.{length};
+ghost use lib.Dec.{eqb};
+ghost use Rattle.rows.specs.Node.{line, emptyLine};
+ghost use Rattle.state.specs.Act.{skip, push, told};
+ghost use Rattle.state.specs.Laid.{cursor, st, Laid, LaidAsking};
+ghost use Rattle.comments.specs.Comments.{
+  nth,
+  remark,
+  newlines,
+  ignoreNewlines,
+  popComment,
+  waits,
+  popComments,
+  popWhitespace,
+  popTrailingComment,
+};
+ghost use Rattle.comments.specs.Listed.{span, commentsOf, given, ListFits, Listed, pendingOf};
+use image::bytes::num16;
+use image::bytes::num32;
+use state::Asked;
+use state::Cursor;
+use state::leaves::empty_line;
+use state::leaves::line;
+use state::move_to;
+use state::with_placed;
+use text::newlines::count_newlines;
+use text::space::Found;
+use text::space::find_something;
+use text::space::trim_end;
+
+// The comment at the front of those that wait: its start and its end.
+pub enum Pending {
+    Comment(u32, u32),
+    Nothing,
+}
+
+// `comments.front()`
+fn front(image: &[u8], c: Cursor) -> Pending
+    requires { ⌜ ListFits (now image) ⌝ }
+    ensures { λ r. ⌜ r ≡ pendingOf (nth (commentsOf (now (image .entry))) (c .placed)) ⌝ }
+{
+    let k = c.placed as usize;
+    if k < num16(image, 5) {
+        let at = 7 + 8 * k;
+        let start = num32(image, at);
+        let end = num32(image, at + 4);
+        return Pending::Comment(start as u32, end as u32);
+    }
+    Pending::Nothing
+}
+
+// Whether a comment waits before the position.
+fn is_waiting(image: &[u8], c: Cursor, position: u32) -> bool
+    requires { ⌜ ListFits (now image) ⌝ }
+    ensures { λ r. ⌜ ((s : List ℕ) → r ≡ waits (given s (now (image .entry))) position (st c)) ⌝ }
+{
+    match front(image, c) {
+        Pending::Nothing => false,
+        Pending::Comment(start, _) => start < position,
+    }
+}
+
+// `Node::Comment` of a comment without the white space at its end.
+fn remark(store: &mut [u32], c: Cursor, source: &[u8], start: u32, end: u32) -> Cursor
+    requires { ⌜ start ≤ end ⌝ }
+    ensures { λ r. ⌜ ((b : List ℕ) → Laid (remark (given (now (source .entry)) b) (span start end)) (now (store .entry)) c (now (store .exit)) r) ⌝ }
+{
+    let trimmed = trim_end(source, start as usize, end as usize);
+    state::leaves::comment(store, c, start, trimmed as u32 - start)
+}
+
+// A line for one newline, an empty line for more.
+fn break_line(store: &mut [u32], c: Cursor, n: usize) -> Cursor
+    ensures { λ r. ⌜ Laid (cond (eqb n 0) skip (cond (eqb n 1) (push line) (push emptyLine))) (now (store .entry)) c (now (store .exit)) r ⌝ }
+{
+    if n == 0 {
+        return c;
+    }
+    if n == 1 {
+        return line(store, c);
+    }
+    empty_line(store, c)
+}
+
+// A line for one newline up to the position, an empty line for more; it answers whether there is any.
+fn newlines(store: &mut [u32], c: Cursor, source: &[u8], position: u32) -> Asked
+    ensures { λ r. ⌜ ((b : List ℕ) → LaidAsking (newlines (given (now (source .entry)) b) position) (now (store .entry)) c (now (store .exit)) r) ⌝ }
+{
+    let n = count_newlines(source, c.pos as usize, position as usize);
+    let d = break_line(store, c, n);
+    Asked {
+        cursor: move_to(d, position),
+        answer: 0 < n,
+    }
+}
+
+// Goes to the position, or to the comment at the front where that starts before it.
+fn ignore_newlines(image: &[u8], c: Cursor, position: u32) -> Cursor
+    requires { ⌜ ListFits (now image) ⌝ }
+    ensures { λ r. ⌜ ((s : List ℕ) → r ≡ cursor (c .row) (c .number) (ignoreNewlines (given s (now (image .entry))) position (st c) .pos) (c .placed)) ⌝ }
+{
+    match front(image, c) {
+        Pending::Nothing => move_to(c, position),
+        Pending::Comment(start, _) => {
+            if position <= start {
+                return move_to(c, position);
+            }
+            move_to(c, start)
+        }
+    }
+}
+
+// The newlines before a comment, which are kept or not.
+fn before_comment(
+    store: &mut [u32],
+    c: Cursor,
+    source: &[u8],
+    image: &[u8],
+    leading: bool,
+    start: u32,
+) -> Cursor
+    requires { ⌜ ListFits (now image) ⌝ }
+    ensures { λ r. ⌜ Laid (cond leading (told (newlines (given (now (source .entry)) (now (image .entry))) start)) (ignoreNewlines (given (now (source .entry)) (now (image .entry))) start)) (now (store .entry)) c (now (store .exit)) r ⌝ }
+{
+    if leading {
+        let a = newlines(store, c, source, start);
+        return a.cursor;
+    }
+    ignore_newlines(image, c, start)
+}
+
+// One comment of `pop_whitespace`: the one at the front.
+fn pop_comment(
+    store: &mut [u32],
+    c: Cursor,
+    source: &[u8],
+    image: &[u8],
+    leading: bool,
+    start: u32,
+    end: u32,
+) -> Cursor
+    requires { ⌜ Listed (now source) (now image) ⌝ }
+    requires { ⌜ nth (commentsOf (now image)) (c .placed) ≡ some (span start end) ⌝ }
+    ensures { λ r. ⌜ Laid (popComment (given (now (source .entry)) (now (image .entry))) leading (span start end)) (now (store .entry)) c (now (store .exit)) r ⌝ }
+    ensures { λ r. ⌜ r .placed ≡ c .placed + 1 ⌝ }
+{
+    let placed = c.placed + 1;
+    let d = before_comment(store, with_placed(c, placed), source, image, leading, start);
+    let e = remark(store, move_to(d, end - 1), source, start, end);
+    with_placed(e, placed)
+}
+
+// The loop of `pop_whitespace`: the comments that start before the position.
+fn pop_comments(
+    store: &mut [u32],
+    c: Cursor,
+    source: &[u8],
+    image: &[u8],
+    position: u32,
+    leading: bool,
+) -> Cursor
+    requires { ⌜ Listed (now source) (now image) ⌝ }
+    ensures { λ r. ⌜ Laid (popComments (given (now (source .entry)) (now (image .entry))) (length (commentsOf (now (image .entry)))) position leading) (now (store .entry)) c (now (store .exit)) r ⌝ }
+{
+    let mut d = c;
+    let mut keep = leading;
+    loop {
+        match front(image, d) {
+            Pending::Nothing => return d,
+            Pending::Comment(start, end) => {
+                if position <= start {
+                    return d;
+                }
+                d = pop_comment(store, d, source, image, keep, start, end);
+                keep = true;
+            }
+        }
+    }
+}
+
+// Places the comments that start before the position, and goes there. The flags say which newlines are kept: `preserve_leading_whitespace`,
+// `preserve_trailing_whitespace` and `preserve_only_whitespace` of the Rust.
+pub fn pop_whitespace(
+    store: &mut [u32],
+    c: Cursor,
+    source: &[u8],
+    image: &[u8],
+    position: u32,
+    leading: bool,
+    trailing: bool,
+    only: bool,
+) -> Asked
+    requires { ⌜ Listed (now source) (now image) ⌝ }
+    ensures { λ r. ⌜ LaidAsking (popWhitespace (given (now (source .entry)) (now (image .entry))) position leading trailing only) (now (store .entry)) c (now (store .exit)) r ⌝ }
+{
+    let waiting = is_waiting(image, c, position);
+    let d = pop_comments(store, c, source, image, position, leading);
+    if waiting && trailing {
+        let e = newlines(store, d, source, position);
+        let f = e.cursor;
+        return Asked {
+            cursor: f,
+            answer: true,
+        };
+    }
+    if only {
+        return newlines(store, d, source, position);
+    }
+    Asked {
+        cursor: ignore_newlines(image, d, position),
+        answer: false,
+    }
+}
+
+// Places the comment at the front, if it starts at the first place that is not white space or is a newline.
+pub fn pop_trailing_comment(store: &mut [u32], c: Cursor, source: &[u8], image: &[u8]) -> Cursor
+    requires { ⌜ Listed (now source) (now image) ⌝ }
+    ensures { λ r. ⌜ Laid (popTrailingComment (given (now (source .entry)) (now (image .entry)))) (now (store .entry)) c (now (store .exit)) r ⌝ }
+{
+    match find_something(source, c.pos as usize) {
+        Found::Nowhere => c,
+        Found::At(place) => match front(image, c) {
+            Pending::Nothing => c,
+            Pending::Comment(start, end) => {
+                if start as usize != place {
+                    return c;
+                }
+                let popped = with_placed(c, c.placed + 1);
+                let d = remark(store, popped, source, start, end);
+                move_to(d, end)
+            }
+        },
+    }
+}

@@ -34,6 +34,11 @@ set-sets (w ∷ vs) s i (suc k) v h =
     ap (λ (j : ℕ). set (sets (set s i w) (suc i) vs) j v) (add-suc i k ∙ sym (suc-add i k))
     ∙ set-sets vs (set s i w) (suc i) k v (omega arith)
 
+-- a store without places stays so
+pub sets-nowhere : (vs : List ℕ) (i : ℕ) → sets [] i vs ≡ []
+sets-nowhere [] i = refl
+sets-nowhere (v ∷ vs) i = sets-nowhere vs (suc i)
+
 -- nine stores in a row
 pub nine :
     (s₀ s₁ s₂ s₃ s₄ s₅ s₆ s₇ s₈ s₉ : List ℕ) (i a b c d e f g h k : ℕ)

@@ -1,3 +1,4 @@
+-- With room for two numbers neither stops at the largest.
 use mathlib.Core.Path.{ap, ap₂, _∙_}
 use Prim.Native.Nat.{ℕ, _+_, _*_}
 use native.Mathlib.Omega.{arith}

@@ -1,3 +1,4 @@
+-- Past the end `set` changes nothing.
 use mathlib.Core.Path.{sym}
 use lib.Seq.{set-out}
 use borrow.Author.Needs.{needs}

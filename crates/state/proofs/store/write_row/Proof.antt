@@ -1,3 +1,4 @@
+-- Nine stores in a row are one run of stores.
 use native.Mathlib.Omega.{arith}
 use Rattle.state.proofs.Stores.{nine}
 use borrow.Author.Needs.{needs}

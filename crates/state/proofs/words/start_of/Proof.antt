@@ -1,3 +1,4 @@
+-- The table is what the definition computes of each word; past its end there is the empty word.
 use lib.ListN.{List·getD-map}
 use Rattle.rows.specs.Words.{table}
 use Rattle.rows.specs.Words.{word, placeIn}

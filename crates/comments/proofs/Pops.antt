@@ -1,0 +1,239 @@
+-- Laws of the steps of comment placing: what each does by what waits at the front, and how the loop of `pop_whitespace` goes on.
+-- Assumes nothing.
+use mathlib.Core.Path.{_≡_, refl, sym, ap, subst, _∙_}
+use mathlib.Core.Logic.{_⊎_, inl, inr}
+use mathlib.Core.Bool.{Bool, true, false, cond, _&&_}
+use mathlib.Core.List.{List}
+use mathlib.Core.Option.{none, some}
+use Prim.Native.Nat.{ℕ, zero, suc, _+_, _-_, _≤_, _<_, min}
+use native.Mathlib.Omega.{arith}
+use lib.ListN.{length}
+use lib.Dec.{ltb, eqb}
+use borrow.Author.Tests.{lt-ltb, le-ltb, eq-eqb, ne-eqb}
+use Rattle.text.specs.Space.{something}
+use Rattle.text.specs.Newlines.{countNewlines}
+use Rattle.text.specs.declared.space.Found.the-variants.{At, Nowhere}
+use Rattle.tree.specs.Syntax.{Span}
+use Rattle.rows.specs.Node.{line, emptyLine}
+use Rattle.rows.specs.Rows.{sizes}
+use Rattle.state.specs.Act.{Given, St, Out, Act, Asking, next, _⨟_, skip, push, moveTo, pop, told, answering}
+use Rattle.state.specs.declared.Cursor.{Cursor}
+use Rattle.state.specs.declared.Asked.{Asked}
+use Rattle.state.specs.Laid.{cursor, st, Laid, LaidAsking}
+use Rattle.state.proofs.Laws.{laid-same, laid-then, laid-skip, laid-moveTo, laid-pop, asking-same, laid-answering, laid-answers}
+use Rattle.comments.specs.Comments.{nth, front, remark, newlines, ignoreNewlines, popComment, waits, popComments, popWhitespace, popTrailingComment}
+
+module _ (g : Given) where
+  -- ---- by what waits at the front
+  pub waits-none : (position : ℕ) (s : St) → nth (g .comments) (s .placed) ≡ none → waits g position s ≡ false
+  waits-none position s e = rw (e, waits)
+
+  pub waits-some : (position : ℕ) (s : St) (p : Span) → nth (g .comments) (s .placed) ≡ some p → waits g position s ≡ ltb (p .start) position
+  waits-some position s p e = rw (e, waits)
+
+  pub ignored-none : (position : ℕ) (s : St) → nth (g .comments) (s .placed) ≡ none → ignoreNewlines g position s .pos ≡ position
+  unfolding ignoreNewlines
+  ignored-none position s e = rw e
+
+  pub ignored-some : (position : ℕ) (s : St) (p : Span) → nth (g .comments) (s .placed) ≡ some p
+      → ignoreNewlines g position s .pos ≡ min position (p .start)
+  unfolding ignoreNewlines
+  ignored-some position s p e = rw e
+
+  -- ---- `newlines` and `ignore_newlines`
+  pub laid-newlines : (position n : ℕ) {s s₁ : List ℕ} {c c₁ c₂ : Cursor} → n ≡ countNewlines (g .source) (c .pos) position
+      → Laid (cond (eqb n 0) skip (cond (eqb n 1) (push line) (push emptyLine))) s c s₁ c₁
+      → c₂ ≡ cursor (c₁ .row) (c₁ .number) position (c₁ .placed)
+      → LaidAsking (newlines g position) s c s₁ (record { cursor = c₂; answer = ltb 0 n })
+  unfolding newlines
+  laid-newlines position n {s} {s₁} {c} {c₁} {c₂} e l m =
+      let r : Asking = λ s. ((cond (eqb n 0) skip (cond (eqb n 1) (push line) (push emptyLine)) ⨟ moveTo position) s, ltb 0 n) in
+      let k : LaidAsking r s c s₁ (record { cursor = c₂; answer = ltb 0 n }) =
+      record { laid = laid-then l (laid-moveTo m); answers = λ room. refl } in
+      asking-same
+      (ap
+      (λ (i : ℕ). ((cond (eqb i 0) skip (cond (eqb i 1) (push line) (push emptyLine)) ⨟ moveTo position) (st c), ltb 0 i))
+      e)
+      k
+
+  pub laid-ignored : (position : ℕ) {s : List ℕ} {c c′ : Cursor}
+      → c′ ≡ cursor (c .row) (c .number) (ignoreNewlines g position (st c) .pos) (c .placed) → Laid (ignoreNewlines g position) s c s c′
+  unfolding ignoreNewlines
+  laid-ignored position {s} {c} {c′} e = laid-same refl (laid-moveTo e)
+
+  -- ---- one comment of `pop_whitespace`
+  newlines-placed : (position : ℕ) (s : St) → newlines g position s .0 .placed ≡ s .placed
+  unfolding newlines _⨟_
+  newlines-placed position s = go (eqb (countNewlines (g .source) (s .pos) position) 0) (eqb (countNewlines (g .source) (s .pos) position) 1)
+    where
+      go : (x y : Bool) → cond x skip (cond y (push line) (push emptyLine)) s .placed ≡ s .placed
+      go true y = refl
+      go false true = refl
+      go false false = refl
+
+  -- the newlines before a comment, kept or not
+  abbrev pub gap : Bool → ℕ → Act
+  gap leading position = cond leading (told (newlines g position)) (ignoreNewlines g position)
+
+  gap-placed : (leading : Bool) (position : ℕ) (s : St) → gap leading position s .placed ≡ s .placed
+  unfolding ignoreNewlines
+  gap-placed true position s = newlines-placed position s
+  gap-placed false position s = refl
+
+  pub comment-placed : (leading : Bool) (p : Span) (s : St) → popComment g leading p s .placed ≡ s .placed + 1
+  unfolding popComment _⨟_
+  comment-placed leading p s = gap-placed leading (p .start) (next s (pop s))
+
+  -- its number of comments placed may be set anew at its end
+  pub laid-comment : (leading : Bool) (p : Span) {s s₁ s₂ : List ℕ} {c c₁ c₂ c₃ c₄ c₅ : Cursor}
+      → c₁ ≡ cursor (c .row) (c .number) (c .pos) (c .placed + 1) → Laid (gap leading (p .start)) s c₁ s₁ c₂
+      → c₃ ≡ cursor (c₂ .row) (c₂ .number) (p .end - 1) (c₂ .placed) → Laid (remark g p) s₁ c₃ s₂ c₄
+      → c₅ ≡ cursor (c₄ .row) (c₄ .number) (c₄ .pos) (c .placed + 1) → Laid (popComment g leading p) s c s₂ c₅
+  unfolding popComment
+  laid-comment leading p {s} {s₁} {s₂} {c} {c₁} {c₂} {c₃} {c₄} {c₅} e l f m h =
+      let all : Laid (pop ⨟ gap leading (p .start) ⨟ moveTo (p .end - 1) ⨟ remark g p) s c s₂ c₄ =
+      laid-then (laid-pop e) (laid-then l (laid-then (laid-moveTo f) m)) in
+      let o : Out = popComment g leading p (st c) in
+      record {
+        does =
+            λ room.
+            let d = all .does room in
+            record {
+              stored = d .stored;
+              moved =
+                  h
+                  ∙ ap (λ (x : Cursor). cursor (x .row) (x .number) (x .pos) (c .placed + 1)) (d .moved)
+                  ∙ ap (λ (n : ℕ). cursor (c .row + sizes (o .nodes)) (c .number + o .taken) (o .pos) n) (sym (comment-placed leading p (st c)));
+            };
+      }
+
+  -- ---- the loop of `pop_whitespace`
+  pop-on : (n position : ℕ) (leading : Bool) (s : St) (p : Span) → nth (g .comments) (s .placed) ≡ some p → ltb (p .start) position ≡ true
+      → popComments g (suc n) position leading s ≡ (popComment g leading p ⨟ popComments g n position true) s
+  unfolding popComments
+  pop-on n position leading s p e w = rw (e, popComments) (rw w)
+
+  pop-late : (n position : ℕ) (leading : Bool) (s : St) (p : Span) → nth (g .comments) (s .placed) ≡ some p → ltb (p .start) position ≡ false
+      → popComments g n position leading s ≡ skip s
+  unfolding popComments
+  pop-late zero position leading s p e w = refl
+  pop-late (suc n) position leading s p e w = rw (e, popComments) (rw w)
+
+  pop-none : (n position : ℕ) (leading : Bool) (s : St) → nth (g .comments) (s .placed) ≡ none → popComments g n position leading s ≡ skip s
+  unfolding popComments
+  pop-none zero position leading s e = refl
+  pop-none (suc n) position leading s e = rw (e, popComments)
+
+  -- whatever finishes the loop from the store s and the cursor c finishes it from s₀ and c₀
+  pub record Going (position : ℕ) (leading : Bool) (s₀ : List ℕ) (c₀ : Cursor) (keep : Bool) (s : List ℕ) (c : Cursor) : Type 0 where
+    pub turns : ℕ
+    pub enough : length (g .comments) ≤ c .placed + turns
+    pub goes :
+        (s′ : List ℕ) (c′ : Cursor)
+        → Laid (popComments g turns position keep) s c s′ c′ → Laid (popComments g (length (g .comments)) position leading) s₀ c₀ s′ c′
+
+  pub begin : (position : ℕ) (leading : Bool) (s : List ℕ) (c : Cursor) → Going position leading s c leading s c
+  begin position leading s c = record { turns = length (g .comments); enough = omega arith; goes = λ s′ c′ l. l }
+
+  module _ {position : ℕ} {leading : Bool} {s₀ : List ℕ} {c₀ : Cursor} where
+    pub go-on : {keep : Bool} {s s₁ : List ℕ} {c c₁ : Cursor} (p : Span) → nth (g .comments) (c .placed) ≡ some p → p .start < position
+        → c .placed < length (g .comments) → Laid (popComment g keep p) s c s₁ c₁ → c₁ .placed ≡ c .placed + 1
+        → Going position leading s₀ c₀ keep s c → Going position leading s₀ c₀ true s₁ c₁
+    go-on {keep} {s} {s₁} {c} {c₁} p e w h l one i = go (i .turns) (i .enough) (i .goes)
+      where
+        go : (m : ℕ) → length (g .comments) ≤ c .placed + m
+            → ((s′ : List ℕ) (c′ : Cursor)
+            → Laid (popComments g m position keep) s c s′ c′ → Laid (popComments g (length (g .comments)) position leading) s₀ c₀ s′ c′)
+            → Going position leading s₀ c₀ true s₁ c₁
+        go zero f k = absurd (omega arith)
+        go (suc m) f k =
+            record {
+              turns = m;
+              enough = omega arith;
+              goes = λ s′ c′ r. k s′ c′ (laid-same (sym (pop-on m position keep (st c) p e (lt-ltb (p .start) position w))) (laid-then l r));
+            }
+
+    -- it ends where no comment is left, and where the next starts at the position or after it
+    pub end-none : {keep : Bool} {s : List ℕ} {c : Cursor} → nth (g .comments) (c .placed) ≡ none
+        → Going position leading s₀ c₀ keep s c → Laid (popComments g (length (g .comments)) position leading) s₀ c₀ s c
+    end-none {keep} {s} {c} e i = i .goes s c (laid-same (sym (pop-none (i .turns) position keep (st c) e)) laid-skip)
+
+    pub end-late : {keep : Bool} {s : List ℕ} {c : Cursor} (p : Span) → nth (g .comments) (c .placed) ≡ some p → position ≤ p .start
+        → Going position leading s₀ c₀ keep s c → Laid (popComments g (length (g .comments)) position leading) s₀ c₀ s c
+    end-late {keep} {s} {c} p e w i =
+        i .goes s c (laid-same (sym (pop-late (i .turns) position keep (st c) p e (le-ltb (p .start) position w))) laid-skip)
+
+  -- ---- `pop_whitespace`, by its loop and what is done after it
+  abbrev pub ending : Bool → ℕ → Bool → Asking
+  ending kept position only =
+      cond kept (answering true (told (newlines g position)))
+      (cond only (newlines g position) (answering false (ignoreNewlines g position)))
+
+  whole : (position : ℕ) (leading trailing only : Bool) {s s₁ s₂ : List ℕ} {c c₁ : Cursor} {r : Asked}
+      → Laid (popComments g (length (g .comments)) position leading) s c s₁ c₁
+      → LaidAsking (ending (waits g position (st c) && trailing) position only) s₁ c₁ s₂ r
+      → LaidAsking (popWhitespace g position leading trailing only) s c s₂ r
+  unfolding popWhitespace
+  whole position leading trailing only l m = asking-same refl (laid-answers l m)
+
+  -- newlines after a comment
+  pub laid-trailing : (position : ℕ) (leading only : Bool) {trailing : Bool} {s s₁ s₂ : List ℕ} {c c₁ c₂ : Cursor}
+      → waits g position (st c) ≡ true → trailing ≡ true → Laid (popComments g (length (g .comments)) position leading) s c s₁ c₁
+      → Laid (told (newlines g position)) s₁ c₁ s₂ c₂
+      → LaidAsking (popWhitespace g position leading trailing only) s c s₂ (record { cursor = c₂; answer = true })
+  laid-trailing position leading only {trailing} {s} {s₁} {s₂} {c} {c₁} {c₂} w t l m =
+      let r : Asked = record { cursor = c₂; answer = true } in
+      let k : LaidAsking (ending true position only) s₁ c₁ s₂ r = laid-answering m in
+      whole position leading trailing only l
+      (subst (λ (x : Bool). LaidAsking (ending (x && trailing) position only) s₁ c₁ s₂ r) (sym w)
+      (subst (λ (y : Bool). LaidAsking (ending (true && y) position only) s₁ c₁ s₂ r) (sym t) k))
+
+  -- otherwise
+  rest : (x y : Bool) (position : ℕ) (only : Bool) {s s′ : List ℕ} {c : Cursor} {r : Asked} → (y ≡ false) ⊎ (x ≡ false)
+      → LaidAsking (ending false position only) s c s′ r → LaidAsking (ending (x && y) position only) s c s′ r
+  rest true true position only (inl e) l = let z : _≡_ {A = ℕ} 0 1 = cc in absurd (omega arith)
+  rest true true position only (inr e) l = let z : _≡_ {A = ℕ} 0 1 = cc in absurd (omega arith)
+  rest true false position only e l = l
+  rest false y position only e l = l
+
+  pub laid-only : (position : ℕ) (leading trailing : Bool) {only : Bool} {s s₁ s₂ : List ℕ} {c c₁ : Cursor} {r : Asked}
+      → (trailing ≡ false) ⊎ (waits g position (st c) ≡ false) → only ≡ true
+      → Laid (popComments g (length (g .comments)) position leading) s c s₁ c₁
+      → LaidAsking (newlines g position) s₁ c₁ s₂ r → LaidAsking (popWhitespace g position leading trailing only) s c s₂ r
+  laid-only position leading trailing {only} {s} {s₁} {s₂} {c} {c₁} {r} e o l m =
+      let k : LaidAsking (ending false position true) s₁ c₁ s₂ r = m in
+      whole position leading trailing only l
+      (rest (waits g position (st c)) trailing position only e
+      (subst (λ (x : Bool). LaidAsking (ending false position x) s₁ c₁ s₂ r) (sym o) k))
+
+  pub laid-neither : (position : ℕ) (leading trailing : Bool) {only : Bool} {s s₁ s₂ : List ℕ} {c c₁ c₂ : Cursor}
+      → (trailing ≡ false) ⊎ (waits g position (st c) ≡ false) → only ≡ false
+      → Laid (popComments g (length (g .comments)) position leading) s c s₁ c₁
+      → Laid (ignoreNewlines g position) s₁ c₁ s₂ c₂
+      → LaidAsking (popWhitespace g position leading trailing only) s c s₂ (record { cursor = c₂; answer = false })
+  laid-neither position leading trailing {only} {s} {s₁} {s₂} {c} {c₁} {c₂} e o l m =
+      let r : Asked = record { cursor = c₂; answer = false } in
+      let k : LaidAsking (ending false position false) s₁ c₁ s₂ r = laid-answering m in
+      whole position leading trailing only l
+      (rest (waits g position (st c)) trailing position only e
+      (subst (λ (x : Bool). LaidAsking (ending false position x) s₁ c₁ s₂ r) (sym o) k))
+
+  -- ---- `pop_trailing_comment`
+  pub no-place : (s : St) → something (g .source) (s .pos) ≡ Nowhere → popTrailingComment g s ≡ skip s
+  unfolding popTrailingComment
+  no-place s e = rw (e, popTrailingComment)
+
+  pub no-comment : (s : St) (place : ℕ) → something (g .source) (s .pos) ≡ At place → nth (g .comments) (s .placed) ≡ none
+      → popTrailingComment g s ≡ skip s
+  unfolding popTrailingComment
+  no-comment s place e f = rw (e, popTrailingComment) (rw (f, popTrailingComment))
+
+  pub elsewhere : (s : St) (place : ℕ) (p : Span) → something (g .source) (s .pos) ≡ At place → nth (g .comments) (s .placed) ≡ some p
+      → (p .start ≡ place → ⊥) → popTrailingComment g s ≡ skip s
+  unfolding popTrailingComment
+  elsewhere s place p e f h = rw (e, popTrailingComment) (rw (f, popTrailingComment) (rw (ne-eqb (p .start) place h)))
+
+  pub trailing-one : (s : St) (place : ℕ) (p : Span) → something (g .source) (s .pos) ≡ At place → nth (g .comments) (s .placed) ≡ some p
+      → p .start ≡ place → popTrailingComment g s ≡ (pop ⨟ remark g p ⨟ moveTo (p .end)) s
+  unfolding popTrailingComment
+  trailing-one s place p e f h = rw (e, popTrailingComment) (rw (f, popTrailingComment) (rw (eq-eqb (p .start) place h)))

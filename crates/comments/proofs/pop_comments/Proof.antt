@@ -1,0 +1,70 @@
+-- The invariant: whatever finishes the loop from here finishes it from its start. The measure: the comments that are left.
+use mathlib.Core.Path.{_≡_, refl, _∙_}
+use Prim.Native.Nat.{_-_}
+use native.Mathlib.Omega.{arith}
+use Rattle.comments.proofs.Fronts.{count-of, inside, is-none, is-some}
+use Rattle.comments.proofs.Pops.{Going, begin, go-on, end-none, end-late}
+use Rattle.comments.specs.Listed.{given}
+use Rattle.image.specs.Bytes.{be16}
+use lib.ListN.{length}
+use borrow.Author.Needs.{needs}
+use Rattle.comments.proofs.pop_comments.Statement.{statement}
+use Rattle.comments.proofs.pop_comments.Tie as tie
+
+abbrev Inv-loop : tie.InvT-loop
+Inv-loop store₀ source image position leading d₀ keep₀ store d keep =
+    (length store ≡ length store₀) × Going (given source image) position leading store₀ d₀ keep store d
+
+abbrev μ-loop : tie.MeasureT-loop
+μ-loop store₀ source image position leading d₀ keep₀ store d keep = be16 image 5 - d .placed
+
+loop-holds : tie.Need-loop-holds Inv-loop μ-loop
+loop-holds c = (refl, begin (given (c .before .before .before .args .source .now) (c .before .before .before .args .image .now)) (c .before .before .before .args .position) (c .before .before .before .args .leading) (c .before .before .before .args .store .now) (c .before .before .before .args .c))
+
+front-requires : tie.Need-front-requires Inv-loop μ-loop
+front-requires c κs = c .before .before .before .before .pre .within
+
+enum-told : tie.Need-enum-told Inv-loop μ-loop
+enum-told c = search needs
+
+same-length : tie.Need-same-length Inv-loop μ-loop
+same-length c = c .before .before .before .loop .inv .0
+
+returns : tie.Need-returns Inv-loop μ-loop
+returns c = end-none (given (c .before .before .before .before .before .before .before .args .source .now) (c .before .before .before .before .before .before .before .args .image .now)) (is-none _ (c .before .before .front .ensures) (c .enum-told .given .1)) (c .before .before .before .loop .inv .1)
+
+enum-known-start : tie.Need-enum-known-start Inv-loop μ-loop
+enum-known-start c = search needs
+
+same-length-2 : tie.Need-same-length-2 Inv-loop μ-loop
+same-length-2 c = c .before .before .before .before .before .loop .inv .0
+
+returns-2 : tie.Need-returns-2 Inv-loop μ-loop
+returns-2 c = end-late (given (c .before .before .before .before .before .before .before .before .before .args .source .now) (c .before .before .before .before .before .before .before .before .before .args .image .now)) _ (is-some _ (c .before .before .before .before .front .ensures) (c .before .before .start .given .1)) (c .if1 .taken) (c .before .before .before .before .before .loop .inv .1)
+
+pop-comment-requires : tie.Need-pop-comment-requires Inv-loop μ-loop
+pop-comment-requires c κs = (c .before .before .before .before .before .before .before .before .before .before .pre, (is-some _ (c .before .before .before .before .before .front .ensures) (c .before .before .before .start .given .1)))
+
+loop-less : tie.Need-loop-less Inv-loop μ-loop
+loop-less c = omega (arith, inside _ _ _ (is-some _ (c .before .before .before .before .before .before .before .before .front .ensures) (c .before .before .before .before .before .before .start .given .1)), c .before .before .pop-comment .ensures .1)
+
+loop-again : tie.Need-loop-again Inv-loop μ-loop
+loop-again c = (c .before .before .pop-comment .kept .0 ∙ c .before .before .before .before .before .before .before .before .before .loop .inv .0, go-on (given (c .before .before .before .before .before .before .before .before .before .before .before .before .before .args .source .now) (c .before .before .before .before .before .before .before .before .before .before .before .before .before .args .image .now)) _ (is-some _ (c .before .before .before .before .before .before .before .before .front .ensures) (c .before .before .before .before .before .before .start .given .1)) (c .before .before .before .before .if1 .left) (omega (arith, count-of (c .before .before .before .before .before .before .before .before .before .before .before .before .before .args .image .now), inside _ _ _ (is-some _ (c .before .before .before .before .before .before .before .before .front .ensures) (c .before .before .before .before .before .before .start .given .1)))) (c .before .before .pop-comment .ensures .0) (c .before .before .pop-comment .ensures .1) (c .before .before .before .before .before .before .before .before .before .loop .inv .1))
+
+pub pop-comments-spec : {M : Type 1} → statement M
+pop-comments-spec =
+    tie.close
+    (tie.spec
+    Inv-loop
+    μ-loop
+    loop-holds
+    front-requires
+    enum-told
+    same-length
+    returns
+    enum-known-start
+    same-length-2
+    returns-2
+    pop-comment-requires
+    loop-less
+    loop-again)
