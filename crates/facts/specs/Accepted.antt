@@ -9,11 +9,11 @@ use Rattle.image.specs.Bytes.{be32}
 use Rattle.tree.specs.Syntax.{Span, Declaration, SyntaxTree}
 use Rattle.tree.specs.At.{TreeAt}
 use Rattle.rows.specs.Node.{line}
-use Rattle.rows.specs.Rows.{sizes}
+use Rattle.rows.specs.Rows.{sizes, depths}
 use Rattle.state.specs.Act.{Given, St, Out, Act, _⨟_, when, push}
 use Rattle.comments.specs.Comments.{nth}
 use Rattle.layout.specs.Layout.{shebangRule, declarationsRule}
-use Rattle.facts.specs.Sound.{depths, TextsIn, Commented}
+use Rattle.facts.specs.Sound.{TextsIn, Commented}
 use Rattle.facts.specs.Height.{treeHeight}
 
 -- the comments are the pairs of numbers that follow the count
