@@ -22,12 +22,14 @@ use Rattle.renderer.specs.Check.{wrongPlace}
 use Rattle.state.specs.Act.{Given, St, Out, Act}
 use Rattle.state.specs.Laid.{st, Room}
 use Rattle.state.specs.declared.Cursor.{Cursor}
+use Rattle.comments.specs.Listed.{given, Listed}
+use Rattle.comments.proofs.Fronts.{count-of, good}
 use Rattle.layout.specs.Layout.{fmtParsed}
 use Rattle.facts.specs.Placing.{Places}
 use Rattle.facts.specs.Sound.{Commented, Sounds}
 use Rattle.facts.specs.Height.{declarationsHeight, treeHeight}
-use Rattle.facts.specs.Accepted.{Paired, Stands, fresh, upTo, callRule, Within}
-use Rattle.facts.proofs.Placing.{front-is, places-then}
+use Rattle.facts.specs.Accepted.{Stands, fresh, upTo, callRule, Within}
+use Rattle.facts.proofs.Placing.{places-then}
 use Rattle.facts.proofs.InOrder.{places-shebang, places-declarations, places-fmtParsed, places-call}
 use Rattle.facts.proofs.Steps.{_⨾_, fewer, sound-when, sound-line}
 use Rattle.facts.proofs.Document.{sound-shebang, sound-declarations, sound-fmtParsed}
@@ -35,27 +37,31 @@ use Rattle.facts.proofs.Passes.{not-refused}
 use Rattle.facts.proofs.Levels.{accepted-high}
 
 -- ---- an accepted image
-commented : (ordered : Bool) (g : Given) (n at : ℕ) → Root ordered (g .source) (g .image) n at → length (g .comments) ≡ n → Paired g
-    → Commented g
-commented ordered g n at r e p =
+commented : {s b : List ℕ} → Listed s b → Commented (given s b)
+commented {s} l =
     record {
       ranged =
           λ k c f.
-          let i = front-is g (g .comments) k c f .0 in
-          let one = r .list .list .each k (omega (arith, r .count)) in
-          let w = range-inside (g .source) (be32 (g .image) (7 + 8 * k)) (be32 (g .image) (7 + 8 * k + 4)) (one .range) in
-          record { ordered = omega (arith, w, p .start k c f, p .end k c f); fits = omega (arith, w, p .end k c f) };
+          let w = range-inside s (c .start) (c .end) (good l k c f .range) in
+          record { ordered = omega (arith, w); fits = omega (arith, w) };
     }
 
-pub stands : (ordered : Bool) (g : Given) (n at : ℕ) (r : Root ordered (g .source) (g .image) n at) → length (g .comments) ≡ n → Paired g
-    → Stands g (syntaxTree (g .image) (r .tree)) at
-stands ordered g n at r e p =
+pub stands : (ordered : Bool) (s b : List ℕ) (n at : ℕ) (r : Root ordered s b n at) → Stands (given s b) (syntaxTree b (r .tree)) at
+stands ordered s b n at r =
+    let l : Listed s b =
     record {
-      tree = root-at (g .source) (g .image) ordered n at r;
-      high = accepted-high (g .source) (g .image) 2 1 at (r .tree) (length (g .image)) (r .reads);
-      comments = commented ordered g n at r e p;
-      count = omega (arith, r .count, r .list .few);
-      place = omega (arith, r .place);
+      few = r .list .few;
+      within = r .list .within;
+      order = λ k h. r .list .list .each k h .order;
+      range = λ k h. r .list .list .each k h .range;
+    }
+    in
+    record {
+      tree = root-at s b ordered n at r;
+      high = accepted-high s b 2 1 at (r .tree) (length b) (r .reads);
+      comments = commented l;
+      count = omega (arith, count-of b, r .list .few);
+      place = omega (arith, count-of b, r .count, r .place);
       small = omega (arith, r .head .size, r .head .short);
     }
 

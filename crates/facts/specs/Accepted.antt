@@ -3,23 +3,15 @@ use Prim.Native.Nat.{ℕ, _+_, _*_, _≤_}
 use mathlib.Core.Path.{_≡_}
 use mathlib.Core.Bool.{Bool, true}
 use mathlib.Core.List.{List}
-use mathlib.Core.Option.{some}
 use lib.ListN.{length}
-use Rattle.image.specs.Bytes.{be32}
-use Rattle.tree.specs.Syntax.{Span, Declaration, SyntaxTree}
+use Rattle.tree.specs.Syntax.{Declaration, SyntaxTree}
 use Rattle.tree.specs.At.{TreeAt}
 use Rattle.rows.specs.Node.{line}
 use Rattle.rows.specs.Rows.{sizes, depths}
 use Rattle.state.specs.Act.{Given, St, Out, Act, _⨟_, when, push}
-use Rattle.comments.specs.Comments.{nth}
 use Rattle.layout.specs.Layout.{shebangRule, declarationsRule}
 use Rattle.facts.specs.Sound.{TextsIn, Commented}
 use Rattle.facts.specs.Height.{treeHeight}
-
--- the comments are the pairs of numbers that follow the count
-pub record Paired (g : Given) : Type 0 where
-  pub start : (k : ℕ) (c : Span) → nth (g .comments) k ≡ some c → be32 (g .image) (7 + 8 * k) ≡ c .start
-  pub end : (k : ℕ) (c : Span) → nth (g .comments) k ≡ some c → be32 (g .image) (7 + 8 * k + 4) ≡ c .end
 
 -- A tree that stands at `at` of an accepted image: the body is 1,048,576 bytes at most, the comments before it are 8,192 at most.
 pub record Stands (g : Given) (t : SyntaxTree) (at : ℕ) : Type 0 where
