@@ -15,10 +15,11 @@ use Rattle.text.specs.declared.space.Found.the-variants.{At, Nowhere}
 use Rattle.text.proofs.Counts.{range-inside}
 use Rattle.tree.specs.Syntax.{Span}
 use Rattle.rows.specs.Node.{comment, line, emptyLine}
-use Rattle.state.specs.Act.{St, Out, Act, Asking, next, _⨟_, skip, push, moveTo, pop, told, answering}
+use Rattle.state.specs.Act.{St, Out, Act, next, _⨟_, skip, push, moveTo, pop, told}
 use Rattle.state.proofs.Keeps.{Keeps, KeepsAt, keeps-at, keeps-of, keeps-skip, keeps-push, keeps-moveTo, keeps-then, keeps-after, keeps-cond, keeps-answers}
 use Rattle.comments.specs.Comments.{nth, front, remark, newlines, ignoreNewlines, popComment, waits, popComments, popWhitespace, popTrailingComment}
 use Rattle.comments.specs.Listed.{commentsOf, given, Listed}
+use Rattle.comments.proofs.Pops.{ending}
 use Rattle.comments.proofs.Fronts.{count-of, inside, good}
 
 module _ {s b : List ℕ} (l : Listed s b) where
@@ -107,19 +108,11 @@ module _ {s b : List ℕ} (l : Listed s b) where
       keeps-of
       (λ t.
       keeps-at
-      (keeps-answers (last (waits (given s b) position t && trailing)) (comments-within (length (commentsOf b)) position leading)
+      (keeps-answers (ending (given s b) (waits (given s b) position t && trailing) position only) (comments-within (length (commentsOf b)) position leading)
       (after (waits (given s b) position t && trailing) only))
       t)
     where
-      last : Bool → Asking
-      last kept =
-          cond kept (answering true (told (newlines (given s b) position)))
-          (cond only (newlines (given s b) position) (answering false (ignoreNewlines (given s b) position)))
-
-      after : (x y : Bool) → Keeps (length (commentsOf b)) (length s)
-          (told
-          (cond x (answering true (told (newlines (given s b) position)))
-          (cond y (newlines (given s b) position) (answering false (ignoreNewlines (given s b) position)))))
+      after : (x y : Bool) → Keeps (length (commentsOf b)) (length s) (told (ending (given s b) x position y))
       after true y = newlines-within position h
       after false true = newlines-within position h
       after false false = ignored-within position h

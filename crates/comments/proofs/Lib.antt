@@ -1,4 +1,5 @@
 pub mod Accepted
+pub mod Amounts
 pub mod Bounds
 pub mod Fronts
 pub mod Pops

@@ -19,17 +19,9 @@ use Rattle.rows.specs.Rows.{sizes}
 use Rattle.state.specs.Act.{Given, St, Out, Act, Asking, next, _⨟_, skip, push, moveTo, pop, told, answering}
 use Rattle.state.specs.declared.Cursor.{Cursor}
 use Rattle.state.specs.declared.Asked.{Asked}
-use Rattle.state.specs.Laid.{cursor, st, Room, Laid, LaidAsking}
-use Rattle.state.proofs.Laws.{laid-same, laid-then, laid-skip, laid-moveTo, laid-pop, laid-answering, laid-answers}
+use Rattle.state.specs.Laid.{cursor, st, Laid, LaidAsking}
+use Rattle.state.proofs.Laws.{laid-same, laid-then, laid-skip, laid-moveTo, laid-pop, asking-same, laid-answering, laid-answers}
 use Rattle.comments.specs.Comments.{nth, front, remark, newlines, ignoreNewlines, popComment, waits, popComments, popWhitespace, popTrailingComment}
-
--- a step that answers, by what it does from the cursor's state
-pub asking-same : {a b : Asking} {s s′ : List ℕ} {c : Cursor} {r : Asked} → a (st c) ≡ b (st c) → LaidAsking a s c s′ r → LaidAsking b s c s′ r
-asking-same {a} {b} {s} {s′} {c} {r} e l =
-    record {
-      laid = laid-same (ap (λ (p : Out × Bool). p .0) e) (l .laid);
-      answers = subst (λ (p : Out × Bool). Room (p .0) c → r .answer ≡ p .1) e (l .answers);
-    }
 
 module _ (g : Given) where
   -- ---- by what waits at the front
@@ -172,14 +164,14 @@ module _ (g : Given) where
         i .goes s c (laid-same (sym (pop-late (i .turns) position keep (st c) p e (le-ltb (p .start) position w))) laid-skip)
 
   -- ---- `pop_whitespace`, by its loop and what is done after it
-  abbrev ending : Bool → Bool → ℕ → Bool → Asking
-  ending waiting trailing position only =
-      cond (waiting && trailing) (answering true (told (newlines g position)))
+  abbrev pub ending : Bool → ℕ → Bool → Asking
+  ending kept position only =
+      cond kept (answering true (told (newlines g position)))
       (cond only (newlines g position) (answering false (ignoreNewlines g position)))
 
   whole : (position : ℕ) (leading trailing only : Bool) {s s₁ s₂ : List ℕ} {c c₁ : Cursor} {r : Asked}
       → Laid (popComments g (length (g .comments)) position leading) s c s₁ c₁
-      → LaidAsking (ending (waits g position (st c)) trailing position only) s₁ c₁ s₂ r
+      → LaidAsking (ending (waits g position (st c) && trailing) position only) s₁ c₁ s₂ r
       → LaidAsking (popWhitespace g position leading trailing only) s c s₂ r
   unfolding popWhitespace
   whole position leading trailing only l m = asking-same refl (laid-answers l m)
@@ -191,14 +183,14 @@ module _ (g : Given) where
       → LaidAsking (popWhitespace g position leading trailing only) s c s₂ (record { cursor = c₂; answer = true })
   laid-trailing position leading only {trailing} {s} {s₁} {s₂} {c} {c₁} {c₂} w t l m =
       let r : Asked = record { cursor = c₂; answer = true } in
-      let k : LaidAsking (ending true true position only) s₁ c₁ s₂ r = laid-answering m in
+      let k : LaidAsking (ending true position only) s₁ c₁ s₂ r = laid-answering m in
       whole position leading trailing only l
-      (subst (λ (x : Bool). LaidAsking (ending x trailing position only) s₁ c₁ s₂ r) (sym w)
-      (subst (λ (y : Bool). LaidAsking (ending true y position only) s₁ c₁ s₂ r) (sym t) k))
+      (subst (λ (x : Bool). LaidAsking (ending (x && trailing) position only) s₁ c₁ s₂ r) (sym w)
+      (subst (λ (y : Bool). LaidAsking (ending (true && y) position only) s₁ c₁ s₂ r) (sym t) k))
 
   -- otherwise
   rest : (x y : Bool) (position : ℕ) (only : Bool) {s s′ : List ℕ} {c : Cursor} {r : Asked} → (y ≡ false) ⊎ (x ≡ false)
-      → LaidAsking (ending false false position only) s c s′ r → LaidAsking (ending x y position only) s c s′ r
+      → LaidAsking (ending false position only) s c s′ r → LaidAsking (ending (x && y) position only) s c s′ r
   rest true true position only (inl e) l = let z : _≡_ {A = ℕ} 0 1 = cc in absurd (omega arith)
   rest true true position only (inr e) l = let z : _≡_ {A = ℕ} 0 1 = cc in absurd (omega arith)
   rest true false position only e l = l
@@ -209,10 +201,10 @@ module _ (g : Given) where
       → Laid (popComments g (length (g .comments)) position leading) s c s₁ c₁
       → LaidAsking (newlines g position) s₁ c₁ s₂ r → LaidAsking (popWhitespace g position leading trailing only) s c s₂ r
   laid-only position leading trailing {only} {s} {s₁} {s₂} {c} {c₁} {r} e o l m =
-      let k : LaidAsking (ending false false position true) s₁ c₁ s₂ r = m in
+      let k : LaidAsking (ending false position true) s₁ c₁ s₂ r = m in
       whole position leading trailing only l
       (rest (waits g position (st c)) trailing position only e
-      (subst (λ (x : Bool). LaidAsking (ending false false position x) s₁ c₁ s₂ r) (sym o) k))
+      (subst (λ (x : Bool). LaidAsking (ending false position x) s₁ c₁ s₂ r) (sym o) k))
 
   pub laid-neither : (position : ℕ) (leading trailing : Bool) {only : Bool} {s s₁ s₂ : List ℕ} {c c₁ c₂ : Cursor}
       → (trailing ≡ false) ⊎ (waits g position (st c) ≡ false) → only ≡ false
@@ -221,10 +213,10 @@ module _ (g : Given) where
       → LaidAsking (popWhitespace g position leading trailing only) s c s₂ (record { cursor = c₂; answer = false })
   laid-neither position leading trailing {only} {s} {s₁} {s₂} {c} {c₁} {c₂} e o l m =
       let r : Asked = record { cursor = c₂; answer = false } in
-      let k : LaidAsking (ending false false position false) s₁ c₁ s₂ r = laid-answering m in
+      let k : LaidAsking (ending false position false) s₁ c₁ s₂ r = laid-answering m in
       whole position leading trailing only l
       (rest (waits g position (st c)) trailing position only e
-      (subst (λ (x : Bool). LaidAsking (ending false false position x) s₁ c₁ s₂ r) (sym o) k))
+      (subst (λ (x : Bool). LaidAsking (ending false position x) s₁ c₁ s₂ r) (sym o) k))
 
   -- ---- `pop_trailing_comment`
   pub no-place : (s : St) → something (g .source) (s .pos) ≡ Nowhere → popTrailingComment g s ≡ skip s

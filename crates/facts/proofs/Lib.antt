@@ -7,4 +7,5 @@ pub mod Exprs
 pub mod Document
 pub mod Levels
 pub mod Rights
+pub mod Passes
 pub mod Limits

@@ -1,10 +1,11 @@
 -- What follows for an accepted image: the rows and the numbers of a document fit, from the fresh state within the limits of document 01;
 -- its rows are 133 deep at most; its texts lie inside their origins; its position stays in the source.
 -- Assumes nothing.
-use Prim.Native.Nat.{ℕ, _+_, _≤_}
+use Prim.Native.Nat.{ℕ, _+_, _*_, _≤_}
 use mathlib.Core.Path.{_≡_, refl, ap}
 use mathlib.Core.Bool.{Bool, true}
 use mathlib.Core.List.{List, [], _∷_, _++_}
+use mathlib.Core.Option.{none as nothing}
 use native.Mathlib.Omega.{arith}
 use lib.ListN.{length}
 use Rattle.text.proofs.Counts.{range-inside}
@@ -14,8 +15,11 @@ use Rattle.tree.specs.Syntax.{Declaration, SyntaxTree}
 use Rattle.tree.specs.At.{past, DeclarationsAt}
 use Rattle.tree.specs.Records.{syntaxTree}
 use Rattle.tree.proofs.Whole.{root-at}
-use Rattle.rows.specs.Rows.{rows}
-use Rattle.state.specs.Act.{Given, St, Act}
+use Rattle.rows.specs.Node.{Nodes}
+use Rattle.rows.specs.Rows.{sizes, rows}
+use Rattle.rows.proofs.Flatten.{Holds}
+use Rattle.renderer.specs.Check.{wrongPlace}
+use Rattle.state.specs.Act.{Given, St, Out, Act}
 use Rattle.state.specs.Laid.{st, Room}
 use Rattle.state.specs.declared.Cursor.{Cursor}
 use Rattle.comments.specs.Listed.{given, Listed}
@@ -24,13 +28,12 @@ use Rattle.layout.specs.Layout.{fmtParsed}
 use Rattle.facts.specs.Placing.{Places}
 use Rattle.facts.specs.Sound.{Commented, Sounds}
 use Rattle.facts.specs.Height.{declarationsHeight, treeHeight}
-use Rattle.facts.specs.Right.{RightRows}
 use Rattle.facts.specs.Accepted.{Stands, fresh, upTo, callRule, Within}
 use Rattle.facts.proofs.Placing.{places-then}
 use Rattle.facts.proofs.InOrder.{places-shebang, places-declarations, places-fmtParsed, places-call}
 use Rattle.facts.proofs.Steps.{_⨾_, fewer, sound-when, sound-line}
 use Rattle.facts.proofs.Document.{sound-shebang, sound-declarations, sound-fmtParsed}
-use Rattle.facts.proofs.Rights.{right-rows}
+use Rattle.facts.proofs.Passes.{not-refused}
 use Rattle.facts.proofs.Levels.{accepted-high}
 
 -- ---- an accepted image
@@ -128,12 +131,6 @@ module _ {g : Given} {t : SyntaxTree} {at : ℕ} (a : Stands g t at) where
       ⨾ sound-when closes sound-line)
       (omega (arith, o, q .order, a .tree .inside .least))
 
-  -- the rows of a layout call are right, from any state
-  pub call-right : (xs ys zs : List Declaration) (begins first closes : Bool) → xs ++ (ys ++ zs) ≡ t .declarations → (s : St) (r : ℕ)
-      → RightRows g (rows (callRule g t begins ys first closes s .nodes) r)
-  call-right xs ys zs begins first closes e s r =
-      right-rows (callRule g t begins ys first closes s .nodes) g r (call-sound xs ys zs begins first closes e .from s .texts)
-
   -- ---- the limits, from the fresh state: two rows a comment are less than its eight bytes
   within : {d : ℕ} (s : Act) → d ≤ 255 → Sounds g (be32 (g .image) at) d s → Places g s → Within g (s fresh)
   within s h p q =
@@ -154,6 +151,21 @@ module _ {g : Given} {t : SyntaxTree} {at : ℕ} (a : Stands g t at) where
   pub upTo-within : (xs ys : List Declaration) → xs ++ ys ≡ t .declarations → Within g (upTo g t xs fresh)
   upTo-within xs ys e =
       within (upTo g t xs) (omega arith) (upTo-sound xs ys e) (places-then (places-shebang g (t .shebang)) (places-declarations g xs true))
+
+  -- ---- the rows of a layout call pass the row check, from any state and wherever they stand
+  pub call-passes : (xs ys zs : List Declaration) (begins first closes : Bool) → xs ++ (ys ++ zs) ≡ t .declarations
+      → (s : St) (store : List ℕ) (r : ℕ)
+      → let ns : Nodes = callRule g t begins ys first closes s .nodes in
+      Holds store r (rows ns r) → r + sizes ns ≤ 2097152 → (r + sizes ns) * 9 ≤ length store
+      → wrongPlace (g .source) (g .image) store r (r + sizes ns) ≡ nothing
+  call-passes xs ys zs begins first closes e s store r h few fits =
+      let p = call-sound xs ys zs begins first closes e .from s in
+      not-refused g (callRule g t begins ys first closes s .nodes) store r h (omega (arith, p .deep)) (p .texts) few fits
+
+  -- the rows due from the fresh state, at the start of the store
+  pub due-passes : {o : Out} → Within g o → (store : List ℕ) → Holds store 0 (rows (o .nodes) 0) → sizes (o .nodes) * 9 ≤ length store
+      → wrongPlace (g .source) (g .image) store 0 (0 + sizes (o .nodes)) ≡ nothing
+  due-passes {o} w store h fits = not-refused g (o .nodes) store 0 h (w .deep) (w .texts) (omega (arith, w .rows)) (omega arith)
 
   -- ---- room for the rows of a layout call, from any state that refusal 12 lets pass
   room : {d : ℕ} (s : Act) → Sounds g (be32 (g .image) at) d s → Places g s → (c : Cursor) → c .row ≤ 2097152 → c .number ≤ 1048576

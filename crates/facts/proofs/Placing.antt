@@ -200,7 +200,7 @@ places-asks {g} a {k} p q = record { from = λ s h. places-then p (q (a s .1)) .
 
 -- ---- the comment rules
 -- the front comment of those left
-pub front-is : (g : Given) (l : List Span) (k : ℕ) (c : Span) → nth l k ≡ some c
+front-is : (g : Given) (l : List Span) (k : ℕ) (c : Span) → nth l k ≡ some c
     → (k < length l) × (take 1 (drop k (map (trimmed g) l)) ≡ trimmed g c ∷ [])
 unfolding nth
 front-is g [] k c e = absurd (none-some e)

@@ -63,7 +63,7 @@ mutual
   right-rows (node._then_ n ns) g r t = right-append (right-node n g r (t .0)) (right-rows ns g (r + size n) (t .1))
 
 -- ---- one of them
-right-long : {g : Given} {x : List ℕ} → RightRow g x → length x ≡ 9
+pub right-long : {g : Given} {x : List ℕ} → RightRow g x → length x ≡ 9
 right-long (group n after) = refl
 right-long (indent after) = refl
 right-long (indentNext after) = refl

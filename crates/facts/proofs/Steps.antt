@@ -6,7 +6,7 @@ use mathlib.Core.Bool.{Bool, true, false, cond}
 use native.Mathlib.Omega.{arith}
 use lib.ListN.{length}
 use Rattle.rows.specs.Node.{Text, Node, Nodes, wrapParent, comment, str, ascii, line, emptyLine, lineOrSpace, ifWrap, none, _then_}
-use Rattle.rows.specs.Rows.{size, sizes}
+use Rattle.rows.specs.Rows.{size, sizes, depth, depths}
 use Rattle.state.specs.Act.{
   Given,
   St,
@@ -28,7 +28,7 @@ use Rattle.state.specs.Act.{
   called,
 }
 use Rattle.state.proofs.Joins.{sizes-join}
-use Rattle.facts.specs.Sound.{depth, depths, Inside, TextsOf, TextsIn, Sound, Sounds}
+use Rattle.facts.specs.Sound.{Inside, TextsOf, TextsIn, Sound, Sounds}
 
 depths-join : (ns ms : Nodes) → depths (join ns ms) ≡ max (depths ns) (depths ms)
 unfolding depths join

@@ -7,10 +7,10 @@ use lib.ListN.{length}
 use Rattle.tree.specs.Syntax.{Declaration, SyntaxTree}
 use Rattle.tree.specs.At.{TreeAt}
 use Rattle.rows.specs.Node.{line}
-use Rattle.rows.specs.Rows.{sizes}
+use Rattle.rows.specs.Rows.{sizes, depths}
 use Rattle.state.specs.Act.{Given, St, Out, Act, _⨟_, when, push}
 use Rattle.layout.specs.Layout.{shebangRule, declarationsRule}
-use Rattle.facts.specs.Sound.{depths, TextsIn, Commented}
+use Rattle.facts.specs.Sound.{TextsIn, Commented}
 use Rattle.facts.specs.Height.{treeHeight}
 
 -- A tree that stands at `at` of an accepted image: the body is 1,048,576 bytes at most, the comments before it are 8,192 at most.

@@ -1,1 +1,3 @@
-pub mod Renderer
+pub mod Output
+pub mod Pen
+pub mod Run

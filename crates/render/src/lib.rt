@@ -1,1 +1,4 @@
 // Rendering of rows.
+pub mod machine;
+pub mod output;
+pub mod pen;

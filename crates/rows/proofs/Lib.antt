@@ -1,1 +1,8 @@
-pub mod Words
+pub mod Decode
+pub mod Flatten
+pub mod MustWrap
+pub mod Nested
+pub mod Sizes
+pub mod Sums
+pub mod Table
+pub mod Widths

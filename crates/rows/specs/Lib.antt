@@ -1,4 +1,5 @@
 pub mod Ascii
+pub mod Nesting
 pub mod Node
 pub mod Rows
 pub mod View

@@ -32,6 +32,11 @@ mutual
     _then_ : Node → Nodes → Nodes
 
 infixr 60 _then_
+-- nodes and, behind them, others
+unfoldable pub join : Nodes → Nodes → Nodes
+join none b = b
+join (n then a) b = n then join a b
+
 -- `must_wrap`, which looks into `Indent` only
 unfoldable mutual
   pub mustWrap : Node → Bool

@@ -1,7 +1,6 @@
 -- A document as rows: nine numbers a row, in preorder (document 01, "Rows, marks and carried state").
-use Prim.Native.Nat.{ℕ, _+_, _*_}
+use Prim.Native.Nat.{ℕ, _+_, max}
 use mathlib.Core.List.{List, [], _∷_, _++_}
-use lib.ListN.{getD}
 use Rattle.rows.specs.Node.{
   Text,
   Node,
@@ -41,6 +40,26 @@ unfoldable mutual
   pub sizes : Nodes → ℕ
   sizes none = 0
   sizes (n then ns) = size n + sizes ns
+
+-- how deep the rows of a node and of nodes go
+unfoldable mutual
+  pub depth : Node → ℕ
+  depth (group n ns) = 1 + depths ns
+  depth (indent ns) = 1 + depths ns
+  depth (indentNext ns) = 1 + depths ns
+  depth wrapParent = 1
+  depth (comment t) = 1
+  depth (str w t) = 1
+  depth (ascii t) = 1
+  depth line = 1
+  depth emptyLine = 1
+  depth lineOrSpace = 1
+  depth (ifWrap n a b) = 1 + max (depth a) (depth b)
+  depth (call n e k a) = 1 + max (depths e) (depths a)
+
+  pub depths : Nodes → ℕ
+  depths none = 0
+  depths (n then ns) = max (depth n) (depths ns)
 
 -- A row: kind, number, second number, first row of the second part, row after the last descendant, text origin, text start, text length,
 -- width.

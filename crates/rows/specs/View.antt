@@ -50,6 +50,10 @@ viewOf store = record {
   width = λ i. cond (eqb (cell store i 0) 5) (cell store i 8) 0;
 }
 
+-- what row i measures by itself: the width of a `Str`, the bytes of an `Ascii`, 1 of a `LineOrSpace`
+abbrev pub ownWidth : List ℕ → ℕ → ℕ → ℕ
+ownWidth store i kind = getD (0 ∷ 0 ∷ 0 ∷ 0 ∷ 0 ∷ cell store i 8 ∷ cell store i 7 ∷ 0 ∷ 0 ∷ 1 ∷ []) kind 0
+
 -- the first of some nodes
 abbrev pub firstOf : Nodes → Node
 firstOf none = wrapParent

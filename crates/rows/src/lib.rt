@@ -1,1 +1,4 @@
 // The document as rows.
+pub mod store;
+pub mod width;
+pub mod words;

@@ -25,10 +25,10 @@ pub keeps-of : {n m : ℕ} {a : Act} → ((s : St) → KeepsAt n m s (a s)) → 
 keeps-of k = record { grows = λ s. k s .grows; placed = λ s. k s .placed; pos = λ s. k s .pos }
 
 -- the state inside a node that takes k numbers, and after the first part of a call
-abbrev numbered : ℕ → St → St
+abbrev pub numbered : ℕ → St → St
 numbered k s = record { number = s .number + k; pos = s .pos; placed = s .placed }
 
-abbrev second : Act → St → St
+abbrev pub second : Act → St → St
 second a s = next (numbered 2 s) (a (numbered 2 s))
 
 module _ {n m : ℕ} where

@@ -130,6 +130,14 @@ laid-leaf n {kind} {w} {t} {s} {s′} {c} one same p =
     }
 
 -- ---- steps that answer
+-- a step that answers, by what it does from the cursor's state
+pub asking-same : {a b : Asking} {s s′ : List ℕ} {c : Cursor} {r : Asked} → a (st c) ≡ b (st c) → LaidAsking a s c s′ r → LaidAsking b s c s′ r
+asking-same {a} {b} {s} {s′} {c} {r} e l =
+    record {
+      laid = laid-same (ap (λ (p : Out × Bool). p .0) e) (l .laid);
+      answers = subst (λ (p : Out × Bool). Room (p .0) c → r .answer ≡ p .1) e (l .answers);
+    }
+
 pub laid-told : {a : Asking} {s s′ : List ℕ} {c : Cursor} {r : Asked} → LaidAsking a s c s′ r → Laid (told a) s c s′ (r .cursor)
 laid-told l = l .laid
 

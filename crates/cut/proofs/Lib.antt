@@ -1,0 +1,11 @@
+pub mod Memory
+pub mod Comments
+pub mod Steps
+pub mod Rule
+pub mod Entries
+pub mod Table
+pub mod LayoutParts
+pub mod RenderParts
+pub mod CommentParts
+pub mod Document
+pub mod Example

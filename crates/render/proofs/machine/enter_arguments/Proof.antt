@@ -1,0 +1,57 @@
+use native.Mathlib.Omega.{arith}
+use Prim.Native.Nat.{ℕ}
+use mathlib.Core.Path.{refl, ap, _∙_}
+use Rattle.rows.specs.View.{cell}
+use Rattle.render.proofs.Opening.{nested-to, arguments-opened}
+use borrow.Author.Needs.{needs}
+use Rattle.render.proofs.machine.enter_arguments.Statement.{statement}
+use Rattle.render.proofs.machine.enter_arguments.Tie as tie
+
+sub-d : tie.Need-sub-d
+sub-d c = search needs
+
+wide-requires : tie.Need-wide-requires
+wide-requires c κs = search needs
+
+place-requires : tie.Need-place-requires
+place-requires c κs = search needs
+
+place-requires-2 : tie.Need-place-requires-2
+place-requires-2 c κs = search needs
+
+group-wraps-requires : tie.Need-group-wraps-requires
+group-wraps-requires c κs = (
+  nested-to _ _ _ _ (c .before .before .place .ensures .0 ∙ ap (λ (x : ℕ). cell (c .before .before .before .before .before .before .before .before .args .store .now) x 4) (c .before .before .before .wide .ensures)) (c .before .before .before .before .before .before .before .before .pre .1 .1 .1 .0),
+  (c .before .before .before .before .before .before .before .before .pre .1 .1 .1 .1 .0, c .before .before .before .before .before .before .before .before .pre .1 .1 .1 .1 .1),
+)
+
+insert-requires : tie.Need-insert-requires
+insert-requires c κs = search needs
+
+mul-fs : tie.Need-mul-fs
+mul-fs c = search needs
+
+array-set-from-fs : tie.Need-array-set-from-fs
+array-set-from-fs c = search needs
+
+same-length : tie.Need-same-length
+same-length c = search needs
+
+returns : tie.Need-returns
+returns c =
+    arguments-opened _ _ _ _ _ _ (c .before .before .before .before .before .before .before .before .before .before .before .before .before .before .args .f) (c .before .before .before .before .before .before .before .before .before .wide .result) (c .before .before .before .before .before .before .before .before .place .result) (c .before .before .before .before .before .before .before .place2 .result) (c .before .before .before .before .before .group-wraps .result) (c .before .before .before .before .before .before .before .before .before .wide .ensures) (c .before .before .before .before .before .before .before .before .place .ensures .0) (c .before .before .before .before .before .before .before .place2 .ensures .0) (c .before .before .before .before .before .group-wraps .ensures) (c .before .before .before .insert .ensures) refl
+
+pub enter-arguments-spec : {M : Type 1} → statement M
+enter-arguments-spec =
+    tie.close
+    (tie.spec
+    sub-d
+    wide-requires
+    place-requires
+    place-requires-2
+    group-wraps-requires
+    insert-requires
+    mul-fs
+    array-set-from-fs
+    same-length
+    returns)

@@ -1,0 +1,46 @@
+use native.Mathlib.Omega.{arith}
+use Prim.Native.Nat.{ℕ, _+_, _<_}
+use mathlib.Core.Path.{_≡_, refl, ap, sym, _∙_}
+use mathlib.Core.List.{List, [], _∷_, _++_}
+use lib.ListN.{length, length-append}
+use Rattle.renderer.specs.Page.{textBytes, textOf}
+use Rattle.render.specs.Output.{over}
+use Rattle.render.proofs.Written.{text-fits, over-join}
+use Rattle.render.proofs.Drawn.{ended}
+use borrow.Author.Needs.{needs}
+use Rattle.render.proofs.pen.end_line.Statement.{statement}
+use Rattle.render.proofs.pen.end_line.Tie as tie
+
+copy-requires : tie.Need-copy-requires
+copy-requires c κs = search needs
+
+add-emit : tie.Need-add-emit
+add-emit c =
+    let e = c .before .before .before .copy .ensures .1 in
+    let f = text-fits (c .before .before .before .before .before .before .before .before .args .source .now) (c .before .before .before .before .before .before .before .before .args .image .now) (c .before .before .before .before .before .before .before .before .args .origin) (c .before .before .before .before .before .before .before .before .args .start) (c .before .before .before .before .before .before .before .before .args .size) in
+    omega (arith, c .before .before .before .before .before .before .before .before .pre .0 .at, c .before .before .before .before .before .before .before .before .pre .1 .1)
+
+emit-requires : tie.Need-emit-requires
+emit-requires c κs = search needs
+
+add-t16 : tie.Need-add-t16
+add-t16 c =
+    let e = c .before .before .before .before .before .before .copy .ensures .1 in
+    let f = text-fits (c .before .before .before .before .before .before .before .before .before .before .before .args .source .now) (c .before .before .before .before .before .before .before .before .before .before .before .args .image .now) (c .before .before .before .before .before .before .before .before .before .before .before .args .origin) (c .before .before .before .before .before .before .before .before .before .before .before .args .start) (c .before .before .before .before .before .before .before .before .before .before .before .args .size) in
+    omega (arith, c .before .before .before .before .before .before .before .before .before .before .before .pre .0 .at, c .before .before .before .before .before .before .before .before .before .before .before .pre .1 .1)
+
+add-t18 : tie.Need-add-t18
+add-t18 c =
+    let e = c .before .before .before .before .before .before .copy .ensures .1 in
+    let f = text-fits (c .before .before .before .before .before .before .before .before .before .before .before .args .source .now) (c .before .before .before .before .before .before .before .before .before .before .before .args .image .now) (c .before .before .before .before .before .before .before .before .before .before .before .args .origin) (c .before .before .before .before .before .before .before .before .before .before .before .args .start) (c .before .before .before .before .before .before .before .before .before .before .before .args .size) in
+    omega (arith, c .before .before .before .before .before .before .before .before .before .before .before .pre .0 .at, c .before .before .before .before .before .before .before .before .before .before .before .pre .1 .1)
+
+same-length : tie.Need-same-length
+same-length c = search needs
+
+returns : tie.Need-returns
+returns c = ended _ _ _ _ _ _ _ (c .before .before .before .before .before .before .copy .ensures .1) (c .before .before .before .before .before .before .copy .ensures .0) (c .before .before .emit .ensures)
+
+pub end-line-spec : {M : Type 1} → statement M
+end-line-spec =
+    tie.close (tie.spec copy-requires add-emit emit-requires add-t16 add-t18 same-length returns)

@@ -1,0 +1,121 @@
+-- The run of the code as the machine, and what each step is to do.
+use Prim.Native.Nat.{ℕ, _+_, _*_, _-_, _≤_, _<_}
+use mathlib.Core.Path.{_≡_}
+use mathlib.Core.Bool.{Bool, true, false, cond, not, _&&_}
+use mathlib.Core.List.{List, []}
+use lib.ListN.{length, set}
+use Rattle.rows.specs.View.{View, viewOf, cell, nodesAt}
+use Rattle.renderer.specs.declared.Frame.{Frame}
+use Rattle.renderer.specs.Renderer.{Page, Renderer, groupWraps, trailing, calleeWraps, nextIndented}
+use Rattle.renderer.specs.Page.{pageOf}
+use Rattle.renderer.proofs.Meaning.{limit as partLimit, wrapAt}
+use Rattle.renderer.proofs.Opened.{At}
+use Rattle.renderer.proofs.Machine.{Machine, frame}
+use Rattle.renderer.proofs.Safe.{Safe, Small}
+use Rattle.render.specs.declared.pen.Pen.{Pen}
+use Rattle.render.specs.declared.machine.Run.{Run}
+use Rattle.render.specs.Output.{over}
+use Rattle.render.specs.Pen.{shown, withMargin}
+
+-- the renderer that has a pen's numbers, and has written b
+abbrev pub stateOf : Pen → List ℕ → List ℕ → Renderer
+stateOf p marks b =
+    record { buf = b; indent = p .indent; nextIndent = p .«next_indent»; column = p .column .0; marks = marks }
+
+-- the machine of a run that has written b and entered n rows
+unfoldable pub machineOf : Run → List ℕ → List ℕ → ℕ → Machine
+machineOf r marks b n =
+    record { frames = r .frames; depth = r .depth; next = r .next; state = stateOf (r .pen) marks b; entered = n }
+
+-- b is what is written, over an output that was o
+pub record Wrote (limit : ℕ) (o out : List ℕ) (at : ℕ) (b : List ℕ) : Type 0 where
+  pub bytes : at ≡ length b
+  pub written : out ≡ over limit o 0 b
+
+-- the run has become machine m
+pub record Shows (limit : ℕ) (o marks out : List ℕ) (r : Run) (m : Machine) : Type 0 where
+  pub same : m ≡ machineOf r marks (m .state .buf) (m .entered)
+  pub wrote : Wrote limit o out (r .pen .at .0) (m .state .buf)
+
+-- from a run to the next as f turns the machine
+pub record Follows (limit : ℕ) (f : Machine → Machine) (marks out : List ℕ) (r : Run) (marks2 out2 : List ℕ) (q : Run) : Type 0 where
+  pub goes : (o b : List ℕ) (n : ℕ) → Wrote limit o out (r .pen .at .0) b → Shows limit o marks2 out2 q (f (machineOf r marks b n))
+
+-- the rows that are left nest, and the numbers are in range
+pub record Ready (store source image : List ℕ) (max limit stop : ℕ) (marks out : List ℕ) (r : Run) : Type 0 where
+  pub room : stop * 9 ≤ length store
+  pub few : stop ≤ 2097152
+  pub fits : limit ≤ length out
+  pub small : Small (viewOf store) (pageOf max source image)
+  pub at : At (viewOf store) (pageOf max source image) stop (r .frames) (r .depth) (r .next)
+  pub base : ℕ
+  pub low : base ≤ 128
+  pub before : List ℕ
+  pub text : List ℕ
+  pub wrote : Wrote limit before out (r .pen .at .0) text
+  pub safe : Safe (viewOf store) (pageOf max source image) stop base (machineOf r marks text 0)
+
+-- a run with one more row open, at row k
+abbrev pub openedRun : Run → Frame → ℕ → Pen → Run
+openedRun r f k p = record { frames = set (r .frames) (r .depth) f; depth = r .depth + 1; next = k; pen = p }
+
+-- the numbers of a run that enters a row
+pub record Enters (store : List ℕ) (r : Run) : Type 0 where
+  pub depth : r .depth < 256
+  pub row : r .next * 9 + 8 < length store
+  pub few : r .next < 2097152
+  pub indent : r .pen .indent + r .pen .«next_indent» ≤ 384
+  pub column : r .pen .column .0 < 1152921504606846976
+
+-- a row is ahead in the open part
+pub record Entering (store source image : List ℕ) (max limit stop : ℕ) (marks out : List ℕ) (r : Run) : Type 0 where
+  pub ready : Ready store source image max limit stop marks out r
+  pub inside : r .next < partLimit (viewOf store) (pageOf max source image) stop (r .frames) (r .depth)
+
+-- the marks once group `number` wraps or not
+abbrev pub inserted : Bool → ℕ → List ℕ → List ℕ
+inserted wraps number marks = cond wraps (set marks number 1) marks
+
+-- A `Group` is opened: whether it wraps, the run and the marks.
+pub record GroupOpened (store : List ℕ) (max : ℕ) (marks : List ℕ) (r : Run) (marks2 : List ℕ) (q : Run) : Type 0 where
+  pub wraps : Bool
+  pub isWraps :
+      wraps ≡ groupWraps (pageOf max [] []) (nodesAt (viewOf store) (r .next + 1) (cell store (r .next) 4)) (shown (r .pen) marks)
+  pub run : q ≡ openedRun r (frame (r .next) wraps false false) (r .next + 1) (r .pen)
+  pub marked : marks2 ≡ inserted wraps (cell store (r .next) 1) marks
+
+-- A `Call` is opened: which way it goes, whether its callee wraps, the run and the marks.
+pub record CallOpened (store : List ℕ) (max : ℕ) (marks : List ℕ) (r : Run) (marks2 : List ℕ) (q : Run) : Type 0 where
+  pub trails : Bool
+  pub wraps : Bool
+  pub isTrails :
+      trails
+      ≡ trailing (pageOf max [] [])
+      (nodesAt (viewOf store) (r .next + 1) (cell store (r .next) 3))
+      (nodesAt (viewOf store) (cell store (r .next) 3) (cell store (r .next) 4))
+      (shown (r .pen) marks)
+  pub isWraps :
+      wraps
+      ≡ calleeWraps (pageOf max [] []) trails
+      (nodesAt (viewOf store) (r .next + 1) (cell store (r .next) 3))
+      (nodesAt (viewOf store) (cell store (r .next) 3) (cell store (r .next) 4))
+      (shown (r .pen) marks)
+  pub run :
+      q
+      ≡ openedRun r (frame (r .next) wraps true (not trails && wraps)) (r .next + 1)
+      (withMargin (r .pen) (nextIndented (not trails && wraps) (shown (r .pen) [])))
+  pub marked : marks2 ≡ inserted wraps (cell store (r .next) 1) marks
+
+-- The arguments of the `Call` of frame f are opened.
+pub record ArgumentsOpened (store : List ℕ) (max : ℕ) (marks : List ℕ) (r : Run) (f : Frame) (marks2 : List ℕ) (q : Run) : Type 0 where
+  pub wraps : Bool
+  pub isWraps : wraps ≡ groupWraps (pageOf max [] []) (nodesAt (viewOf store) (r .next) (cell store (f .row) 4)) (shown (r .pen) marks)
+  pub run :
+      q
+      ≡ record {
+        frames = set (r .frames) (r .depth - 1) (frame (f .row) wraps false (f .deep));
+        depth = r .depth;
+        next = r .next;
+        pen = r .pen;
+      }
+  pub marked : marks2 ≡ inserted wraps (cell store (f .row) 2) marks

@@ -1,0 +1,412 @@
+// `render_node` over rows: a loop with the open rows in an array.
+ghost use mathlib.Core.Path.{_≡_};
+ghost use Prim.Native.Nat.{ℕ, _+_, _-_, _*_, _≤_, _<_};
+ghost use mathlib.Core.Bool.{Bool, true, false, cond, not, _&&_};
+ghost use mathlib.Core.List.{[], _∷_};
+ghost use lib.ListN.{length, set};
+ghost use Rattle.rows.specs.Node.{wrapped};
+ghost use Rattle.rows.specs.View.{cell, viewOf, nodesAt};
+ghost use Rattle.rows.specs.Nesting.{Nested};
+ghost use Rattle.rows.proofs.Decode.{nodeAt};
+ghost use Rattle.renderer.specs.Page.{pageOf};
+ghost use Rattle.renderer.specs.Renderer.{render, groupWraps, trailing, calleeWraps, indented, outdented, newLine, nextIndented, nextOutdented, text, virtualColumn};
+ghost use Rattle.renderer.proofs.Meaning.{frameAt, partEnd, wrapAt};
+ghost use Rattle.renderer.proofs.Machine.{frame, enter, turn};
+ghost use Rattle.render.specs.Pen.{shown, withMargin, Drawn, Room};
+ghost use Rattle.render.specs.Run.{openedRun, Enters, GroupOpened, CallOpened, ArgumentsOpened, Follows, Ready, Entering};
+use crate::pen::Pen;
+use crate::pen::comment;
+use crate::pen::empty_line;
+use crate::pen::new_line;
+use crate::pen::space;
+use crate::pen::text;
+use renderer::Frame;
+use rows::store::Bytes;
+use rows::store::Columns;
+use rows::store::ascii_columns;
+use rows::store::place;
+use rows::store::wide;
+use rows::width::is_wrapped;
+use rows::width::must_wrap;
+use rows::width::width;
+
+// A rendering on its way: the open rows, how many, the next row, the pen.
+pub struct Run {
+    pub frames: [Frame; 256],
+    pub depth: usize,
+    pub next: usize,
+    pub pen: Pen,
+}
+
+// The column, or where the line will start.
+fn virtual_column(p: Pen) -> Columns
+    requires { ⌜ p .indent ≤ 384 ⌝ }
+    ensures { λ r. ⌜ r .0 ≡ virtualColumn (shown p []) ⌝ }
+{
+    if 0 < p.column.0 {
+        return p.column;
+    }
+    Columns(4 * p.indent)
+}
+
+// Whether the group of the rows from `from` up to `to` wraps.
+fn group_wraps(p: Pen, store: &[u32], marks: &[u8], from: usize, to: usize, max: usize) -> bool
+    requires { ⌜ Nested (now store) from to × ((p .indent ≤ 384) × (p .column .0 < 1152921504606846976)) ⌝ }
+    ensures { λ r. ⌜ r ≡ groupWraps (pageOf max [] []) (nodesAt (viewOf (now (store .entry))) from to) (shown p (now (marks .entry))) ⌝ }
+{
+    if must_wrap(store, from, to) {
+        return true;
+    }
+    let w = width(store, marks, from, to);
+    max < virtual_column(p).0 + w.0
+}
+
+// Whether a call keeps its callee's line: the first branch of `Call`. The callee's rows are those up to `mid`, the arguments' up to `to`.
+fn trails(
+    p: Pen,
+    store: &[u32],
+    marks: &[u8],
+    from: usize,
+    mid: usize,
+    to: usize,
+    max: usize,
+) -> bool
+    requires { ⌜ Nested (now store) from mid × (Nested (now store) mid to × ((p .indent ≤ 384) × (p .column .0 < 1152921504606846976))) ⌝ }
+    ensures { λ r. ⌜ r ≡ trailing (pageOf max [] []) (nodesAt (viewOf (now (store .entry))) from mid) (nodesAt (viewOf (now (store .entry))) mid to) (shown p (now (marks .entry))) ⌝ }
+{
+    if must_wrap(store, from, mid) {
+        return false;
+    }
+    if must_wrap(store, mid, to) {
+        return false;
+    }
+    let start = virtual_column(p).0 + width(store, marks, from, mid).0;
+    if max < start + width(store, marks, mid, to).0 {
+        return start + 1 < max;
+    }
+    false
+}
+
+// Whether the callee's parts wrap: as a group of their own, or as one with the arguments.
+fn callee_wraps(
+    p: Pen,
+    store: &[u32],
+    marks: &[u8],
+    trailing: bool,
+    from: usize,
+    mid: usize,
+    to: usize,
+    max: usize,
+) -> bool
+    requires { ⌜ Nested (now store) from mid × (Nested (now store) mid to × ((p .indent ≤ 384) × (p .column .0 < 1152921504606846976))) ⌝ }
+    ensures { λ r. ⌜ r ≡ calleeWraps (pageOf max [] []) trailing (nodesAt (viewOf (now (store .entry))) from mid) (nodesAt (viewOf (now (store .entry))) mid to) (shown p (now (marks .entry))) ⌝ }
+{
+    if trailing {
+        return group_wraps(p, store, marks, from, mid, max);
+    }
+    let w = width(store, marks, from, mid).0 + width(store, marks, mid, to).0;
+    max < virtual_column(p).0 + w
+}
+
+// Marks a group that wraps.
+fn insert(marks: &mut [u8], number: usize, wraps: bool)
+    ensures { λ r. ⌜ now (marks .exit) ≡ cond wraps (set (now (marks .entry)) number 1) (now (marks .entry)) ⌝ }
+{
+    if wraps {
+        if number < marks.len() {
+            marks[number] = 1;
+            return;
+        }
+    }
+}
+
+// The pen with another margin.
+fn with_margin(p: Pen, indent: usize, next_indent: usize) -> Pen
+    ensures { λ r. ⌜ r ≡ record { indent = indent; «next_indent» = «next_indent»; column = p .column; at = p .at } ⌝ }
+{
+    Pen {
+        indent: indent,
+        next_indent: next_indent,
+        column: Columns(p.column.0),
+        at: Bytes(p.at.0),
+    }
+}
+
+// `indent` one more, where `wrap` holds.
+fn indent(p: Pen, wrap: bool) -> Pen
+    requires { ⌜ p .indent ≤ 384 ⌝ }
+    ensures { λ r. ⌜ r ≡ withMargin p (indented wrap (shown p [])) ⌝ }
+{
+    if wrap {
+        return with_margin(p, p.indent + 1, p.next_indent);
+    }
+    p
+}
+
+// `next_indent` one more, where `wrap` holds.
+fn indent_next(p: Pen, wrap: bool) -> Pen
+    requires { ⌜ p .«next_indent» ≤ 384 ⌝ }
+    ensures { λ r. ⌜ r ≡ withMargin p (nextIndented wrap (shown p [])) ⌝ }
+{
+    if wrap {
+        return with_margin(p, p.indent, p.next_indent + 1);
+    }
+    p
+}
+
+// `indent` one less, where `wrap` holds.
+fn outdent(p: Pen, wrap: bool) -> Pen
+    requires { ⌜ (wrap ≡ true → 1 ≤ p .indent) ⌝ }
+    ensures { λ r. ⌜ r ≡ withMargin p (outdented wrap (shown p [])) ⌝ }
+{
+    if wrap {
+        return with_margin(p, p.indent - 1, p.next_indent);
+    }
+    p
+}
+
+// What `IndentNext` takes back in the end, where `wrap` holds.
+fn outdent_next(p: Pen, wrap: bool) -> Pen
+    requires { ⌜ (wrap ≡ true → 1 ≤ p .indent + p .«next_indent») ⌝ }
+    ensures { λ r. ⌜ r ≡ withMargin p (nextOutdented wrap (shown p [])) ⌝ }
+{
+    if wrap {
+        if 0 < p.next_indent {
+            return with_margin(p, p.indent, p.next_indent - 1);
+        }
+        return with_margin(p, p.indent - 1, p.next_indent);
+    }
+    p
+}
+
+// A row is opened, at one of its parts.
+fn opened(r: Run, f: Frame, next: usize, pen: Pen) -> Run
+    requires { ⌜ r .depth < 256 ⌝ }
+    ensures { λ q. ⌜ q ≡ record { frames = set (r .frames) (r .depth) f; depth = r .depth + 1; next = next; pen = pen } ⌝ }
+{
+    let d = r.depth;
+    let mut fs = r.frames;
+    fs[d] = f;
+    Run {
+        frames: fs,
+        depth: d + 1,
+        next: next,
+        pen: pen,
+    }
+}
+
+// A `Group` is opened.
+fn enter_group(r: Run, store: &[u32], marks: &mut [u8], max: usize) -> Run
+    requires { ⌜ Enters (now store) r × Nested (now store) (r .next + 1) (cell (now store) (r .next) 4) ⌝ }
+    ensures { λ q. ⌜ GroupOpened (now (store .entry)) max (now (marks .entry)) r (now (marks .exit)) q ⌝ }
+{
+    let i = r.next;
+    let p = r.pen;
+    let end = place(store, i, 4);
+    let number = place(store, i, 1);
+    let wraps = group_wraps(p, store, marks, i + 1, end, max);
+    insert(marks, number, wraps);
+    let f = Frame {
+        row: i as u32,
+        wrap: wraps,
+        early: false,
+        deep: false,
+    };
+    opened(r, f, i + 1, p)
+}
+
+// An `IfWrap` is opened at the part that is chosen.
+fn enter_if(r: Run, wrap: bool, store: &[u32], marks: &[u8]) -> Run
+    requires { ⌜ Enters (now store) r ⌝ }
+    ensures { λ q. ⌜ q ≡ cond (wrapped (now (marks .entry)) (cell (now (store .entry)) (r .next) 1)) (openedRun r (frame (r .next) wrap true false) (r .next + 1) (r .pen)) (openedRun r (frame (r .next) wrap false false) (cell (now (store .entry)) (r .next) 3) (r .pen)) ⌝ }
+{
+    let i = r.next;
+    let p = r.pen;
+    let first = is_wrapped(marks, place(store, i, 1));
+    let f = Frame {
+        row: i as u32,
+        wrap: wrap,
+        early: first,
+        deep: false,
+    };
+    if first {
+        return opened(r, f, i + 1, p);
+    }
+    opened(r, f, place(store, i, 3), p)
+}
+
+// A `Call` is opened at its callee.
+fn enter_call(r: Run, store: &[u32], marks: &mut [u8], max: usize) -> Run
+    requires { ⌜ Enters (now store) r × (Nested (now store) (r .next + 1) (cell (now store) (r .next) 3) × Nested (now store) (cell (now store) (r .next) 3) (cell (now store) (r .next) 4)) ⌝ }
+    ensures { λ q. ⌜ CallOpened (now (store .entry)) max (now (marks .entry)) r (now (marks .exit)) q ⌝ }
+{
+    let i = r.next;
+    let p = r.pen;
+    let mid = place(store, i, 3);
+    let end = place(store, i, 4);
+    let number = place(store, i, 1);
+    let trailing = trails(p, store, marks, i + 1, mid, end, max);
+    let wraps = callee_wraps(p, store, marks, trailing, i + 1, mid, end, max);
+    insert(marks, number, wraps);
+    let deep = made_up(trailing, wraps);
+    let f = Frame {
+        row: i as u32,
+        wrap: wraps,
+        early: true,
+        deep: deep,
+    };
+    opened(r, f, i + 1, indent_next(p, deep))
+}
+
+// Whether the group that the second branch of `Call` makes up wraps.
+fn made_up(trailing: bool, wraps: bool) -> bool
+    ensures { λ r. ⌜ r ≡ (not trailing && wraps) ⌝ }
+{
+    if trailing {
+        return false;
+    }
+    wraps
+}
+
+// The callee of a `Call` is done: its arguments are opened.
+fn enter_arguments(r: Run, f: Frame, store: &[u32], marks: &mut [u8], max: usize) -> Run
+    requires { ⌜ (0 < r .depth) × ((r .depth ≤ 256) × ((f .row * 9 + 8 < length (now store)) × (Nested (now store) (r .next) (cell (now store) (f .row) 4) × ((r .pen .indent ≤ 384) × (r .pen .column .0 < 1152921504606846976))))) ⌝ }
+    ensures { λ q. ⌜ ArgumentsOpened (now (store .entry)) max (now (marks .entry)) r f (now (marks .exit)) q ⌝ }
+{
+    let d = r.depth - 1;
+    let p = r.pen;
+    let row = wide(f.row);
+    let end = place(store, row, 4);
+    let number = place(store, row, 2);
+    let wraps = group_wraps(p, store, marks, r.next, end, max);
+    insert(marks, number, wraps);
+    let mut fs = r.frames;
+    fs[d] = Frame {
+        row: f.row,
+        wrap: wraps,
+        early: false,
+        deep: f.deep,
+    };
+    Run {
+        frames: fs,
+        depth: r.depth,
+        next: r.next,
+        pen: p,
+    }
+}
+
+// The innermost row is closed.
+fn closed(r: Run, next: usize, pen: Pen) -> Run
+    requires { ⌜ 0 < r .depth ⌝ }
+    ensures { λ q. ⌜ q ≡ record { frames = r .frames; depth = r .depth - 1; next = next; pen = pen } ⌝ }
+{
+    let fs = r.frames;
+    Run {
+        frames: fs,
+        depth: r.depth - 1,
+        next: next,
+        pen: pen,
+    }
+}
+
+// A `Line`.
+fn line(p: Pen, out: &mut [u8], limit: usize, wrap: bool) -> Pen
+    requires { ⌜ Room 1152921504606846976 limit (now out) p ⌝ }
+    ensures { λ r. ⌜ Drawn limit (cond wrap (newLine (shown p [])) (shown p [])) (now (out .entry)) p (now (out .exit)) r ⌝ }
+{
+    if wrap {
+        return new_line(p, out, limit);
+    }
+    p
+}
+
+// A `LineOrSpace`.
+fn line_or_space(p: Pen, out: &mut [u8], limit: usize, wrap: bool) -> Pen
+    requires { ⌜ Room 1152921504606846976 limit (now out) p ⌝ }
+    ensures { λ r. ⌜ Drawn limit (cond wrap (newLine (shown p [])) (text (0x20 ∷ []) 1 (shown p []))) (now (out .entry)) p (now (out .exit)) r ⌝ }
+{
+    if wrap {
+        return new_line(p, out, limit);
+    }
+    space(p, out, limit)
+}
+
+// A row without parts.
+fn leaf(
+    p: Pen,
+    store: &[u32],
+    source: &[u8],
+    image: &[u8],
+    out: &mut [u8],
+    limit: usize,
+    row: usize,
+    kind: usize,
+    wrap: bool,
+    max: usize,
+) -> Pen
+    requires { ⌜ Room 1152921504606846976 limit (now out) p × ((row * 9 + 8 < length (now store)) × ((kind ≡ cell (now store) row 0) × ((3 ≤ kind) × (kind ≤ 9)))) ⌝ }
+    ensures { λ r. ⌜ Drawn limit (render (pageOf max (now (source .entry)) (now (image .entry))) (nodeAt (viewOf (now (store .entry))) row) wrap (shown p [])) (now (out .entry)) p (now (out .exit)) r ⌝ }
+{
+    if kind == 3 {
+        return p;
+    }
+    if kind == 7 {
+        return line(p, out, limit, wrap);
+    }
+    if kind == 8 {
+        return empty_line(p, out, limit);
+    }
+    if kind == 9 {
+        return line_or_space(p, out, limit, wrap);
+    }
+    text_leaf(p, store, source, image, out, limit, row, kind, wrap, max)
+}
+
+// A `Comment`, a `Str` or an `Ascii`.
+fn text_leaf(
+    p: Pen,
+    store: &[u32],
+    source: &[u8],
+    image: &[u8],
+    out: &mut [u8],
+    limit: usize,
+    row: usize,
+    kind: usize,
+    wrap: bool,
+    max: usize,
+) -> Pen
+    requires { ⌜ Room 1152921504606846976 limit (now out) p × ((row * 9 + 8 < length (now store)) × ((kind ≡ cell (now store) row 0) × ((4 ≤ kind) × (kind ≤ 6)))) ⌝ }
+    ensures { λ r. ⌜ Drawn limit (render (pageOf max (now (source .entry)) (now (image .entry))) (nodeAt (viewOf (now (store .entry))) row) wrap (shown p [])) (now (out .entry)) p (now (out .exit)) r ⌝ }
+{
+    let origin = place(store, row, 5);
+    let start = place(store, row, 6);
+    let size = place(store, row, 7);
+    if kind == 4 {
+        return comment(p, out, limit, source, image, origin, start, size);
+    }
+    if kind == 5 {
+        let w = place(store, row, 8);
+        return text(
+            p,
+            out,
+            limit,
+            source,
+            image,
+            origin,
+            start,
+            size,
+            Columns(w),
+        );
+    }
+    text(
+        p,
+        out,
+        limit,
+        source,
+        image,
+        origin,
+        start,
+        size,
+        ascii_columns(Bytes(size)),
+    )
+}

@@ -1,0 +1,197 @@
+// `Renderer` of fmt.rs by its numbers: `new_line`, `comment` and `text`.
+ghost use mathlib.Core.Path.{_≡_};
+ghost use Prim.Native.Nat.{_+_, _*_, _≤_, _<_};
+ghost use mathlib.Core.List.{[], _∷_, _++_};
+ghost use Rattle.renderer.specs.Page.{textBytes, textOf};
+ghost use Rattle.renderer.specs.Renderer.{push, atColumn, newLine, margin, remark, text};
+ghost use Rattle.render.specs.Pen.{shown, Drawn, Room};
+use crate::output::copy;
+use crate::output::emit;
+use crate::output::spaces;
+use rows::store::Bytes;
+use rows::store::Columns;
+
+// `indent`, `next_indent` and `column`, and how many bytes are written.
+pub struct Pen {
+    pub indent: usize,
+    pub next_indent: usize,
+    pub column: Columns,
+    pub at: Bytes,
+}
+
+// Writes one byte, `w` columns wide.
+fn put(p: Pen, out: &mut [u8], limit: usize, b: u8, w: Columns) -> Pen
+    requires { ⌜ Room 2305843009213693952 limit (now out) p × (w .0 < 4294967296) ⌝ }
+    ensures { λ r. ⌜ Drawn limit (atColumn (p .column .0 + w .0) (push (b ∷ []) (shown p []))) (now (out .entry)) p (now (out .exit)) r ⌝ }
+{
+    let at = p.at.0;
+    emit(out, limit, at, b);
+    Pen {
+        indent: p.indent,
+        next_indent: p.next_indent,
+        column: Columns(p.column.0 + w.0),
+        at: Bytes(at + 1),
+    }
+}
+
+// Writes a row's text, `w` columns wide.
+fn put_text(
+    p: Pen,
+    out: &mut [u8],
+    limit: usize,
+    source: &[u8],
+    image: &[u8],
+    origin: usize,
+    start: usize,
+    size: usize,
+    w: Columns,
+) -> Pen
+    requires { ⌜ Room 2305843009213693952 limit (now out) p × ((start < 4294967296) × ((size < 4294967296) × (w .0 < 4294967296))) ⌝ }
+    ensures { λ r. ⌜ Drawn limit (atColumn (p .column .0 + w .0) (push (textBytes (now (source .entry)) (now (image .entry)) (textOf origin start size)) (shown p []))) (now (out .entry)) p (now (out .exit)) r ⌝ }
+{
+    let at = p.at.0;
+    let n = copy(out, limit, at, source, image, origin, start, size);
+    Pen {
+        indent: p.indent,
+        next_indent: p.next_indent,
+        column: Columns(p.column.0 + w.0),
+        at: Bytes(at + n),
+    }
+}
+
+// The indent of a line that starts here.
+fn start_line(p: Pen, out: &mut [u8], limit: usize) -> Pen
+    requires { ⌜ Room 2305843009213693952 limit (now out) p ⌝ }
+    ensures { λ r. ⌜ Drawn limit (margin (shown p [])) (now (out .entry)) p (now (out .exit)) r ⌝ }
+{
+    let at = p.at.0;
+    let n = 4 * p.indent;
+    spaces(out, limit, at, n);
+    Pen {
+        indent: p.indent,
+        next_indent: p.next_indent,
+        column: Columns(n),
+        at: Bytes(at + n),
+    }
+}
+
+// `new_line`
+pub fn new_line(p: Pen, out: &mut [u8], limit: usize) -> Pen
+    requires { ⌜ Room 2305843009213693952 limit (now out) p ⌝ }
+    ensures { λ r. ⌜ Drawn limit (newLine (shown p [])) (now (out .entry)) p (now (out .exit)) r ⌝ }
+{
+    let at = p.at.0;
+    let indent = p.indent + p.next_indent;
+    if 0 < p.column.0 {
+        emit(out, limit, at, 0x0A);
+        return Pen {
+            indent: indent,
+            next_indent: 0,
+            column: Columns(0),
+            at: Bytes(at + 1),
+        };
+    }
+    Pen {
+        indent: indent,
+        next_indent: 0,
+        column: Columns(0),
+        at: Bytes(at),
+    }
+}
+
+// An `EmptyLine`.
+pub fn empty_line(p: Pen, out: &mut [u8], limit: usize) -> Pen
+    requires { ⌜ Room 1152921504606846976 limit (now out) p ⌝ }
+    ensures { λ r. ⌜ Drawn limit (newLine (push (0x0A ∷ []) (shown p []))) (now (out .entry)) p (now (out .exit)) r ⌝ }
+{
+    new_line(put(p, out, limit, 0x0A, Columns(0)), out, limit)
+}
+
+// The blank of a `LineOrSpace`: `text(" ", 1)`.
+pub fn space(p: Pen, out: &mut [u8], limit: usize) -> Pen
+    requires { ⌜ Room 1152921504606846976 limit (now out) p ⌝ }
+    ensures { λ r. ⌜ Drawn limit (text (0x20 ∷ []) 1 (shown p [])) (now (out .entry)) p (now (out .exit)) r ⌝ }
+{
+    if 0 < p.column.0 {
+        return put(p, out, limit, b' ', Columns(1));
+    }
+    put(start_line(p, out, limit), out, limit, b' ', Columns(1))
+}
+
+// `text`
+pub fn text(
+    p: Pen,
+    out: &mut [u8],
+    limit: usize,
+    source: &[u8],
+    image: &[u8],
+    origin: usize,
+    start: usize,
+    size: usize,
+    w: Columns,
+) -> Pen
+    requires { ⌜ Room 1152921504606846976 limit (now out) p × ((start < 4294967296) × ((size < 4294967296) × (w .0 < 4294967296))) ⌝ }
+    ensures { λ r. ⌜ Drawn limit (text (textBytes (now (source .entry)) (now (image .entry)) (textOf origin start size)) (w .0) (shown p [])) (now (out .entry)) p (now (out .exit)) r ⌝ }
+{
+    if 0 < p.column.0 {
+        return put_text(p, out, limit, source, image, origin, start, size, w);
+    }
+    put_text(
+        start_line(p, out, limit),
+        out,
+        limit,
+        source,
+        image,
+        origin,
+        start,
+        size,
+        w,
+    )
+}
+
+// The text of a comment and the end of its line.
+fn end_line(
+    p: Pen,
+    out: &mut [u8],
+    limit: usize,
+    source: &[u8],
+    image: &[u8],
+    origin: usize,
+    start: usize,
+    size: usize,
+) -> Pen
+    requires { ⌜ Room 2305843009213693952 limit (now out) p × ((start < 4294967296) × (size < 4294967296)) ⌝ }
+    ensures { λ r. ⌜ Drawn limit (atColumn 0 (push (textBytes (now (source .entry)) (now (image .entry)) (textOf origin start size) ++ (0x0A ∷ [])) (shown p []))) (now (out .entry)) p (now (out .exit)) r ⌝ }
+{
+    let at = p.at.0;
+    let n = copy(out, limit, at, source, image, origin, start, size);
+    emit(out, limit, at + n, 0x0A);
+    Pen {
+        indent: p.indent,
+        next_indent: p.next_indent,
+        column: Columns(0),
+        at: Bytes(at + n + 1),
+    }
+}
+
+// `comment`
+pub fn comment(
+    p: Pen,
+    out: &mut [u8],
+    limit: usize,
+    source: &[u8],
+    image: &[u8],
+    origin: usize,
+    start: usize,
+    size: usize,
+) -> Pen
+    requires { ⌜ Room 1152921504606846976 limit (now out) p × ((start < 4294967296) × (size < 4294967296)) ⌝ }
+    ensures { λ r. ⌜ Drawn limit (remark (textBytes (now (source .entry)) (now (image .entry)) (textOf origin start size)) (shown p [])) (now (out .entry)) p (now (out .exit)) r ⌝ }
+{
+    if 0 < p.column.0 {
+        let q = put(p, out, limit, b' ', Columns(0));
+        return end_line(q, out, limit, source, image, origin, start, size);
+    }
+    let q = start_line(p, out, limit);
+    end_line(q, out, limit, source, image, origin, start, size)
+}

@@ -1,0 +1,490 @@
+-- The machine: one turn closes the innermost open row or enters the next row. Turned to its end, it renders as the rules do, since each turn
+-- keeps what the open rows mean, and less is left.
+-- Assumes nothing.
+use mathlib.Core.Path.{_≡_, refl, ap, ap₂, sym, _∙_, subst}
+use Prim.Native.Nat.{ℕ, zero, suc, _+_, _*_, _-_, _≤_, _<_}
+use native.Mathlib.Omega.{arith}
+use native.Mathlib.Numerals.{add-one}
+use mathlib.Core.Bool.{Bool, true, false, cond, not, _&&_}
+use mathlib.Core.List.{List, [], _∷_}
+use lib.ListN.{length, getD, set}
+use lib.Dec.{ltb, leb, eqb}
+use borrow.Author.Tests.{lt-leb, leb-false, ne-eqb, eq-eqb, eqb-true, eqb-false}
+use Rattle.rows.specs.Node.{Nodes, wrapped}
+use Rattle.rows.specs.View.{View, nodesAt}
+use Rattle.rows.specs.Nesting.{Nests}
+use Rattle.rows.proofs.Decode.{nodeAt, nodes-none}
+use Rattle.rows.proofs.Nested.{nests-le, nests-two, nests-pair, nests-kind, nests-after, nests-deep}
+use Rattle.renderer.specs.declared.Frame.{Frame}
+use Rattle.renderer.specs.Renderer.{
+  Page,
+  Renderer,
+  render,
+  renders,
+  groupWraps,
+  insert,
+  indented,
+  nextIndented,
+  trailing,
+  calleeWraps,
+}
+use Rattle.renderer.proofs.Meaning.{
+  frameAt,
+  partEnd,
+  closing,
+  limit,
+  wrapAt,
+  rest,
+  meaning,
+  pop,
+  frame-other,
+  frame-same,
+  open-group,
+  open-indent,
+  open-next,
+  open-if-first,
+  open-if-second,
+  open-call,
+  call-on,
+}
+use Rattle.renderer.proofs.Opened.{
+  bit,
+  At,
+  Under,
+  at-leaf,
+  at-block,
+  at-pop-suc,
+  at-top-suc,
+  advance-leaf,
+  at-first,
+  at-second,
+  at-call,
+  at-on,
+}
+
+-- open rows, how many, the next row, the state, the rows entered
+pub record Machine : Type 0 where
+  pub frames : List Frame
+  pub depth : ℕ
+  pub next : ℕ
+  pub state : Renderer
+  pub entered : ℕ
+
+-- how many turns the open rows can still take
+unfoldable pub weight : List Frame → ℕ → ℕ
+weight fs zero = 0
+weight fs (suc d) = suc (bit (frameAt fs d .early)) + weight fs d
+
+weight-ge : (fs : List Frame) (d : ℕ) → d ≤ weight fs d
+unfolding weight
+weight-ge fs zero = omega arith
+weight-ge fs (suc d) = let a = weight-ge fs d in omega arith
+
+weight-set : (v : View) (pg : Page) (stop : ℕ) (fs : List Frame) (k d : ℕ) (f : Frame) → d ≤ k → weight (set fs k f) d ≡ weight fs d
+unfolding weight
+weight-set v pg stop fs k zero f h = refl
+weight-set v pg stop fs k (suc d) f h = ap₂ (λ (x : Frame) (n : ℕ). suc (bit (x .early)) + n) (frame-other v pg stop fs k d f h) (weight-set v pg stop fs k d f (omega arith))
+
+weight-top : (v : View) (pg : Page) (stop : ℕ) (fs : List Frame) (d : ℕ) (f : Frame) → d < length fs → weight (set fs d f) (suc d) ≡ suc (bit (f .early)) + weight fs d
+unfolding weight
+weight-top v pg stop fs d f h = ap₂ (λ (x : Frame) (n : ℕ). suc (bit (x .early)) + n) (frame-same v pg stop fs d f h) (weight-set v pg stop fs d d f (omega arith))
+
+weight-suc : (fs : List Frame) (d : ℕ) → weight fs (suc d) ≡ suc (bit (frameAt fs d .early)) + weight fs d
+unfolding weight
+weight-suc fs d = refl
+
+bit-le2 : (b : Bool) → bit b ≤ 1
+bit-le2 true = omega arith
+bit-le2 false = omega arith
+
+pub and-two : (a b : Bool) → (a && b) ≡ true → (a ≡ true) × (b ≡ true)
+and-two true b e = (refl, e)
+and-two false b e = absurd (let z : _≡_ {A = ℕ} 0 1 = cc in omega arith)
+
+abbrev pub left : ℕ → Machine → ℕ
+left stop m = (stop - m .next) * 3 + weight (m .frames) (m .depth)
+
+abbrev pub frame : ℕ → Bool → Bool → Bool → Frame
+frame i w e p = record { row = i; wrap = w; early = e; deep = p }
+
+abbrev pub opened : Machine → Frame → ℕ → Renderer → Machine
+opened m f k t = record { frames = set (m .frames) (m .depth) f; depth = suc (m .depth); next = k; state = t; entered = suc (m .entered) }
+
+module _ (v : View) (pg : Page) (stop : ℕ) where
+  -- row k's parts
+  abbrev pub first : ℕ → Nodes
+  first k = nodesAt v (suc k) (v .second k)
+
+  abbrev pub second : ℕ → Nodes
+  second k = nodesAt v (v .second k) (v .after k)
+
+  unfoldable pub enterGroup : Machine → Machine
+  enterGroup m =
+      let b = groupWraps pg (nodesAt v (suc (m .next)) (v .after (m .next))) (m .state) in
+      opened m (frame (m .next) b false false) (suc (m .next)) (insert b (v .number (m .next)) (m .state))
+
+  unfoldable pub enterIndent : Machine → Machine
+  enterIndent m = let w = wrapAt v pg stop (m .frames) (m .depth) in opened m (frame (m .next) w false false) (suc (m .next)) (indented w (m .state))
+
+  unfoldable pub enterNext : Machine → Machine
+  enterNext m = let w = wrapAt v pg stop (m .frames) (m .depth) in opened m (frame (m .next) w false false) (suc (m .next)) (nextIndented w (m .state))
+
+  unfoldable pub enterLeaf : Machine → Machine
+  enterLeaf m = record { frames = m .frames; depth = m .depth; next = suc (m .next); state = render pg (nodeAt v (m .next)) (wrapAt v pg stop (m .frames) (m .depth)) (m .state); entered = suc (m .entered) }
+
+  unfoldable pub enterIf : Machine → Machine
+  enterIf m =
+      let w = wrapAt v pg stop (m .frames) (m .depth) in
+      cond (wrapped (m .state .marks) (v .number (m .next)))
+      (opened m (frame (m .next) w true false) (suc (m .next)) (m .state))
+      (opened m (frame (m .next) w false false) (v .second (m .next)) (m .state))
+
+  unfoldable pub enterCall : Machine → Machine
+  enterCall m =
+      let t = trailing pg (first (m .next)) (second (m .next)) (m .state) in
+      let b = calleeWraps pg t (first (m .next)) (second (m .next)) (m .state) in
+      opened m (frame (m .next) b true (not t && b)) (suc (m .next)) (nextIndented (not t && b) (insert b (v .number (m .next)) (m .state)))
+
+  unfoldable pub enter : Machine → Machine
+  enter m =
+      getD
+      (enterGroup m ∷ enterIndent m ∷ enterNext m ∷ enterLeaf m ∷ enterLeaf m ∷ enterLeaf m ∷ enterLeaf m ∷ enterLeaf m ∷ enterLeaf m ∷ enterLeaf m ∷ enterIf m ∷ enterCall m ∷ [])
+      (v .kind (m .next))
+      m
+
+  -- frame k is the innermost: its row is closed, or a call's arguments are opened
+  unfoldable pub leave : Machine → ℕ → Machine
+  leave m k =
+      let f = frameAt (m .frames) k in
+      let c = groupWraps pg (nodesAt v (m .next) (v .after (f .row))) (m .state) in
+      cond (eqb (v .kind (f .row)) 11 && f .early)
+      (record { frames = set (m .frames) k (frame (f .row) c false (f .deep)); depth = suc k; next = m .next; state = insert c (v .number2 (f .row)) (m .state); entered = m .entered })
+      (record { frames = m .frames; depth = k; next = v .after (f .row); state = closing v pg f (m .state); entered = m .entered })
+
+  abbrev pub means : Machine → Renderer
+  means m = meaning v pg stop (m .frames) (m .depth) (m .next) (m .state)
+
+  abbrev pub Fine : Machine → Type 0
+  Fine m = At v pg stop (m .frames) (m .depth) (m .next)
+
+  module _ (m : Machine) (a : Fine m) (h : m .next < limit v pg stop (m .frames) (m .depth)) where
+    roomy : m .depth < length (m .frames)
+    roomy = rw (a .size) (nests-deep (a .good) h)
+
+    leaf-same : 3 ≤ v .kind (m .next) → v .kind (m .next) ≤ 9 → means (enterLeaf m) ≡ means m
+    unfolding enterLeaf
+    leaf-same k l = ap (λ (j : ℕ). meaning v pg stop (m .frames) (m .depth) j (render pg (nodeAt v (m .next)) (wrapAt v pg stop (m .frames) (m .depth)) (m .state))) (sym (add-one (m .next))) ∙ advance-leaf v pg stop (m .frames) (m .depth) (m .next) (m .state) a h k l
+
+    if-same : v .kind (m .next) ≡ 10 → means (enterIf m) ≡ means m
+    unfolding enterIf
+    if-same k = go (wrapped (m .state .marks) (v .number (m .next))) refl
+      where
+        go : (b : Bool) → wrapped (m .state .marks) (v .number (m .next)) ≡ b → means (cond b (opened m (frame (m .next) (wrapAt v pg stop (m .frames) (m .depth)) true false) (suc (m .next)) (m .state)) (opened m (frame (m .next) (wrapAt v pg stop (m .frames) (m .depth)) false false) (v .second (m .next)) (m .state))) ≡ means m
+        go true e = open-if-first v pg stop (m .frames) (m .depth) (m .next) (m .state) roomy (nests-after (a .good) h) k (nests-two (a .good) h k .0) e
+        go false e = open-if-second v pg stop (m .frames) (m .depth) (m .next) (m .state) roomy (nests-after (a .good) h) k (nests-two (a .good) h k .0) e
+
+    group-same : v .kind (m .next) ≡ 0 → means (enterGroup m) ≡ means m
+    unfolding enterGroup
+    group-same k = open-group v pg stop (m .frames) (m .depth) (m .next) (m .state) _ roomy (nests-after (a .good) h) k refl
+
+    indent-same : v .kind (m .next) ≡ 1 → means (enterIndent m) ≡ means m
+    unfolding enterIndent
+    indent-same k = open-indent v pg stop (m .frames) (m .depth) (m .next) (m .state) roomy (nests-after (a .good) h) k
+
+    next-same : v .kind (m .next) ≡ 2 → means (enterNext m) ≡ means m
+    unfolding enterNext
+    next-same k = open-next v pg stop (m .frames) (m .depth) (m .next) (m .state) roomy (nests-after (a .good) h) k
+
+    call-same : v .kind (m .next) ≡ 11 → means (enterCall m) ≡ means m
+    unfolding enterCall
+    call-same k = open-call v pg stop (m .frames) (m .depth) (m .next) (m .state) _ _ roomy (nests-after (a .good) h) k (nests-pair (a .good) h k .split) refl refl
+
+    enter-same : (k : ℕ) → v .kind (m .next) ≡ k → means (enter m) ≡ means m
+    unfolding enter
+    enter-same zero e = rw e (group-same e)
+    enter-same (suc zero) e = rw e (indent-same e)
+    enter-same (suc (suc zero)) e = rw e (next-same e)
+    enter-same (suc (suc (suc zero))) e = rw e (leaf-same (omega arith) (omega arith))
+    enter-same (suc (suc (suc (suc zero)))) e = rw e (leaf-same (omega arith) (omega arith))
+    enter-same (suc (suc (suc (suc (suc zero))))) e = rw e (leaf-same (omega arith) (omega arith))
+    enter-same (suc (suc (suc (suc (suc (suc zero)))))) e = rw e (leaf-same (omega arith) (omega arith))
+    enter-same (suc (suc (suc (suc (suc (suc (suc zero))))))) e = rw e (leaf-same (omega arith) (omega arith))
+    enter-same (suc (suc (suc (suc (suc (suc (suc (suc zero)))))))) e = rw e (leaf-same (omega arith) (omega arith))
+    enter-same (suc (suc (suc (suc (suc (suc (suc (suc (suc zero))))))))) e = rw e (leaf-same (omega arith) (omega arith))
+    enter-same (suc (suc (suc (suc (suc (suc (suc (suc (suc (suc zero)))))))))) e = rw e (if-same e)
+    enter-same (suc (suc (suc (suc (suc (suc (suc (suc (suc (suc (suc zero))))))))))) e = rw e (call-same e)
+    enter-same (suc (suc (suc (suc (suc (suc (suc (suc (suc (suc (suc (suc k)))))))))))) e = absurd (let z = nests-kind (a .good) h in omega arith)
+
+    -- what a turn must keep: the rows nest, and less is left
+    less-open : (f : Frame) (k : ℕ) → m .next < k → left stop (opened m f k (m .state)) < left stop m
+    less-open f k j =
+        let w = weight-top v pg stop (m .frames) (m .depth) f roomy in
+        let b = bit-le2 (f .early) in
+        let l = a .low in
+        omega arith
+
+    Kept : Machine → Type 0
+    Kept n = Fine n × (left stop n < left stop m)
+
+    block-fine : (f : Frame) (t : Renderer) → v .kind (m .next) ≤ 2 → f .row ≡ m .next → f .early ≡ false → Fine (opened m f (suc (m .next)) t) × (left stop (opened m f (suc (m .next)) t) < left stop m)
+    block-fine f t k e y =
+        let x = at-block v pg stop (m .frames) (m .depth) (m .next) f a h k e y in
+        (subst (λ (n : ℕ). At v pg stop (set (m .frames) (m .depth) f) n (suc (m .next))) (add-one (m .depth)) (subst (λ (n : ℕ). At v pg stop (set (m .frames) (m .depth) f) (m .depth + 1) n) (add-one (m .next)) x), less-open f (suc (m .next)) (omega arith))
+
+    group-fine : v .kind (m .next) ≡ 0 → Fine (enterGroup m) × (left stop (enterGroup m) < left stop m)
+    unfolding enterGroup
+    group-fine k = block-fine _ (m .state) (omega arith) refl refl
+
+    indent-fine : v .kind (m .next) ≡ 1 → Fine (enterIndent m) × (left stop (enterIndent m) < left stop m)
+    unfolding enterIndent
+    indent-fine k = block-fine _ (m .state) (omega arith) refl refl
+
+    next-fine : v .kind (m .next) ≡ 2 → Fine (enterNext m) × (left stop (enterNext m) < left stop m)
+    unfolding enterNext
+    next-fine k = block-fine _ (m .state) (omega arith) refl refl
+
+    leaf-fine : 3 ≤ v .kind (m .next) → v .kind (m .next) ≤ 9 → Fine (enterLeaf m) × (left stop (enterLeaf m) < left stop m)
+    unfolding enterLeaf
+    leaf-fine k l =
+        let x = at-leaf v pg stop (m .frames) (m .depth) (m .next) a h k l in
+        let z = a .low in
+        (subst (λ (n : ℕ). At v pg stop (m .frames) (m .depth) n) (add-one (m .next)) x, omega arith)
+
+    if-fine : v .kind (m .next) ≡ 10 → Fine (enterIf m) × (left stop (enterIf m) < left stop m)
+    unfolding enterIf
+    if-fine k = go (wrapped (m .state .marks) (v .number (m .next)))
+      where
+        w : Bool
+        w = wrapAt v pg stop (m .frames) (m .depth)
+
+        go : (b : Bool) → Fine (cond b (opened m (frame (m .next) w true false) (suc (m .next)) (m .state)) (opened m (frame (m .next) w false false) (v .second (m .next)) (m .state)))
+            × (left stop (cond b (opened m (frame (m .next) w true false) (suc (m .next)) (m .state)) (opened m (frame (m .next) w false false) (v .second (m .next)) (m .state))) < left stop m)
+        go true = (at-first v pg stop (m .frames) (m .depth) (m .next) (frame (m .next) w true false) a h k refl refl, less-open (frame (m .next) w true false) (suc (m .next)) (omega arith))
+        go false = (at-second v pg stop (m .frames) (m .depth) (m .next) (frame (m .next) w false false) a h k refl refl, less-open (frame (m .next) w false false) (v .second (m .next)) (let u = nests-two (a .good) h k .0 .up in omega arith))
+
+    call-fine : v .kind (m .next) ≡ 11 → Fine (enterCall m) × (left stop (enterCall m) < left stop m)
+    unfolding enterCall
+    call-fine k = (at-call v pg stop (m .frames) (m .depth) (m .next) _ a h k refl refl, less-open _ (suc (m .next)) (omega arith))
+
+    enter-fine : (k : ℕ) → v .kind (m .next) ≡ k → Fine (enter m) × (left stop (enter m) < left stop m)
+    unfolding enter
+    enter-fine zero e = rw e (group-fine e)
+    enter-fine (suc zero) e = rw e (indent-fine e)
+    enter-fine (suc (suc zero)) e = rw e (next-fine e)
+    enter-fine (suc (suc (suc zero))) e = rw e (leaf-fine (omega arith) (omega arith))
+    enter-fine (suc (suc (suc (suc zero)))) e = rw e (leaf-fine (omega arith) (omega arith))
+    enter-fine (suc (suc (suc (suc (suc zero))))) e = rw e (leaf-fine (omega arith) (omega arith))
+    enter-fine (suc (suc (suc (suc (suc (suc zero)))))) e = rw e (leaf-fine (omega arith) (omega arith))
+    enter-fine (suc (suc (suc (suc (suc (suc (suc zero))))))) e = rw e (leaf-fine (omega arith) (omega arith))
+    enter-fine (suc (suc (suc (suc (suc (suc (suc (suc zero)))))))) e = rw e (leaf-fine (omega arith) (omega arith))
+    enter-fine (suc (suc (suc (suc (suc (suc (suc (suc (suc zero))))))))) e = rw e (leaf-fine (omega arith) (omega arith))
+    enter-fine (suc (suc (suc (suc (suc (suc (suc (suc (suc (suc zero)))))))))) e = rw e (if-fine e)
+    enter-fine (suc (suc (suc (suc (suc (suc (suc (suc (suc (suc (suc zero))))))))))) e = rw e (call-fine e)
+    enter-fine (suc (suc (suc (suc (suc (suc (suc (suc (suc (suc (suc (suc k)))))))))))) e = absurd (let z = nests-kind (a .good) h in omega arith)
+
+  -- the innermost row's open part is done
+  module _ (m : Machine) (k : ℕ) (a : At v pg stop (m .frames) (suc k) (m .next)) (e : m .next ≡ partEnd v (frameAt (m .frames) k)) where
+    roomy-top : k < length (m .frames)
+    roomy-top = let d = a .deep in rw (a .size) (omega arith)
+
+    leave-same : means (leave m k) ≡ meaning v pg stop (m .frames) (suc k) (m .next) (m .state)
+    unfolding leave partEnd
+    leave-same = go (eqb (v .kind (frameAt (m .frames) k .row)) 11 && frameAt (m .frames) k .early) refl
+      where
+        c : Bool
+        c = groupWraps pg (nodesAt v (m .next) (v .after (frameAt (m .frames) k .row))) (m .state)
+
+        on : Machine
+        on = record { frames = set (m .frames) k (frame (frameAt (m .frames) k .row) c false (frameAt (m .frames) k .deep)); depth = suc k; next = m .next; state = insert c (v .number2 (frameAt (m .frames) k .row)) (m .state); entered = m .entered }
+
+        off : Machine
+        off = record { frames = m .frames; depth = k; next = v .after (frameAt (m .frames) k .row); state = closing v pg (frameAt (m .frames) k) (m .state); entered = m .entered }
+
+        go : (b : Bool) → (eqb (v .kind (frameAt (m .frames) k .row)) 11 && frameAt (m .frames) k .early) ≡ b → means (cond b on off) ≡ meaning v pg stop (m .frames) (suc k) (m .next) (m .state)
+        go true q =
+            let x = and-two (eqb (v .kind (frameAt (m .frames) k .row)) 11) (frameAt (m .frames) k .early) q in
+            call-on v pg stop (m .frames) k (m .next) (m .state) c roomy-top (eqb-true (v .kind (frameAt (m .frames) k .row)) 11 (x .0)) (x .1) (e ∙ rw (x .1)) refl
+        go false q = sym (pop v pg stop (m .frames) k (m .next) (m .state) (omega arith))
+
+    leave-fine : Fine (leave m k) × (left stop (leave m k) < (stop - m .next) * 3 + weight (m .frames) (suc k))
+    unfolding leave partEnd
+    leave-fine = go (eqb (v .kind (frameAt (m .frames) k .row)) 11 && frameAt (m .frames) k .early) refl
+      where
+        c : Bool
+        c = groupWraps pg (nodesAt v (m .next) (v .after (frameAt (m .frames) k .row))) (m .state)
+
+        on : Machine
+        on = record { frames = set (m .frames) k (frame (frameAt (m .frames) k .row) c false (frameAt (m .frames) k .deep)); depth = suc k; next = m .next; state = insert c (v .number2 (frameAt (m .frames) k .row)) (m .state); entered = m .entered }
+
+        off : Machine
+        off = record { frames = m .frames; depth = k; next = v .after (frameAt (m .frames) k .row); state = closing v pg (frameAt (m .frames) k) (m .state); entered = m .entered }
+
+        go : (b : Bool) → (eqb (v .kind (frameAt (m .frames) k .row)) 11 && frameAt (m .frames) k .early) ≡ b → Fine (cond b on off) × (left stop (cond b on off) < (stop - m .next) * 3 + weight (m .frames) (suc k))
+        go true q =
+            let x = and-two (eqb (v .kind (frameAt (m .frames) k .row)) 11) (frameAt (m .frames) k .early) q in
+            let y : bit (frameAt (m .frames) k .early) ≡ 1 = ap bit (x .1) in
+            let w = weight-top v pg stop (m .frames) k (frame (frameAt (m .frames) k .row) c false (frameAt (m .frames) k .deep)) roomy-top in
+            let u = weight-suc (m .frames) k in
+            (at-on v pg stop (m .frames) k (m .next) (frame (frameAt (m .frames) k .row) c false (frameAt (m .frames) k .deep)) a e refl refl, omega arith)
+        go false q =
+            let u = weight-suc (m .frames) k in
+            let g = nests-le (at-top-suc v pg stop (m .frames) k (m .next) a .later) in
+            (at-pop-suc v pg stop (m .frames) k (m .next) a, omega arith)
+
+  -- ONE TURN
+  unfoldable pub turnAt : ℕ → Machine → Machine
+  turnAt zero m = enter m
+  turnAt (suc k) m = cond (eqb (m .next) (partEnd v (frameAt (m .frames) k))) (leave m k) (enter m)
+
+  unfoldable pub turn : Machine → Machine
+  turn m = turnAt (m .depth) m
+
+  unfoldable pub isDone : Machine → Bool
+  isDone m = eqb (m .depth) 0 && eqb (m .next) stop
+
+  pub record Turned (m n : Machine) : Type 0 where
+    pub fine : Fine n
+    pub less : left stop n < left stop m
+    pub same : means n ≡ means m
+
+  limit-suc : (fs : List Frame) (k : ℕ) → limit v pg stop fs (suc k) ≡ partEnd v (frameAt fs k)
+  unfolding limit
+  limit-suc fs k = refl
+
+  limit-none : (fs : List Frame) → limit v pg stop fs zero ≡ stop
+  unfolding limit
+  limit-none fs = refl
+
+  entered : (m : Machine) → Fine m → m .next < limit v pg stop (m .frames) (m .depth) → Turned m (enter m)
+  entered m a h =
+      let x = enter-fine m a h (v .kind (m .next)) refl in
+      record { fine = x .0; less = x .1; same = enter-same m a h (v .kind (m .next)) refl }
+
+  ne-lt : (a b : ℕ) → a ≤ b → (a ≡ b → ⊥) → a < b
+  ne-lt a b h n = omega arith
+
+  -- a row is ahead in the open part
+  pub not-done : (m : Machine) → Fine m → isDone m ≡ false → m .depth ≡ 0 → m .next < limit v pg stop (m .frames) (m .depth)
+  unfolding isDone
+  not-done m a n e =
+      let l : limit v pg stop (m .frames) (m .depth) ≡ stop = rw e (limit-none (m .frames)) in
+      let z : eqb (m .next) stop ≡ false = rw e at n in
+      ne-lt (m .next) (limit v pg stop (m .frames) (m .depth)) (nests-le (a .good)) (λ q. eqb-false (m .next) stop z (q ∙ l))
+
+  pub in-part : (m : Machine) (k : ℕ) → m .depth ≡ suc k → Fine m → (m .next ≡ partEnd v (frameAt (m .frames) k) → ⊥)
+      → m .next < limit v pg stop (m .frames) (m .depth)
+  in-part m k e a n =
+      let l : limit v pg stop (m .frames) (m .depth) ≡ partEnd v (frameAt (m .frames) k) = ap (limit v pg stop (m .frames)) e ∙ limit-suc (m .frames) k in
+      ne-lt (m .next) (limit v pg stop (m .frames) (m .depth)) (nests-le (a .good)) (λ z. n (z ∙ l))
+
+  turned-at : (d : ℕ) (m : Machine) → m .depth ≡ d → Fine m → isDone m ≡ false → Turned m (turnAt d m)
+  unfolding turnAt
+  turned-at zero m e a n = entered m a (not-done m a n e)
+  turned-at (suc k) m e a n = go (eqb (m .next) (partEnd v (frameAt (m .frames) k))) refl
+    where
+      a2 : At v pg stop (m .frames) (suc k) (m .next)
+      a2 = subst (λ (d : ℕ). At v pg stop (m .frames) d (m .next)) e a
+
+      go : (b : Bool) → eqb (m .next) (partEnd v (frameAt (m .frames) k)) ≡ b → Turned m (cond b (leave m k) (enter m))
+      go true q =
+          let i = eqb-true (m .next) (partEnd v (frameAt (m .frames) k)) q in
+          let x = leave-fine m k a2 i in
+          record {
+            fine = x .0;
+            less = subst (λ (d : ℕ). left stop (leave m k) < (stop - m .next) * 3 + weight (m .frames) d) (sym e) (x .1);
+            same = leave-same m k a2 i ∙ ap (λ (d : ℕ). meaning v pg stop (m .frames) d (m .next) (m .state)) (sym e);
+          }
+      go false q = entered m a (in-part m k e a (eqb-false (m .next) (partEnd v (frameAt (m .frames) k)) q))
+
+  pub turned : (m : Machine) → Fine m → isDone m ≡ false → Turned m (turn m)
+  unfolding turn
+  turned m a n = turned-at (m .depth) m refl a n
+
+  -- turned to the end
+  unfoldable pub run : ℕ → Machine → Machine
+  run zero m = m
+  run (suc f) m = cond (isDone m) m (run f (turn m))
+
+  done-means : (m : Machine) → isDone m ≡ true → means m ≡ m .state
+  unfolding isDone meaning rest limit renders
+  done-means m e =
+      let x = and-two (eqb (m .depth) 0) (eqb (m .next) stop) e in
+      rw (eqb-true (m .depth) 0 (x .0)) (rw (nodes-none v (m .next) stop (let z = eqb-true (m .next) stop (x .1) in omega arith)))
+
+  pub spent : (m : Machine) → Fine m → left stop m ≤ 0 → isDone m ≡ true
+  unfolding isDone
+  spent m a l =
+      let w = weight-ge (m .frames) (m .depth) in
+      let d : m .depth ≡ 0 = omega arith in
+      let g = nests-le (a .good) in
+      let k : limit v pg stop (m .frames) (m .depth) ≡ stop = rw d (limit-none (m .frames)) in
+      let i : m .next ≡ stop = omega arith in
+      rw (eq-eqb (m .depth) 0 d, eq-eqb (m .next) stop i)
+
+  run-step : (m : Machine) (f : ℕ) (b : Bool) → isDone m ≡ b → Fine m → left stop m ≤ suc f → (Fine (turn m) → left stop (turn m) ≤ f → run f (turn m) .state ≡ means (turn m))
+      → cond b m (run f (turn m)) .state ≡ means m
+  run-step m f true q a l rec = sym (done-means m q)
+  run-step m f false q a l rec = let t = turned m a q in let y = t .less in rec (t .fine) (omega arith) ∙ t .same
+
+  -- THE MACHINE RENDERS AS THE RULES DO
+  pub run-means : (f : ℕ) (m : Machine) → Fine m → left stop m ≤ f → run f m .state ≡ means m
+  unfolding run
+  run-means zero m a l = sym (done-means m (spent m a l))
+  run-means (suc f) m a l = run-step m f (isDone m) refl a l (λ x y. run-means f (turn m) x y)
+
+-- rows that nest, from any state: the machine's text, marks and numbers are those of the recursive rules on the tree of the rows
+pub machine-renders : (v : View) (pg : Page) (from stop : ℕ) (fs : List Frame) (st : Renderer) → Nests v from stop 0 → length fs ≡ 256
+    → run v pg stop ((stop - from) * 3) (record { frames = fs; depth = 0; next = from; state = st; entered = 0 }) .state ≡ renders pg (nodesAt v from stop) true st
+unfolding meaning rest limit wrapAt weight Under
+machine-renders v pg from stop fs st g e =
+    run-means v pg stop ((stop - from) * 3) (record { frames = fs; depth = 0; next = from; state = st; entered = 0 })
+    (record { good = g; under = tt; low = omega arith; size = e; deep = omega arith }) (omega arith)
+
+-- WHAT A TURN IS, for the code that takes it
+module _ (v : View) (pg : Page) (stop : ℕ) where
+  turn-enter-at : (d : ℕ) (m : Machine) → (m .next < limit v pg stop (m .frames) d) → turnAt v pg stop d m ≡ enter v pg stop m
+  unfolding turnAt limit
+  turn-enter-at zero m h = refl
+  turn-enter-at (suc k) m h = rw (ne-eqb (m .next) (partEnd v (frameAt (m .frames) k)) (λ e. omega arith))
+
+  pub turn-enter : (m : Machine) → m .next < limit v pg stop (m .frames) (m .depth) → turn v pg stop m ≡ enter v pg stop m
+  unfolding turn
+  turn-enter m h = turn-enter-at (m .depth) m h
+
+  pub turn-leave : (m : Machine) (k : ℕ) → m .depth ≡ suc k → m .next ≡ partEnd v (frameAt (m .frames) k) → turn v pg stop m ≡ leave v pg stop m k
+  unfolding turn turnAt
+  turn-leave m k e h = rw (e, eq-eqb (m .next) (partEnd v (frameAt (m .frames) k)) h)
+
+  pub enter-0 : (m : Machine) → v .kind (m .next) ≡ 0 → enter v pg stop m ≡ enterGroup v pg stop m
+  unfolding enter
+  enter-0 m e = rw e
+
+  pub enter-1 : (m : Machine) → v .kind (m .next) ≡ 1 → enter v pg stop m ≡ enterIndent v pg stop m
+  unfolding enter
+  enter-1 m e = rw e
+
+  pub enter-2 : (m : Machine) → v .kind (m .next) ≡ 2 → enter v pg stop m ≡ enterNext v pg stop m
+  unfolding enter
+  enter-2 m e = rw e
+
+  pub enter-10 : (m : Machine) → v .kind (m .next) ≡ 10 → enter v pg stop m ≡ enterIf v pg stop m
+  unfolding enter
+  enter-10 m e = rw e
+
+  pub enter-leaf : (m : Machine) (k : ℕ) → v .kind (m .next) ≡ k → 3 ≤ k → k ≤ 9 → enter v pg stop m ≡ enterLeaf v pg stop m
+  unfolding enter
+  enter-leaf m zero e a b = absurd (omega arith)
+  enter-leaf m (suc zero) e a b = absurd (omega arith)
+  enter-leaf m (suc (suc zero)) e a b = absurd (omega arith)
+  enter-leaf m (suc (suc (suc zero))) e a b = rw e
+  enter-leaf m (suc (suc (suc (suc zero)))) e a b = rw e
+  enter-leaf m (suc (suc (suc (suc (suc zero))))) e a b = rw e
+  enter-leaf m (suc (suc (suc (suc (suc (suc zero)))))) e a b = rw e
+  enter-leaf m (suc (suc (suc (suc (suc (suc (suc zero))))))) e a b = rw e
+  enter-leaf m (suc (suc (suc (suc (suc (suc (suc (suc zero)))))))) e a b = rw e
+  enter-leaf m (suc (suc (suc (suc (suc (suc (suc (suc (suc zero))))))))) e a b = rw e
+  enter-leaf m (suc (suc (suc (suc (suc (suc (suc (suc (suc (suc n)))))))))) e a b = absurd (omega arith)
+
+  pub enter-11 : (m : Machine) → v .kind (m .next) ≡ 11 → enter v pg stop m ≡ enterCall v pg stop m
+  unfolding enter
+  enter-11 m e = rw e

@@ -1,0 +1,107 @@
+// `must_wrap` and `width` of a range of rows.
+ghost use mathlib.Core.Path.{_≡_};
+ghost use Prim.Native.Nat.{_+_, _*_, _-_, _≤_, _<_};
+ghost use lib.ListN.{length, getD};
+ghost use Rattle.rows.specs.Node.{wrapped, widths, mustWraps, byteColumns};
+ghost use Rattle.rows.specs.View.{cell, viewOf, ownWidth, nodesAt};
+ghost use Rattle.rows.specs.Nesting.{Nested};
+use crate::store::Bytes;
+use crate::store::Columns;
+use crate::store::ascii_columns;
+use crate::store::place;
+use crate::store::wide;
+
+// Whether a row from `from` up to `to`, or one in an `Indent` there, wraps what encloses it.
+pub fn must_wrap(store: &[u32], from: usize, to: usize) -> bool
+    requires { ⌜ Nested (now store) from to ⌝ }
+    ensures { λ r. ⌜ r ≡ mustWraps (nodesAt (viewOf (now (store .entry))) from to) ⌝ }
+{
+    let mut row = from;
+    while row < to {
+        let kind = place(store, row, 0);
+        if kind == 3 {
+            return true;
+        }
+        if kind == 4 {
+            return true;
+        }
+        if kind == 1 {
+            row += 1;
+        } else {
+            row = place(store, row, 4);
+        }
+    }
+    false
+}
+
+// Whether the group of a number has wrapped.
+pub fn is_wrapped(marks: &[u8], number: usize) -> bool
+    ensures { λ r. ⌜ r ≡ wrapped (now (marks .entry)) number ⌝ }
+{
+    if number < marks.len() {
+        return marks[number] == 1;
+    }
+    false
+}
+
+// What a row measures by itself.
+fn own_width(store: &[u32], row: usize, kind: usize) -> Columns
+    requires { ⌜ row * 9 + 8 < length (now store) ⌝ }
+    ensures { λ r. ⌜ (r .0 ≡ ownWidth (now (store .entry)) row kind) × (r .0 < 4294967296) ⌝ }
+{
+    if kind == 5 {
+        return Columns(place(store, row, 8));
+    }
+    if kind == 6 {
+        return ascii_columns(Bytes(place(store, row, 7)));
+    }
+    if kind == 9 {
+        return Columns(1);
+    }
+    Columns(0)
+}
+
+// Where the part ends that a sum is in, with the first parts of these many `IfWrap` rows open.
+fn part_end(store: &[u32], firsts: &[u32; 256], depth: usize, to: usize) -> usize
+    requires { ⌜ (depth < 257) × (0 < depth → getD (now firsts) (depth - 1) 0 * 9 + 8 < length (now store)) ⌝ }
+    ensures { λ r. ⌜ (depth ≡ 0 → r ≡ to) × (0 < depth → r ≡ cell (now (store .entry)) (getD (now (firsts .entry)) (depth - 1) 0) 3) ⌝ }
+{
+    if depth == 0 {
+        return to;
+    }
+    place(store, wide(firsts[depth - 1]), 3)
+}
+
+// The width of the rows from `from` up to `to`. `firsts` has the `IfWrap` rows whose first part the sum is in; a second part that is not
+// chosen is passed over at the end of the first.
+pub fn width(store: &[u32], marks: &[u8], from: usize, to: usize) -> Columns
+    requires { ⌜ Nested (now store) from to ⌝ }
+    ensures { λ r. ⌜ (r .0 ≡ widths byteColumns (now (marks .entry)) (nodesAt (viewOf (now (store .entry))) from to)) × (r .0 < 18014398509481984) ⌝ }
+{
+    let mut firsts = [0u32; 256];
+    let mut depth: usize = 0;
+    let mut row = from;
+    let mut end = to;
+    let mut sum: usize = 0;
+    while 0 < depth || row < to {
+        if row == end {
+            depth -= 1;
+            row = place(store, wide(firsts[depth]), 4);
+            end = part_end(store, &firsts, depth, to);
+        } else {
+            let kind = place(store, row, 0);
+            if kind != 10 {
+                sum += own_width(store, row, kind).0;
+                row += 1;
+            } else if is_wrapped(marks, place(store, row, 1)) {
+                firsts[depth] = row as u32;
+                depth += 1;
+                end = place(store, row, 3);
+                row += 1;
+            } else {
+                row = place(store, row, 3);
+            }
+        }
+    }
+    Columns(sum)
+}
