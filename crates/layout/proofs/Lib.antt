@@ -1,1 +1,6 @@
 pub mod Idents
+pub mod Parts
+pub mod Groups
+pub mod Lasts
+pub mod Runs
+pub mod TypeForms

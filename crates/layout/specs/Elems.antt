@@ -22,7 +22,7 @@ use Rattle.layout.specs.Layout.{Elem, ident, named, typeExpr, importPath
 -- 20: a name and its type
 abbrev pub FieldAt : List ℕ → List ℕ → Span × Ident × TypeExpr → ℕ → Type 0
 FieldAt s b f at =
-    Head s b 20 (f .0) at × IdentAt s b (f .1) (at + 13) × TypeAt s b (f .2) (stopAt b (at + 13)) × Ends b (stopAt b (at + 13)) at
+    Head s b 20 (f .0) at × IdentAt s b (f .1) (at + 13) × TypeAt s b (f .2) (stopAt b (at + 13)) × Ends s b (stopAt b (at + 13)) at
 
 abbrev pub fieldRule : Given → Span × Ident × TypeExpr → Act
 fieldRule g f = named g (f .1) (typeExpr g (f .2))
@@ -34,7 +34,7 @@ VariantAt s b v at =
     × IdentAt s b (v .1) (at + 13)
     × Record s b 3 (stopAt b (at + 13))
     × TypesAt s b (v .2) (stopAt b (at + 13) + 13) (stopAt b (stopAt b (at + 13)))
-    × Ends b (stopAt b (at + 13)) at
+    × Ends s b (stopAt b (at + 13)) at
 
 abbrev pub variantRule : Given → Span × Ident × Types → Act
 variantRule g v = ident g (v .1) ⨟ variantTypes g (v .2)
@@ -72,8 +72,9 @@ ElemsAt k s b (e ∷ es) at end = ElemAt k s b e at × Before b at end × ElemsA
 abbrev pub mark : Bool → String
 mark commas = cond commas "," ""
 
-abbrev pub elementsRule : Bool → Given → List Elem → Act
-elementsRule commas g es = elements g (mark commas) true es
+-- the elements, of which the next is the first or not
+abbrev pub elementsRule : Bool → Bool → Given → List Elem → Act
+elementsRule commas first g es = elements g (mark commas) first es
 
 -- the record of a list, which holds its elements
 pub record ListOf (k : Element) (s b : List ℕ) (es : List Elem) (at : ℕ) : Type 0 where

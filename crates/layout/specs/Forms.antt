@@ -4,21 +4,21 @@ use mathlib.Core.Path.{_≡_}
 use mathlib.Core.List.{List}
 use mathlib.Core.Option.{Option}
 use lib.ListN.{length}
-use Rattle.tree.specs.Syntax.{Span, Path, TypeExpr, type, TypeForm, typePath, TypeArgs, Types, _∷ᵗ_}
+use Rattle.tree.specs.Syntax.{Span, Path, TypeExpr, type, TypeForm, Types, _∷ᵗ_}
 use Rattle.tree.specs.At.{PathAt, Maybe, TypeAt, TypesAt}
 use Rattle.state.specs.Act.{Given, Act}
 use Rattle.layout.specs.Layout as layout
 
--- a type of one form
+-- a constructor of two or more arguments, as one of a tuple
+abbrev pub two : {A B C : Type 0} → (A → B → C) → A × B → C
+two f x = f (x .0) (x .1)
+
+-- a type of one form, and its rule
 abbrev pub OfType : {X : Type 0} → (X → TypeForm) → List ℕ → List ℕ → Span × X → ℕ → Type 0
 OfType mk s b x at = TypeAt s b (type (x .0) (mk (x .1))) at
 
--- 41: a path and its arguments
-abbrev pub TypePathAt : List ℕ → List ℕ → Span × (Path × TypeArgs) → ℕ → Type 0
-TypePathAt = OfType (λ (x : Path × TypeArgs). typePath (x .0) (x .1))
-
-abbrev pub typePathRule : Given → Span × (Path × TypeArgs) → Act
-typePathRule g x = layout.typeForm g (typePath (x .1 .0) (x .1 .1))
+abbrev pub typeRule : {X : Type 0} → (X → TypeForm) → Given → Span × X → Act
+typeRule mk g x = layout.typeForm g (mk (x .1))
 
 -- the path of an import
 abbrev pub MaybePathAt : List ℕ → List ℕ → Option Path → ℕ → Type 0

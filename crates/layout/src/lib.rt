@@ -1,14 +1,16 @@
 // The layout functions: `State` of fmt.rs from `separated` on. They call each other, and the record's length falls at each call.
-pub mod kinds;
 mod imports;
+pub mod kinds;
 mod numbers;
 mod paths;
 mod pieces;
 mod types;
 
 ghost use mathlib.Core.Path.{_≡_};
+ghost use mathlib.Core.Bool.{true};
 ghost use Prim.Native.Nat.{_+_};
 ghost use Rattle.image.specs.Bytes.{be32};
+ghost use Rattle.tree.specs.Syntax.{typePath};
 ghost use Rattle.tree.specs.At.{TypeAt, ImportAt, ImportGroupAt};
 ghost use Rattle.layout.specs.Layout.{typeExpr, typeForm, importPath, importGroup};
 ghost use Rattle.layout.specs.Contracts.{Has, LaidAs, HasAll, LaidAll};
@@ -25,7 +27,7 @@ ghost use Rattle.layout.specs.Elems.{
   LaidList,
   LaidInside,
 };
-ghost use Rattle.layout.specs.Forms.{TypePathAt, typePathRule};
+ghost use Rattle.layout.specs.Forms.{two, OfType, typeRule};
 use crate::imports::import_dot;
 use crate::imports::import_first;
 use crate::imports::is_single;
@@ -79,7 +81,20 @@ fn separated(
     ensures { λ r. ⌜ LaidList k left right commas style end (now (s .entry)) (now (b .entry)) at (now (store .entry)) c (now (store .exit)) r ⌝ }
 {
     let g = open_group(store, c);
-    let d = inside(store, g, s, b, at, end, k, left, right, commas, style, c.number);
+    let d = inside(
+        store,
+        g,
+        s,
+        b,
+        at,
+        end,
+        k,
+        left,
+        right,
+        commas,
+        style,
+        c.number,
+    );
     close(store, c.row, d);
     d
 }
@@ -147,7 +162,7 @@ fn elements(
     commas: bool,
 ) -> Cursor
     requires { ⌜ HasAll (ElemsAt k) (now s) (now b) from to ⌝ }
-    ensures { λ r. ⌜ LaidAll (ElemsAt k) (elementsRule commas) (now (s .entry)) (now (b .entry)) from to (now (store .entry)) c (now (store .exit)) r ⌝ }
+    ensures { λ r. ⌜ LaidAll (ElemsAt k) (elementsRule commas true) (now (s .entry)) (now (b .entry)) from to (now (store .entry)) c (now (store .exit)) r ⌝ }
 {
     let mut p = from;
     let mut d = c;
@@ -187,21 +202,43 @@ fn type_expr(store: &mut [u32], c: Cursor, s: &[u8], b: &[u8], at: usize) -> Cur
         41 => type_path(store, c, s, b, at),
         42 => word(store, c, NOT),
         43 => word(store, c, UNIT),
-        _ => list(store, c, s, b, at + 13, Element::Field, BRACE_OPEN, BRACE_CLOSE, true, WrapStyle::Tight),
+        _ => list(
+            store,
+            c,
+            s,
+            b,
+            at + 13,
+            Element::Field,
+            BRACE_OPEN,
+            BRACE_CLOSE,
+            true,
+            WrapStyle::Tight,
+        ),
     }
 }
 
 // A path as a type, with its arguments.
 fn type_path(store: &mut [u32], c: Cursor, s: &[u8], b: &[u8], at: usize) -> Cursor
-    requires { ⌜ Has TypePathAt (now s) (now b) at ⌝ }
-    ensures { λ r. ⌜ LaidAs TypePathAt typePathRule (now (s .entry)) (now (b .entry)) at (now (store .entry)) c (now (store .exit)) r ⌝ }
+    requires { ⌜ Has (OfType (two typePath)) (now s) (now b) at ⌝ }
+    ensures { λ r. ⌜ LaidAs (OfType (two typePath)) (typeRule (two typePath)) (now (s .entry)) (now (b .entry)) at (now (store .entry)) c (now (store .exit)) r ⌝ }
 {
     let p = second(b, at);
     let d = path(store, c, s, b, at + 13, true, true);
     if is_absent(b, p) {
         return d;
     }
-    list(store, d, s, b, p, Element::Type, BRACKET_OPEN, BRACKET_CLOSE, true, WrapStyle::Tight)
+    list(
+        store,
+        d,
+        s,
+        b,
+        p,
+        Element::Type,
+        BRACKET_OPEN,
+        BRACKET_CLOSE,
+        true,
+        WrapStyle::Tight,
+    )
 }
 
 // A parameter, or a field of a record type.
@@ -227,7 +264,19 @@ fn variant(store: &mut [u32], c: Cursor, s: &[u8], b: &[u8], at: usize) -> Curso
         return d;
     }
     let last = last_end(b, p + 13, to);
-    separated(store, d, s, b, p, last, Element::Type, PAREN_OPEN, PAREN_CLOSE, true, WrapStyle::Tight)
+    separated(
+        store,
+        d,
+        s,
+        b,
+        p,
+        last,
+        Element::Type,
+        PAREN_OPEN,
+        PAREN_CLOSE,
+        true,
+        WrapStyle::Tight,
+    )
 }
 
 fn import_path(store: &mut [u32], c: Cursor, s: &[u8], b: &[u8], at: usize) -> Cursor
@@ -251,5 +300,16 @@ fn group(store: &mut [u32], c: Cursor, s: &[u8], b: &[u8], at: usize) -> Cursor
     if is_single(b, at) {
         return import_path(store, c, s, b, at + 13);
     }
-    list(store, c, s, b, at, Element::Import, BRACE_OPEN, BRACE_CLOSE, true, WrapStyle::Tight)
+    list(
+        store,
+        c,
+        s,
+        b,
+        at,
+        Element::Import,
+        BRACE_OPEN,
+        BRACE_CLOSE,
+        true,
+        WrapStyle::Tight,
+    )
 }
