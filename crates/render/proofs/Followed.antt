@@ -125,11 +125,11 @@ next-same : (w : Bool) (p : Pen) (marks b : List ℕ) → nextIndented w (stateO
 unfolding nextIndented withMargin shown
 next-same w p marks b = refl
 
-out-same : (w : Bool) (p : Pen) (marks b : List ℕ) → outdented w (stateOf p marks b) ≡ stateOf (withMargin p (outdented w (shown p []))) marks b
+pub out-same : (w : Bool) (p : Pen) (marks b : List ℕ) → outdented w (stateOf p marks b) ≡ stateOf (withMargin p (outdented w (shown p []))) marks b
 unfolding outdented withMargin shown
 out-same w p marks b = refl
 
-margin-at : (p : Pen) (s : Renderer) → withMargin p s .at .0 ≡ p .at .0
+pub margin-at : (p : Pen) (s : Renderer) → withMargin p s .at .0 ≡ p .at .0
 unfolding withMargin
 margin-at p s = refl
 
@@ -149,7 +149,7 @@ opened-shows limit o out b n r marks marks2 q f k k2 p t w e i s a =
       wrote = rw a w;
     })
 
-nextout-same : (w : Bool) (p : Pen) (marks b : List ℕ)
+pub nextout-same : (w : Bool) (p : Pen) (marks b : List ℕ)
     → nextOutdented w (stateOf p marks b) ≡ stateOf (withMargin p (nextOutdented w (shown p []))) marks b
 unfolding nextOutdented outdented withMargin shown
 nextout-same false p marks b = refl
@@ -210,8 +210,8 @@ module _ (store source image : List ℕ) (max limit stop : ℕ) (marks out : Lis
   unfolding enterGroup machineOf viewOf
   group-goes marks2 q g o b n w =
       let c : groupWraps pg (nodesAt v (suc (r .next)) (v .after (r .next))) (stateOf (r .pen) marks b) ≡ g .wraps =
-          group-same max source image (nodesAt v (suc (r .next)) (v .after (r .next))) (r .pen) marks b
-          ∙ sym (g .isWraps ∙ ap (λ (k : ℕ). groupWraps (pageOf max [] []) (nodesAt v k (v .after (r .next))) (shown (r .pen) marks)) (add-one (r .next))) in
+      group-same max source image (nodesAt v (suc (r .next)) (v .after (r .next))) (r .pen) marks b
+      ∙ sym (g .isWraps ∙ ap (λ (k : ℕ). groupWraps (pageOf max [] []) (nodesAt v k (v .after (r .next))) (shown (r .pen) marks)) (add-one (r .next))) in
       rw c
       (opened-shows limit o out b n r marks marks2 q (frame (r .next) (g .wraps) false false) (suc (r .next)) (r .next + 1) (r .pen) _ w (g .run)
       (sym (add-one (r .next)))
@@ -300,11 +300,11 @@ module _ (store source image : List ℕ) (max limit stop : ℕ) (marks out : Lis
       let e = nodesAt v (suc (r .next)) (v .second (r .next)) in
       let a = nodesAt v (v .second (r .next)) (v .after (r .next)) in
       let t : trailing pg e a (stateOf (r .pen) marks b) ≡ g .trails =
-          trailing-same max source image e a (r .pen) marks b
-          ∙ sym (g .isTrails ∙ ap (λ (k : ℕ). trailing (pageOf max [] []) (nodesAt v k (v .second (r .next))) a (shown (r .pen) marks)) (add-one (r .next))) in
+      trailing-same max source image e a (r .pen) marks b
+      ∙ sym (g .isTrails ∙ ap (λ (k : ℕ). trailing (pageOf max [] []) (nodesAt v k (v .second (r .next))) a (shown (r .pen) marks)) (add-one (r .next))) in
       let c : calleeWraps pg (g .trails) e a (stateOf (r .pen) marks b) ≡ g .wraps =
-          callee-same max source image (g .trails) e a (r .pen) marks b
-          ∙ sym (g .isWraps ∙ ap (λ (k : ℕ). calleeWraps (pageOf max [] []) (g .trails) (nodesAt v k (v .second (r .next))) a (shown (r .pen) marks)) (add-one (r .next))) in
+      callee-same max source image (g .trails) e a (r .pen) marks b
+      ∙ sym (g .isWraps ∙ ap (λ (k : ℕ). calleeWraps (pageOf max [] []) (g .trails) (nodesAt v k (v .second (r .next))) a (shown (r .pen) marks)) (add-one (r .next))) in
       rw (t, c)
       (opened-shows limit o out b n r marks marks2 q (frame (r .next) (g .wraps) true (not (g .trails) && g .wraps)) (suc (r .next)) (r .next + 1)
       (withMargin (r .pen) (nextIndented (not (g .trails) && g .wraps) (shown (r .pen) [])))
@@ -357,8 +357,8 @@ module _ (store source image : List ℕ) (max limit stop : ℕ) (marks out : Lis
       record {
         goes =
             λ o b n w.
-                shows-as limit o marks out2 _ _ _ (enter-leaf v pg stop (machineOf r marks b n) (cell store (r .next) 0) refl k l)
-                (leaf-goes x out2 p e k l d o b n w);
+            shows-as limit o marks out2 _ _ _ (enter-leaf v pg stop (machineOf r marks b n) (cell store (r .next) 0) refl k l)
+            (leaf-goes x out2 p e k l d o b n w);
       }
 
   -- The ways to leave the innermost row, whose open part is done.
@@ -376,19 +376,19 @@ module _ (store source image : List ℕ) (max limit stop : ℕ) (marks out : Lis
     unfolding leave machineOf viewOf insert
     on-goes marks2 q k y g o b n w =
         let c : groupWraps pg (nodesAt v (r .next) (v .after (f .row))) (stateOf (r .pen) marks b) ≡ g .wraps =
-            group-same max source image (nodesAt v (r .next) (v .after (f .row))) (r .pen) marks b ∙ sym (g .isWraps) in
+        group-same max source image (nodesAt v (r .next) (v .after (f .row))) (r .pen) marks b ∙ sym (g .isWraps) in
         rw (← i, k, y, c, g .run, g .marked)
         (record {
           same =
               ap
               (λ (d : ℕ).
-                  record {
-                    frames = set (r .frames) (r .depth - 1) (frame (f .row) (g .wraps) false (f .deep));
-                    depth = d;
-                    next = r .next;
-                    state = stateOf (r .pen) (inserted (g .wraps) (cell store (f .row) 2) marks) b;
-                    entered = n;
-                  })
+              record {
+                frames = set (r .frames) (r .depth - 1) (frame (f .row) (g .wraps) false (f .deep));
+                depth = d;
+                next = r .next;
+                state = stateOf (r .pen) (inserted (g .wraps) (cell store (f .row) 2) marks) b;
+                entered = n;
+              })
               (sym deep);
           wrote = w;
         })

@@ -4,4 +4,5 @@ pub mod Followed
 pub mod Framed
 pub mod Leaves
 pub mod Opening
+pub mod Stepped
 pub mod Written
