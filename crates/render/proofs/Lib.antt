@@ -4,5 +4,6 @@ pub mod Followed
 pub mod Framed
 pub mod Leaves
 pub mod Opening
+pub mod Running
 pub mod Stepped
 pub mod Written

@@ -159,3 +159,20 @@ closedRun store r f =
 pub data Left (store : List ℕ) (max : ℕ) (marks : List ℕ) (r : Run) (f : Frame) (marks2 : List ℕ) (q : Run) : Type 0 where
   goesOn : cell store (f .row) 0 ≡ 11 → f .early ≡ true → ArgumentsOpened store max marks r f marks2 q → Left store max marks r f marks2 q
   ends : (cell store (f .row) 0 ≡ 11 → f .early ≡ false) → marks2 ≡ marks → q ≡ closedRun store r f → Left store max marks r f marks2 q
+
+-- a rendering may start: the rows nest, and the state's numbers are in range
+pub record Starting (store : List ℕ) (limit from stop : ℕ) (out : List ℕ) (p : Pen) : Type 0 where
+  pub nested : Nested store from stop
+  pub fits : limit ≤ length out
+  pub margin : p .indent + p .«next_indent» ≤ 128
+  pub column : p .column .0 ≤ 72057594037927936
+  pub at : p .at .0 ≡ 0
+
+-- what s has is what the pen, the marks and the output have become
+pub record Rendered (limit : ℕ) (s : Renderer) (out marks2 out2 : List ℕ) (q : Pen) : Type 0 where
+  pub indent : q .indent ≡ s .indent
+  pub nextIndent : q .«next_indent» ≡ s .nextIndent
+  pub column : q .column .0 ≡ s .column
+  pub bytes : q .at .0 ≡ length (s .buf)
+  pub marks : marks2 ≡ s .marks
+  pub written : out2 ≡ over limit out 0 (s .buf)

@@ -10,11 +10,11 @@ ghost use Rattle.rows.specs.View.{cell, viewOf, nodesAt};
 ghost use Rattle.rows.specs.Nesting.{Nested};
 ghost use Rattle.rows.proofs.Decode.{nodeAt};
 ghost use Rattle.renderer.specs.Page.{pageOf};
-ghost use Rattle.renderer.specs.Renderer.{render, groupWraps, trailing, calleeWraps, indented, outdented, newLine, nextIndented, nextOutdented, text, virtualColumn};
+ghost use Rattle.renderer.specs.Renderer.{render, renders, groupWraps, trailing, calleeWraps, indented, outdented, newLine, nextIndented, nextOutdented, text, virtualColumn};
 ghost use Rattle.renderer.proofs.Meaning.{frameAt, partEnd, wrapAt};
 ghost use Rattle.renderer.proofs.Machine.{frame, enter, turn};
 ghost use Rattle.render.specs.Pen.{shown, withMargin, Drawn, Room};
-ghost use Rattle.render.specs.Run.{openedRun, closedRun, closes, Backs, Enters, Leaves, Left, GroupOpened, CallOpened, ArgumentsOpened, Follows, Ready, Entering};
+ghost use Rattle.render.specs.Run.{openedRun, closedRun, closes, Backs, Enters, Leaves, Left, GroupOpened, CallOpened, ArgumentsOpened, Follows, Ready, Entering, Starting, Rendered, stateOf};
 use crate::pen::Pen;
 use crate::pen::comment;
 use crate::pen::empty_line;
@@ -563,4 +563,39 @@ fn step(
         max,
         stop,
     )
+}
+
+// Renders the rows from `from` up to `stop`. With limit 0 nothing is written, and the bytes are counted.
+pub fn run_rows(
+    p: Pen,
+    store: &[u32],
+    source: &[u8],
+    image: &[u8],
+    marks: &mut [u8],
+    out: &mut [u8],
+    limit: usize,
+    max: usize,
+    from: usize,
+    stop: usize,
+) -> Pen
+    requires { ⌜ Starting (now store) limit from stop (now out) p ⌝ }
+    ensures { λ q. ⌜ Rendered limit (renders (pageOf max (now (source .entry)) (now (image .entry))) (nodesAt (viewOf (now (store .entry))) from stop) true (stateOf p (now (marks .entry)) [])) (now (out .entry)) (now (marks .exit)) (now (out .exit)) q ⌝ }
+{
+    let blank = Frame {
+        row: 0,
+        wrap: false,
+        early: false,
+        deep: false,
+    };
+    let fs = [blank; 256];
+    let mut r = Run {
+        frames: fs,
+        depth: 0,
+        next: from,
+        pen: p,
+    };
+    while 0 < r.depth || r.next < stop {
+        r = step(r, store, source, image, marks, out, limit, max, stop);
+    }
+    r.pen
 }

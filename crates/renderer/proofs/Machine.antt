@@ -405,7 +405,7 @@ module _ (v : View) (pg : Page) (stop : ℕ) where
   run zero m = m
   run (suc f) m = cond (isDone m) m (run f (turn m))
 
-  done-means : (m : Machine) → isDone m ≡ true → means m ≡ m .state
+  pub done-means : (m : Machine) → isDone m ≡ true → means m ≡ m .state
   unfolding isDone meaning rest limit renders
   done-means m e =
       let x = and-two (eqb (m .depth) 0) (eqb (m .next) stop) e in
