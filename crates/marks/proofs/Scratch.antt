@@ -9,7 +9,7 @@ use lib.ListN.{set}
 use lib.Seq.{getD-set-other}
 use lib.Dec.{eqb}
 use borrow.Author.Tests.{eqb-true, eqb-false, ne-eqb}
-use Rattle.rows.specs.View.{View, viewOf, cell}
+use Rattle.rows.specs.View.{viewOf, cell}
 
 module _ (s : List ℕ) (i x : ℕ) where
   other : (k p : ℕ) → p < 8 → cell (set s (i * 9 + 8) x) k p ≡ cell s k p

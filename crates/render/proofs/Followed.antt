@@ -1,19 +1,16 @@
 -- The code follows the machine: for each way that a row is entered or left, the run that the code makes is the machine's next state.
 -- Assumes nothing.
-use mathlib.Core.Path.{_≡_, refl, ap, ap₂, sym, _∙_, subst}
-use Prim.Native.Nat.{ℕ, zero, suc, _+_, _*_, _-_, _≤_, _<_}
+use mathlib.Core.Path.{_≡_, refl, ap, sym, _∙_, subst}
+use Prim.Native.Nat.{ℕ, suc, _+_, _-_, _≤_, _<_}
 use native.Mathlib.Omega.{arith}
 use native.Mathlib.Numerals.{add-one}
 use mathlib.Core.Bool.{Bool, true, false, cond, not, _&&_}
-use mathlib.Core.List.{List, [], _∷_, _++_}
+use mathlib.Core.List.{List, [], _++_}
 use lib.ListN.{length, set, length-append}
 use lib.Dec.{ltb, eqb}
-use borrow.Author.Tests.{ne-eqb, eq-eqb}
 use Rattle.rows.specs.Node.{Nodes, wrapped}
 use Rattle.rows.specs.View.{View, viewOf, cell, nodesAt}
-use Rattle.rows.specs.Nesting.{Nests, Nested}
 use Rattle.rows.proofs.Decode.{nodeAt}
-use Rattle.rows.proofs.Nested.{nests-le, nests-deep, nests-block, nests-pair, nests-after, nests-weaken}
 use Rattle.renderer.specs.declared.Frame.{Frame}
 use Rattle.renderer.specs.Page.{pageOf}
 use Rattle.renderer.specs.Renderer.{
@@ -31,53 +28,14 @@ use Rattle.renderer.specs.Renderer.{
   nextIndented,
   nextOutdented,
 }
-use Rattle.renderer.proofs.Meaning.{frameAt, partEnd, closing, limit as partLimit, wrapAt}
-use Rattle.renderer.proofs.Opened.{At}
-use Rattle.renderer.proofs.Machine.{
-  Machine,
-  frame,
-  opened,
-  first,
-  second,
-  enter,
-  enterGroup,
-  enterIndent,
-  enterNext,
-  enterLeaf,
-  enterIf,
-  enterCall,
-  leave,
-  turn,
-  enter-0,
-  enter-1,
-  enter-2,
-  enter-leaf,
-  enter-10,
-  enter-11,
-  turn-enter,
-  turn-leave,
-}
-use Rattle.renderer.proofs.Safe.{steps, steps-le, Safe}
+use Rattle.renderer.proofs.Meaning.{frameAt, partEnd, closing, wrapAt}
+use Rattle.renderer.proofs.Machine.{Machine, frame, opened, second, enter, enterGroup, enterIndent, enterNext, enterLeaf, enterIf, enterCall, leave, turn, enter-0, enter-1, enter-2, enter-leaf, enter-10, enter-11, turn-leave}
 use Rattle.render.specs.declared.pen.Pen.{Pen}
 use Rattle.render.specs.declared.machine.Run.{Run}
 use Rattle.render.specs.Output.{over}
-use Rattle.render.specs.Pen.{shown, penAfter, withMargin, Drawn, Room}
-use Rattle.render.specs.Run.{
-  stateOf,
-  machineOf,
-  Wrote,
-  Shows,
-  Follows,
-  Ready,
-  Enters,
-  Entering,
-  openedRun,
-  inserted,
-  GroupOpened,
-  CallOpened,
-  ArgumentsOpened,
-}
-use Rattle.render.proofs.Written.{over-join, over-length}
+use Rattle.render.specs.Pen.{shown, penAfter, withMargin, Drawn}
+use Rattle.render.specs.Run.{stateOf, machineOf, Wrote, Shows, Follows, openedRun, inserted, GroupOpened, CallOpened, ArgumentsOpened}
+use Rattle.render.proofs.Written.{over-join}
 use Rattle.render.proofs.Framed.{under, shown-under, leaf-under}
 
 pub wrote-more : (limit : ℕ) (o out : List ℕ) (at : ℕ) (b t out2 : List ℕ) (at2 : ℕ) → Wrote limit o out at b → out2 ≡ over limit out at t

@@ -2,21 +2,20 @@
 -- Assumes nothing.
 use mathlib.Core.Path.{_≡_, refl, ap, sym, _∙_, subst}
 use mathlib.Core.Logic.{_⊎_, inl, inr}
-use Prim.Native.Nat.{ℕ, zero, suc, _+_, _*_, _-_, _≤_, _<_, min}
+use Prim.Native.Nat.{ℕ, _+_, _*_, _-_, _≤_, _<_}
 use native.Mathlib.Omega.{arith}
-use native.Mathlib.Nat.{zero-min}
 use mathlib.Core.Bool.{Bool, true, false, cond, _&&_}
 use mathlib.Core.List.{List, []}
-use lib.ListN.{length, getD, drop, take}
+use lib.ListN.{length, getD}
 use lib.Dec.{eqb}
 use borrow.Author.Tests.{ne-eqb, eq-eqb}
 use Rattle.rows.specs.View.{View, viewOf, cell, nodesAt}
 use Rattle.rows.proofs.Nested.{nests-le}
 use Rattle.renderer.specs.declared.Frame.{Frame}
-use Rattle.renderer.specs.Page.{pageOf, textBytes, textOf}
+use Rattle.renderer.specs.Page.{pageOf}
 use Rattle.renderer.specs.Renderer.{Page, Renderer, renders}
 use Rattle.renderer.proofs.Meaning.{limit as partLimit, meaning, rest, wrapAt}
-use Rattle.renderer.proofs.Opened.{At, Under, limit-zero}
+use Rattle.renderer.proofs.Opened.{Under, limit-zero}
 use Rattle.renderer.proofs.Machine.{Machine, Fine, left, weight, means, turn, isDone, turned, done-means}
 use Rattle.renderer.proofs.Safe.{Safe, Small, steps, ins, turn-safe}
 use Rattle.render.specs.declared.pen.Pen.{Pen}

@@ -4,56 +4,25 @@ use mathlib.Core.Path.{_≡_, refl, ap, sym, _∙_, subst}
 use Prim.Native.Nat.{ℕ, zero, suc, _+_, _*_, _-_, _≤_, _<_}
 use native.Mathlib.Omega.{arith}
 use native.Mathlib.Numerals.{add-one}
-use mathlib.Core.Bool.{Bool, true, false, cond, not, _&&_}
+use mathlib.Core.Bool.{Bool, true, false, cond, _&&_}
 use mathlib.Core.List.{List, []}
-use lib.ListN.{length, set}
-use lib.Dec.{ltb, eqb}
-use borrow.Author.Tests.{ne-eqb, eq-eqb, eqb-true, eqb-false}
-use Rattle.rows.specs.View.{View, viewOf, cell, nodesAt}
+use lib.ListN.{length}
+use lib.Dec.{eqb}
+use borrow.Author.Tests.{ne-eqb, eqb-true, eqb-false}
+use Rattle.rows.specs.View.{View, viewOf, cell}
 use Rattle.rows.specs.Nesting.{Nests, Nested}
 use Rattle.rows.proofs.Nested.{nests-le, nests-deep, nests-block, nests-pair, nests-kind, nests-weaken}
 use Rattle.renderer.specs.declared.Frame.{Frame}
 use Rattle.renderer.specs.Page.{pageOf}
 use Rattle.renderer.specs.Renderer.{Page, Renderer, indented, outdented, nextIndented, nextOutdented}
 use Rattle.renderer.proofs.Meaning.{frameAt, partEnd, closing, limit as partLimit, wrapAt}
-use Rattle.renderer.proofs.Opened.{bit, At, Open, at-top, limit-zero, limit-pos, wrapAt-zero, wrapAt-pos}
+use Rattle.renderer.proofs.Opened.{Open, at-top, limit-zero, limit-pos, wrapAt-zero, wrapAt-pos}
 use Rattle.renderer.proofs.Machine.{frame, enter, turn, turn-enter}
-use Rattle.renderer.proofs.Safe.{
-  steps,
-  ins,
-  stepOf,
-  insOf,
-  steps-le,
-  Safe,
-  closing-plain,
-  closing-indent,
-  closing-next,
-  closing-call,
-  indent-steps,
-  next-steps,
-  call-steps,
-}
+use Rattle.renderer.proofs.Safe.{steps, ins, stepOf, insOf, steps-le, closing-plain, closing-indent, closing-next, closing-call, indent-steps, next-steps, call-steps}
 use Rattle.render.specs.declared.pen.Pen.{Pen}
 use Rattle.render.specs.declared.machine.Run.{Run}
 use Rattle.render.specs.Pen.{shown, withMargin, Room}
-use Rattle.render.specs.Run.{
-  stateOf,
-  machineOf,
-  Wrote,
-  Shows,
-  Follows,
-  Ready,
-  Enters,
-  Entering,
-  Leaves,
-  Backs,
-  Left,
-  goesOn,
-  ends,
-  openedRun,
-  closedRun,
-  closes,
-}
+use Rattle.render.specs.Run.{stateOf, machineOf, Follows, Ready, Enters, Entering, Leaves, Backs, Left, goesOn, ends, openedRun, closedRun, closes}
 use Rattle.render.proofs.Followed.{
   shows-as,
   indent-follows,

@@ -5,12 +5,12 @@ use mathlib.Core.Bool.{Bool, true, false, cond, not, _&&_}
 use mathlib.Core.List.{List, []}
 use lib.ListN.{length, set}
 use lib.Dec.{eqb}
-use Rattle.rows.specs.View.{View, viewOf, cell, nodesAt}
+use Rattle.rows.specs.View.{viewOf, cell, nodesAt}
 use Rattle.rows.specs.Nesting.{Nested}
 use Rattle.renderer.specs.declared.Frame.{Frame}
-use Rattle.renderer.specs.Renderer.{Page, Renderer, groupWraps, trailing, calleeWraps, outdented, nextIndented, nextOutdented}
+use Rattle.renderer.specs.Renderer.{Renderer, groupWraps, trailing, calleeWraps, outdented, nextIndented, nextOutdented}
 use Rattle.renderer.specs.Page.{pageOf}
-use Rattle.renderer.proofs.Meaning.{limit as partLimit, wrapAt}
+use Rattle.renderer.proofs.Meaning.{limit as partLimit}
 use Rattle.renderer.proofs.Opened.{At}
 use Rattle.renderer.proofs.Machine.{Machine, frame}
 use Rattle.renderer.proofs.Safe.{Safe, Small}

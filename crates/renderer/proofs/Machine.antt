@@ -8,8 +8,8 @@ use native.Mathlib.Numerals.{add-one}
 use mathlib.Core.Bool.{Bool, true, false, cond, not, _&&_}
 use mathlib.Core.List.{List, [], _∷_}
 use lib.ListN.{length, getD, set}
-use lib.Dec.{ltb, leb, eqb}
-use borrow.Author.Tests.{lt-leb, leb-false, ne-eqb, eq-eqb, eqb-true, eqb-false}
+use lib.Dec.{eqb}
+use borrow.Author.Tests.{ne-eqb, eq-eqb, eqb-true, eqb-false}
 use Rattle.rows.specs.Node.{Nodes, wrapped}
 use Rattle.rows.specs.View.{View, nodesAt}
 use Rattle.rows.specs.Nesting.{Nests}

@@ -1,11 +1,11 @@
 -- Rendering changes the marks of the rows' own numbers alone, and keeps their number.
 -- Assumes nothing.
-use mathlib.Core.Path.{_≡_, refl, ap, sym, _∙_}
+use mathlib.Core.Path.{_≡_, refl, ap, _∙_}
 use Prim.Native.Nat.{ℕ, _-_}
 use native.Mathlib.Omega.{arith}
 use mathlib.Core.Bool.{Bool, true, false, cond, not, _&&_, _||_}
 use mathlib.Core.List.{List, [], _∷_}
-use lib.ListN.{length, getD, set, length-set}
+use lib.ListN.{length, getD, length-set}
 use lib.Seq.{getD-set-other}
 use lib.Dec.{ltb, eqb}
 use borrow.Author.Tests.{eqb-false}
@@ -141,6 +141,7 @@ back-marks true s = go (ltb 0 (s .nextIndent))
 
 mutual
   unfolding render names
+
   pub render-same : (x : ℕ) (n : Node) (p : Page) (w : Bool) (s : Renderer) → names x n ≡ false → Same x s (render p n w s)
   render-same x (group n ns) p w s e =
       let h = neither (eqb x n) (namesIn x ns) e in

@@ -1,4 +1,3 @@
-use native.Mathlib.Omega.{arith}
 use mathlib.Core.Path.{_∙_}
 use Rattle.rowcheck.proofs.Laws.{parts-block, parts-leaf, parts-two, parts-call, parts-none}
 use borrow.Author.Needs.{needs}

@@ -1,4 +1,3 @@
-use native.Mathlib.Omega.{arith}
 use Rattle.rowcheck.proofs.Laws.{fits-deep, fits-low, fits-past, fits-parts, fits-places}
 use borrow.Author.Needs.{needs}
 use Rattle.rowcheck.proofs.row_fits.Statement.{statement}

@@ -1,10 +1,9 @@
 use native.Mathlib.Omega.{arith}
-use Prim.Native.Nat.{ℕ, _<_, _≤_, _-_}
-use mathlib.Core.Path.{_≡_, refl, sym, ap, _∙_, subst}
+use Prim.Native.Nat.{_<_, _≤_, _-_}
+use mathlib.Core.Path.{refl, sym, ap, _∙_}
 use mathlib.Core.Logic.{⊎-elim}
 use borrow.Author.Needs.{needs}
 use borrow.Author.Tests.{ltb-true, ltb-false}
-use lib.ListN.{getD}
 use Rattle.rows.specs.View.{viewOf}
 use Rattle.renderer.specs.Check.{placesFit, wrongRow}
 use Rattle.renderer.proofs.Checked.{fits-row}

@@ -1,5 +1,5 @@
 use native.Mathlib.Omega.{arith}
-use mathlib.Core.Path.{refl, sym, _∙_}
+use mathlib.Core.Path.{sym, _∙_}
 use Rattle.render.proofs.Followed.{group-follows, call-follows, if-follows, leaf-follows}
 use Rattle.render.proofs.Stepped.{enters, pen-room, group-range, callee-range, argument-range, kind-low, indents-follow}
 use borrow.Author.Needs.{needs}

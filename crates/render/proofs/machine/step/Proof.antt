@@ -1,6 +1,5 @@
 use native.Mathlib.Omega.{arith}
-use Prim.Native.Nat.{_<_}
-use mathlib.Core.Path.{refl, sym, _∙_}
+use mathlib.Core.Path.{refl, _∙_}
 use Rattle.render.proofs.Stepped.{top-row, shallow, turns, top-entering, top-wrap, in-entering, in-wrap, leaves, left-follows}
 use borrow.Author.Needs.{needs}
 use Rattle.render.proofs.machine.step.Statement.{statement}
