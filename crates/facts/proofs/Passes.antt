@@ -45,11 +45,10 @@ use Rattle.facts.proofs.Rights.{right-long, right-rows}
 -- the test of a row's places, on what stands there
 abbrev fits : Given → ℕ → ℕ → ℕ → ℕ → Text → ℕ → Bool
 fits g kind n k second t w =
-    ((usesNumber kind || eqb n 0) && (usesNumber2 kind || eqb k 0))
-    && ((usesSecond kind || eqb second 0)
-    && (cond (usesText kind) (leb (t .origin) 2 && leb (t .start + t .size) (length (originText (g .source) (g .image) (t .origin))))
-    (eqb (t .origin) 0 && (eqb (t .start) 0 && eqb (t .size) 0))
-    && (usesWidth kind || eqb w 0)))
+    ((usesNumber kind || eqb n 0) && ((usesNumber2 kind || eqb k 0) && (usesSecond kind || eqb second 0)))
+    && ((usesWidth kind || eqb w 0)
+    && cond (usesText kind) (leb (t .origin) 2 && leb (t .start + t .size) (length (originText (g .source) (g .image) (t .origin))))
+    (eqb (t .origin) 0 && (eqb (t .start) 0 && eqb (t .size) 0)))
 
 row-fits : (g : Given) (store : List ℕ) (i kind n k second after : ℕ) (t : Text) (w : ℕ) (l : List ℕ)
     → Holds store i (row kind n k second after t w ++ l) → fits g kind n k second t w ≡ true → placesFit (g .source) (g .image) store i ≡ true
