@@ -1,35 +1,74 @@
 -- Declarations and the whole document are laid soundly.
 -- Assumes nothing.
-use Prim.Native.Nat.{ℕ, zero, suc, _+_, _*_, _-_, _≤_, _<_, max}
-use mathlib.Core.Path.{_≡_, refl, sym, ap, subst, _∙_}
-use mathlib.Core.Bool.{Bool, true, false, cond, not, _&&_}
-use mathlib.Core.List.{List, [], _∷_, _++_}
+use Prim.Native.Nat.{ℕ, _+_, _*_, _-_, _≤_}
+use mathlib.Core.Path.{refl}
+use mathlib.Core.Bool.{Bool, true, false, not, _&&_}
+use mathlib.Core.List.{List, [], _∷_}
 use mathlib.Core.Option.{Option, none as nothing, some}
 use native.Mathlib.Omega.{arith}
 use lib.ListN.{length}
-use Rattle.text.specs.Space.{trimEnd}
 use Rattle.image.specs.Bytes.{be32}
 use Rattle.tree.specs.Syntax.{
-    Span, Ident, Idents, TypeExpr, Types, noTypes, _∷ᵗ_, Fields, Variants, noVariants, variant, Declaration, filterMap, const, recordDecl,
-    enumDecl, function, test, importDecl, SyntaxTree
+  Span,
+  Ident,
+  Idents,
+  noTypes,
+  _∷ᵗ_,
+  Fields,
+  Variants,
+  noVariants,
+  variant,
+  Declaration,
+  filterMap,
+  const,
+  recordDecl,
+  enumDecl,
+  function,
+  test,
+  importDecl,
+  SyntaxTree,
 }
-use Rattle.tree.specs.At.{
-    Head, Record, Done, past, IdentAt, ListAt, Maybe, TypesAt, FieldsAt, VariantsAt, DeclarationAt, DeclarationsAt, TreeAt
-}
+use Rattle.tree.specs.At.{Head, past, IdentAt, ListAt, Maybe, TypesAt, FieldsAt, VariantsAt, DeclarationAt, DeclarationsAt, TreeAt}
 use Rattle.rows.specs.Words.{placeIn}
-use Rattle.state.specs.Act.{Given, Act, skip}
+use Rattle.state.specs.Act.{Given, Act}
 use Rattle.comments.specs.Comments.{popWhitespace}
+use Rattle.layout.specs.declared.kinds.WrapStyle.the-variants.{Tight, Wrap}
 use Rattle.layout.specs.Layout.{
-    Tight, Wrap, Bottom, params, recordTypeRule, typeParams, opening, variantElems, declaration, shebangRule, declarationsRule, fmtParsed
+  someTypeParams,
+  Bottom,
+  params,
+  recordTypeRule,
+  typeParams,
+  opening,
+  variantElems,
+  declaration,
+  shebangRule,
+  declarationsRule,
+  fmtParsed,
+  importSpan,
+  unlessEmpty,
 }
-use Rattle.facts.specs.Sound.{Inside, Ranged, Commented, Sounds}
-use Rattle.facts.specs.Height.{typesHeight, fieldsHeight, variantsHeight, declarationHeight, declarationsHeight, treeHeight}
-use Rattle.facts.proofs.Tests.{importSpan, unlessEmpty}
-use Rattle.facts.proofs.Steps.{_⨾_, deeper, fewer, sound-skip, sound-line, sound-emptyLine, sound-str, sound-when, sound-asks}
+use Rattle.facts.specs.Sound.{Ranged, Commented, Sounds}
+use Rattle.facts.specs.Height.{fieldsHeight, variantsHeight, declarationHeight, declarationsHeight, treeHeight}
+use Rattle.facts.proofs.Steps.{_⨾_, fewer, sound-skip, sound-line, sound-emptyLine, sound-str, sound-when, sound-asks}
 use Rattle.facts.proofs.Gaps.{trimEnd-le, sound-gap}
 use Rattle.facts.proofs.Parts.{
-    sound-says, ranged, from-start, sound-ident, All, none, also, sound-separated, sound-idents, sound-type, all-types, all-fields, last-ranged,
-    import-ranged, import-long, sound-import
+  sound-says,
+  ranged,
+  from-start,
+  sound-ident,
+  All,
+  none,
+  also,
+  sound-separated,
+  sound-idents,
+  sound-type,
+  all-types,
+  all-fields,
+  last-ranged,
+  import-ranged,
+  import-long,
+  sound-import,
 }
 use Rattle.facts.proofs.Exprs.{sound-expr, sound-block}
 
@@ -51,10 +90,6 @@ module _ {g : Given} (commented : Commented g) where
       (omega (arith, l .long))
 
   -- the parameters of a record or of an enum, which are left out where there are none
-  abbrev someTypeParams : Option Idents → Act
-  someTypeParams nothing = skip
-  someTypeParams (some is) = unlessEmpty (is .elems) (typeParams g is)
-
   sound-unlessEmpty : (is : List Ident) {a : Act} {n d : ℕ} → Sounds g n d a → Sounds g n d (unlessEmpty is a)
   sound-unlessEmpty [] p = fewer sound-skip (omega arith)
   sound-unlessEmpty (i ∷ is) p = p
@@ -65,7 +100,7 @@ module _ {g : Given} (commented : Commented g) where
   sound-typeParams is at h a = sound-idents commented "[" "]" refl refl is at h a
 
   some-params : (ps : Option Idents) (at : ℕ) {d : ℕ} → 3 ≤ d → Maybe (g .source) (g .image) (ListAt (g .source) (g .image)) ps at
-      → Sounds g (4 + be32 (g .image) at) d (someTypeParams ps)
+      → Sounds g (4 + be32 (g .image) at) d (someTypeParams g ps)
   unfolding Maybe
   some-params nothing at h a = fewer sound-skip (omega arith)
   some-params (some is) at h a = sound-unlessEmpty (is .elems) (sound-typeParams is at h a)
@@ -81,7 +116,7 @@ module _ {g : Given} (commented : Commented g) where
   all-variants (variant s i (t ∷ᵗ ts) vs) at end {d} a h =
       let v : ℕ = past (g .source) (g .image) (at + 13) in
       let last : Ranged (g .source) _ =
-          last-ranged commented ts t (v + 13) (past (g .source) (g .image) (v + 13)) (past (g .source) (g .image) v) (a .3 .0) (a .3 .2)
+      last-ranged commented ts t (v + 13) (past (g .source) (g .image) (v + 13)) (past (g .source) (g .image) v) (a .3 .0) (a .3 .2)
       in
       also (from-start (ranged (a .0)))
       (sound-ident (a .1)

@@ -1,48 +1,185 @@
 -- Expressions, blocks and statements are laid soundly: a record of n bytes takes n rows at most, and goes two rows deeper with each record.
 -- Assumes nothing.
-use Prim.Native.Nat.{ℕ, zero, suc, _+_, _*_, _-_, _≤_, _<_, max}
+use Prim.Native.Nat.{ℕ, zero, suc, _+_, _*_, _-_, _≤_, max, _<_}
 use Prim.Native.String.{String, len}
-use mathlib.Core.Path.{_≡_, refl, sym, ap, subst, _∙_}
+use mathlib.Core.Path.{_≡_, refl}
 use mathlib.Core.Bool.{Bool, true, false, cond, not, _&&_}
 use mathlib.Core.List.{List, [], _∷_}
-use mathlib.Core.Option.{Option, none as nothing, some}
+use mathlib.Core.Option.{none as nothing, some}
 use native.Mathlib.Omega.{arith}
 use lib.ListN.{length, getD}
 use lib.Dec.{ltb, leb, eqb}
 use Rattle.text.proofs.Tests.{and-left, and-right}
 use Rattle.image.specs.Bytes.{be32}
 use Rattle.tree.specs.Syntax.{
-    Span, Ident, Path, TypeExpr, Import, Pattern, Expr, expr, Form, return′, literal, block, match′, functionCall, access, path, record′,
-    typedRecord, list, not′, assign, compoundAssign, binOp, negate, ifElse, while, for, questionMark, fString, parentheses, Exprs, noExprs,
-    _∷ᵉ_, MaybeExpr, noExpr, someExpr, Entries, noEntries, entry, Arms, noArms, arm, Parts, noParts, string, value, Block, braces, MaybeBlock,
-    noBlock, someBlock, Stmts, noStmts, _∷ˢ_, Stmt, stmt, StmtForm, let′, importStmt, does
+  Span,
+  Expr,
+  expr,
+  Form,
+  return′,
+  literal,
+  block,
+  match′,
+  functionCall,
+  access,
+  path,
+  record′,
+  typedRecord,
+  list,
+  not′,
+  assign,
+  compoundAssign,
+  binOp,
+  negate,
+  ifElse,
+  while,
+  for,
+  questionMark,
+  fString,
+  parentheses,
+  Exprs,
+  noExprs,
+  _∷ᵉ_,
+  MaybeExpr,
+  noExpr,
+  someExpr,
+  Entries,
+  noEntries,
+  entry,
+  Arms,
+  noArms,
+  arm,
+  Parts,
+  noParts,
+  string,
+  value,
+  Block,
+  braces,
+  MaybeBlock,
+  noBlock,
+  someBlock,
+  Stmts,
+  noStmts,
+  _∷ˢ_,
+  Stmt,
+  stmt,
+  StmtForm,
+  let′,
+  importStmt,
+  does,
 }
 use Rattle.tree.specs.At.{
-    Head, Record, Absent, Done, Before, past, formKind, IdentAt, PathAt, Maybe, TypeAt, ByteAt, OpAt, ExprAt, FormAt, ExprsAt,
-    MaybeExprAt, EntriesAt, ArmsAt, PartsAt, BlockAt, MaybeBlockAt, StmtsAt, StmtAt, StmtFormAt
+  past,
+  Maybe,
+  ExprAt,
+  FormAt,
+  ExprsAt,
+  MaybeExprAt,
+  EntriesAt,
+  ArmsAt,
+  PartsAt,
+  BlockAt,
+  MaybeBlockAt,
+  StmtsAt,
+  StmtAt,
+  StmtFormAt,
 }
-use Rattle.rows.specs.Node.{Text, ascii, line}
+use Rattle.rows.specs.Node.{ascii}
 use Rattle.rows.specs.Words.{table, placeIn}
-use Rattle.state.specs.Act.{Given, Act, _⨟_, skip, push, told, grouped, indented, says, content}
+use Rattle.state.specs.Act.{Given, Act, _⨟_, push, grouped, content, indentedNext, called}
 use Rattle.comments.specs.Comments.{popWhitespace, popTrailingComment}
+use Rattle.layout.specs.declared.kinds.WrapStyle.the-variants.{Tight, Spaced, Wrap}
 use Rattle.layout.specs.Layout.{
-    WrapStyle, Tight, Spaced, Wrap, Spine, Look, Bottom, Chain, Unit′, binopPrecedence, symbol, assignSymbol, returnWord, separated, ident, operation,
-    chained, literalRule, look, lookForm, returned, otherwise, exprElems, groupedElems, entryElems, armElems, guard, partsRule, blockRule,
-    stmtsRule, lastRule, stmtRule, stmtForm
+  operator,
+  whole,
+  maybeExpr,
+  placeholder,
+  clause,
+  blockStart,
+  beforeStmt,
+  afterStmt,
+  lone,
+  pickSpine,
+  plain,
+  extend,
+  Spine,
+  Look,
+  Bottom,
+  Chain,
+  Unit′,
+  binopPrecedence,
+  symbol,
+  assignSymbol,
+  returnWord,
+  chained,
+  literalRule,
+  look,
+  lookForm,
+  otherwise,
+  exprElems,
+  groupedElems,
+  entryElems,
+  armElems,
+  partsRule,
+  blockRule,
+  stmtsRule,
+  lastRule,
+  stmtRule,
+  stmtForm,
+  exprSpan,
+  stmtSpan,
+  noneOf,
+  isEmpty,
+  isBlock,
+  isBraced,
 }
-use Rattle.facts.specs.Sound.{Inside, Ranged, Commented, Sounds}
+use Rattle.facts.specs.Sound.{Ranged, Commented, Sounds}
 use Rattle.facts.specs.Height.{
-    typeHeight, importHeight, exprHeight, formHeight, exprsHeight, maybeHeight, entriesHeight, armsHeight, partsHeight, blockHeight,
-    maybeBlockHeight, stmtsHeight, stmtHeight, stmtFormHeight
+  exprHeight,
+  formHeight,
+  exprsHeight,
+  maybeHeight,
+  entriesHeight,
+  armsHeight,
+  partsHeight,
+  blockHeight,
+  maybeBlockHeight,
+  stmtsHeight,
+  stmtHeight,
+  stmtFormHeight,
 }
-use Rattle.facts.proofs.Tests.{exprSpan, stmtSpan, noneOf, isEmpty, isBlock, isBraced}
 use Rattle.facts.proofs.Steps.{
-    _⨾_, deeper, fewer, sound-skip, sound-line, sound-lineOrSpace, sound-wrapParent, sound-ascii, sound-when, sound-cond, sound-grouped,
-    sound-indented, sound-indentedNext, sound-called, sound-asks
+  _⨾_,
+  deeper,
+  fewer,
+  sound-skip,
+  sound-line,
+  sound-lineOrSpace,
+  sound-wrapParent,
+  sound-ascii,
+  sound-when,
+  sound-cond,
+  sound-grouped,
+  sound-indented,
+  sound-indentedNext,
+  sound-called,
+  sound-asks,
 }
 use Rattle.facts.proofs.Gaps.{sound-gap, sound-trailing}
 use Rattle.facts.proofs.Parts.{
-    Fits, sound-says, ranged, from-start, sound-ident, All, none, also, sound-separated, sound-path, sound-type, sound-import, sound-pattern
+  Fits,
+  sound-says,
+  ranged,
+  from-start,
+  sound-ident,
+  All,
+  none,
+  also,
+  sound-separated,
+  sound-path,
+  sound-type,
+  sound-import,
+  sound-pattern,
 }
 
 -- ---- the words chosen by a number: each of a list fits, and so does the one that stands for none
@@ -78,46 +215,42 @@ module _ {g : Given} (commented : Commented g) where
     both : first + rest ≤ n
 
   record SoundLook (n d : ℕ) (l : Look) : Type 0 where
-    whole : (p : ℕ) → Sounds g n d (l .whole p)
+    form : (p : ℕ) → Sounds g n d (l .form p)
     under : (p : ℕ) → SoundSpine n d (l .under p)
 
   sound-content : {d : ℕ} {p : Span} → Ranged (g .source) p → Sounds g 1 d (push (ascii (content p)))
   sound-content r = sound-ascii (record { origin = omega arith; fits = omega (arith, r .ordered, r .fits) })
 
-  sound-operation : (first : Bool) (s : Span) (op : ℕ) {a : Act} {n d : ℕ} → s .start ≤ length (g .source) → Sounds g n d a
-      → Sounds g (4 + n) d (operation g first s op a)
-  unfolding operation placeIn
-  sound-operation first s op h p =
-      fewer
-      (sound-asks (popWhitespace g (s .start) true true false) (sound-gap commented (s .start) true true false h)
-      (λ whitespace.
-      sound-when (not first && not whitespace) sound-lineOrSpace ⨾ sound-says (symbol op) (symbol-fits op) ⨾ sound-says " " refl ⨾ p))
-      (omega arith)
+  sound-operator : {d : ℕ} (first : Bool) (s : Span) (op : ℕ) → s .start ≤ length (g .source) → Sounds g 4 d (operator g first s op)
+  unfolding operator placeIn
+  sound-operator first s op h =
+      sound-asks (popWhitespace g (s .start) true true false) (sound-gap commented (s .start) true true false h)
+      (λ whitespace. sound-when (not first && not whitespace) sound-lineOrSpace)
+      ⨾ sound-says (symbol op) (symbol-fits op)
+      ⨾ sound-says " " refl
 
-  sound-lone : {a : Act} {n d : ℕ} → Sounds g n d a → SoundSpine n d (record { head = a; tail = skip; alone = true })
+  -- an expression takes no rows for the comment after it but those of the comment
+  sound-whole : {a : Act} {n d : ℕ} → Sounds g n d a → Sounds g n d (a ⨟ popTrailingComment g)
+  sound-whole p = fewer (p ⨾ sound-trailing commented) (omega arith)
+
+  sound-lone : {a : Act} {n d : ℕ} → Sounds g n d a → SoundSpine n d (lone a)
   sound-lone {n = n} p = record { first = n; rest = 0; head = p; tail = sound-skip; both = omega arith }
 
-  sound-plain : {a : ℕ → Act} {n d : ℕ} → ((p : ℕ) → Sounds g n d (a p))
-      → SoundLook n d (record {
-        whole = λ p. a p ⨟ popTrailingComment g;
-        under = λ p. record { head = a p ⨟ popTrailingComment g; tail = skip; alone = true };
-      })
-  sound-plain {a} {n} {d} p =
-      let whole : (q : ℕ) → Sounds g n d (a q ⨟ popTrailingComment g) = λ q. fewer (p q ⨾ sound-trailing commented) (omega arith) in
-      record { whole = whole; under = λ q. sound-lone (whole q) }
+  sound-plain : {a : ℕ → Act} {n d : ℕ} → ((p : ℕ) → Sounds g n d (a p)) → SoundLook n d (plain g a)
+  sound-plain p = record { form = p; under = λ q. sound-lone (sound-whole (p q)) }
 
   sound-extend : (c : Spine) (s : Span) (op : ℕ) {a : Act} {m n d : ℕ} → s .start ≤ length (g .source) → SoundSpine m d c → Sounds g n d a
-      → SoundSpine (m + (4 + n)) d (record { head = c .head; tail = c .tail ⨟ operation g (c .alone) s op a; alone = false })
+      → SoundSpine (m + (4 + n)) d (extend g c s op a)
   sound-extend c s op {n = n} h p q =
       record {
         first = p .first;
         rest = p .rest + (4 + n);
         head = p .head;
-        tail = p .tail ⨾ sound-operation (c .alone) s op h q;
+        tail = p .tail ⨾ sound-operator (c .alone) s op h ⨾ q;
         both = omega (arith, p .both);
       }
 
-  sound-chained : (c : Spine) {n e d : ℕ} → e + 2 ≤ d → SoundSpine n e c → Sounds g (3 + n) d (chained g c)
+  sound-chained : (c : Spine) {n e d : ℕ} → e + 2 ≤ d → SoundSpine n e c → Sounds g (3 + n) d (chained c)
   unfolding chained
   sound-chained c {n} {e} {d} h p =
       fewer
@@ -125,7 +258,7 @@ module _ {g : Given} (commented : Commented g) where
       (λ id. deeper (p .head) (omega arith) ⨾ sound-lineOrSpace ⨾ sound-indented {c = e} (omega arith) (p .tail)))
       (omega (arith, p .both))
 
-  sound-pick : (t : Bool) {a b : Spine} {m n d : ℕ} → SoundSpine m d a → SoundSpine n d b → m ≤ n → SoundSpine n d (cond t a b)
+  sound-pick : (t : Bool) {a b : Spine} {m n d : ℕ} → SoundSpine m d a → SoundSpine n d b → m ≤ n → SoundSpine n d (pickSpine t a b)
   sound-pick true p q h =
       record { first = p .first; rest = p .rest; head = p .head; tail = p .tail; both = omega (arith, p .both) }
   sound-pick false p q h = q
@@ -139,13 +272,39 @@ module _ {g : Given} (commented : Commented g) where
   sound-literal (suc (suc (suc zero))) s r = sound-gap commented (s .end) true true false (r .fits) ⨾ sound-says "()" refl
   sound-literal (suc (suc (suc (suc n)))) s r = fewer (sound-gap commented (s .end) true true false (r .fits) ⨾ sound-skip) (omega arith)
 
-  -- ---- conditions, and the gap before a statement
-  sound-condition : {a : Act} {n e d : ℕ} → e + 2 ≤ d → Sounds g n e a → Sounds g (2 + n) d (grouped (λ id. indented a))
-  sound-condition {e = e} h p = fewer (sound-grouped {c = e + 1} (omega arith) (λ id. sound-indented {c = e} (omega arith) p)) (omega arith)
+  -- ---- conditions, and what comes before and after a statement
+  sound-clause : (w : String) → Fits w → {a b : Act} {m n e d : ℕ} → e + 2 ≤ d → Sounds g m e a → Sounds g n d b
+      → Sounds g (4 + (m + n)) d (clause w a b)
+  unfolding clause placeIn
+  sound-clause w f {e = e} h p q =
+      fewer
+      (sound-says w f
+      ⨾ sound-grouped {c = e + 1} (omega arith) (λ id. sound-indented {c = e} (omega arith) p)
+      ⨾ sound-says " " refl
+      ⨾ q)
+      (omega arith)
 
-  sound-before : {d : ℕ} (first : Bool) {p : ℕ} → p ≤ length (g .source)
-      → Sounds g 1 d (cond first (told (popWhitespace g p false true false)) (told (popWhitespace g p true true true)))
-  sound-before first {p} h = sound-cond first (sound-gap commented p false true false h) (sound-gap commented p true true true h)
+  sound-before : {d : ℕ} (first : Bool) (p : ℕ) → p ≤ length (g .source) → Sounds g 2 d (beforeStmt g first p)
+  unfolding beforeStmt
+  sound-before first p h =
+      sound-cond first (sound-gap commented p false true false h) (sound-gap commented p true true true h) ⨾ sound-line
+
+  sound-after : {d : ℕ} (p : ℕ) → p ≤ length (g .source) → Sounds g 1 d (afterStmt g p)
+  unfolding afterStmt
+  sound-after p h = sound-whole (sound-gap commented p false false false h)
+
+  -- ---- a call and an access, with a node of their own or without
+  sound-call : (p : ℕ) {e a : Act} {m n c d : ℕ} → c < d → Sounds g m c e → Sounds g n c a
+      → Sounds g (2 + (m + n)) d (cond (ltb p Chain) (called e a) (e ⨟ a))
+  sound-call p h i j =
+      sound-cond (ltb p Chain) (sound-called h i j) (fewer (deeper i (omega arith) ⨾ deeper j (omega arith)) (omega arith))
+
+  sound-access : (p : ℕ) {a : Act} {n c d : ℕ} → c + 2 ≤ d → Sounds g n c a
+      → Sounds g (2 + n) d (cond (ltb p Chain) (grouped (λ id. indentedNext a)) a)
+  sound-access p {c = c} h i =
+      sound-cond (ltb p Chain)
+      (fewer (sound-grouped {c = c + 1} (omega arith) (λ id. sound-indentedNext {c = c} (omega arith) i)) (omega arith))
+      (fewer (deeper i (omega arith)) (omega arith))
 
   -- ---- where a record starts, and that there is one
   pub expr-ranged : (e : Expr) (at : ℕ) → ExprAt (g .source) (g .image) e at → Ranged (g .source) (exprSpan e)
@@ -161,20 +320,20 @@ module _ {g : Given} (commented : Commented g) where
   height-least (expr s f) = omega arith
 
   mutual
-    unfolding look ExprAt Maybe exprHeight placeIn
+    unfolding look placeholder blockStart ExprAt Maybe exprHeight placeIn
 
     sound-look : (e : Expr) (at d : ℕ) → ExprAt (g .source) (g .image) e at → 2 * exprHeight e ≤ d
         → SoundLook (be32 (g .image) at) d (look g e)
     sound-look (expr s f) at d a h = sound-form f s at d (ranged (a .0)) (a .0 .long) (a .1) h
 
     pub sound-expr : (e : Expr) (at : ℕ) {d : ℕ} (p : ℕ) → ExprAt (g .source) (g .image) e at → 2 * exprHeight e ≤ d
-        → Sounds g (be32 (g .image) at) d (look g e .whole p)
-    sound-expr (expr s f) at {d} p a h = sound-form f s at d (ranged (a .0)) (a .0 .long) (a .1) h .whole p
+        → Sounds g (be32 (g .image) at) d (whole g (look g e) p)
+    sound-expr (expr s f) at {d} p a h = sound-whole (sound-form f s at d (ranged (a .0)) (a .0 .long) (a .1) h .form p)
 
     sound-form : (f : Form) (s : Span) (at d : ℕ) → Ranged (g .source) s → 9 ≤ be32 (g .image) at → FormAt (g .source) (g .image) f at
         → 2 * (1 + formHeight f) ≤ d → SoundLook (be32 (g .image) at) d (lookForm g s f)
     sound-form (return′ k e) s at d r l a h =
-        sound-plain (λ p. fewer (sound-says (returnWord k) (return-fits k) ⨾ sound-returned e (at + 14) (a .2) (omega arith)) (omega (arith, a .3 .same)))
+        sound-plain (λ p. fewer (sound-says (returnWord k) (return-fits k) ⨾ sound-maybe e " " refl (at + 14) (a .2) (omega arith)) (omega (arith, a .3 .same)))
     sound-form (literal t n) s at d r l a h =
         sound-plain (λ p. fewer (sound-literal n t (ranged (a .0 .head))) (omega arith))
     sound-form (block b) s at d r l a h =
@@ -191,27 +350,18 @@ module _ {g : Given} (commented : Commented g) where
         (omega (arith, a .1 .long, a .3 .same)))
     sound-form (functionCall e t es) s at d r l a h =
         let q : ℕ = past (g .source) (g .image) (at + 13) in
-        let call : Sounds g (4 + be32 (g .image) q) (d - 1) (separated g "(" ")" "," (exprElems g es) t Tight) =
-            fewer
-            (sound-separated commented "(" ")" "," refl refl refl
-            (all-exprs es (q + 13) (past (g .source) (g .image) q) {d = d - 3} (a .2) (omega arith)) t (ranged (a .1) .fits) Tight (omega arith) (omega arith))
-            (omega (arith, a .1 .long))
-        in
-        let callee : Sounds g (be32 (g .image) (at + 13)) (d - 1) (look g e .whole Chain) = sound-expr e (at + 13) Chain (a .0) (omega arith) in
         sound-plain (λ p.
-        sound-cond (ltb p Chain) (fewer (sound-called {c = d - 1} (omega arith) callee call) (omega (arith, a .3 .same)))
-        (fewer (deeper callee (omega arith) ⨾ deeper call (omega arith)) (omega (arith, a .3 .same))))
+        fewer
+        (sound-call p {c = d - 1} (omega arith) (sound-expr e (at + 13) Chain (a .0) (omega arith))
+        (sound-separated commented "(" ")" "," refl refl refl
+        (all-exprs es (q + 13) (past (g .source) (g .image) q) {d = d - 3} (a .2) (omega arith)) t (ranged (a .1) .fits) Tight (omega arith) (omega arith)))
+        (omega (arith, a .1 .long, a .3 .same)))
     sound-form (access e i) s at d r l a h =
-        let q : ℕ = past (g .source) (g .image) (at + 13) in
-        let inner : Sounds g (be32 (g .image) (at + 13) + 3) (d - 2) (look g e .whole Chain ⨟ push line ⨟ says "." ⨟ ident g i) =
-            sound-expr e (at + 13) Chain (a .0) (omega arith) ⨾ sound-line ⨾ sound-says "." refl ⨾ sound-ident (a .1)
-        in
         sound-plain (λ p.
-        sound-cond (ltb p Chain)
-        (fewer
-        (sound-grouped {c = d - 1} (omega arith) (λ id. sound-indentedNext {c = d - 2} (omega arith) inner))
+        fewer
+        (sound-access p {c = d - 2} (omega arith)
+        (sound-expr e (at + 13) Chain (a .0) (omega arith) ⨾ sound-line ⨾ sound-says "." refl ⨾ sound-ident (a .1)))
         (omega (arith, a .2 .same, a .1 .head .long)))
-        (fewer (deeper inner (omega arith)) (omega (arith, a .2 .same, a .1 .head .long))))
     sound-form (path q) s at d r l a h =
         sound-plain (λ p. fewer (sound-path commented q (at + 13) (ltb p Chain) true (omega arith) (a .0)) (omega (arith, a .1 .same)))
     sound-form (record′ t es) s at d r l a h =
@@ -263,51 +413,46 @@ module _ {g : Given} (commented : Commented g) where
         let m : ℕ = be32 (g .image) (at + 13) in
         let n : ℕ = be32 (g .image) w in
         let starts : t .start ≤ length (g .source) = from-start (ranged (a .1 .head)) in
-        let chain : (c p : ℕ) → 2 * max (exprHeight x) (exprHeight y) ≤ c → SoundSpine (m + (4 + n)) c _ =
-            λ c p i.
-            sound-extend (look g x .under p) t op starts (sound-look x (at + 13) c (a .0) (omega arith) .under p)
-            (sound-expr y w Bottom (a .3) (omega arith))
+        let chain : (c p : ℕ) → 2 * max (exprHeight x) (exprHeight y) ≤ c
+        → SoundSpine (m + (4 + n)) c (extend g (look g x .under p) t op (whole g (look g y) Bottom)) =
+        λ c p i.
+        sound-extend (look g x .under p) t op starts (sound-look x (at + 13) c (a .0) (omega arith) .under p)
+        (sound-expr y w Bottom (a .3) (omega arith))
         in
-        let whole : Sounds g (be32 (g .image) at) d _ =
-            fewer (sound-chained _ {d = d} (omega arith) (chain (d - 2) q (omega arith)) ⨾ sound-trailing commented) (omega (arith, a .4 .same, a .1 .head .long))
+        let own : Sounds g (be32 (g .image) at) d (chained (extend g (look g x .under q) t op (whole g (look g y) Bottom))) =
+        fewer (sound-chained _ {d = d} (omega arith) (chain (d - 2) q (omega arith))) (omega (arith, a .4 .same, a .1 .head .long))
         in
         record {
-          whole = λ p. whole;
-          under = λ p. sound-pick (eqb q p) (chain d p (omega arith)) (sound-lone whole) (omega (arith, a .4 .same, a .1 .head .long));
+          form = λ p. own;
+          under =
+              λ p. sound-pick (eqb q p) (chain d p (omega arith)) (sound-lone (sound-whole own)) (omega (arith, a .4 .same, a .1 .head .long));
         }
     sound-form (negate e) s at d r l a h =
         sound-plain (λ p. fewer (sound-says "-" refl ⨾ sound-expr e (at + 13) Bottom (a .0) (omega arith)) (omega (arith, a .1 .same)))
     sound-form (ifElse c b e) s at d r l a h =
         let v : ℕ = past (g .source) (g .image) (at + 13) in
-        let w : ℕ = past (g .source) (g .image) v in
-        sound-plain (λ p.
+        sound-plain
+        (λ p.
         fewer
-        (sound-says "if " refl
-        ⨾ sound-condition (omega arith) (sound-expr c (at + 13) {d = d - 2} Bottom (a .0) (omega arith))
-        ⨾ sound-says " " refl
-        ⨾ sound-block b v (a .1) (omega arith)
-        ⨾ sound-otherwise e w (a .2) (omega arith))
+        (sound-clause "if " refl (omega arith) (sound-expr c (at + 13) {d = d - 2} Bottom (a .0) (omega arith)) (sound-block b v (a .1) (omega arith))
+        ⨾ sound-otherwise e (past (g .source) (g .image) v) (a .2) (omega arith))
         (omega (arith, a .3 .same)))
     sound-form (while c b) s at d r l a h =
         let v : ℕ = past (g .source) (g .image) (at + 13) in
-        sound-plain (λ p.
+        sound-plain
+        (λ p.
         fewer
-        (sound-says "while " refl
-        ⨾ sound-condition (omega arith) (sound-expr c (at + 13) {d = d - 2} Bottom (a .0) (omega arith))
-        ⨾ sound-says " " refl
-        ⨾ sound-block b v (a .1) (omega arith))
+        (sound-clause "while " refl (omega arith) (sound-expr c (at + 13) {d = d - 2} Bottom (a .0) (omega arith)) (sound-block b v (a .1) (omega arith)))
         (omega (arith, a .2 .same)))
     sound-form (for i e b) s at d r l a h =
         let v : ℕ = past (g .source) (g .image) (at + 13) in
-        let w : ℕ = past (g .source) (g .image) v in
-        sound-plain (λ p.
+        sound-plain
+        (λ p.
         fewer
         (sound-says "for " refl
         ⨾ sound-ident (a .0)
-        ⨾ sound-says " in " refl
-        ⨾ sound-condition (omega arith) (sound-expr e v {d = d - 2} Bottom (a .1) (omega arith))
-        ⨾ sound-says " " refl
-        ⨾ sound-block b w (a .2) (omega arith))
+        ⨾ sound-clause " in " refl (omega arith) (sound-expr e v {d = d - 2} Bottom (a .1) (omega arith))
+        (sound-block b (past (g .source) (g .image) v) (a .2) (omega arith)))
         (omega (arith, a .3 .same, a .0 .head .long)))
     sound-form (questionMark e) s at d r l a h =
         sound-plain (λ p. fewer (sound-expr e (at + 13) p (a .0) (omega arith) ⨾ sound-says "?" refl) (omega (arith, a .1 .same)))
@@ -328,10 +473,10 @@ module _ {g : Given} (commented : Commented g) where
         ⨾ sound-says ")" refl)
         (omega (arith, a .1 .same)))
 
-    sound-returned : (e : MaybeExpr) (at : ℕ) {d : ℕ} → MaybeExprAt (g .source) (g .image) e at → 2 * maybeHeight e ≤ d
-        → Sounds g (1 + be32 (g .image) at) d (returned g e)
-    sound-returned noExpr at a h = fewer sound-skip (omega arith)
-    sound-returned (someExpr e) at a h = sound-says " " refl ⨾ sound-expr e at Bottom a h
+    sound-maybe : (e : MaybeExpr) (w : String) → Fits w → (at : ℕ) {d : ℕ} → MaybeExprAt (g .source) (g .image) e at
+        → 2 * maybeHeight e ≤ d → Sounds g (1 + be32 (g .image) at) d (maybeExpr g w e)
+    sound-maybe noExpr w f at a h = fewer sound-skip (omega arith)
+    sound-maybe (someExpr e) w f at a h = sound-says w f ⨾ sound-expr e at Bottom a h
 
     sound-otherwise : (b : MaybeBlock) (at : ℕ) {d : ℕ} → MaybeBlockAt (g .source) (g .image) b at → 2 * maybeBlockHeight b ≤ d
         → Sounds g (1 + be32 (g .image) at) d (otherwise g b)
@@ -371,17 +516,12 @@ module _ {g : Given} (commented : Commented g) where
         let v : ℕ = past (g .source) (g .image) (at + 13) in
         also (from-start (ranged (a .0)))
         (sound-pattern commented p (at + 13) (omega (arith, height-least e)) (a .1)
-        ⨾ sound-guard c v (a .2) (omega arith)
+        ⨾ sound-maybe c " if " refl v (a .2) (omega arith)
         ⨾ sound-says " => " refl
         ⨾ sound-expr e (past (g .source) (g .image) v) Bottom (a .3) (omega arith)
         ⨾ sound-when (not (isBlock e)) (sound-says "," refl))
         (all-arms arms (past (g .source) (g .image) at) end (a .6) (omega arith))
         (omega (arith, a .4 .same, a .5 .least))
-
-    sound-guard : (e : MaybeExpr) (at : ℕ) {d : ℕ} → MaybeExprAt (g .source) (g .image) e at → 2 * maybeHeight e ≤ d
-        → Sounds g (1 + be32 (g .image) at) d (guard g e)
-    sound-guard noExpr at a h = fewer sound-skip (omega arith)
-    sound-guard (someExpr e) at a h = sound-says " if " refl ⨾ sound-expr e at Bottom a h
 
     sound-parts : (ps : Parts) (at end : ℕ) {d : ℕ} → PartsAt (g .source) (g .image) ps at end → 2 * partsHeight ps ≤ d
         → Sounds g (end - at) d (partsRule g ps)
@@ -392,9 +532,7 @@ module _ {g : Given} (commented : Commented g) where
         (omega (arith, a .2 .least))
     sound-parts (value e ps) at end a h =
         fewer
-        (sound-says "{" refl
-        ⨾ sound-expr e (at + 13) Bottom (a .1) (omega arith)
-        ⨾ sound-says "}" refl
+        ((sound-says "{" refl ⨾ sound-expr e (at + 13) Bottom (a .1) (omega arith) ⨾ sound-says "}" refl)
         ⨾ sound-parts ps (past (g .source) (g .image) at) end (a .4) (omega arith))
         (omega (arith, a .2 .same, a .3 .least))
 
@@ -405,9 +543,7 @@ module _ {g : Given} (commented : Commented g) where
         fewer
         (sound-grouped {c = d - 1} (omega arith)
         (λ id.
-        sound-says "{" refl
-        ⨾ sound-line
-        ⨾ sound-when (not (isEmpty ss last)) sound-wrapParent
+        (sound-says "{" refl ⨾ sound-line ⨾ sound-when (not (isEmpty ss last)) sound-wrapParent)
         ⨾ sound-indented {c = d - 2} (omega arith)
         (sound-stmts ss (at + 13 + 13) v true (a .2) (omega arith)
         ⨾ sound-last last v (noneOf ss) (a .3) (omega arith)
@@ -422,11 +558,9 @@ module _ {g : Given} (commented : Commented g) where
     sound-stmts (x ∷ˢ ss) at end first a h =
         let r : Ranged (g .source) (stmtSpan x) = stmt-ranged x at (a .0) in
         fewer
-        (sound-before first (from-start r)
-        ⨾ sound-line
+        (sound-before first (stmtSpan x .start) (from-start r)
         ⨾ sound-stmt x at (a .0) (omega arith)
-        ⨾ sound-gap commented (stmtSpan x .end) false false false (r .fits)
-        ⨾ sound-trailing commented
+        ⨾ sound-after (stmtSpan x .end) (r .fits)
         ⨾ sound-stmts ss (past (g .source) (g .image) at) end false (a .2) (omega arith))
         (omega (arith, a .1 .least))
 
@@ -435,7 +569,7 @@ module _ {g : Given} (commented : Commented g) where
     sound-last noExpr at first a h = fewer sound-skip (omega arith)
     sound-last (someExpr e) at first a h =
         fewer
-        (sound-before first (from-start (expr-ranged e at a)) ⨾ sound-line ⨾ sound-expr e at Bottom a h ⨾ sound-trailing commented)
+        (sound-before first (exprSpan e .start) (from-start (expr-ranged e at a)) ⨾ sound-expr e at Bottom a h ⨾ sound-trailing commented)
         (omega arith)
 
     sound-stmt : (x : Stmt) (at : ℕ) {d : ℕ} → StmtAt (g .source) (g .image) x at → 2 * stmtHeight x ≤ d

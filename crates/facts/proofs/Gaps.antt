@@ -1,9 +1,9 @@
 -- The comment rules are sound: a comment takes two rows at most, its own and one for the newlines before it.
 -- Assumes nothing.
-use Prim.Native.Nat.{ℕ, zero, suc, _+_, _*_, _-_, _≤_, _<_, min}
-use mathlib.Core.Path.{_≡_, refl, sym, ap, subst, _∙_}
+use Prim.Native.Nat.{ℕ, zero, suc, _+_, _-_, _≤_, min}
+use mathlib.Core.Path.{_≡_, refl}
 use mathlib.Core.Bool.{Bool, true, false, cond, _&&_}
-use mathlib.Core.List.{List, [], _∷_}
+use mathlib.Core.List.{List}
 use mathlib.Core.Option.{Option, none as nothing, some}
 use native.Mathlib.Omega.{arith}
 use lib.ListN.{length}
@@ -16,16 +16,31 @@ use Rattle.text.specs.declared.utf8.Decoded.the-variants.{Char, Nothing}
 use Rattle.text.specs.declared.space.Found.{Found}
 use Rattle.text.specs.declared.space.Found.the-variants.{At, Nowhere}
 use Rattle.tree.specs.Syntax.{Span}
-use Rattle.rows.specs.Node.{Text, Nodes, comment, line, emptyLine, none, _then_}
-use Rattle.rows.specs.Rows.{size, sizes}
-use Rattle.state.specs.Act.{Given, St, Out, Act, Asking, next, join, _⨟_, _⨟!_, skip, push, moveTo, pop, told, answering}
+use Rattle.rows.specs.Node.{line, emptyLine, none}
+use Rattle.state.specs.Act.{Given, St, Act, next, join, _⨟_, _⨟!_, skip, push, moveTo, pop, told, answering}
 use Rattle.comments.specs.Comments.{
-    nth, front, remark, newlines, ignoreNewlines, popComment, waits, popComments, popWhitespace, popTrailingComment
+  front,
+  remark,
+  newlines,
+  ignoreNewlines,
+  popComment,
+  waits,
+  popComments,
+  popWhitespace,
+  popTrailingComment,
 }
 use Rattle.facts.specs.Placing.{trimmed}
-use Rattle.facts.specs.Sound.{depth, depths, Inside, TextsOf, TextsIn, Ranged, Commented, Sound, Sounds}
+use Rattle.facts.specs.Sound.{Inside, Ranged, Commented, Sound, Sounds}
 use Rattle.facts.proofs.Steps.{
-    sound-then, _⨾_, fewer, sound-skip, sound-moveTo, sound-line, sound-emptyLine, sound-comment, sound-cond
+  sound-then,
+  _⨾_,
+  fewer,
+  sound-skip,
+  sound-moveTo,
+  sound-line,
+  sound-emptyLine,
+  sound-comment,
+  sound-cond,
 }
 
 -- trimming doesn't move the end forward

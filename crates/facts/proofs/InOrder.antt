@@ -1,11 +1,13 @@
 -- Every layout rule places comments: each that it takes from the list, once and in order. A rule joins steps that do.
 -- Assumes nothing.
-use Prim.Native.Nat.{ℕ, zero, suc}
+use Prim.Native.Nat.{ℕ, zero, suc, _-_}
 use Prim.Native.String.{String}
-use mathlib.Core.Path.{_≡_, refl}
-use mathlib.Core.Bool.{Bool, true, false, cond, not, _&&_}
-use mathlib.Core.List.{List, [], _∷_}
+use mathlib.Core.Path.{_≡_, refl, ap, _∙_}
+use mathlib.Core.Bool.{Bool, true, false, not, _&&_}
+use mathlib.Core.List.{List, [], _∷_, map}
 use mathlib.Core.Option.{Option, none as nothing, some}
+use native.Mathlib.Omega.{arith}
+use lib.ListN.{take}
 use lib.Dec.{ltb, eqb}
 use lib.Text.{eqt}
 use Rattle.tree.specs.Syntax.{
@@ -108,66 +110,14 @@ use Rattle.tree.specs.Syntax.{
   importDecl,
   SyntaxTree,
 }
-use Rattle.rows.specs.Node.{Text, ascii, str, line, emptyLine, lineOrSpace, wrapParent, ifWrap}
-use Rattle.state.specs.Act.{Given, Act, _⨟_, skip, push}
-use Rattle.layout.specs.Layout.{
-  WrapStyle,
-  Tight,
-  Spaced,
-  Wrap,
-  Elem,
-  Spine,
-  Look,
-  Bottom,
-  Chain,
-  Unit′,
-  binopPrecedence,
-  elements,
-  separated,
-  pathMore,
-  pathRule,
-  identElems,
-  typeExpr,
-  typeForm,
-  typeArgs,
-  typeElems,
-  fieldElems,
-  params,
-  recordTypeRule,
-  typeParams,
-  importPath,
-  importGroup,
-  importItems,
-  importElems,
-  pattern,
-  operation,
-  chained,
-  literalRule,
-  look,
-  lookForm,
-  returned,
-  otherwise,
-  exprElems,
-  groupedElems,
-  entryElems,
-  armElems,
-  guard,
-  partsRule,
-  blockRule,
-  stmtsRule,
-  lastRule,
-  stmtRule,
-  stmtForm,
-  opening,
-  variantElems,
-  declaration,
-  shebangRule,
-  declarationsRule,
-  fmtParsed,
-}
-use Rattle.comments.specs.Comments.{popWhitespace, popTrailingComment}
-use Rattle.facts.specs.Placing.{commentsOf, Places}
-use Rattle.facts.proofs.Tests.{importSpan, noneOf, isEmpty, isBlock, isBraced, unlessEmpty, oneOr}
+use Rattle.rows.specs.Node.{Text, ascii, str, line, lineOrSpace, wrapParent, ifWrap}
+use Rattle.state.specs.Act.{Given, Act, push}
+use Rattle.layout.specs.declared.kinds.WrapStyle.{WrapStyle}
+use Rattle.layout.specs.declared.kinds.WrapStyle.the-variants.{Tight, Spaced, Wrap}
+use Rattle.layout.specs.Layout.{edge, isWrap, opens, ends, inside, beforeElem, pathNext, operator, whole, maybeExpr, placeholder, clause, blockStart, beforeStmt, afterStmt, lone, pickSpine, plain, extend, someTypeParams, Elem, Spine, Look, Bottom, Chain, Unit′, binopPrecedence, elements, separated, pathMore, pathRule, identElems, typeExpr, typeForm, typeArgs, typeElems, fieldElems, params, recordTypeRule, typeParams, importPath, importGroup, importItems, importElems, pattern, chained, literalRule, look, lookForm, otherwise, exprElems, groupedElems, entryElems, armElems, partsRule, blockRule, stmtsRule, lastRule, stmtRule, stmtForm, opening, variantElems, declaration, shebangRule, declarationsRule, fmtParsed, importSpan, noneOf, isEmpty, isBlock, isBraced, unlessEmpty, oneOr}
+use Rattle.comments.specs.Comments.{popWhitespace}
+use Rattle.facts.specs.Placing.{commentsOf, commentsIn, trimmed, Places}
+use Rattle.facts.specs.Accepted.{fresh, callRule}
 use Rattle.facts.proofs.Placing.{
   _⨾_,
   places-skip,
@@ -215,37 +165,38 @@ module _ (g : Given) where
     more : {e : Elem} {es : List Elem} → Places g (e .act) → All es → All (e ∷ es)
 
   places-elements : (w : String) (first : Bool) {es : List Elem} → All es → Places g (elements g w first es)
-  unfolding elements
+  unfolding elements beforeElem
   places-elements w first none = places-skip
   places-elements w first (more {e} p ps) =
-      places-when (not first && not (eqt w "")) said
-      ⨾ places-gap (e .start) true true false
-      ⨾ places-when (not first) spaced
+      (places-when (not first && not (eqt w "")) said ⨾ places-gap (e .start) true true false ⨾ places-when (not first) spaced)
       ⨾ p
       ⨾ places-elements w false ps
 
+  edged : (style : WrapStyle) → Places g (edge style)
+  edged Tight = lined
+  edged Spaced = spaced
+  edged Wrap = lined
+
   places-separated : (start end w : String) {es : List Elem} → All es → (s : Span) (style : WrapStyle)
       → Places g (separated g start end w es s style)
-  unfolding separated
+  unfolding separated inside opens ends
   places-separated start end w none s style =
       places-grouped (λ id. said ⨾ lined ⨾ places-indented (places-gap (s .end) false false false) ⨾ lined ⨾ said ⨾ places-trailing)
   places-separated start end w (more p ps) s style =
       places-grouped
       (λ id.
-      elim style [ Tight ↦ places-skip | Spaced ↦ places-skip | Wrap ↦ wrapped ]
-      ⨾ said
-      ⨾ elim style [ Tight ↦ lined | Spaced ↦ spaced | Wrap ↦ lined ]
-      ⨾ places-indented (
-      places-elements w true (more p ps) ⨾ places-when (not (eqt w "")) chosen ⨾ places-gap (s .end) true false false)
-      ⨾ elim style [ Tight ↦ lined | Spaced ↦ spaced | Wrap ↦ lined ]
+      (places-when (isWrap style) wrapped ⨾ said ⨾ edged style)
+      ⨾ places-indented
+      (places-elements w true (more p ps) ⨾ (places-when (not (eqt w "")) chosen ⨾ places-gap (s .end) true false false))
+      ⨾ edged style
       ⨾ said
       ⨾ places-trailing)
 
   places-pathMore : (t : Bool) (is : List Ident) → Places g (pathMore g t is)
-  unfolding pathMore
+  unfolding pathMore pathNext
   places-pathMore t [] = places-skip
   places-pathMore t (i ∷ is) =
-      places-when t lined ⨾ places-gap (i .span .end) false false false ⨾ said ⨾ named ⨾ places-pathMore t is
+      (places-when t lined ⨾ places-gap (i .span .end) false false false ⨾ said ⨾ named) ⨾ places-pathMore t is
 
   places-path : (p : Path) (t u : Bool) → Places g (pathRule g p t u)
   unfolding pathRule
@@ -281,7 +232,7 @@ module _ (g : Given) where
     all-fields noFields = none
     all-fields (field s i t fs) = more (named ⨾ said ⨾ places-type t) (all-fields fs)
 
-  places-oneOr : (is : Imports) {a b : Act} → Places g a → Places g b → Places g (oneOr is a b)
+  places-oneOr : (is : Imports) {a b : Act} → Places g a → Places g b → Places g (oneOr g is a b)
   places-oneOr noImports p q = p
   places-oneOr (i ∷ⁱ is) p q = q
 
@@ -318,16 +269,18 @@ module _ (g : Given) where
     tail : Places g (c .tail)
 
   record PlacesLook (l : Look) : Type 0 where
-    whole : (p : ℕ) → Places g (l .whole p)
+    form : (p : ℕ) → Places g (l .form p)
     under : (p : ℕ) → PlacesSpine (l .under p)
 
-  places-operation : (first : Bool) (s : Span) (op : ℕ) {a : Act} → Places g a → Places g (operation g first s op a)
-  unfolding operation
-  places-operation first s op p =
+  places-operator : (first : Bool) (s : Span) (op : ℕ) → Places g (operator g first s op)
+  unfolding operator
+  places-operator first s op =
       places-asks (popWhitespace g (s .start) true true false) (places-gap (s .start) true true false)
-      (λ whitespace. places-when (not first && not whitespace) spaced ⨾ said ⨾ said ⨾ p)
+      (λ whitespace. places-when (not first && not whitespace) spaced)
+      ⨾ said
+      ⨾ said
 
-  places-chained : (c : Spine) → PlacesSpine c → Places g (chained g c)
+  places-chained : (c : Spine) → PlacesSpine c → Places g (chained c)
   unfolding chained
   places-chained c p = places-grouped (λ id. p .head ⨾ spaced ⨾ places-indented (p .tail))
 
@@ -340,40 +293,39 @@ module _ (g : Given) where
   places-literal (suc (suc (suc (suc n)))) s = places-gap (s .end) true true false ⨾ places-skip
 
   -- an expression that is no binary operator, and one that is
-  places-plain : {a : ℕ → Act} → ((p : ℕ) → Places g (a p))
-      → PlacesLook (record {
-        whole = λ p. a p ⨟ popTrailingComment g;
-        under = λ p. record { head = a p ⨟ popTrailingComment g; tail = skip; alone = true };
-      })
-  places-plain p =
-      record {
-        whole = λ outer. p outer ⨾ places-trailing;
-        under = λ outer. record { head = p outer ⨾ places-trailing; tail = places-skip };
-      }
+  places-plain : {a : ℕ → Act} → ((p : ℕ) → Places g (a p)) → PlacesLook (plain g a)
+  places-plain p = record { form = p; under = λ outer. record { head = p outer ⨾ places-trailing; tail = places-skip } }
 
-  places-lone : {a : Act} → Places g a → PlacesSpine (record { head = a; tail = skip; alone = true })
+  places-lone : {a : Act} → Places g a → PlacesSpine (lone a)
   places-lone p = record { head = p; tail = places-skip }
 
-  places-extend : (c : Spine) (s : Span) (op : ℕ) {a : Act} → PlacesSpine c → Places g a
-      → PlacesSpine (record { head = c .head; tail = c .tail ⨟ operation g (c .alone) s op a; alone = false })
-  places-extend c s op p q = record { head = p .head; tail = p .tail ⨾ places-operation (c .alone) s op q }
+  places-extend : (c : Spine) (s : Span) (op : ℕ) {a : Act} → PlacesSpine c → Places g a → PlacesSpine (extend g c s op a)
+  places-extend c s op p q = record { head = p .head; tail = p .tail ⨾ places-operator (c .alone) s op ⨾ q }
 
   places-pick : (t : Bool) {a b : Spine} → PlacesSpine a → PlacesSpine b
-      → PlacesSpine (cond t a b)
+      → PlacesSpine (pickSpine t a b)
   places-pick true p q = p
   places-pick false p q = q
 
+  places-clause : (w : String) {a b : Act} → Places g a → Places g b → Places g (clause w a b)
+  unfolding clause
+  places-clause w p q = said ⨾ places-grouped (λ id. places-indented p) ⨾ said ⨾ q
+
+  places-before : (first : Bool) (p : ℕ) → Places g (beforeStmt g first p)
+  unfolding beforeStmt
+  places-before first p = places-cond first (places-gap p false true false) (places-gap p true true true) ⨾ lined
+
   mutual
-    unfolding look
+    unfolding look placeholder blockStart afterStmt
 
     places-look : (e : Expr) → PlacesLook (look g e)
     places-look (expr s f) = places-form f s
 
-    places-expr : (e : Expr) (p : ℕ) → Places g (look g e .whole p)
-    places-expr (expr s f) p = places-form f s .whole p
+    places-expr : (e : Expr) (p : ℕ) → Places g (whole g (look g e) p)
+    places-expr (expr s f) p = places-form f s .form p ⨾ places-trailing
 
     places-form : (f : Form) (s : Span) → PlacesLook (lookForm g s f)
-    places-form (return′ k e) s = places-plain (λ p. said ⨾ places-returned e)
+    places-form (return′ k e) s = places-plain (λ p. said ⨾ places-maybe e " ")
     places-form (literal t n) s = places-plain (λ p. places-literal n t)
     places-form (block b) s = places-plain (λ p. places-block b)
     places-form (match′ e t arms) s =
@@ -395,30 +347,25 @@ module _ (g : Given) where
     places-form (compoundAssign q op e) s = places-plain (λ p. places-path q true true ⨾ said ⨾ places-expr e Bottom)
     places-form (binOp l t op r) s =
         let q : ℕ = binopPrecedence op in
-        let chain : (p : ℕ) → PlacesSpine _ = λ p. places-extend (look g l .under p) t op (places-look l .under p) (places-expr r Bottom) in
-        let whole : Places g _ = places-chained _ (chain q) ⨾ places-trailing in
-        record {
-          whole = λ p. whole;
-          under = λ p. places-pick (eqb q p) (chain p) (places-lone whole);
-        }
+        let chain : (p : ℕ) → PlacesSpine (extend g (look g l .under p) t op (whole g (look g r) Bottom)) =
+        λ p. places-extend (look g l .under p) t op (places-look l .under p) (places-expr r Bottom)
+        in
+        let own : Places g (chained (extend g (look g l .under q) t op (whole g (look g r) Bottom))) = places-chained _ (chain q) in
+        record { form = λ p. own; under = λ p. places-pick (eqb q p) (chain p) (places-lone (own ⨾ places-trailing)) }
     places-form (negate e) s = places-plain (λ p. said ⨾ places-expr e Bottom)
     places-form (ifElse c b e) s =
-        places-plain (λ p.
-        said ⨾ places-grouped (λ id. places-indented (places-expr c Bottom)) ⨾ said ⨾ places-block b ⨾ places-otherwise e)
-    places-form (while c b) s =
-        places-plain (λ p. said ⨾ places-grouped (λ id. places-indented (places-expr c Bottom)) ⨾ said ⨾ places-block b)
-    places-form (for i e b) s =
-        places-plain (λ p.
-        said ⨾ named ⨾ said ⨾ places-grouped (λ id. places-indented (places-expr e Bottom)) ⨾ said ⨾ places-block b)
+        places-plain (λ p. places-clause "if " (places-expr c Bottom) (places-block b) ⨾ places-otherwise e)
+    places-form (while c b) s = places-plain (λ p. places-clause "while " (places-expr c Bottom) (places-block b))
+    places-form (for i e b) s = places-plain (λ p. said ⨾ named ⨾ places-clause " in " (places-expr e Bottom) (places-block b))
     places-form (questionMark e) s = places-plain (λ p. places-expr e p ⨾ said)
     places-form (fString ps) s =
         places-plain (λ p. places-gap (s .start) true true false ⨾ said ⨾ places-parts ps ⨾ said)
     places-form (parentheses e) s =
         places-plain (λ p. places-gap (s .start) true true false ⨾ said ⨾ places-expr e Bottom ⨾ said)
 
-    places-returned : (e : MaybeExpr) → Places g (returned g e)
-    places-returned noExpr = places-skip
-    places-returned (someExpr e) = said ⨾ places-expr e Bottom
+    places-maybe : (e : MaybeExpr) (w : String) → Places g (maybeExpr g w e)
+    places-maybe noExpr w = places-skip
+    places-maybe (someExpr e) w = said ⨾ places-expr e Bottom
 
     places-otherwise : (b : MaybeBlock) → Places g (otherwise g b)
     places-otherwise noBlock = places-skip
@@ -439,42 +386,31 @@ module _ (g : Given) where
     all-arms : (arms : Arms) → All (armElems g arms)
     all-arms noArms = none
     all-arms (arm s p c e arms) =
-        more (places-pattern p ⨾ places-guard c ⨾ said ⨾ places-expr e Bottom ⨾ places-when (not (isBlock e)) said) (all-arms arms)
-
-    places-guard : (e : MaybeExpr) → Places g (guard g e)
-    places-guard noExpr = places-skip
-    places-guard (someExpr e) = said ⨾ places-expr e Bottom
+        more (places-pattern p ⨾ places-maybe c " if " ⨾ said ⨾ places-expr e Bottom ⨾ places-when (not (isBlock e)) said) (all-arms arms)
 
     places-parts : (ps : Parts) → Places g (partsRule g ps)
     places-parts noParts = places-skip
     places-parts (string s ps) = said ⨾ places-parts ps
-    places-parts (value e ps) = said ⨾ places-expr e Bottom ⨾ said ⨾ places-parts ps
+    places-parts (value e ps) = (said ⨾ places-expr e Bottom ⨾ said) ⨾ places-parts ps
 
     places-block : (b : Block) → Places g (blockRule g b)
     places-block (braces s ss last) =
         places-grouped
         (λ id.
-        said
-        ⨾ lined
-        ⨾ places-when (not (isEmpty ss last)) wrapped
-        ⨾ places-indented (places-stmts ss true ⨾ places-last last (noneOf ss) ⨾ places-gap (s .end) (not (isEmpty ss last)) false false)
+        (said ⨾ lined ⨾ places-when (not (isEmpty ss last)) wrapped)
+        ⨾ places-indented
+        (places-stmts ss true ⨾ places-last last (noneOf ss) ⨾ places-gap (s .end) (not (isEmpty ss last)) false false)
         ⨾ lined
         ⨾ said)
 
     places-stmts : (ss : Stmts) (first : Bool) → Places g (stmtsRule g ss first)
     places-stmts noStmts first = places-skip
     places-stmts (x ∷ˢ ss) first =
-        places-cond first (places-gap _ false true false) (places-gap _ true true true)
-        ⨾ lined
-        ⨾ places-stmt x
-        ⨾ places-gap _ false false false
-        ⨾ places-trailing
-        ⨾ places-stmts ss false
+        places-before first _ ⨾ places-stmt x ⨾ (places-gap _ false false false ⨾ places-trailing) ⨾ places-stmts ss false
 
     places-last : (e : MaybeExpr) (first : Bool) → Places g (lastRule g e first)
     places-last noExpr first = places-skip
-    places-last (someExpr e) first =
-        places-cond first (places-gap _ false true false) (places-gap _ true true true) ⨾ lined ⨾ places-expr e Bottom ⨾ places-trailing
+    places-last (someExpr e) first = places-before first _ ⨾ places-expr e Bottom ⨾ places-trailing
 
     places-stmt : (x : Stmt) → Places g (stmtRule g x)
     places-stmt (stmt s f) = places-stmtForm f
@@ -515,11 +451,7 @@ module _ (g : Given) where
   places-unlessEmpty (i ∷ is) p = p
 
   -- the parameters of a record or of an enum
-  abbrev someTypeParams : Option Idents → Act
-  someTypeParams nothing = skip
-  someTypeParams (some is) = unlessEmpty (is .elems) (typeParams g is)
-
-  some-params : (ps : Option Idents) → Places g (someTypeParams ps)
+  some-params : (ps : Option Idents) → Places g (someTypeParams g ps)
   some-params nothing = places-skip
   some-params (some is) = places-unlessEmpty (is .elems) (places-typeParams is)
 
@@ -570,3 +502,17 @@ module _ (g : Given) where
   pub places-fmtParsed : (t : SyntaxTree) → Places g (fmtParsed g t)
   unfolding fmtParsed
   places-fmtParsed t = places-shebang (t .shebang) ⨾ places-declarations (t .declarations) true ⨾ lined
+
+  pub places-call : (t : SyntaxTree) (begins : Bool) (ds : List Declaration) (first closes : Bool)
+      → Places g (callRule g t begins ds first closes)
+  places-call t begins ds first closes =
+      places-when begins (places-shebang (t .shebang)) ⨾ places-declarations ds first ⨾ places-when closes lined
+
+  -- From the fresh state: the comments among the nodes of a document are the first of the list, as many as it placed. Those left are the
+  -- others.
+  pub in-order : (t : SyntaxTree)
+      → commentsIn (fmtParsed g t fresh .nodes) ≡ take (fmtParsed g t fresh .placed) (map (trimmed g) (g .comments))
+  in-order t =
+      let n : ℕ = fmtParsed g t fresh .placed in
+      let same : n - 0 ≡ n = omega arith in
+      places-fmtParsed t .from fresh (omega arith) .same ∙ ap (λ (k : ℕ). take k (map (trimmed g) (g .comments))) same

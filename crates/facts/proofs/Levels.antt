@@ -3,29 +3,47 @@
 -- and nothing is asked of the grammar.
 -- Assumes nothing.
 use Prim.Native.Nat.{ℕ, zero, suc, _+_, _≤_, max}
-use mathlib.Core.Path.{_≡_, refl, sym, ap, _∙_}
+use mathlib.Core.Path.{_≡_, refl, ap}
 use mathlib.Core.Bool.{Bool, true, false, cond, false≢true}
 use mathlib.Core.List.{List, [], _∷_}
-use mathlib.Core.Option.{Option, none, some}
 use native.Mathlib.Omega.{arith}
-use lib.ListN.{length, getD}
+use lib.ListN.{length}
 use lib.Dec.{ltb, eqb}
 use Rattle.image.specs.Grammar.{bare, place, after, over}
-use Rattle.image.specs.Read.{
-    Read, got, bad, bind, Head, headAt, Tree, Trees, absent, node, nil, _▸_, skips, childBy, recordAt, childrenAt, treeAt
-}
+use Rattle.image.specs.Read.{Read, got, bad, bind, Head, Tree, Trees, absent, node, nil, _▸_, skips, childBy, recordAt, childrenAt, treeAt}
 use Rattle.image.proofs.Shapes.{isGot}
 use Rattle.image.proofs.Inside.{inside, none-deep}
-use Rattle.tree.specs.Syntax.{
-    Span, Path, Idents, TypeExpr, TypeArgs, Types, Fields, Import, ImportGroup, Imports, Expr, MaybeExpr, Exprs, Entries, Arms, Parts, Block,
-    MaybeBlock, Stmts, Stmt, Variants, Declaration, SyntaxTree
-}
+use Rattle.tree.specs.Syntax.{Span, TypeExpr, Types, Fields, Imports, Expr, Entries, Arms, Parts, Block, Variants}
 use Rattle.tree.specs.Records as records
-use Rattle.tree.specs.Records.{Views, Forms, else, _⇒_∣_, form, nothing, viewsOf, views, each, treeOf, syntaxTree}
+use Rattle.tree.specs.Records.{Views, Forms, else, _⇒_∣_, form, nothing, viewsOf, views, each, syntaxTree}
 use Rattle.facts.specs.Height.{
-    levels, levelsIn, typeHeight, typeFormHeight, argsHeight, typesHeight, fieldsHeight, importHeight, groupHeight, importsHeight,
-    maybeTypeHeight, exprHeight, formHeight, exprsHeight, maybeHeight, entriesHeight, armsHeight, partsHeight, blockHeight, maybeBlockHeight,
-    stmtsHeight, stmtHeight, stmtFormHeight, variantsHeight, declarationHeight, declarationsHeight, treeHeight
+  levels,
+  levelsIn,
+  typeHeight,
+  typeFormHeight,
+  argsHeight,
+  typesHeight,
+  fieldsHeight,
+  importHeight,
+  groupHeight,
+  importsHeight,
+  maybeTypeHeight,
+  exprHeight,
+  formHeight,
+  exprsHeight,
+  maybeHeight,
+  entriesHeight,
+  armsHeight,
+  partsHeight,
+  blockHeight,
+  maybeBlockHeight,
+  stmtsHeight,
+  stmtHeight,
+  stmtFormHeight,
+  variantsHeight,
+  declarationHeight,
+  declarationsHeight,
+  treeHeight,
 }
 
 -- ---- the reader's levels
@@ -75,7 +93,7 @@ record-few s b v zero p at end t q h = absurd (none-deep s b v p at end t q h)
 record-few s b v (suc left) p at end t q h =
     let i = inside s b v left p at end t q h in
     let few : levelsIn (i .trees) ≤ left =
-        children-few (childBy b (recordAt s b v left)) left (child-few b (recordAt s b v left) left (record-few s b v left)) _ _ _ _ (i .trees) _ (i .kept)
+    children-few (childBy b (recordAt s b v left)) left (child-few b (recordAt s b v left) left (record-few s b v left)) _ _ _ _ (i .trees) _ (i .kept)
     in
     rw (i .is) (omega arith)
 
@@ -274,28 +292,67 @@ module _ (b : List ℕ) {n : ℕ} (l : 3 ≤ n) {xs : List Views} (h : Highs n x
       let e₂ = h₂ .expr in
       let e₃ = h₃ .expr in
       let b₂ = h₂ .block in
-      form-is (λ f. formHeight f ≤ n) k (records.exprForms byte xs)
-      (omega (arith, maybe-expr (x₁ .there) (x₁ .expr), e₁)
-      , (omega arith
-      , (h₁ .block
-      , (omega (arith, e₁, h₂ .arms)
-      , (omega (arith, e₁, h₂ .exprs)
-      , (e₁
-      , (omega arith
-      , (h₁ .entries
-      , (h₂ .entries
-      , (h₁ .exprs
-      , (e₁
-      , (e₂
-      , (e₃
-      , (omega (arith, e₁, e₃)
-      , (e₁
-      , (omega (arith, e₁, b₂, maybe-block (x₃ .there) (x₃ .block), h₃ .block)
-      , (omega (arith, e₁, b₂)
-      , (omega (arith, e₂, h₃ .block)
-      , (e₁
-      , (h₁ .parts
-      , e₁))))))))))))))))))))
+      form-is (λ f. formHeight f ≤ n) k (records.exprForms byte xs) (
+        omega (arith, maybe-expr (x₁ .there) (x₁ .expr), e₁),
+        (
+          omega arith,
+          (
+            h₁ .block,
+            (
+              omega (arith, e₁, h₂ .arms),
+              (
+                omega (arith, e₁, h₂ .exprs),
+                (
+                  e₁,
+                  (
+                    omega arith,
+                    (
+                      h₁ .entries,
+                      (
+                        h₂ .entries,
+                        (
+                          h₁ .exprs,
+                          (
+                            e₁,
+                            (
+                              e₂,
+                              (
+                                e₃,
+                                (
+                                  omega (arith, e₁, e₃),
+                                  (
+                                    e₁,
+                                    (
+                                      omega (arith, e₁, b₂, maybe-block (x₃ .there) (x₃ .block), h₃ .block),
+                                      (
+                                        omega (arith, e₁, b₂),
+                                        (
+                                          omega (arith, e₂, h₃ .block),
+                                          (
+                                            e₁,
+                                            (
+                                              h₁ .parts,
+                                              e₁,
+                                            ),
+                                          ),
+                                        ),
+                                      ),
+                                    ),
+                                  ),
+                                ),
+                              ),
+                            ),
+                          ),
+                        ),
+                      ),
+                    ),
+                  ),
+                ),
+              ),
+            ),
+          ),
+        ),
+      )
 
   high-part : (k : ℕ) (s : Span) (ps : Parts) → partsHeight (form k (records.fstringParts s xs) ps) ≤ max (suc n) (partsHeight ps)
   unfolding exprHeight
@@ -311,14 +368,25 @@ module _ (b : List ℕ) {n : ℕ} (l : 3 ≤ n) {xs : List Views} (h : Highs n x
   high-declaration : (k : ℕ) (s : Span) → declarationHeight (form k (records.declarationForms s xs)) ≤ suc n
   unfolding declarationHeight
   high-declaration k s =
-      form-is (λ d. declarationHeight d ≤ suc n) k (records.declarationForms s xs)
-      (omega (arith, h₂ .fields, h₃ .block)
-      , (omega (arith, h₂ .type, h₃ .expr)
-      , (omega (arith, h₃ .fields)
-      , (omega (arith, h₃ .variants)
-      , (omega (arith, h₂ .fields, maybe-type (x₃ .there) (x₃ .type), h₃ .type, h₄ .block)
-      , (omega (arith, h₂ .block)
-      , high-import s))))))
+      form-is (λ d. declarationHeight d ≤ suc n) k (records.declarationForms s xs) (
+        omega (arith, h₂ .fields, h₃ .block),
+        (
+          omega (arith, h₂ .type, h₃ .expr),
+          (
+            omega (arith, h₃ .fields),
+            (
+              omega (arith, h₃ .variants),
+              (
+                omega (arith, h₂ .fields, maybe-type (x₃ .there) (x₃ .type), h₃ .type, h₄ .block),
+                (
+                  omega (arith, h₂ .block),
+                  high-import s,
+                ),
+              ),
+            ),
+          ),
+        ),
+      )
 
   -- a record is one higher than its children
   high-node : (hd : Head) → High (suc n) (viewsOf b hd xs)

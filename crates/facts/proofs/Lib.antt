@@ -1,4 +1,3 @@
-pub mod Tests
 pub mod Placing
 pub mod InOrder
 pub mod Steps
@@ -7,4 +6,6 @@ pub mod Parts
 pub mod Exprs
 pub mod Document
 pub mod Levels
+pub mod Rights
+pub mod Passes
 pub mod Limits

@@ -1,59 +1,67 @@
 -- What follows for an accepted image: the rows and the numbers of a document fit, from the fresh state within the limits of document 01;
 -- its rows are 133 deep at most; its texts lie inside their origins; its position stays in the source.
 -- Assumes nothing.
-use Prim.Native.Nat.{ℕ, zero, suc, _+_, _*_, _-_, _≤_, _<_}
-use mathlib.Core.Path.{_≡_, refl, sym, ap, subst, _∙_}
-use mathlib.Core.Bool.{Bool, true, false}
+use Prim.Native.Nat.{ℕ, _+_, _*_, _≤_}
+use mathlib.Core.Path.{_≡_, refl, ap}
+use mathlib.Core.Bool.{Bool, true}
 use mathlib.Core.List.{List, [], _∷_, _++_}
-use mathlib.Core.Option.{Option, none as nothing, some}
+use mathlib.Core.Option.{none as nothing}
 use native.Mathlib.Omega.{arith}
 use lib.ListN.{length}
 use Rattle.text.proofs.Counts.{range-inside}
-use Rattle.image.specs.Bytes.{be16, be32}
-use Rattle.image.proofs.CommentList.{Comment}
+use Rattle.image.specs.Bytes.{be32}
 use Rattle.image.proofs.Accepted.{Root}
-use Rattle.tree.specs.Syntax.{Span, Declaration, SyntaxTree}
-use Rattle.tree.specs.At.{past, DeclarationsAt, TreeAt}
+use Rattle.tree.specs.Syntax.{Declaration, SyntaxTree}
+use Rattle.tree.specs.At.{past, DeclarationsAt}
 use Rattle.tree.specs.Records.{syntaxTree}
 use Rattle.tree.proofs.Whole.{root-at}
-use Rattle.rows.specs.Rows.{sizes}
-use Rattle.state.specs.Act.{Given, St, Out, Act, _⨟_}
-use Rattle.state.specs.Laid.{st, top, Room}
+use Rattle.rows.specs.Node.{Nodes}
+use Rattle.rows.specs.Rows.{sizes, rows}
+use Rattle.rows.proofs.Flatten.{Holds}
+use Rattle.renderer.specs.Check.{wrongPlace}
+use Rattle.state.specs.Act.{Given, St, Out, Act}
+use Rattle.state.specs.Laid.{st, Room}
 use Rattle.state.specs.declared.Cursor.{Cursor}
-use Rattle.comments.specs.Comments.{nth}
-use Rattle.layout.specs.Layout.{shebangRule, declarationsRule, fmtParsed}
-use Rattle.facts.specs.Placing.{Placed, Places}
-use Rattle.facts.specs.Sound.{depths, TextsIn, Ranged, Commented, Sound, Sounds}
+use Rattle.comments.specs.Listed.{given, Listed}
+use Rattle.comments.proofs.Fronts.{count-of, good}
+use Rattle.layout.specs.Layout.{fmtParsed}
+use Rattle.facts.specs.Placing.{Places}
+use Rattle.facts.specs.Sound.{Commented, Sounds}
 use Rattle.facts.specs.Height.{declarationsHeight, treeHeight}
-use Rattle.facts.specs.Accepted.{Paired, Stands, fresh, upTo, Within}
-use Rattle.facts.proofs.Placing.{front-is, places-then}
-use Rattle.facts.proofs.InOrder.{places-shebang, places-declarations, places-fmtParsed}
-use Rattle.facts.proofs.Steps.{_⨾_, fewer}
+use Rattle.facts.specs.Accepted.{Stands, fresh, upTo, callRule, Within}
+use Rattle.facts.proofs.Placing.{places-then}
+use Rattle.facts.proofs.InOrder.{places-shebang, places-declarations, places-fmtParsed, places-call}
+use Rattle.facts.proofs.Steps.{_⨾_, fewer, sound-when, sound-line}
 use Rattle.facts.proofs.Document.{sound-shebang, sound-declarations, sound-fmtParsed}
+use Rattle.facts.proofs.Passes.{not-refused}
 use Rattle.facts.proofs.Levels.{accepted-high}
 
 -- ---- an accepted image
-commented : (ordered : Bool) (g : Given) (n at : ℕ) → Root ordered (g .source) (g .image) n at → length (g .comments) ≡ n → Paired g
-    → Commented g
-commented ordered g n at r e p =
+commented : {s b : List ℕ} → Listed s b → Commented (given s b)
+commented {s} l =
     record {
       ranged =
           λ k c f.
-          let i = front-is g (g .comments) k c f .0 in
-          let one = r .list .list .each k (omega (arith, r .count)) in
-          let w = range-inside (g .source) (be32 (g .image) (7 + 8 * k)) (be32 (g .image) (7 + 8 * k + 4)) (one .range) in
-          record { ordered = omega (arith, w, p .start k c f, p .end k c f); fits = omega (arith, w, p .end k c f) };
+          let w = range-inside s (c .start) (c .end) (good l k c f .range) in
+          record { ordered = omega (arith, w); fits = omega (arith, w) };
     }
 
-pub stands : (ordered : Bool) (g : Given) (n at : ℕ) (r : Root ordered (g .source) (g .image) n at) → length (g .comments) ≡ n → Paired g
-    → Stands g (syntaxTree (g .image) (r .tree)) at
-stands ordered g n at r e p =
+pub stands : (ordered : Bool) (s b : List ℕ) (n at : ℕ) (r : Root ordered s b n at) → Stands (given s b) (syntaxTree b (r .tree)) at
+stands ordered s b n at r =
+    let l : Listed s b =
     record {
-      tree = root-at (g .source) (g .image) ordered n at r;
-      high = accepted-high (g .source) (g .image) 2 1 at (r .tree) (length (g .image)) (r .reads);
-      comments = commented ordered g n at r e p;
-      count = omega (arith, r .count, r .list .few);
-      place = omega (arith, r .place);
+      few = r .list .few;
+      within = r .list .within;
+      order = λ k h. r .list .list .each k h .order;
+      range = λ k h. r .list .list .each k h .range;
+    }
+    in
+    record {
+      tree = root-at s b ordered n at r;
+      high = accepted-high s b 2 1 at (r .tree) (length b) (r .reads);
+      comments = commented l;
+      count = omega (arith, count-of b, r .list .few);
+      place = omega (arith, count-of b, r .count, r .place);
       small = omega (arith, r .head .size, r .head .short);
     }
 
@@ -108,18 +116,20 @@ module _ {g : Given} {t : SyntaxTree} {at : ℕ} (a : Stands g t at) where
       ⨾ sound-declarations (a .comments) xs from (p .mid) true (p .first) (omega arith))
       (omega (arith, p .order, a .tree .inside .least))
 
-  pub between-sound : (xs ys zs : List Declaration) (first : Bool) → xs ++ (ys ++ zs) ≡ t .declarations
-      → Sounds g (be32 (g .image) at) 132 (declarationsRule g ys first)
-  between-sound xs ys zs first e =
+  pub call-sound : (xs ys zs : List Declaration) (begins first closes : Bool) → xs ++ (ys ++ zs) ≡ t .declarations
+      → Sounds g (be32 (g .image) at) 132 (callRule g t begins ys first closes)
+  call-sound xs ys zs begins first closes e =
       let from : ℕ = past (g .source) (g .image) (at + 13) in
       let end : ℕ = past (g .source) (g .image) at in
       let p = parted (g .source) (g .image) xs (ys ++ zs) from end (rw e (a .tree .declarations)) in
       let q = parted (g .source) (g .image) ys zs (p .mid) end (p .rest) in
       let o = declarations-order (g .source) (g .image) xs from (p .mid) (p .first) in
-      let h : declarationsHeight ys ≤ 66 =
-          omega (arith, height-first ys zs, height-rest xs (ys ++ zs), ap declarationsHeight e, low)
-      in
-      fewer (sound-declarations (a .comments) ys (p .mid) (q .mid) first (q .first) (omega arith)) (omega (arith, o, q .order))
+      let h : declarationsHeight ys ≤ 66 = omega (arith, height-first ys zs, height-rest xs (ys ++ zs), ap declarationsHeight e, low) in
+      fewer
+      (sound-when begins (sound-shebang (a .comments) (t .shebang) (at + 13) (a .tree .shebang))
+      ⨾ sound-declarations (a .comments) ys (p .mid) (q .mid) first (q .first) (omega arith)
+      ⨾ sound-when closes sound-line)
+      (omega (arith, o, q .order, a .tree .inside .least))
 
   -- ---- the limits, from the fresh state: two rows a comment are less than its eight bytes
   within : {d : ℕ} (s : Act) → d ≤ 255 → Sounds g (be32 (g .image) at) d s → Places g s → Within g (s fresh)
@@ -142,8 +152,23 @@ module _ {g : Given} {t : SyntaxTree} {at : ℕ} (a : Stands g t at) where
   upTo-within xs ys e =
       within (upTo g t xs) (omega arith) (upTo-sound xs ys e) (places-then (places-shebang g (t .shebang)) (places-declarations g xs true))
 
-  -- ---- room for the rows of a step, from any state that refusal 12 lets pass
-  pub room : {d : ℕ} (s : Act) → Sounds g (be32 (g .image) at) d s → Places g s → (c : Cursor) → c .row ≤ 2097152 → c .number ≤ 1048576
+  -- ---- the rows of a layout call pass the row check, from any state and wherever they stand
+  pub call-passes : (xs ys zs : List Declaration) (begins first closes : Bool) → xs ++ (ys ++ zs) ≡ t .declarations
+      → (s : St) (store : List ℕ) (r : ℕ)
+      → let ns : Nodes = callRule g t begins ys first closes s .nodes in
+      Holds store r (rows ns r) → r + sizes ns ≤ 2097152 → (r + sizes ns) * 9 ≤ length store
+      → wrongPlace (g .source) (g .image) store r (r + sizes ns) ≡ nothing
+  call-passes xs ys zs begins first closes e s store r h few fits =
+      let p = call-sound xs ys zs begins first closes e .from s in
+      not-refused g (callRule g t begins ys first closes s .nodes) store r h (omega (arith, p .deep)) (p .texts) few fits
+
+  -- the rows due from the fresh state, at the start of the store
+  pub due-passes : {o : Out} → Within g o → (store : List ℕ) → Holds store 0 (rows (o .nodes) 0) → sizes (o .nodes) * 9 ≤ length store
+      → wrongPlace (g .source) (g .image) store 0 (0 + sizes (o .nodes)) ≡ nothing
+  due-passes {o} w store h fits = not-refused g (o .nodes) store 0 h (w .deep) (w .texts) (omega (arith, w .rows)) (omega arith)
+
+  -- ---- room for the rows of a layout call, from any state that refusal 12 lets pass
+  room : {d : ℕ} (s : Act) → Sounds g (be32 (g .image) at) d s → Places g s → (c : Cursor) → c .row ≤ 2097152 → c .number ≤ 1048576
       → c .placed ≤ length (g .comments) → Room (s (st c)) c
   room s p q c h i j =
       let r = p .from (st c) in
@@ -152,3 +177,8 @@ module _ {g : Given} {t : SyntaxTree} {at : ℕ} (a : Stands g t at) where
         rows-fit = omega (arith, r .rows, w .within, a .tree .end, a .place, a .small);
         numbers-fit = omega (arith, r .taken, a .tree .end, a .place, a .small);
       }
+
+  pub call-room : (xs ys zs : List Declaration) (begins first closes : Bool) → xs ++ (ys ++ zs) ≡ t .declarations → (c : Cursor)
+      → c .row ≤ 2097152 → c .number ≤ 1048576 → c .placed ≤ length (g .comments) → Room (callRule g t begins ys first closes (st c)) c
+  call-room xs ys zs begins first closes e =
+      room (callRule g t begins ys first closes) (call-sound xs ys zs begins first closes e) (places-call g t begins ys first closes)

@@ -1,11 +1,11 @@
 -- The rules without expressions are sound: a part whose record has n bytes takes n rows at most, and goes two rows deeper with each record.
 -- Assumes nothing.
-use Prim.Native.Nat.{ℕ, zero, suc, _+_, _*_, _-_, _≤_, _<_, max}
+use Prim.Native.Nat.{ℕ, _+_, _*_, _-_, _≤_}
 use Prim.Native.String.{String, len}
-use mathlib.Core.Path.{_≡_, refl, sym, ap, subst, _∙_}
-use mathlib.Core.Bool.{Bool, true, false, cond, not, _&&_}
+use mathlib.Core.Path.{_≡_, refl}
+use mathlib.Core.Bool.{Bool, true, false, not, _&&_}
 use mathlib.Core.List.{List, [], _∷_}
-use mathlib.Core.Option.{Option, none as nothing, some}
+use mathlib.Core.Option.{none as nothing, some}
 use native.Mathlib.Omega.{arith}
 use lib.ListN.{length}
 use lib.Dec.{leb}
@@ -14,29 +14,117 @@ use borrow.Author.Tests.{leb-true}
 use Rattle.text.proofs.Counts.{range-inside}
 use Rattle.image.specs.Bytes.{be32}
 use Rattle.tree.specs.Syntax.{
-    Span, Ident, Path, Idents, TypeExpr, type, TypeForm, option, typePath, never, unit, recordType, TypeArgs, noArgs, args, Types, noTypes,
-    _∷ᵗ_, Fields, noFields, field, Import, import, ImportGroup, noGroup, group, Imports, noImports, _∷ⁱ_, Pattern, underscore, enumVariant
+  Span,
+  Ident,
+  Path,
+  Idents,
+  TypeExpr,
+  type,
+  TypeForm,
+  option,
+  typePath,
+  never,
+  unit,
+  recordType,
+  TypeArgs,
+  noArgs,
+  args,
+  Types,
+  noTypes,
+  _∷ᵗ_,
+  Fields,
+  noFields,
+  field,
+  Import,
+  import,
+  ImportGroup,
+  noGroup,
+  group,
+  Imports,
+  noImports,
+  _∷ⁱ_,
+  Pattern,
+  underscore,
+  enumVariant,
 }
 use Rattle.tree.specs.At.{
-    Head, Record, Absent, Done, Before, past, IdentAt, IdentsAt, PathAt, ListAt, Maybe, TypeAt, TypeFormAt, TypeArgsAt, TypesAt,
-    FieldsAt, ImportAt, ImportGroupAt, ImportsAt, PatternAt
+  Head,
+  past,
+  IdentAt,
+  IdentsAt,
+  PathAt,
+  ListAt,
+  Maybe,
+  TypeAt,
+  TypeFormAt,
+  TypeArgsAt,
+  TypesAt,
+  FieldsAt,
+  ImportAt,
+  ImportGroupAt,
+  ImportsAt,
+  PatternAt,
 }
-use Rattle.rows.specs.Node.{Text, ascii, str, line, lineOrSpace, wrapParent, ifWrap}
 use Rattle.rows.specs.Ascii.{bytes}
 use Rattle.rows.specs.Words.{table, words, joined, placeIn, word}
-use Rattle.state.specs.Act.{Given, Act, skip, push, says}
+use Rattle.state.specs.Act.{Given, Act, says}
+use Rattle.layout.specs.declared.kinds.WrapStyle.{WrapStyle}
+use Rattle.layout.specs.declared.kinds.WrapStyle.the-variants.{Tight, Spaced, Wrap}
 use Rattle.layout.specs.Layout.{
-    WrapStyle, Tight, Spaced, Wrap, Elem, elements, separated, pathMore, pathRule, ident, identElems, typeExpr, typeForm, typeArgs, typeElems,
-    fieldElems, lastSpan, importPath, importGroup, importItems, importElems, pattern
+  edge,
+  isWrap,
+  opens,
+  ends,
+  inside,
+  beforeElem,
+  pathNext,
+  Elem,
+  elements,
+  separated,
+  pathMore,
+  pathRule,
+  ident,
+  identElems,
+  typeExpr,
+  typeForm,
+  typeArgs,
+  typeElems,
+  fieldElems,
+  lastSpan,
+  importPath,
+  importGroup,
+  importItems,
+  importElems,
+  pattern,
+  typeSpan,
+  importSpan,
+  isGroup,
+  oneOr,
 }
 use Rattle.facts.specs.Sound.{Inside, Ranged, Commented, Sounds}
 use Rattle.facts.specs.Height.{
-    typeHeight, typeFormHeight, argsHeight, typesHeight, fieldsHeight, importHeight, groupHeight, importsHeight
+  typeHeight,
+  typeFormHeight,
+  argsHeight,
+  typesHeight,
+  fieldsHeight,
+  importHeight,
+  groupHeight,
+  importsHeight,
 }
-use Rattle.facts.proofs.Tests.{typeSpan, importSpan, isGroup, oneOr}
 use Rattle.facts.proofs.Steps.{
-    _⨾_, wider, fewer, sound-skip, sound-line, sound-lineOrSpace, sound-wrapParent, sound-ascii, sound-str, sound-ifWrap, sound-when, sound-cond,
-    sound-grouped, sound-indented
+  _⨾_,
+  fewer,
+  sound-skip,
+  sound-line,
+  sound-lineOrSpace,
+  sound-wrapParent,
+  sound-ascii,
+  sound-str,
+  sound-ifWrap,
+  sound-when,
+  sound-grouped,
+  sound-indented,
 }
 use Rattle.facts.proofs.Gaps.{sound-gap, sound-trailing}
 
@@ -83,25 +171,25 @@ also h p ps i = more h p ps i
 module _ {g : Given} (commented : Commented g) where
   -- ---- `separated`
   sound-elements : (w : String) → Fits w → (first : Bool) {es : List Elem} {n d : ℕ} → All g n d es → Sounds g n d (elements g w first es)
-  unfolding elements
+  unfolding elements beforeElem
   sound-elements w f first none = fewer sound-skip (omega arith)
   sound-elements w f first (more {e} {es} {k} {m} {n} {d} h p ps i) =
       fewer
-      (sound-when (not first && not (eqt w "")) (sound-says w f)
+      ((sound-when (not first && not (eqt w "")) (sound-says w f)
       ⨾ sound-gap commented (e .start) true true false h
-      ⨾ sound-when (not first) sound-lineOrSpace
+      ⨾ sound-when (not first) sound-lineOrSpace)
       ⨾ p
       ⨾ sound-elements w f false ps)
       (omega arith)
 
-  edged : {d : ℕ} (style : WrapStyle) → Sounds g 1 d (elim style as (λ x. Act) [ Tight ↦ push line | Spaced ↦ push lineOrSpace | Wrap ↦ push line ])
+  edged : {d : ℕ} (style : WrapStyle) → Sounds g 1 d (edge style)
   edged Tight = sound-line
   edged Spaced = sound-lineOrSpace
   edged Wrap = sound-line
 
   pub sound-separated : (start end w : String) → Fits start → Fits end → Fits w → {es : List Elem} {n c d : ℕ} → All g n c es → (s : Span)
       → s .end ≤ length (g .source) → (style : WrapStyle) → c + 2 ≤ d → 1 ≤ c → Sounds g (11 + n) d (separated g start end w es s style)
-  unfolding separated placeIn
+  unfolding separated inside opens ends placeIn
   sound-separated start end w f₁ f₂ f₃ {n = n} {c} {d} none s h style i j =
       fewer
       (sound-grouped {c = c + 1} (omega arith)
@@ -117,13 +205,11 @@ module _ {g : Given} (commented : Commented g) where
       fewer
       (sound-grouped {c = c + 1} (omega arith)
       (λ id.
-      sound-when (elim style [ Tight ↦ false | Spaced ↦ false | Wrap ↦ true ]) sound-wrapParent
-      ⨾ sound-says start f₁
-      ⨾ edged style
+      (sound-when (isWrap style) sound-wrapParent ⨾ sound-says start f₁ ⨾ edged style)
       ⨾ sound-indented {c = c} (omega arith)
       (sound-elements w f₃ true (more h p ps i)
-      ⨾ sound-when (not (eqt w "")) (sound-ifWrap m (inside-word w f₃) (inside-word "" refl))
-      ⨾ sound-gap commented (s .end) true false false k)
+      ⨾ (sound-when (not (eqt w "")) (sound-ifWrap m (inside-word w f₃) (inside-word "" refl))
+      ⨾ sound-gap commented (s .end) true false false k))
       ⨾ edged style
       ⨾ sound-says end f₂
       ⨾ sound-trailing commented))
@@ -132,14 +218,14 @@ module _ {g : Given} (commented : Commented g) where
   -- ---- paths and lists of texts
   sound-pathMore : (is : List Ident) (at end : ℕ) {d : ℕ} (t : Bool) → IdentsAt (g .source) (g .image) is at end
       → Sounds g (end - at) d (pathMore g t is)
-  unfolding pathMore IdentsAt placeIn
+  unfolding pathMore pathNext IdentsAt placeIn
   sound-pathMore [] at end t a = fewer sound-skip (omega arith)
   sound-pathMore (i ∷ is) at end t a =
       fewer
-      (sound-when t sound-line
+      ((sound-when t sound-line
       ⨾ sound-gap commented (i .span .end) false false false (ranged (a .0 .head) .fits)
       ⨾ sound-says "." refl
-      ⨾ sound-ident (a .0)
+      ⨾ sound-ident (a .0))
       ⨾ sound-pathMore is (past (g .source) (g .image) at) end t (a .2))
       (omega (arith, a .0 .head .long, a .1 .least))
 
@@ -247,7 +333,7 @@ module _ {g : Given} (commented : Commented g) where
   unfolding ImportAt
   import-long (import s p q) at a = a .0 .long
 
-  sound-oneOr : (is : Imports) {a b : Act} {n d : ℕ} → Sounds g n d a → Sounds g n d b → Sounds g n d (oneOr is a b)
+  sound-oneOr : (is : Imports) {a b : Act} {n d : ℕ} → Sounds g n d a → Sounds g n d b → Sounds g n d (oneOr g is a b)
   sound-oneOr noImports p q = p
   sound-oneOr (i ∷ⁱ is) p q = q
 

@@ -2,12 +2,11 @@
 -- comment's own node before another is taken.
 -- Assumes nothing.
 use Prim.Native.Nat.{ℕ, zero, suc, _+_, _-_, _≤_, _<_}
-use mathlib.Core.Path.{_≡_, refl, sym, ap, ap₂, subst, _∙_}
+use mathlib.Core.Path.{_≡_, refl, sym, ap, ap₂, _∙_}
 use mathlib.Core.Bool.{Bool, true, false, cond, _&&_}
 use mathlib.Core.List.{List, [], _∷_, _++_, map, append-nil, append-assoc}
 use mathlib.Core.Option.{Option, none as nothing, some}
 use native.Mathlib.Omega.{arith}
-use native.Mathlib.Numerals.{add-one}
 use lib.ListN.{length, take, drop}
 use lib.Seq.{take-add, drop-drop}
 use lib.Dec.{ltb, eqb}
@@ -16,25 +15,7 @@ use Rattle.text.specs.Space.{something}
 use Rattle.text.specs.declared.space.Found.{Found}
 use Rattle.text.specs.declared.space.Found.the-variants.{At, Nowhere}
 use Rattle.tree.specs.Syntax.{Span}
-use Rattle.rows.specs.Node.{
-  Text,
-  Node,
-  Nodes,
-  group,
-  indent,
-  indentNext,
-  wrapParent,
-  comment,
-  str,
-  ascii,
-  line,
-  emptyLine,
-  lineOrSpace,
-  ifWrap,
-  call,
-  none,
-  _then_,
-}
+use Rattle.rows.specs.Node.{Text, Node, Nodes, group, indent, indentNext, comment, line, emptyLine, none, _then_}
 use Rattle.state.specs.Act.{
   Given,
   St,
@@ -219,7 +200,7 @@ places-asks {g} a {k} p q = record { from = λ s h. places-then p (q (a s .1)) .
 
 -- ---- the comment rules
 -- the front comment of those left
-pub front-is : (g : Given) (l : List Span) (k : ℕ) (c : Span) → nth l k ≡ some c
+front-is : (g : Given) (l : List Span) (k : ℕ) (c : Span) → nth l k ≡ some c
     → (k < length l) × (take 1 (drop k (map (trimmed g) l)) ≡ trimmed g c ∷ [])
 unfolding nth
 front-is g [] k c e = absurd (none-some e)

@@ -1,21 +1,34 @@
 -- Laws of sound steps: each way of joining steps has one.
 -- Assumes nothing.
-use Prim.Native.Nat.{ℕ, zero, suc, _+_, _*_, _-_, _≤_, _<_, max, min}
-use mathlib.Core.Path.{_≡_, refl, sym, ap, ap₂, subst, _∙_}
-use mathlib.Core.Bool.{Bool, true, false, cond, _&&_}
-use mathlib.Core.List.{List, [], _∷_}
+use Prim.Native.Nat.{ℕ, _+_, _≤_, _<_, max}
+use mathlib.Core.Path.{_≡_, refl}
+use mathlib.Core.Bool.{Bool, true, false, cond}
 use native.Mathlib.Omega.{arith}
 use lib.ListN.{length}
-use Rattle.rows.specs.Node.{
-    Text, Node, Nodes, group, indent, indentNext, wrapParent, comment, str, ascii, line, emptyLine, lineOrSpace, ifWrap, call, none, _then_
-}
-use Rattle.rows.specs.Rows.{size, sizes}
+use Rattle.rows.specs.Node.{Text, Node, Nodes, wrapParent, comment, str, ascii, line, emptyLine, lineOrSpace, ifWrap, none, _then_}
+use Rattle.rows.specs.Rows.{size, sizes, depth, depths}
 use Rattle.state.specs.Act.{
-    Given, St, Out, Act, Asking, next, join, _⨟_, _⨟?_, _⨟!_, skip, when, push, moveTo, pop, told, answering, grouped, indented, indentedNext,
-    called
+  Given,
+  St,
+  Out,
+  Act,
+  Asking,
+  next,
+  join,
+  _⨟_,
+  _⨟?_,
+  skip,
+  when,
+  push,
+  moveTo,
+  told,
+  grouped,
+  indented,
+  indentedNext,
+  called,
 }
 use Rattle.state.proofs.Joins.{sizes-join}
-use Rattle.facts.specs.Sound.{depth, depths, Inside, TextsOf, TextsIn, Sound, Sounds}
+use Rattle.facts.specs.Sound.{Inside, TextsOf, TextsIn, Sound, Sounds}
 
 depths-join : (ns ms : Nodes) → depths (join ns ms) ≡ max (depths ns) (depths ms)
 unfolding depths join
@@ -47,7 +60,6 @@ pub _⨾_ : {g : Given} {a b : Act} {m n d : ℕ} → Sounds g m d a → Sounds 
 _⨾_ {g} {a} {b} p q = record { from = λ s. sound-then a b s (p .from s) (q .from (next s (a s))) }
 
 infixr 50 _⨾_
-
 -- fewer and less deep is sound too
 pub wider : {g : Given} {a : Act} {m n d e : ℕ} → Sounds g m d a → m ≤ n → d ≤ e → Sounds g n e a
 wider {g} {a} {m} {n} {d} {e} p h i =

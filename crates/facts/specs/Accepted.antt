@@ -1,24 +1,17 @@
 -- What layout may take for granted of an accepted image, and the steps of a layout call.
 use Prim.Native.Nat.{ℕ, _+_, _*_, _≤_}
 use mathlib.Core.Path.{_≡_}
-use mathlib.Core.Bool.{true}
+use mathlib.Core.Bool.{Bool, true}
 use mathlib.Core.List.{List}
-use mathlib.Core.Option.{some}
 use lib.ListN.{length}
-use Rattle.image.specs.Bytes.{be32}
-use Rattle.tree.specs.Syntax.{Span, Declaration, SyntaxTree}
+use Rattle.tree.specs.Syntax.{Declaration, SyntaxTree}
 use Rattle.tree.specs.At.{TreeAt}
-use Rattle.rows.specs.Rows.{sizes}
-use Rattle.state.specs.Act.{Given, St, Out, Act, _⨟_}
-use Rattle.comments.specs.Comments.{nth}
+use Rattle.rows.specs.Node.{line}
+use Rattle.rows.specs.Rows.{sizes, depths}
+use Rattle.state.specs.Act.{Given, St, Out, Act, _⨟_, when, push}
 use Rattle.layout.specs.Layout.{shebangRule, declarationsRule}
-use Rattle.facts.specs.Sound.{depths, TextsIn, Commented}
+use Rattle.facts.specs.Sound.{TextsIn, Commented}
 use Rattle.facts.specs.Height.{treeHeight}
-
--- the comments are the pairs of numbers that follow the count
-pub record Paired (g : Given) : Type 0 where
-  pub start : (k : ℕ) (c : Span) → nth (g .comments) k ≡ some c → be32 (g .image) (7 + 8 * k) ≡ c .start
-  pub end : (k : ℕ) (c : Span) → nth (g .comments) k ≡ some c → be32 (g .image) (7 + 8 * k + 4) ≡ c .end
 
 -- A tree that stands at `at` of an accepted image: the body is 1,048,576 bytes at most, the comments before it are 8,192 at most.
 pub record Stands (g : Given) (t : SyntaxTree) (at : ℕ) : Type 0 where
@@ -36,6 +29,12 @@ fresh = record { number = 0; pos = 0; placed = 0 }
 -- what `fmt_parsed` has done when its loop has laid the declarations ds
 abbrev pub upTo : Given → SyntaxTree → List Declaration → Act
 upTo g t ds = shebangRule g (t .shebang) ⨟ declarationsRule g ds true
+
+-- what one layout call lays: the shebang, if the call begins the document; the declarations ds, the first of which is the document's first
+-- or not; the final line, if the call closes the document
+abbrev pub callRule : Given → SyntaxTree → Bool → List Declaration → Bool → Bool → Act
+callRule g t begins ds first closes =
+    when begins (shebangRule g (t .shebang)) ⨟ declarationsRule g ds first ⨟ when closes (push line)
 
 -- The rows and the state due are within the limits of document 01: rows and numbers for the next call's state, rows not over 256 deep, texts
 -- inside their origins, the position in the source, the comments placed in the list.

@@ -2,3 +2,4 @@ pub mod Placing
 pub mod Sound
 pub mod Height
 pub mod Accepted
+pub mod Right

@@ -1,37 +1,33 @@
 -- What the layout rules keep to: how many rows and numbers they need, how deep the rows are, where the texts lie, where the position is.
-use Prim.Native.Nat.{ℕ, _+_, _*_, _-_, _≤_, max}
+use Prim.Native.Nat.{ℕ, _+_, _*_, _-_, _≤_}
 use mathlib.Core.Path.{_≡_}
 use mathlib.Core.List.{List, [], _∷_}
 use mathlib.Core.Option.{some}
 use lib.ListN.{length, getD}
 use Rattle.tree.specs.Syntax.{Span}
 use Rattle.rows.specs.Node.{
-    Text, Node, Nodes, group, indent, indentNext, wrapParent, comment, str, ascii, line, emptyLine, lineOrSpace, ifWrap, call, none, _then_
+  Text,
+  Node,
+  Nodes,
+  group,
+  indent,
+  indentNext,
+  wrapParent,
+  comment,
+  str,
+  ascii,
+  line,
+  emptyLine,
+  lineOrSpace,
+  ifWrap,
+  call,
+  none,
+  _then_,
 }
-use Rattle.rows.specs.Rows.{sizes}
+use Rattle.rows.specs.Rows.{sizes, depths}
 use Rattle.rows.specs.Words.{words}
 use Rattle.state.specs.Act.{Given, St, Out, Act}
 use Rattle.comments.specs.Comments.{nth}
-
--- how deep the rows of a node and of nodes are: top rows are 1
-unfoldable mutual
-  pub depth : Node → ℕ
-  depth (group n ns) = 1 + depths ns
-  depth (indent ns) = 1 + depths ns
-  depth (indentNext ns) = 1 + depths ns
-  depth wrapParent = 1
-  depth (comment t) = 1
-  depth (str w t) = 1
-  depth (ascii t) = 1
-  depth line = 1
-  depth emptyLine = 1
-  depth lineOrSpace = 1
-  depth (ifWrap n a b) = 1 + max (depth a) (depth b)
-  depth (call n e k a) = 1 + max (depths e) (depths a)
-
-  pub depths : Nodes → ℕ
-  depths none = 0
-  depths (n then ns) = max (depth n) (depths ns)
 
 -- a text lies inside its origin: the source, the image or the fixed words
 pub record Inside (g : Given) (t : Text) : Type 0 where

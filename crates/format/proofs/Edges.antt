@@ -1,7 +1,6 @@
 -- The marked edges hold: antt computes each from its bytes.
 -- Assumes nothing.
-use mathlib.Core.Path.{_≡_, refl}
-use mathlib.Core.List.{map}
+use mathlib.Core.Path.{refl}
 use Rattle.text.specs.Newlines.{isRange}
 use Rattle.image.specs.Read.{
   header,
@@ -70,15 +69,15 @@ use Rattle.renderer.specs.Renderer.{
 }
 use Rattle.renderer.specs.Page.{originText, textBytes}
 use Rattle.renderer.specs.Check.{reaches, partsFit, rowFits, firstWrong, wrongRow, placesFit, wrongPlace}
-use Rattle.format.specs.Parts.{marksOf, marksFrom}
-use Rattle.format.specs.Edges.{edges, observed, due}
+use Rattle.marks.specs.Marks.{marksNeeded}
+use Rattle.format.specs.Edges.{EdgesHold}
 
-pub edges-hold : map observed edges ≡ map due edges
+pub edges-hold : EdgesHold
 unfolding header commentFits commentsFrom commentList shape opens childrenAt skips recordAt treeAt readTree readImage sourceFits readAll be16 be32 rowOf
     rowUnder kindFits payloadFits firstChild written within rowIn followed sequence runs prefix wellFormed boundary isRange views syntaxTree bytes
     mustWrap mustWraps width widths size sizes rowsOf rows viewOf nodeOf decode nodesAt commentsOf pairsAt push atColumn newLine margin remark text
     virtualColumn insert indented outdented nextIndented nextOutdented wraps groupWraps trailing calleeWraps render renders originText textBytes
-    reaches partsFit rowFits firstWrong wrongRow placesFit wrongPlace marksOf marksFrom placeIn word
+    reaches partsFit rowFits firstWrong wrongRow placesFit wrongPlace marksNeeded placeIn word
     joined words _⨟_ _⨟?_ _⨟!_ join grouped indents countNewlines newlines charAt decoded scalar something seek oneOf trimEnd trim charBefore ending ends shebangRule declaration
     opening typeExpr typeForm typeArgs pathRule pathMore look lookForm literalRule comments.nth comments.newlines comments.ignoreNewlines
     comments.popComment comments.popComments comments.popWhitespace comments.popTrailingComment

@@ -5,7 +5,6 @@ pub mod Right
 pub mod RenderParts
 pub mod LayoutParts
 pub mod Whole
-pub mod Fitting
 pub mod Limits
 pub mod Demands
 pub mod Edges

@@ -3,46 +3,37 @@
 -- Assumes nothing.
 use mathlib.Core.Path.{_≡_, refl, sym, ap, subst, subst₂, _∙_}
 use mathlib.Core.Bool.{true, false}
-use mathlib.Core.Option.{none, some}
+use mathlib.Core.Option.{none}
 use mathlib.Core.List.{List}
 use Prim.Native.Nat.{ℕ, _+_, _*_, _≤_}
 use native.Mathlib.Omega.{arith}
-use lib.ListN.{length, take, drop, take-append-drop}
+use native.Mathlib.Nat.{zero-add}
+use lib.ListN.{length, getD, take, drop, take-append-drop}
 use borrow.Author.Tests.{le-leb}
 use Rattle.text.specs.Utf8.{wellFormed}
 use Rattle.image.specs.Read.{Read, got, bad, Image, sourceFits, readImage, readAll, answerOf}
 use Rattle.image.proofs.Accepted.{accepted}
-use Rattle.tree.specs.Syntax.{Span, SyntaxTree}
+use Rattle.tree.specs.Syntax.{SyntaxTree}
 use Rattle.tree.specs.Records.{syntaxTree}
-use Rattle.rows.specs.Rows.{rows}
+use Rattle.rows.specs.Rows.{sizes, rows}
+use Rattle.rows.proofs.Sizes.{length-rows}
+use Rattle.rows.proofs.Flatten.{Holds}
 use Rattle.state.specs.Act.{Given, Out}
-use Rattle.comments.specs.Comments.{nth}
-use Rattle.comments.specs.Listed.{pairAt, commentsOf, given}
-use Rattle.comments.proofs.Fronts.{count-of, at-front, inside}
-use Rattle.facts.specs.Accepted.{Paired, Stands, Within}
-use Rattle.facts.proofs.Limits.{stands, whole-within, upTo-within}
+use Rattle.comments.specs.Listed.{given}
+use Rattle.facts.specs.Accepted.{Stands, Within}
+use Rattle.facts.proofs.Limits.{stands, whole-within, upTo-within, due-passes}
 use Rattle.renderer.specs.Check.{wrongPlace}
 use Rattle.cut.specs.Rules.{Laid}
 use Rattle.cut.specs.Parts.{LayoutState}
 use Rattle.format.specs.Parts.{refusalOf, treeOf}
 use Rattle.format.specs.Demands.{Gives, Limited, AllLimited}
 use Rattle.format.proofs.Whole.{fmt-parsed}
-use Rattle.format.proofs.Fitting.{nothing-wrong}
 
 module _ (s b : List ℕ) where
   abbrev g : Given
   g = given s b
 
   -- ---- the tree of an accepted image stands in it
-  paired : Paired g
-  paired = record {
-    start = λ k c e. ap (λ (p : Span). p .start) (same k c e);
-    end = λ k c e. ap (λ (p : Span). p .end) (same k c e);
-  }
-    where
-      same : (k : ℕ) (c : Span) → nth (commentsOf b) k ≡ some c → pairAt b (7 + 8 * k) ≡ c
-      same k c e = cc (at-front b k (inside b k c e))
-
   reads-image : length s ≤ 65536 → wellFormed s ≡ true → readAll s b ≡ readImage false s b
   unfolding readAll sourceFits
   reads-image h w = rw (le-leb (length s) 65536 h, w)
@@ -67,20 +58,25 @@ module _ (s b : List ℕ) where
           let is : treeOf b (readAll s b) ≡ syntaxTree b (c .tree) = ap (treeOf b) e ∙ ap (λ (j : Image). syntaxTree b (j .tree)) tree in
           record {
             at = i .at;
-            stood = subst (λ (t : SyntaxTree). Stands g t (i .at)) (sym is) (stands false g (i .comments) (i .at) c (omega (arith, count-of b, c .count)) paired);
+            stood = subst (λ (t : SyntaxTree). Stands g t (i .at)) (sym is) (stands false s b (i .comments) (i .at) c);
           }
 
   -- ---- limits
-  limited : (o : Out) (l : Laid LayoutState) → Gives s b o l → Within g o → Limited s b l
-  limited o l e w = record {
-    right =
-        subst₂ (λ (x : List ℕ) (k : ℕ). wrongPlace s b x 0 k ≡ none) (sym (e .rows-due)) (sym (e .row-due))
-        (nothing-wrong g (o .nodes) (omega (arith, w .rows)) (w .deep) (w .texts));
-    rows-few = omega (arith, e .row-due, w .rows);
-    numbers-few = omega (arith, e .number-due, w .numbers);
-    position-in = omega (arith, e .position-due, w .position);
-    placed-in = omega (arith, e .placed-due, w .placed);
-  }
+  held : (l : List ℕ) → Holds l 0 l
+  held l = record { at = λ k h. let e : 0 * 9 + k ≡ k = omega arith in ap (λ (j : ℕ). getD l j 0) e }
+
+  limited : (a : Stood) (o : Out) (l : Laid LayoutState) → Gives s b o l → Within g o → Limited s b l
+  limited a o l e w =
+      let n : sizes (o .nodes) * 9 ≤ length (rows (o .nodes) 0) = omega (arith, length-rows (o .nodes) 0) in
+      record {
+        right =
+            subst₂ (λ (x : List ℕ) (k : ℕ). wrongPlace s b x 0 k ≡ none) (sym (e .rows-due)) (zero-add (sizes (o .nodes)) ∙ sym (e .row-due))
+            (due-passes (a .stood) w (rows (o .nodes) 0) (held (rows (o .nodes) 0)) n);
+        rows-few = omega (arith, e .row-due, w .rows);
+        numbers-few = omega (arith, e .number-due, w .numbers);
+        position-in = omega (arith, e .position-due, w .position);
+        placed-in = omega (arith, e .placed-due, w .placed);
+      }
 
   pub all-limited : refusalOf (readAll s b) ≡ none → AllLimited s b (treeOf b (readAll s b))
   all-limited h =
@@ -90,7 +86,7 @@ module _ (s b : List ℕ) where
       record {
         at-stop =
             λ n i.
-            limited _ _ (f .at-stop n i)
+            limited a _ _ (f .at-stop n i)
             (upTo-within (a .stood) (take n (t .declarations)) (drop n (t .declarations)) (take-append-drop n (t .declarations)));
-        closed = limited _ _ (f .closed) (whole-within (a .stood));
+        closed = limited a _ _ (f .closed) (whole-within (a .stood));
       }

@@ -2,6 +2,7 @@
 -- Assumes nothing.
 use mathlib.Core.Path.{_≡_, refl, sym, ap, ap₂, subst, _∙_}
 use mathlib.Core.Bool.{Bool, true, false, cond}
+use mathlib.Core.List.{List}
 use Prim.Native.Nat.{ℕ, zero, suc, _+_, _-_, _≤_, _<_, max}
 use native.Mathlib.Omega.{arith}
 use native.Mathlib.Decide.{decLt}
@@ -9,74 +10,81 @@ use native.Mathlib.Nat.{zero-add, add-zero, add-suc, suc-add}
 use lib.Dec.{ltb}
 use borrow.Author.Tests.{ltb-true}
 use Rattle.rows.specs.Node.{Nodes, none, _then_}
-use Rattle.rows.specs.View.{View, firstOf, nodeOf, endIn, secondIn, decode, nodesAt}
-use Rattle.format.specs.Parts.{marksOf, marksFrom}
-use Rattle.format.proofs.Local.{Same, Agree, in-end, in-second, from-end, from-second}
+use Rattle.rows.specs.View.{View, cell, viewOf, firstOf, nodeOf, endIn, secondIn, decode, nodesAt}
+use Rattle.marks.specs.Marks.{rowMarks, marksNeeded}
+use Rattle.format.proofs.Local.{in-end, in-second, from-end, from-second}
 use Rattle.format.proofs.Past.{Under, Unders}
 
 -- ---- a range's own rows
-own-same : (v u : View) (k : ℕ) → Same v u k → marksOf v k ≡ marksOf u k
-unfolding marksOf
-own-same v u k x = rw (x .kind, x .number, x .number2)
+own-same : (store other : List ℕ) (k : ℕ) → ((c : ℕ) → c < 9 → cell store k c ≡ cell other k c) → rowMarks store k ≡ rowMarks other k
+own-same store other k at = rw (at 0 (omega arith), at 1 (omega arith), at 2 (omega arith))
 
-pub marks-local : (n : ℕ) (v u : View) (i : ℕ) → Agree v u i (i + n) → marksFrom n v i ≡ marksFrom n u i
-unfolding marksFrom
-marks-local zero v u i s = refl
-marks-local (suc n) v u i s =
-    ap₂ max (own-same v u i (s i (omega arith) (omega arith))) (marks-local n v u (suc i) (λ k p q. s k (omega arith) (omega arith)))
+pub marks-local : (n : ℕ) (store other : List ℕ) (i : ℕ) → ((k c : ℕ) → i ≤ k → k < i + n → c < 9 → cell store k c ≡ cell other k c)
+    → marksNeeded n store i ≡ marksNeeded n other i
+unfolding marksNeeded
+marks-local zero store other i s = refl
+marks-local (suc n) store other i s =
+    ap₂ max (own-same store other i (λ c l. s i c (omega arith) (omega arith) l))
+    (marks-local n store other (suc i) (λ k c p q l. s k c (omega arith) (omega arith) l))
 
 -- ---- two ranges
-pub marks-add : (n m : ℕ) (v : View) (i : ℕ) → marksFrom (n + m) v i ≡ max (marksFrom n v i) (marksFrom m v (i + n))
-unfolding marksFrom
-marks-add zero m v i =
-    let e : marksFrom (0 + m) v i ≡ marksFrom m v i = ap (λ (x : ℕ). marksFrom x v i) (zero-add m) in
-    let f : marksFrom m v (i + 0) ≡ marksFrom m v i = ap (marksFrom m v) (add-zero i) in
+pub marks-add : (n m : ℕ) (store : List ℕ) (i : ℕ) → marksNeeded (n + m) store i ≡ max (marksNeeded n store i) (marksNeeded m store (i + n))
+unfolding marksNeeded
+marks-add zero m store i =
+    let e : marksNeeded (0 + m) store i ≡ marksNeeded m store i = ap (λ (x : ℕ). marksNeeded x store i) (zero-add m) in
+    let f : marksNeeded m store (i + 0) ≡ marksNeeded m store i = ap (marksNeeded m store) (add-zero i) in
     omega arith
-marks-add (suc n) m v i =
-    let e : marksFrom (suc n + m) v i ≡ max (marksOf v i) (marksFrom (n + m) v (suc i)) = ap (λ (x : ℕ). marksFrom x v i) (suc-add n m) in
-    let f : marksFrom m v (i + suc n) ≡ marksFrom m v (suc i + n) = ap (marksFrom m v) (add-suc i n ∙ sym (suc-add i n)) in
-    let h = marks-add n m v (suc i) in
+marks-add (suc n) m store i =
+    let e : marksNeeded (suc n + m) store i ≡ max (rowMarks store i) (marksNeeded (n + m) store (suc i)) =
+    ap (λ (x : ℕ). marksNeeded x store i) (suc-add n m)
+    in
+    let f : marksNeeded m store (i + suc n) ≡ marksNeeded m store (suc i + n) = ap (marksNeeded m store) (add-suc i n ∙ sym (suc-add i n)) in
+    let h = marks-add n m store (suc i) in
     omega arith
 
 -- ---- enough for its nodes
-each-under : (n : ℕ) (v : View) (i b : ℕ) → marksFrom n v i ≤ b → (k : ℕ) → i ≤ k → k < i + n → marksOf v k ≤ b
-unfolding marksFrom
-each-under zero v i b h k p q = absurd (omega arith)
-each-under (suc n) v i b h k p q = go (λ x y. each-under n v (suc i) b (omega arith) k x y) (decLt i k)
+each-under : (n : ℕ) (store : List ℕ) (i b : ℕ) → marksNeeded n store i ≤ b → (k : ℕ) → i ≤ k → k < i + n → rowMarks store k ≤ b
+unfolding marksNeeded
+each-under zero store i b h k p q = absurd (omega arith)
+each-under (suc n) store i b h k p q = go (λ x y. each-under n store (suc i) b (omega arith) k x y) (decLt i k)
   where
-    go : (suc i ≤ k → k < suc i + n → marksOf v k ≤ b) → Dec (i < k) → marksOf v k ≤ b
+    go : (suc i ≤ k → k < suc i + n → rowMarks store k ≤ b) → Dec (i < k) → rowMarks store k ≤ b
     go rec (yes l) = rec l (omega arith)
-    go rec (no l) = let e : i ≡ k = omega arith in subst (λ (j : ℕ). marksOf v j ≤ b) e (omega arith)
+    go rec (no l) = let e : i ≡ k = omega arith in subst (λ (j : ℕ). rowMarks store j ≤ b) e (omega arith)
 
 first-under : (ns : Nodes) (b : ℕ) → Unders b ns → Under b (firstOf ns)
 first-under none b u = tt
 first-under (n then ns) b u = u .0
 
-node-under : (k : ℕ) (v : View) (i : ℕ) (ns e a : Nodes) (b : ℕ) → v .kind i ≡ k → marksOf v i ≤ b → Unders b ns → Unders b e → Unders b a
-    → Under b (nodeOf v i ns e a)
-unfolding nodeOf marksOf
-node-under zero v i ns e a b q h x y z = rw q (let l = rw q at h in (omega arith, x))
-node-under (suc zero) v i ns e a b q h x y z = rw q x
-node-under (suc (suc zero)) v i ns e a b q h x y z = rw q x
-node-under (suc (suc (suc zero))) v i ns e a b q h x y z = rw q tt
-node-under (suc (suc (suc (suc zero)))) v i ns e a b q h x y z = rw q tt
-node-under (suc (suc (suc (suc (suc zero))))) v i ns e a b q h x y z = rw q tt
-node-under (suc (suc (suc (suc (suc (suc zero)))))) v i ns e a b q h x y z = rw q tt
-node-under (suc (suc (suc (suc (suc (suc (suc zero))))))) v i ns e a b q h x y z = rw q tt
-node-under (suc (suc (suc (suc (suc (suc (suc (suc zero)))))))) v i ns e a b q h x y z = rw q tt
-node-under (suc (suc (suc (suc (suc (suc (suc (suc (suc zero))))))))) v i ns e a b q h x y z = rw q tt
-node-under (suc (suc (suc (suc (suc (suc (suc (suc (suc (suc zero)))))))))) v i ns e a b q h x y z =
+node-under : (k : ℕ) (store : List ℕ) (i : ℕ) (ns e a : Nodes) (b : ℕ) → cell store i 0 ≡ k → rowMarks store i ≤ b → Unders b ns → Unders b e
+    → Unders b a
+    → Under b (nodeOf (viewOf store) i ns e a)
+unfolding nodeOf viewOf
+node-under zero store i ns e a b q h x y z = rw q (let l = rw q at h in (omega arith, x))
+node-under (suc zero) store i ns e a b q h x y z = rw q x
+node-under (suc (suc zero)) store i ns e a b q h x y z = rw q x
+node-under (suc (suc (suc zero))) store i ns e a b q h x y z = rw q tt
+node-under (suc (suc (suc (suc zero)))) store i ns e a b q h x y z = rw q tt
+node-under (suc (suc (suc (suc (suc zero))))) store i ns e a b q h x y z = rw q tt
+node-under (suc (suc (suc (suc (suc (suc zero)))))) store i ns e a b q h x y z = rw q tt
+node-under (suc (suc (suc (suc (suc (suc (suc zero))))))) store i ns e a b q h x y z = rw q tt
+node-under (suc (suc (suc (suc (suc (suc (suc (suc zero)))))))) store i ns e a b q h x y z = rw q tt
+node-under (suc (suc (suc (suc (suc (suc (suc (suc (suc zero))))))))) store i ns e a b q h x y z = rw q tt
+node-under (suc (suc (suc (suc (suc (suc (suc (suc (suc (suc zero)))))))))) store i ns e a b q h x y z =
     rw q (let l = rw q at h in (omega arith, first-under e b y, first-under a b z))
-node-under (suc (suc (suc (suc (suc (suc (suc (suc (suc (suc (suc zero))))))))))) v i ns e a b q h x y z =
+node-under (suc (suc (suc (suc (suc (suc (suc (suc (suc (suc (suc zero))))))))))) store i ns e a b q h x y z =
     rw q (let l = rw q at h in (omega arith, omega arith, y, z))
-node-under (suc (suc (suc (suc (suc (suc (suc (suc (suc (suc (suc (suc k)))))))))))) v i ns e a b q h x y z = rw q tt
+node-under (suc (suc (suc (suc (suc (suc (suc (suc (suc (suc (suc (suc k)))))))))))) store i ns e a b q h x y z = rw q tt
 
-decode-under : (f : ℕ) (v : View) (i j b : ℕ) → ((k : ℕ) → i ≤ k → k < j → marksOf v k ≤ b) → Unders b (decode f v i j)
+decode-under : (f : ℕ) (store : List ℕ) (i j b : ℕ) → ((k : ℕ) → i ≤ k → k < j → rowMarks store k ≤ b) → Unders b (decode f (viewOf store) i j)
 unfolding decode
-decode-under zero v i j b s = tt
-decode-under (suc f) v i j b s = go (λ k l t. decode-under f v k l b t) (ltb i j) refl
+decode-under zero store i j b s = tt
+decode-under (suc f) store i j b s = go (λ k l t. decode-under f store k l b t) (ltb i j) refl
   where
-    go : ((k l : ℕ) → ((m : ℕ) → k ≤ m → m < l → marksOf v m ≤ b) → Unders b (decode f v k l)) → (c : Bool) → ltb i j ≡ c
+    v : View
+    v = viewOf store
+
+    go : ((k l : ℕ) → ((m : ℕ) → k ≤ m → m < l → rowMarks store m ≤ b) → Unders b (decode f v k l)) → (c : Bool) → ltb i j ≡ c
         → Unders b
         (cond c
         (nodeOf v i
@@ -88,13 +96,13 @@ decode-under (suc f) v i j b s = go (λ k l t. decode-under f v k l b t) (ltb i 
     go rec false e = tt
     go rec true e =
         let h = ltb-true i j e in (
-          node-under (v .kind i) v i _ _ _ b refl (s i (omega arith) h)
+          node-under (cell store i 0) store i _ _ _ b refl (s i (omega arith) h)
               (rec (suc i) (endIn v i j) (λ k p q. s k (omega arith) (in-end v i j k h q)))
               (rec (suc i) (secondIn v i (endIn v i j)) (λ k p q. s k (omega arith) (in-second v i j k h q)))
               (rec (secondIn v i (endIn v i j)) (endIn v i j) (λ k p q. s k (from-second v i (endIn v i j) k p) (in-end v i j k h q))),
           rec (endIn v i j) j (λ k p q. s k (from-end v i j k p) q),
         )
 
-pub nodes-under : (v : View) (n i j k b : ℕ) → marksFrom n v i ≤ b → i ≤ j → k ≤ i + n → Unders b (nodesAt v j k)
+pub nodes-under : (store : List ℕ) (n i j k b : ℕ) → marksNeeded n store i ≤ b → i ≤ j → k ≤ i + n → Unders b (nodesAt (viewOf store) j k)
 unfolding nodesAt
-nodes-under v n i j k b h p q = decode-under (k - j) v j k b (λ m x y. each-under n v i b h m (omega arith) (omega arith))
+nodes-under store n i j k b h p q = decode-under (k - j) store j k b (λ m x y. each-under n store i b h m (omega arith) (omega arith))

@@ -10,37 +10,37 @@ use native.Mathlib.Omega.{arith}
 use lib.ListN.{length}
 use Rattle.rows.specs.Node.{Nodes}
 use Rattle.rows.specs.View.{viewOf, nodesAt}
+use Rattle.marks.specs.Marks.{marksNeeded}
 use Rattle.renderer.specs.Renderer.{Page, Renderer, renders}
 use Rattle.renderer.specs.Check.{wrongPlace}
 use Rattle.renderer.proofs.Joined.{renders-ranges}
 use Rattle.cut.specs.Laws.{SameBefore}
 use Rattle.cut.specs.Parts.{Pen, Drawn}
 use Rattle.cut.specs.PartLaws.{withPast, thenDrawn, RenderPartLaws}
-use Rattle.format.specs.Parts.{marksFrom, rendererOf, drawnBy, page, drawn, parts}
-use Rattle.format.proofs.Local.{nodes-local, rows-same}
+use Rattle.format.specs.Parts.{rendererOf, drawnBy, page, drawn, parts}
+use Rattle.format.proofs.Local.{nodes-local, cell-same, rows-same}
 use Rattle.format.proofs.Past.{Unders, ext, renders-length, renders-ext}
 use Rattle.format.proofs.Marks.{marks-local, marks-add, nodes-under}
 use Rattle.format.proofs.Right.{right, none-found, right-none, right-both, right-same}
 
 -- the marks that the rows of a store need, from one up to a stop
 abbrev needed : List ℕ → ℕ → ℕ → ℕ
-needed store i n = marksFrom (n - i) (viewOf store) i
+needed store i n = marksNeeded (n - i) store i
 
 needed-join : (store : List ℕ) (n m : ℕ) → n ≤ m → needed store 0 m ≡ max (needed store 0 n) (needed store n m)
 needed-join store n m h =
     let e : m - 0 ≡ (n - 0) + (m - n) = omega arith in
     let f : 0 + (n - 0) ≡ n = omega arith in
-    ap (λ (k : ℕ). marksFrom k (viewOf store) 0) e
-    ∙ marks-add (n - 0) (m - n) (viewOf store) 0
-    ∙ ap (λ (k : ℕ). max (needed store 0 n) (marksFrom (m - n) (viewOf store) k)) f
+    ap (λ (k : ℕ). marksNeeded k store 0) e
+    ∙ marks-add (n - 0) (m - n) store 0
+    ∙ ap (λ (k : ℕ). max (needed store 0 n) (marksNeeded (m - n) store k)) f
 
 needed-local : (store other : List ℕ) (i n : ℕ) → SameBefore n store other → needed store i n ≡ needed other i n
-needed-local store other i n e =
-    marks-local (n - i) (viewOf store) (viewOf other) i (λ k p q. rows-same n store other e i k p (omega arith))
+needed-local store other i n e = marks-local (n - i) store other i (λ k c p q l. cell-same n store other e k c (omega arith) l)
 
 -- the nodes of rows before the stop have numbers under the marks
 under-marks : (store marks : List ℕ) (i n : ℕ) → needed store 0 n ≤ length marks → Unders (length marks) (nodesAt (viewOf store) i n)
-under-marks store marks i n h = nodes-under (viewOf store) (n - 0) 0 i n (length marks) h (omega arith) (omega arith)
+under-marks store marks i n h = nodes-under store (n - 0) 0 i n (length marks) h (omega arith) (omega arith)
 
 -- ---- going on
 -- what a renderer leaves with its text ahead

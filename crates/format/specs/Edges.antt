@@ -1,7 +1,8 @@
 -- The edges that document 01 marks with *, as a single list. Each is run by the rules of the two calls, refusals included.
+use mathlib.Core.Path.{_≡_}
 use mathlib.Core.Bool.{true}
 use mathlib.Core.Option.{Option, none, some}
-use mathlib.Core.List.{List, [], _∷_, _++_}
+use mathlib.Core.List.{List, [], _∷_, _++_, map}
 use Prim.Native.Nat.{ℕ, zero, suc, _+_}
 use lib.ListN.{length, replicate}
 use Rattle.image.specs.Write.{Plain, Plains, without, plainly, done, _next_, bytes4, framed, written}
@@ -279,3 +280,7 @@ fileEdges =
 
 abbrev pub edges : List Edge
 edges = renderingEdges ++ fileEdges
+
+-- the one theorem about it
+abbrev pub EdgesHold : Type 0
+EdgesHold = map observed edges ≡ map due edges

@@ -1,9 +1,9 @@
 -- Document 01's rules for one source s and one image b, as the cut rule takes them. Each part is a definition of a lower layer; here they are
 -- only put together.
-use mathlib.Core.Bool.{true, cond, not}
+use mathlib.Core.Bool.{true, not}
 use mathlib.Core.Option.{Option, none, some}
 use mathlib.Core.List.{List, [], _∷_, map}
-use Prim.Native.Nat.{ℕ, zero, suc, _+_, _-_, max}
+use Prim.Native.Nat.{ℕ, _+_, _-_}
 use lib.Dec.{eqb}
 use lib.ListN.{length}
 use Rattle.text.specs.Space.{trimEnd}
@@ -12,14 +12,15 @@ use Rattle.tree.specs.Syntax.{Declaration, SyntaxTree}
 use Rattle.tree.specs.Records.{syntaxTree}
 use Rattle.rows.specs.Node.{line}
 use Rattle.rows.specs.Rows.{sizes, rows}
-use Rattle.rows.specs.View.{View, viewOf, nodesAt}
+use Rattle.rows.specs.View.{viewOf, nodesAt}
+use Rattle.marks.specs.Marks.{marksNeeded}
 use Rattle.state.specs.Act.{Act, skip, push}
 use Rattle.comments.specs.Comments.{nth}
 use Rattle.comments.specs.Listed.{commentsOf, given}
 use Rattle.layout.specs.Layout.{shebangRule, declaration}
 use Rattle.renderer.specs.Renderer.{Page, Renderer, renders}
 use Rattle.renderer.specs.Page.{pageOf}
-use Rattle.renderer.specs.Check.{usesNumber, usesNumber2, wrongPlace}
+use Rattle.renderer.specs.Check.{wrongPlace}
 use Rattle.cut.specs.Rules.{Refusal}
 use Rattle.cut.specs.CutRule.{Text}
 use Rattle.cut.specs.Parts.{Cursor, Piece, Pen, Drawn, Parts, first, when}
@@ -59,15 +60,6 @@ declarationAct s b n none = skip
 declarationAct s b n (some d) = declaration (given s b) d (eqb n 0)
 
 -- ---- rendering
--- the marks that row i needs: its number plus 1, or the larger of both, where its kind uses them
-unfoldable pub marksOf : View → ℕ → ℕ
-marksOf v i = max (cond (usesNumber (v .kind i)) (suc (v .number i)) 0) (cond (usesNumber2 (v .kind i)) (suc (v .number2 i)) 0)
-
--- the marks that n rows from i on need
-unfoldable pub marksFrom : ℕ → View → ℕ → ℕ
-marksFrom zero v i = 0
-marksFrom (suc n) v i = max (marksOf v i) (marksFrom n v (suc i))
-
 -- `Renderer` as a call makes it, and what a call takes from it
 abbrev pub rendererOf : Pen → List ℕ → Renderer
 rendererOf z marks = record { buf = []; indent = z .indent; nextIndent = z .next-indent; column = z .column; marks = marks }
@@ -97,6 +89,6 @@ parts s b =
       declaration = λ n. pieceOf (declarationAct s b n (nth (tree .declarations) n));
       final = pieceOf (push line);
       wrong-row = wrongPlace s b;
-      needed = λ store i stop. marksFrom (stop - i) (viewOf store) i;
+      needed = λ store i stop. marksNeeded (stop - i) store i;
       draw = drawn s b;
     }

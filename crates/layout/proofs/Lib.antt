@@ -1,1 +1,6 @@
-pub mod Try
+pub mod Idents
+pub mod Parts
+pub mod Groups
+pub mod Lasts
+pub mod Runs
+pub mod TypeForms

@@ -1,32 +1,138 @@
 -- The layout rules: `State` of fmt.rs from `separated` on, function by function, under its names.
 use Prim.Native.Nat.{ℕ, _+_, _-_}
 use Prim.Native.String.{String}
-use mathlib.Core.Bool.{Bool, true, false, cond, not, _&&_}
+use mathlib.Core.Bool.{Bool, true, false, cond, not, _&&_, _||_}
 use mathlib.Core.List.{List, [], _∷_}
 use mathlib.Core.Option.{Option, none, some}
 use lib.ListN.{getD}
-use lib.Dec.{ltb, eqb}
+use lib.Dec.{ltb, leb, eqb}
 use lib.Text.{eqt}
 use Rattle.text.specs.Space.{trimEnd}
 use Rattle.tree.specs.Syntax.{
-    Span, Ident, Path, Idents, TypeExpr, type, TypeForm, option, typePath, never, unit, recordType, TypeArgs, noArgs, args, Types, noTypes,
-    _∷ᵗ_, Fields, noFields, field, Import, import, ImportGroup, noGroup, group, Imports, noImports, _∷ⁱ_, Pattern, underscore, enumVariant,
-    Expr, expr, Form, return′, literal, block, match′, functionCall, access, path, record′, typedRecord, list, not′, assign,
-    compoundAssign, binOp, negate, ifElse, while, for, questionMark, fString, parentheses, Exprs, noExprs, _∷ᵉ_, MaybeExpr, noExpr, someExpr,
-    Entries, noEntries, entry, Arms, noArms, arm, Parts, noParts, string, value, Block, braces, MaybeBlock, noBlock, someBlock, Stmts,
-    noStmts, _∷ˢ_, Stmt, stmt, StmtForm, let′, importStmt, does, Variants, noVariants, variant, Declaration, filterMap, const,
-    recordDecl, enumDecl, function, test, importDecl, SyntaxTree
+  Span,
+  Ident,
+  Path,
+  Idents,
+  TypeExpr,
+  type,
+  TypeForm,
+  option,
+  typePath,
+  never,
+  unit,
+  recordType,
+  TypeArgs,
+  noArgs,
+  args,
+  Types,
+  noTypes,
+  _∷ᵗ_,
+  Fields,
+  noFields,
+  field,
+  Import,
+  import,
+  ImportGroup,
+  noGroup,
+  group,
+  Imports,
+  noImports,
+  _∷ⁱ_,
+  Pattern,
+  underscore,
+  enumVariant,
+  Expr,
+  expr,
+  Form,
+  return′,
+  literal,
+  block,
+  match′,
+  functionCall,
+  access,
+  path,
+  record′,
+  typedRecord,
+  list,
+  not′,
+  assign,
+  compoundAssign,
+  binOp,
+  negate,
+  ifElse,
+  while,
+  for,
+  questionMark,
+  fString,
+  parentheses,
+  Exprs,
+  noExprs,
+  _∷ᵉ_,
+  MaybeExpr,
+  noExpr,
+  someExpr,
+  Entries,
+  noEntries,
+  entry,
+  Arms,
+  noArms,
+  arm,
+  Parts,
+  noParts,
+  string,
+  value,
+  Block,
+  braces,
+  MaybeBlock,
+  noBlock,
+  someBlock,
+  Stmts,
+  noStmts,
+  _∷ˢ_,
+  Stmt,
+  stmt,
+  StmtForm,
+  let′,
+  importStmt,
+  does,
+  Variants,
+  noVariants,
+  variant,
+  Declaration,
+  filterMap,
+  const,
+  recordDecl,
+  enumDecl,
+  function,
+  test,
+  importDecl,
+  SyntaxTree,
 }
+use Rattle.tree.specs.At.{formKind}
 use Rattle.rows.specs.Node.{str, ascii, line, emptyLine, lineOrSpace, wrapParent, ifWrap}
 use Rattle.rows.specs.Words.{word}
 use Rattle.state.specs.Act.{
-    Given, St, Out, Act, Asking, _⨟_, _⨟?_, skip, when, push, told, grouped, indented, indentedNext, called, says, content
+  Given,
+  St,
+  Out,
+  Act,
+  Asking,
+  _⨟_,
+  _⨟?_,
+  skip,
+  when,
+  push,
+  told,
+  grouped,
+  indented,
+  indentedNext,
+  called,
+  says,
+  content,
 }
 use Rattle.comments.specs.Comments.{popWhitespace, popTrailingComment}
-
--- `WrapStyle`
-pub data WrapStyle : Type 0 where
-  Tight Spaced Wrap : WrapStyle
+use Rattle.layout.specs.declared.kinds.WrapStyle.{WrapStyle}
+use Rattle.layout.specs.declared.kinds.WrapStyle.the-variants.{Tight, Spaced, Wrap}
 
 -- an element of `separated`: where its span starts, and what the closure does with it
 pub record Elem : Type 0 where
@@ -63,30 +169,31 @@ pub record Spine : Type 0 where
   pub tail : Act
   pub alone : Bool
 
--- An expression by itself, by the precedence around it, and as the left operand of an operator of some precedence.
+-- An expression by itself, by the precedence around it and without the comment after it; and as the left operand of an operator of some
+-- precedence.
 pub record Look : Type 0 where
-  pub whole : ℕ → Act
+  pub form : ℕ → Act
   pub under : ℕ → Spine
 
 -- ---- tests on the tree
-abbrev isSome : {A : Type 0} → Option A → Bool
+abbrev pub isSome : {A : Type 0} → Option A → Bool
 isSome none = false
 isSome (some a) = true
 
-abbrev isGroup : ImportGroup → Bool
+abbrev pub isGroup : ImportGroup → Bool
 isGroup noGroup = false
 isGroup (group s is) = true
 
-abbrev typeSpan : TypeExpr → Span
+abbrev pub typeSpan : TypeExpr → Span
 typeSpan (type s f) = s
 
-abbrev importSpan : Import → Span
+abbrev pub importSpan : Import → Span
 importSpan (import s p q) = s
 
-abbrev exprSpan : Expr → Span
+abbrev pub exprSpan : Expr → Span
 exprSpan (expr s f) = s
 
-abbrev stmtSpan : Stmt → Span
+abbrev pub stmtSpan : Stmt → Span
 stmtSpan (stmt s f) = s
 
 -- the span of the last of some types
@@ -94,58 +201,70 @@ unfoldable pub lastSpan : TypeExpr → Types → Span
 lastSpan t noTypes = typeSpan t
 lastSpan t (u ∷ᵗ us) = lastSpan u us
 
-abbrev noneOf : Stmts → Bool
+abbrev pub noneOf : Stmts → Bool
 noneOf noStmts = true
 noneOf (x ∷ˢ ss) = false
 
 -- a block with neither statements nor a last expression
-abbrev isEmpty : Stmts → MaybeExpr → Bool
+abbrev pub isEmpty : Stmts → MaybeExpr → Bool
 isEmpty ss noExpr = noneOf ss
 isEmpty ss (someExpr e) = false
 
--- expressions that need no `;` as a statement; and a block, which needs no `,` in an arm
-pub data Shape : Type 0 where
-  Braced Brace Other : Shape
+-- a block, which needs no `,` in an arm; and the expressions that need no `;` as a statement: block, match, if, while and for
+abbrev pub isBlock : Expr → Bool
+isBlock (expr s f) = eqb (formKind f) 52
 
-abbrev shape : Form → Shape
-shape (return′ k e) = Other
-shape (literal s w) = Other
-shape (block b) = Brace
-shape (match′ e s a) = Braced
-shape (functionCall e s es) = Other
-shape (access e i) = Other
-shape (path p) = Other
-shape (record′ s es) = Other
-shape (typedRecord p s es) = Other
-shape (list es) = Other
-shape (not′ e) = Other
-shape (assign p e) = Other
-shape (compoundAssign p o e) = Other
-shape (binOp l s o r) = Other
-shape (negate e) = Other
-shape (ifElse c b e) = Braced
-shape (while c b) = Braced
-shape (for i e b) = Braced
-shape (questionMark e) = Other
-shape (fString ps) = Other
-shape (parentheses e) = Other
+abbrev pub isBraced : Expr → Bool
+isBraced (expr s f) = eqb (formKind f) 52 || eqb (formKind f) 53 || (leb 65 (formKind f) && leb (formKind f) 67)
 
-abbrev isBlock : Expr → Bool
-isBlock (expr s f) = elim (shape f) [ Braced ↦ false | Brace ↦ true | Other ↦ false ]
-
-abbrev isBraced : Expr → Bool
-isBraced (expr s f) = elim (shape f) [ Braced ↦ true | Brace ↦ true | Other ↦ false ]
-
-abbrev unlessEmpty : List Ident → Act → Act
+abbrev pub unlessEmpty : List Ident → Act → Act
 unlessEmpty [] a = skip
 unlessEmpty (i ∷ is) a = a
 
+-- ---- pieces that read nothing of what is given
+-- `separated`: the line or the space inside its brackets, and what comes before its elements
+abbrev pub edge : WrapStyle → Act
+edge Tight = push line
+edge Spaced = push lineOrSpace
+edge Wrap = push line
+
+abbrev pub isWrap : WrapStyle → Bool
+isWrap Tight = false
+isWrap Spaced = false
+isWrap Wrap = true
+
+unfoldable pub opens : String → WrapStyle → Act
+opens start style = when (isWrap style) (push wrapParent) ⨟ says start ⨟ edge style
+
+-- a chain of one operand; the group of a chain; one of two chains
+abbrev pub lone : Act → Spine
+lone a = record { head = a; tail = skip; alone = true }
+
+unfoldable pub chained : Spine → Act
+chained c = grouped (λ id. c .head ⨟ push lineOrSpace ⨟ indented (c .tail))
+
+abbrev pub pickSpine : Bool → Spine → Spine → Spine
+pickSpine true a b = a
+pickSpine false a b = b
+
+-- a value in an f-string
+unfoldable pub placeholder : Act → Act
+placeholder a = says "{" ⨟ a ⨟ says "}"
+
+-- the condition of `if`, `while` and `for`, after its word, and the block
+unfoldable pub clause : String → Act → Act → Act
+clause w a b = says w ⨟ grouped (λ id. indented a) ⨟ says " " ⨟ b
+
+-- how a block starts
+unfoldable pub blockStart : Bool → Act
+blockStart empty = says "{" ⨟ push line ⨟ when (not empty) (push wrapParent)
+
 module _ (g : Given) where
-  abbrev trailing : Act
+  abbrev pub trailing : Act
   trailing = popTrailingComment g
 
   -- `pop_whitespace` where its answer isn't looked at
-  abbrev gap : ℕ → Bool → Bool → Bool → Act
+  abbrev pub gap : ℕ → Bool → Bool → Bool → Act
   gap position a b c = told (popWhitespace g position a b c)
 
   -- `Node::ident`
@@ -153,58 +272,45 @@ module _ (g : Given) where
   ident i = push (str (g .columns i) (record { origin = 1; start = i .start; size = i .size }))
 
   -- ---- `separated`
-  abbrev edge : WrapStyle → Act
-  edge Tight = push line
-  edge Spaced = push lineOrSpace
-  edge Wrap = push line
-
-  abbrev isWrap : WrapStyle → Bool
-  isWrap Tight = false
-  isWrap Spaced = false
-  isWrap Wrap = true
+  -- what comes before an element
+  unfoldable pub beforeElem : String → Bool → ℕ → Act
+  beforeElem separator first position =
+      when (not first && not (eqt separator "")) (says separator)
+      ⨟ gap position true true false
+      ⨟ when (not first) (push lineOrSpace)
 
   -- the loop over the elements
   unfoldable pub elements : String → Bool → List Elem → Act
   elements separator first [] = skip
-  elements separator first (e ∷ es) =
-      when (not first && not (eqt separator "")) (says separator)
-      ⨟ gap (e .start) true true false
-      ⨟ when (not first) (push lineOrSpace)
-      ⨟ e .act
-      ⨟ elements separator false es
+  elements separator first (e ∷ es) = beforeElem separator first (e .start) ⨟ e .act ⨟ elements separator false es
+
+  -- what comes after the elements
+  unfoldable pub ends : String → ℕ → Span → Act
+  ends separator id span =
+      when (not (eqt separator "")) (push (ifWrap id (ascii (word separator)) (ascii (word "")))) ⨟ gap (span .end) true false false
+
+  -- in the group with the number id
+  unfoldable pub inside : String → String → String → List Elem → Span → WrapStyle → ℕ → Act
+  inside start end separator [] span style id =
+      says start ⨟ push line ⨟ indented (gap (span .end) false false false) ⨟ push line ⨟ says end ⨟ trailing
+  inside start end separator (e ∷ es) span style id =
+      opens start style
+      ⨟ indented (elements separator true (e ∷ es) ⨟ ends separator id span)
+      ⨟ edge style
+      ⨟ says end
+      ⨟ trailing
 
   unfoldable pub separated : String → String → String → List Elem → Span → WrapStyle → Act
-  separated start end separator [] span style =
-      grouped (λ id.
-        says start
-        ⨟ push line
-        ⨟ indented (gap (span .end) false false false)
-        ⨟ push line
-        ⨟ says end
-        ⨟ trailing)
-  separated start end separator (e ∷ es) span style =
-      grouped (λ id.
-        when (isWrap style) (push wrapParent)
-        ⨟ says start
-        ⨟ edge style
-        ⨟ indented (
-          elements separator true (e ∷ es)
-          ⨟ when (not (eqt separator "")) (push (ifWrap id (ascii (word separator)) (ascii (word ""))))
-          ⨟ gap (span .end) true false false)
-        ⨟ edge style
-        ⨟ says end
-        ⨟ trailing)
+  separated start end separator es span style = grouped (λ id. inside start end separator es span style id)
 
   -- ---- `path`
-  -- the identifiers after the first
+  -- an identifier after the first, and all of them
+  unfoldable pub pathNext : Bool → Ident → Act
+  pathNext allowLineBreaks i = when allowLineBreaks (push line) ⨟ gap (i .span .end) false false false ⨟ says "." ⨟ ident i
+
   unfoldable pub pathMore : Bool → List Ident → Act
   pathMore allowLineBreaks [] = skip
-  pathMore allowLineBreaks (i ∷ is) =
-      when allowLineBreaks (push line)
-      ⨟ gap (i .span .end) false false false
-      ⨟ says "."
-      ⨟ ident i
-      ⨟ pathMore allowLineBreaks is
+  pathMore allowLineBreaks (i ∷ is) = pathNext allowLineBreaks i ⨟ pathMore allowLineBreaks is
 
   unfoldable pub pathRule : Path → Bool → Bool → Act
   pathRule p true allowLineBreaks =
@@ -215,6 +321,10 @@ module _ (g : Given) where
   abbrev pub identElems : List Ident → List Elem
   identElems [] = []
   identElems (i ∷ is) = record { start = i .span .start; act = ident i } ∷ identElems is
+
+  -- a name, and what it names
+  abbrev pub named : Ident → Act → Act
+  named i a = ident i ⨟ says ": " ⨟ a
 
   -- ---- `type_expr`, `record_type`, `params`
   unfoldable mutual
@@ -238,7 +348,7 @@ module _ (g : Given) where
 
     pub fieldElems : Fields → List Elem
     fieldElems noFields = []
-    fieldElems (field s i t fs) = record { start = s .start; act = ident i ⨟ says ": " ⨟ typeExpr t } ∷ fieldElems fs
+    fieldElems (field s i t fs) = record { start = s .start; act = named i (typeExpr t) } ∷ fieldElems fs
 
   unfoldable pub params : Fields → Span → Act
   params fs s = separated "(" ")" "," (fieldElems fs) s Tight
@@ -250,11 +360,11 @@ module _ (g : Given) where
   typeParams is = separated "[" "]" "," (identElems (is .elems)) (is .span) Tight
 
   -- ---- `import_path`
-  abbrev importFirst : Option Path → Act
+  abbrev pub importFirst : Option Path → Act
   importFirst none = skip
   importFirst (some p) = pathRule p true false
 
-  abbrev oneOr : Imports → Act → Act → Act
+  abbrev pub oneOr : Imports → Act → Act → Act
   oneOr noImports one more = one
   oneOr (i ∷ⁱ is) one more = more
 
@@ -282,41 +392,34 @@ module _ (g : Given) where
   pattern (enumVariant i (some fs)) = ident i ⨟ separated "(" ")" "," (identElems (fs .elems)) (fs .span) Tight
 
   -- ---- `binop`
-  abbrev lone : Act → Spine
-  lone a = record { head = a; tail = skip; alone = true }
+  -- what comes before the right operand
+  unfoldable pub operator : Bool → Span → ℕ → Act
+  operator first s op =
+      (popWhitespace g (s .start) true true false ⨟? (λ whitespace. when (not first && not whitespace) (push lineOrSpace)))
+      ⨟ says (symbol op)
+      ⨟ says " "
 
   -- one more operator and its right operand
-  unfoldable pub operation : Bool → Span → ℕ → Act → Act
-  operation first s op right =
-      popWhitespace g (s .start) true true false
-      ⨟? (λ whitespace. when (not first && not whitespace) (push lineOrSpace) ⨟ says (symbol op) ⨟ says " " ⨟ right)
+  abbrev pub extend : Spine → Span → ℕ → Act → Spine
+  extend c s op right = record { head = c .head; tail = c .tail ⨟ operator (c .alone) s op ⨟ right; alone = false }
 
-  abbrev extend : Spine → Span → ℕ → Act → Spine
-  extend c s op right = record { head = c .head; tail = c .tail ⨟ operation (c .alone) s op right; alone = false }
+  -- `expr_with_precedence`: each expression ends with `pop_trailing_comment`
+  abbrev pub whole : Look → ℕ → Act
+  whole l outer = l .form outer ⨟ trailing
 
-  unfoldable pub chained : Spine → Act
-  chained c = grouped (λ id. c .head ⨟ push lineOrSpace ⨟ indented (c .tail))
+  -- an expression that is no binary operator
+  abbrev pub plain : (ℕ → Act) → Look
+  plain a = record { form = a; under = λ p. lone (a p ⨟ trailing) }
 
-  abbrev pickSpine : Bool → Spine → Spine → Spine
-  pickSpine true a b = a
-  pickSpine false a b = b
-
-  -- An expression that is no binary operator. Each expression ends with `pop_trailing_comment`.
-  abbrev plain : (ℕ → Act) → Look
-  plain a = record { whole = λ outer. a outer ⨟ trailing; under = λ p. lone (a p ⨟ trailing) }
-
-  abbrev joined : Look → Span → ℕ → Look → Look
+  -- `binop`: an operator of the precedence around it goes on with the chain of its left operand
+  abbrev pub joined : Look → Span → ℕ → Look → Look
   joined l s op r =
       let q = binopPrecedence op in
-      let whole : Act = chained (extend (l .under q) s op (r .whole Bottom)) ⨟ trailing in
-      record
-      { whole = λ outer. whole
-      ; under = λ p. pickSpine (eqb q p) (extend (l .under p) s op (r .whole Bottom)) (lone whole)
+      let own : Act = chained (extend (l .under q) s op (whole r Bottom)) in
+      record {
+        form = λ outer. own;
+        under = λ p. pickSpine (eqb q p) (extend (l .under p) s op (whole r Bottom)) (lone (own ⨟ trailing));
       }
-
-  -- the condition of `if`, `while` and `for`
-  abbrev condition : Act → Act
-  condition a = grouped (λ id. indented a)
 
   -- `literal`
   unfoldable pub literalRule : Span → ℕ → Act
@@ -324,11 +427,14 @@ module _ (g : Given) where
       gap (s .end) true true false
       ⨟ getD (push (ascii (content s)) ∷ says "true" ∷ says "false" ∷ says "()" ∷ []) which skip
 
-  -- the gaps of `block` before a statement or the last expression, and before its end
-  abbrev beforeStmt : Bool → ℕ → Act
-  beforeStmt first position = cond first (gap position false true false) (gap position true true true)
+  -- what comes before a statement or the last expression of a block, and after a statement
+  unfoldable pub beforeStmt : Bool → ℕ → Act
+  beforeStmt first position = cond first (gap position false true false) (gap position true true true) ⨟ push line
 
-  abbrev letType : Option TypeExpr → Act
+  unfoldable pub afterStmt : ℕ → Act
+  afterStmt position = gap position false false false ⨟ trailing
+
+  abbrev pub letType : Option TypeExpr → Act
   letType none = skip
   letType (some t) = says ": " ⨟ typeExpr t
 
@@ -338,41 +444,41 @@ module _ (g : Given) where
     look (expr s f) = lookForm s f
 
     pub lookForm : Span → Form → Look
-    lookForm s (return′ kind e) = plain (λ outer. says (returnWord kind) ⨟ returned e)
+    lookForm s (return′ kind e) = plain (λ outer. says (returnWord kind) ⨟ maybeExpr " " e)
     lookForm s (literal t which) = plain (λ outer. literalRule t which)
     lookForm s (block b) = plain (λ outer. blockRule b)
     lookForm s (match′ e t arms) =
-        plain (λ outer. says "match " ⨟ look e .whole Bottom ⨟ says " " ⨟ separated "{" "}" "" (armElems arms) t Wrap)
+        plain (λ outer. says "match " ⨟ whole (look e) Bottom ⨟ says " " ⨟ separated "{" "}" "" (armElems arms) t Wrap)
     lookForm s (functionCall e t es) =
         plain (λ outer.
-          cond (ltb outer Chain) (called (look e .whole Chain) (separated "(" ")" "," (exprElems es) t Tight))
-          (look e .whole Chain ⨟ separated "(" ")" "," (exprElems es) t Tight))
+        cond (ltb outer Chain) (called (whole (look e) Chain) (separated "(" ")" "," (exprElems es) t Tight))
+        (whole (look e) Chain ⨟ separated "(" ")" "," (exprElems es) t Tight))
     lookForm s (access e i) =
         plain (λ outer.
-          cond (ltb outer Chain) (grouped (λ id. indentedNext (look e .whole Chain ⨟ push line ⨟ says "." ⨟ ident i)))
-          (look e .whole Chain ⨟ push line ⨟ says "." ⨟ ident i))
+        cond (ltb outer Chain) (grouped (λ id. indentedNext (whole (look e) Chain ⨟ push line ⨟ says "." ⨟ ident i)))
+        (whole (look e) Chain ⨟ push line ⨟ says "." ⨟ ident i))
     lookForm s (path p) = plain (λ outer. pathRule p (ltb outer Chain) true)
     lookForm s (record′ t es) = plain (λ outer. separated "{" "}" "," (entryElems es) t Spaced)
     lookForm s (typedRecord p t es) = plain (λ outer. pathRule p true true ⨟ says " " ⨟ separated "{" "}" "," (entryElems es) t Spaced)
     lookForm s (list es) = plain (λ outer. separated "[" "]" "," (groupedElems es) s Tight)
-    lookForm s (not′ e) = plain (λ outer. says "!" ⨟ look e .whole Unit′)
-    lookForm s (assign p e) = plain (λ outer. pathRule p true true ⨟ says " = " ⨟ look e .whole Bottom)
-    lookForm s (compoundAssign p op e) = plain (λ outer. pathRule p true true ⨟ says (assignSymbol op) ⨟ look e .whole Bottom)
+    lookForm s (not′ e) = plain (λ outer. says "!" ⨟ whole (look e) Unit′)
+    lookForm s (assign p e) = plain (λ outer. pathRule p true true ⨟ says " = " ⨟ whole (look e) Bottom)
+    lookForm s (compoundAssign p op e) = plain (λ outer. pathRule p true true ⨟ says (assignSymbol op) ⨟ whole (look e) Bottom)
     lookForm s (binOp l t op r) = joined (look l) t op (look r)
-    lookForm s (negate e) = plain (λ outer. says "-" ⨟ look e .whole Bottom)
+    lookForm s (negate e) = plain (λ outer. says "-" ⨟ whole (look e) Bottom)
     lookForm s (ifElse c b e) =
-        plain (λ outer. says "if " ⨟ condition (look c .whole Bottom) ⨟ says " " ⨟ blockRule b ⨟ otherwise e)
-    lookForm s (while c b) = plain (λ outer. says "while " ⨟ condition (look c .whole Bottom) ⨟ says " " ⨟ blockRule b)
+        plain (λ outer. clause "if " (whole (look c) Bottom) (blockRule b) ⨟ otherwise e)
+    lookForm s (while c b) = plain (λ outer. clause "while " (whole (look c) Bottom) (blockRule b))
     lookForm s (for i e b) =
-        plain (λ outer. says "for " ⨟ ident i ⨟ says " in " ⨟ condition (look e .whole Bottom) ⨟ says " " ⨟ blockRule b)
-    lookForm s (questionMark e) = plain (λ outer. look e .whole outer ⨟ says "?")
+        plain (λ outer. says "for " ⨟ ident i ⨟ clause " in " (whole (look e) Bottom) (blockRule b))
+    lookForm s (questionMark e) = plain (λ outer. whole (look e) outer ⨟ says "?")
     lookForm s (fString ps) = plain (λ outer. gap (s .start) true true false ⨟ says "f\"" ⨟ partsRule ps ⨟ says "\"")
-    lookForm s (parentheses e) = plain (λ outer. gap (s .start) true true false ⨟ says "(" ⨟ look e .whole Bottom ⨟ says ")")
+    lookForm s (parentheses e) = plain (λ outer. gap (s .start) true true false ⨟ says "(" ⨟ whole (look e) Bottom ⨟ says ")")
 
-    -- the value of a `return`
-    pub returned : MaybeExpr → Act
-    returned noExpr = skip
-    returned (someExpr e) = says " " ⨟ look e .whole Bottom
+    -- the value of a `return`, the guard of an arm
+    pub maybeExpr : String → MaybeExpr → Act
+    maybeExpr w noExpr = skip
+    maybeExpr w (someExpr e) = says w ⨟ whole (look e) Bottom
 
     -- the `else` of an `if`
     pub otherwise : MaybeBlock → Act
@@ -382,72 +488,61 @@ module _ (g : Given) where
     -- the closures of `function_args`, of a list, of `record` and of `match`
     pub exprElems : Exprs → List Elem
     exprElems noExprs = []
-    exprElems (e ∷ᵉ es) = record { start = exprSpan e .start; act = look e .whole Bottom } ∷ exprElems es
+    exprElems (e ∷ᵉ es) = record { start = exprSpan e .start; act = whole (look e) Bottom } ∷ exprElems es
 
     pub groupedElems : Exprs → List Elem
     groupedElems noExprs = []
-    groupedElems (e ∷ᵉ es) = record { start = exprSpan e .start; act = grouped (λ id. look e .whole Bottom) } ∷ groupedElems es
+    groupedElems (e ∷ᵉ es) = record { start = exprSpan e .start; act = grouped (λ id. whole (look e) Bottom) } ∷ groupedElems es
 
     pub entryElems : Entries → List Elem
     entryElems noEntries = []
-    entryElems (entry s i e es) = record { start = s .start; act = ident i ⨟ says ": " ⨟ look e .whole Bottom } ∷ entryElems es
+    entryElems (entry s i e es) = record { start = s .start; act = named i (whole (look e) Bottom) } ∷ entryElems es
 
     pub armElems : Arms → List Elem
     armElems noArms = []
-    armElems (arm s p condition body arms) =
+    armElems (arm s p guard body arms) =
         record {
           start = s .start;
-          act = pattern p ⨟ guard condition ⨟ says " => " ⨟ look body .whole Bottom ⨟ when (not (isBlock body)) (says ",");
+          act = pattern p ⨟ maybeExpr " if " guard ⨟ says " => " ⨟ whole (look body) Bottom ⨟ when (not (isBlock body)) (says ",");
         }
         ∷ armElems arms
-
-    pub guard : MaybeExpr → Act
-    guard noExpr = skip
-    guard (someExpr e) = says " if " ⨟ look e .whole Bottom
 
     -- the parts of an f-string
     pub partsRule : Parts → Act
     partsRule noParts = skip
     partsRule (string s ps) = push (ascii (content s)) ⨟ partsRule ps
-    partsRule (value e ps) = says "{" ⨟ look e .whole Bottom ⨟ says "}" ⨟ partsRule ps
+    partsRule (value e ps) = placeholder (whole (look e) Bottom) ⨟ partsRule ps
 
     -- `block`
     pub blockRule : Block → Act
     blockRule (braces s ss last) =
         grouped (λ id.
-          says "{"
-          ⨟ push line
-          ⨟ when (not (isEmpty ss last)) (push wrapParent)
-          ⨟ indented (stmtsRule ss true ⨟ lastRule last (noneOf ss) ⨟ gap (s .end) (not (isEmpty ss last)) false false)
-          ⨟ push line
-          ⨟ says "}")
+        blockStart (isEmpty ss last)
+        ⨟ indented (stmtsRule ss true ⨟ lastRule last (noneOf ss) ⨟ gap (s .end) (not (isEmpty ss last)) false false)
+        ⨟ push line
+        ⨟ says "}")
 
     pub stmtsRule : Stmts → Bool → Act
     stmtsRule noStmts first = skip
     stmtsRule (x ∷ˢ ss) first =
-        beforeStmt first (stmtSpan x .start)
-        ⨟ push line
-        ⨟ stmtRule x
-        ⨟ gap (stmtSpan x .end) false false false
-        ⨟ trailing
-        ⨟ stmtsRule ss false
+        beforeStmt first (stmtSpan x .start) ⨟ stmtRule x ⨟ afterStmt (stmtSpan x .end) ⨟ stmtsRule ss false
 
     pub lastRule : MaybeExpr → Bool → Act
     lastRule noExpr first = skip
-    lastRule (someExpr e) first = beforeStmt first (exprSpan e .start) ⨟ push line ⨟ look e .whole Bottom ⨟ trailing
+    lastRule (someExpr e) first = beforeStmt first (exprSpan e .start) ⨟ whole (look e) Bottom ⨟ trailing
 
     -- `stmt`
     pub stmtRule : Stmt → Act
     stmtRule (stmt s f) = stmtForm f
 
     pub stmtForm : StmtForm → Act
-    stmtForm (let′ i t e) = says "let " ⨟ ident i ⨟ letType t ⨟ says " = " ⨟ look e .whole Bottom ⨟ says ";"
+    stmtForm (let′ i t e) = says "let " ⨟ ident i ⨟ letType t ⨟ says " = " ⨟ whole (look e) Bottom ⨟ says ";"
     stmtForm (importStmt p) = says "import " ⨟ importPath p ⨟ says ";"
-    stmtForm (does e) = grouped (λ id. look e .whole Bottom ⨟ when (not (isBraced e)) (says ";"))
+    stmtForm (does e) = grouped (λ id. whole (look e) Bottom ⨟ when (not (isBraced e)) (says ";"))
 
   -- `expr`
   abbrev pub exprRule : Expr → Act
-  exprRule e = look e .whole Bottom
+  exprRule e = whole (look e) Bottom
 
   -- ---- `declaration`
   -- how each declaration begins: `first` is true of the file's first
@@ -455,16 +550,16 @@ module _ (g : Given) where
   opening position first =
       popWhitespace g position (not first) true (not first) ⨟? (λ whitespace. when (not first && not whitespace) (push line))
 
-  abbrev someTypeParams : Option Idents → Act
+  abbrev pub someTypeParams : Option Idents → Act
   someTypeParams none = skip
   someTypeParams (some is) = unlessEmpty (is .elems) (typeParams is)
 
-  abbrev returnType : Option TypeExpr → Act
+  abbrev pub returnType : Option TypeExpr → Act
   returnType none = skip
   returnType (some t) = says "-> " ⨟ typeExpr t ⨟ says " "
 
   -- the types of a variant, in a list whose end is taken from the last of them
-  abbrev variantTypes : Types → Act
+  abbrev pub variantTypes : Types → Act
   variantTypes noTypes = skip
   variantTypes (t ∷ᵗ ts) = separated "(" ")" "," (typeElems (t ∷ᵗ ts)) (lastSpan t ts) Tight
 

@@ -1,1 +1,4 @@
 pub mod Layout
+pub mod Contracts
+pub mod Elems
+pub mod Forms

@@ -1,11 +1,10 @@
 -- A row without parts, by its kind: what `render` does there, from the row's places.
 -- Assumes nothing.
 use mathlib.Core.Path.{_≡_, refl, ap, sym, _∙_}
-use Prim.Native.Nat.{ℕ, _+_, _≤_}
+use Prim.Native.Nat.{ℕ, _+_}
 use native.Mathlib.Omega.{arith}
 use mathlib.Core.Bool.{Bool, true, false, cond}
 use mathlib.Core.List.{List, [], _∷_}
-use lib.ListN.{length}
 use Rattle.rows.specs.View.{viewOf, cell}
 use Rattle.rows.proofs.Decode.{nodeAt, node-parent, node-comment, node-str, node-ascii, node-line, node-empty, node-space}
 use Rattle.renderer.specs.Page.{pageOf, textBytes, textOf}

@@ -4,4 +4,7 @@ pub mod Followed
 pub mod Framed
 pub mod Leaves
 pub mod Opening
+pub mod Outcome
+pub mod Running
+pub mod Stepped
 pub mod Written

@@ -4,11 +4,13 @@ use mathlib.Core.Path.{_≡_}
 use mathlib.Core.Bool.{Bool, true, false, cond, not, _&&_}
 use mathlib.Core.List.{List, []}
 use lib.ListN.{length, set}
-use Rattle.rows.specs.View.{View, viewOf, cell, nodesAt}
+use lib.Dec.{eqb}
+use Rattle.rows.specs.View.{viewOf, cell, nodesAt}
+use Rattle.rows.specs.Nesting.{Nested}
 use Rattle.renderer.specs.declared.Frame.{Frame}
-use Rattle.renderer.specs.Renderer.{Page, Renderer, groupWraps, trailing, calleeWraps, nextIndented}
+use Rattle.renderer.specs.Renderer.{Renderer, groupWraps, trailing, calleeWraps, outdented, nextIndented, nextOutdented}
 use Rattle.renderer.specs.Page.{pageOf}
-use Rattle.renderer.proofs.Meaning.{limit as partLimit, wrapAt}
+use Rattle.renderer.proofs.Meaning.{limit as partLimit}
 use Rattle.renderer.proofs.Opened.{At}
 use Rattle.renderer.proofs.Machine.{Machine, frame}
 use Rattle.renderer.proofs.Safe.{Safe, Small}
@@ -119,3 +121,58 @@ pub record ArgumentsOpened (store : List ℕ) (max : ℕ) (marks : List ℕ) (r 
         pen = r .pen;
       }
   pub marked : marks2 ≡ inserted wraps (cell store (f .row) 2) marks
+
+-- what the end of a row does, by its kind
+abbrev pub closes : ℕ → Frame → Renderer → Renderer
+closes kind f s =
+    cond (eqb kind 1)
+    (outdented (f .wrap) s)
+    (cond (eqb kind 2) (nextOutdented (f .wrap) s) (cond (eqb kind 11) (nextOutdented (f .deep) s) s))
+
+-- the step back that the end of a row takes is there
+pub record Backs (kind : ℕ) (f : Frame) (p : Pen) : Type 0 where
+  pub indent : kind ≡ 1 → f .wrap ≡ true → 1 ≤ p .indent
+  pub next : kind ≡ 2 → f .wrap ≡ true → 1 ≤ p .indent + p .«next_indent»
+  pub call : kind ≡ 11 → f .deep ≡ true → 1 ≤ p .indent + p .«next_indent»
+
+-- the numbers of a run that leaves the innermost row, whose frame is f
+pub record Leaves (store : List ℕ) (r : Run) (f : Frame) : Type 0 where
+  pub pos : 0 < r .depth
+  pub depth : r .depth ≤ 256
+  pub row : f .row * 9 + 8 < length store
+  pub indent : r .pen .indent ≤ 384
+  pub column : r .pen .column .0 < 1152921504606846976
+  pub backs : Backs (cell store (f .row) 0) f (r .pen)
+  pub arguments : cell store (f .row) 0 ≡ 11 → f .early ≡ true → Nested store (r .next) (cell store (f .row) 4)
+
+-- the run with the row of f closed
+abbrev pub closedRun : List ℕ → Run → Frame → Run
+closedRun store r f =
+    record {
+      frames = r .frames;
+      depth = r .depth - 1;
+      next = cell store (f .row) 4;
+      pen = withMargin (r .pen) (closes (cell store (f .row) 0) f (shown (r .pen) []));
+    }
+
+-- The innermost row is left: the arguments of a `Call` are opened, or the row is closed.
+pub data Left (store : List ℕ) (max : ℕ) (marks : List ℕ) (r : Run) (f : Frame) (marks2 : List ℕ) (q : Run) : Type 0 where
+  goesOn : cell store (f .row) 0 ≡ 11 → f .early ≡ true → ArgumentsOpened store max marks r f marks2 q → Left store max marks r f marks2 q
+  ends : (cell store (f .row) 0 ≡ 11 → f .early ≡ false) → marks2 ≡ marks → q ≡ closedRun store r f → Left store max marks r f marks2 q
+
+-- a rendering may start: the rows nest, and the state's numbers are in range
+pub record Starting (store : List ℕ) (limit from stop : ℕ) (out : List ℕ) (p : Pen) : Type 0 where
+  pub nested : Nested store from stop
+  pub fits : limit ≤ length out
+  pub margin : p .indent + p .«next_indent» ≤ 128
+  pub column : p .column .0 ≤ 72057594037927936
+  pub at : p .at .0 ≡ 0
+
+-- what s has is what the pen, the marks and the output have become
+pub record Rendered (limit : ℕ) (s : Renderer) (out marks2 out2 : List ℕ) (q : Pen) : Type 0 where
+  pub indent : q .indent ≡ s .indent
+  pub nextIndent : q .«next_indent» ≡ s .nextIndent
+  pub column : q .column .0 ≡ s .column
+  pub bytes : q .at .0 ≡ length (s .buf)
+  pub marks : marks2 ≡ s .marks
+  pub written : out2 ≡ over limit out 0 (s .buf)

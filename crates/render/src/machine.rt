@@ -4,16 +4,17 @@ ghost use Prim.Native.Nat.{ℕ, _+_, _-_, _*_, _≤_, _<_};
 ghost use mathlib.Core.Bool.{Bool, true, false, cond, not, _&&_};
 ghost use mathlib.Core.List.{[], _∷_};
 ghost use lib.ListN.{length, set};
+ghost use lib.Dec.{eqb};
 ghost use Rattle.rows.specs.Node.{wrapped};
 ghost use Rattle.rows.specs.View.{cell, viewOf, nodesAt};
 ghost use Rattle.rows.specs.Nesting.{Nested};
 ghost use Rattle.rows.proofs.Decode.{nodeAt};
 ghost use Rattle.renderer.specs.Page.{pageOf};
-ghost use Rattle.renderer.specs.Renderer.{render, groupWraps, trailing, calleeWraps, indented, outdented, newLine, nextIndented, nextOutdented, text, virtualColumn};
+ghost use Rattle.renderer.specs.Renderer.{render, renders, groupWraps, trailing, calleeWraps, indented, outdented, newLine, nextIndented, nextOutdented, text, virtualColumn};
 ghost use Rattle.renderer.proofs.Meaning.{frameAt, partEnd, wrapAt};
 ghost use Rattle.renderer.proofs.Machine.{frame, enter, turn};
 ghost use Rattle.render.specs.Pen.{shown, withMargin, Drawn, Room};
-ghost use Rattle.render.specs.Run.{openedRun, Enters, GroupOpened, CallOpened, ArgumentsOpened, Follows, Ready, Entering};
+ghost use Rattle.render.specs.Run.{openedRun, closedRun, closes, Backs, Enters, Leaves, Left, GroupOpened, CallOpened, ArgumentsOpened, Follows, Ready, Entering, Starting, Rendered, stateOf};
 use crate::pen::Pen;
 use crate::pen::comment;
 use crate::pen::empty_line;
@@ -409,4 +410,192 @@ fn text_leaf(
         size,
         ascii_columns(Bytes(size)),
     )
+}
+
+// What the end of a row takes back.
+fn close(p: Pen, kind: usize, f: Frame) -> Pen
+    requires { ⌜ Backs kind f p ⌝ }
+    ensures { λ r. ⌜ r ≡ withMargin p (closes kind f (shown p [])) ⌝ }
+{
+    if kind == 1 {
+        return outdent(p, f.wrap);
+    }
+    if kind == 2 {
+        return outdent_next(p, f.wrap);
+    }
+    if kind == 11 {
+        return outdent_next(p, f.deep);
+    }
+    p
+}
+
+// The innermost row is closed, and the row after it is next.
+fn finish(r: Run, f: Frame, store: &[u32]) -> Run
+    requires { ⌜ Leaves (now store) r f ⌝ }
+    ensures { λ q. ⌜ q ≡ closedRun (now (store .entry)) r f ⌝ }
+{
+    let row = wide(f.row);
+    let kind = place(store, row, 0);
+    let next = place(store, row, 4);
+    let p = r.pen;
+    closed(r, next, close(p, kind, f))
+}
+
+// The open part of the innermost row is done.
+fn leave(r: Run, f: Frame, store: &[u32], marks: &mut [u8], max: usize) -> Run
+    requires { ⌜ Leaves (now store) r f ⌝ }
+    ensures { λ q. ⌜ Left (now (store .entry)) max (now (marks .entry)) r f (now (marks .exit)) q ⌝ }
+{
+    let kind = place(store, wide(f.row), 0);
+    if kind != 11 {
+        return finish(r, f, store);
+    }
+    if f.early {
+        return enter_arguments(r, f, store, marks, max);
+    }
+    finish(r, f, store)
+}
+
+// Where the open part of a row ends.
+fn part_end(store: &[u32], f: Frame) -> usize
+    requires { ⌜ f .row * 9 + 8 < length (now store) ⌝ }
+    ensures { λ r. ⌜ r ≡ partEnd (viewOf (now (store .entry))) f ⌝ }
+{
+    if f.early {
+        return place(store, wide(f.row), 3);
+    }
+    place(store, wide(f.row), 4)
+}
+
+// The next row is entered; `wrap` says whether the part that it is in wraps.
+fn enter(
+    r: Run,
+    wrap: bool,
+    store: &[u32],
+    source: &[u8],
+    image: &[u8],
+    marks: &mut [u8],
+    out: &mut [u8],
+    limit: usize,
+    max: usize,
+    stop: usize,
+) -> Run
+    requires { ⌜ Entering (now store) (now source) (now image) max limit stop (now marks) (now out) r × (wrap ≡ wrapAt (viewOf (now store)) (pageOf max (now source) (now image)) stop (r .frames) (r .depth)) ⌝ }
+    ensures { λ q. ⌜ Follows limit (enter (viewOf (now (store .entry))) (pageOf max (now (source .entry)) (now (image .entry))) stop) (now (marks .entry)) (now (out .entry)) r (now (marks .exit)) (now (out .exit)) q ⌝ }
+{
+    let i = r.next;
+    let p = r.pen;
+    let kind = place(store, i, 0);
+    if kind == 0 {
+        return enter_group(r, store, marks, max);
+    }
+    if kind == 11 {
+        return enter_call(r, store, marks, max);
+    }
+    if kind == 10 {
+        return enter_if(r, wrap, store, marks);
+    }
+    if kind < 3 {
+        return enter_indent(r, wrap, kind);
+    }
+    let q = leaf(p, store, source, image, out, limit, i, kind, wrap, max);
+    let fs = r.frames;
+    Run {
+        frames: fs,
+        depth: r.depth,
+        next: i + 1,
+        pen: q,
+    }
+}
+
+// An `Indent` or an `IndentNext` is opened.
+fn enter_indent(r: Run, wrap: bool, kind: usize) -> Run
+    requires { ⌜ (r .depth < 256) × ((r .next < 2097152) × ((r .pen .indent + r .pen .«next_indent» ≤ 384) × ((0 < kind) × (kind < 3)))) ⌝ }
+    ensures { λ q. ⌜ q ≡ openedRun r (frame (r .next) wrap false false) (r .next + 1) (withMargin (r .pen) (cond (eqb kind 1) (indented wrap (shown (r .pen) [])) (nextIndented wrap (shown (r .pen) [])))) ⌝ }
+{
+    let i = r.next;
+    let p = r.pen;
+    let f = Frame {
+        row: i as u32,
+        wrap: wrap,
+        early: false,
+        deep: false,
+    };
+    if kind == 1 {
+        return opened(r, f, i + 1, indent(p, wrap));
+    }
+    opened(r, f, i + 1, indent_next(p, wrap))
+}
+
+// One turn: the innermost row is left, or the next row entered.
+fn step(
+    r: Run,
+    store: &[u32],
+    source: &[u8],
+    image: &[u8],
+    marks: &mut [u8],
+    out: &mut [u8],
+    limit: usize,
+    max: usize,
+    stop: usize,
+) -> Run
+    requires { ⌜ Ready (now store) (now source) (now image) max limit stop (now marks) (now out) r × (r .depth ≡ 0 → r .next < stop) ⌝ }
+    ensures { λ q. ⌜ Follows limit (turn (viewOf (now (store .entry))) (pageOf max (now (source .entry)) (now (image .entry))) stop) (now (marks .entry)) (now (out .entry)) r (now (marks .exit)) (now (out .exit)) q ⌝ }
+{
+    let d = r.depth;
+    if d == 0 {
+        return enter(r, true, store, source, image, marks, out, limit, max, stop);
+    }
+    let f = r.frames[d - 1];
+    let end = part_end(store, f);
+    if r.next == end {
+        return leave(r, f, store, marks, max);
+    }
+    enter(
+        r,
+        f.wrap,
+        store,
+        source,
+        image,
+        marks,
+        out,
+        limit,
+        max,
+        stop,
+    )
+}
+
+// Renders the rows from `from` up to `stop`. With limit 0 nothing is written, and the bytes are counted.
+pub fn run_rows(
+    p: Pen,
+    store: &[u32],
+    source: &[u8],
+    image: &[u8],
+    marks: &mut [u8],
+    out: &mut [u8],
+    limit: usize,
+    max: usize,
+    from: usize,
+    stop: usize,
+) -> Pen
+    requires { ⌜ Starting (now store) limit from stop (now out) p ⌝ }
+    ensures { λ q. ⌜ Rendered limit (renders (pageOf max (now (source .entry)) (now (image .entry))) (nodesAt (viewOf (now (store .entry))) from stop) true (stateOf p (now (marks .entry)) [])) (now (out .entry)) (now (marks .exit)) (now (out .exit)) q ⌝ }
+{
+    let blank = Frame {
+        row: 0,
+        wrap: false,
+        early: false,
+        deep: false,
+    };
+    let fs = [blank; 256];
+    let mut r = Run {
+        frames: fs,
+        depth: 0,
+        next: from,
+        pen: p,
+    };
+    while 0 < r.depth || r.next < stop {
+        r = step(r, store, source, image, marks, out, limit, max, stop);
+    }
+    r.pen
 }

@@ -1,66 +1,16 @@
 -- Rows entered, and allotments: however they fall, turning up to some rows entered and then on to more is turning to these at once.
 -- Assumes nothing.
-use mathlib.Core.Path.{_≡_, refl, ap, ap₂, sym, _∙_, subst}
-use Prim.Native.Nat.{ℕ, zero, suc, _+_, _*_, _-_, _≤_, _<_}
+use mathlib.Core.Path.{_≡_, refl, sym, _∙_}
+use Prim.Native.Nat.{ℕ, zero, suc, _-_, _≤_}
 use native.Mathlib.Omega.{arith}
-use native.Mathlib.Numerals.{add-one}
-use mathlib.Core.Bool.{Bool, true, false, cond, not, _&&_}
-use mathlib.Core.List.{List, [], _∷_}
-use lib.ListN.{length, getD, set}
+use mathlib.Core.Bool.{Bool, true, false, cond, _&&_}
+use lib.ListN.{set}
 use lib.Dec.{ltb, leb, eqb}
-use borrow.Author.Tests.{lt-leb, leb-false, ne-eqb, eq-eqb, eqb-true, eqb-false}
-use Rattle.rows.specs.Node.{Nodes, wrapped}
+use borrow.Author.Tests.{lt-leb, leb-false}
 use Rattle.rows.specs.View.{View, nodesAt}
-use Rattle.rows.specs.Nesting.{Nests}
-use Rattle.rows.proofs.Decode.{nodeAt, nodes-none}
-use Rattle.rows.proofs.Nested.{nests-le, nests-two, nests-pair, nests-kind, nests-after, nests-deep}
-use Rattle.renderer.specs.declared.Frame.{Frame}
-use Rattle.renderer.specs.Renderer.{
-  Page,
-  Renderer,
-  render,
-  renders,
-  groupWraps,
-  insert,
-  indented,
-  nextIndented,
-  trailing,
-  calleeWraps,
-}
-use Rattle.renderer.proofs.Meaning.{
-  frameAt,
-  partEnd,
-  closing,
-  limit,
-  wrapAt,
-  rest,
-  meaning,
-  pop,
-  frame-other,
-  frame-same,
-  open-group,
-  open-indent,
-  open-next,
-  open-if-first,
-  open-if-second,
-  open-call,
-  call-on,
-}
+use Rattle.renderer.specs.Renderer.{Page, groupWraps, insert}
+use Rattle.renderer.proofs.Meaning.{frameAt, closing, limit}
 use Rattle.renderer.proofs.Machine.{Machine, Fine, left, turn, leave, isDone, turned, spent, frame}
-use Rattle.renderer.proofs.Opened.{
-  bit,
-  At,
-  Under,
-  at-leaf,
-  at-block,
-  at-pop-suc,
-  at-top-suc,
-  advance-leaf,
-  at-first,
-  at-second,
-  at-call,
-  at-on,
-}
 
 module _ (v : View) (pg : Page) (stop : ℕ) where
   -- rows entered, and allotments: n rows, then the closing of what they finished

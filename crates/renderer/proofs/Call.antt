@@ -1,11 +1,11 @@
 -- The rule for `Call` is the Rust's: its two branches, with the groups that they make up.
 -- Assumes nothing.
-use mathlib.Core.Path.{_≡_, refl, ap, _∙_}
+use mathlib.Core.Path.{_≡_, refl, ap}
 use Prim.Native.Nat.{ℕ, _+_}
 use native.Mathlib.Omega.{arith}
 use mathlib.Core.Bool.{Bool, true, false, cond, not, _&&_}
 use mathlib.Core.List.{List}
-use Rattle.rows.specs.Node.{Text, Node, Nodes, group, indentNext, call, none, _then_, join, width, widths, mustWraps}
+use Rattle.rows.specs.Node.{Text, Node, Nodes, group, indentNext, call, none, _then_, join, widths, mustWraps}
 use Rattle.rows.proofs.Widths.{widths-join}
 use Rattle.renderer.specs.Renderer.{
   Page,

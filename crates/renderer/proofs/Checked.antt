@@ -1,30 +1,16 @@
 -- The check of rows is right: it finds nothing wrong exactly where the rows nest and each row's places are right.
 -- Assumes nothing.
-use mathlib.Core.Path.{_≡_, refl, sym, _∙_, subst}
-use Prim.Native.Nat.{ℕ, zero, suc, _+_, _*_, _-_, _≤_, _<_}
+use mathlib.Core.Path.{_≡_, refl, sym, subst}
+use Prim.Native.Nat.{ℕ, zero, suc, _-_, _≤_, _<_}
 use native.Mathlib.Omega.{arith}
 use mathlib.Core.Bool.{Bool, true, false, cond, _&&_}
-use mathlib.Core.List.{List, [], _∷_}
 use mathlib.Core.Option.{Option, some, none}
-use lib.ListN.{length, getD}
 use lib.Dec.{ltb, leb, eqb}
-use borrow.Author.Tests.{lt-ltb, le-ltb, le-leb, eq-eqb, ltb-true, ltb-false, leb-true, eqb-true, eqb-false}
-use Rattle.rows.specs.View.{View, viewOf}
-use Rattle.rows.specs.Nesting.{Within, Split, TwoParts, Nests, Nested, over, leaf, block, two, pair}
+use borrow.Author.Tests.{lt-ltb, le-leb, eq-eqb, ltb-true, ltb-false, leb-true, eqb-true, eqb-false}
+use Rattle.rows.specs.View.{View}
+use Rattle.rows.specs.Nesting.{Within, Split, TwoParts, Nests, over, leaf, block, two, pair}
 use Rattle.rows.proofs.Nested.{nests-le, nests-leaf, nests-two, nests-pair, nests-kind, nests-after, nests-rest, nests-deep, nests-join}
-use Rattle.renderer.specs.Check.{
-  reaches,
-  isLeaf,
-  hasTwo,
-  isSplit,
-  partsFit,
-  rowFits,
-  orElse,
-  firstWrong,
-  wrongRow,
-  placesFit,
-  wrongPlace,
-}
+use Rattle.renderer.specs.Check.{reaches, isLeaf, hasTwo, isSplit, partsFit, rowFits, orElse, firstWrong, wrongRow}
 
 pub both : (a b : Bool) → (a && b) ≡ true → (a ≡ true) × (b ≡ true)
 both true b e = (refl, e)

@@ -5,5 +5,6 @@ pub mod Joined
 pub mod Machine
 pub mod Margin
 pub mod Meaning
+pub mod Names
 pub mod Opened
 pub mod Safe

@@ -8,8 +8,8 @@ use native.Mathlib.Numerals.{add-one}
 use mathlib.Core.Bool.{Bool, true, false, cond, not, _&&_}
 use mathlib.Core.List.{List, [], _∷_}
 use lib.ListN.{length, getD, set}
-use lib.Dec.{ltb, leb, eqb}
-use borrow.Author.Tests.{lt-leb, leb-false, ne-eqb, eq-eqb, eqb-true, eqb-false}
+use lib.Dec.{eqb}
+use borrow.Author.Tests.{ne-eqb, eq-eqb, eqb-true, eqb-false}
 use Rattle.rows.specs.Node.{Nodes, wrapped}
 use Rattle.rows.specs.View.{View, nodesAt}
 use Rattle.rows.specs.Nesting.{Nests}
@@ -405,7 +405,7 @@ module _ (v : View) (pg : Page) (stop : ℕ) where
   run zero m = m
   run (suc f) m = cond (isDone m) m (run f (turn m))
 
-  done-means : (m : Machine) → isDone m ≡ true → means m ≡ m .state
+  pub done-means : (m : Machine) → isDone m ≡ true → means m ≡ m .state
   unfolding isDone meaning rest limit renders
   done-means m e =
       let x = and-two (eqb (m .depth) 0) (eqb (m .next) stop) e in

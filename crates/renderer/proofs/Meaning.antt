@@ -8,7 +8,7 @@ use mathlib.Core.Bool.{Bool, true, false, cond, not, _&&_}
 use mathlib.Core.List.{List, [], _∷_}
 use lib.ListN.{length, getD, set}
 use lib.Seq.{getD-set-same, getD-set-other}
-use Rattle.rows.specs.Node.{Node, Nodes, group, none, _then_, wrapped}
+use Rattle.rows.specs.Node.{group, wrapped}
 use Rattle.rows.specs.View.{View, nodesAt, firstOf}
 use Rattle.rows.specs.Nesting.{Within, Split, TwoParts}
 use Rattle.rows.proofs.Decode.{nodeAt, nodes-some, nodes-none, node-group, node-indent, node-next, node-if, node-call}

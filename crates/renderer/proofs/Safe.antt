@@ -8,9 +8,9 @@ use mathlib.Core.Bool.{Bool, true, false, cond, not, _&&_, _||_}
 use mathlib.Core.List.{List, [], _∷_, _++_}
 use lib.ListN.{length, set, replicate, length-append, length-replicate}
 use lib.Dec.{ltb, eqb}
-use borrow.Author.Tests.{eqb-true, eqb-false, eq-eqb, ne-eqb, ltb-true, ltb-false}
-use Rattle.rows.specs.Node.{Text, Node, wrapped}
-use Rattle.rows.specs.View.{View, nodesAt, nodeOf}
+use borrow.Author.Tests.{eqb-true, eqb-false, ne-eqb, ltb-true, ltb-false}
+use Rattle.rows.specs.Node.{wrapped}
+use Rattle.rows.specs.View.{View, nodesAt}
 use Rattle.rows.proofs.Decode.{nodeAt, node-parent, node-comment, node-str, node-ascii, node-line, node-empty, node-space}
 use Rattle.rows.proofs.Nested.{nests-le, nests-two, nests-kind, nests-deep}
 use Rattle.renderer.specs.declared.Frame.{Frame}

@@ -95,9 +95,8 @@ usesWidth kind = eqb kind 5
 unfoldable pub placesFit : List ℕ → List ℕ → List ℕ → ℕ → Bool
 placesFit source image store i =
     let kind = cell store i 0 in
-    ((usesNumber kind || eqb (cell store i 1) 0) && (usesNumber2 kind || eqb (cell store i 2) 0))
-    && ((usesSecond kind || eqb (cell store i 3) 0)
-    && (cond (usesText kind) (textFits source image store i) (noTextFits store i) && (usesWidth kind || eqb (cell store i 8) 0)))
+    ((usesNumber kind || eqb (cell store i 1) 0) && ((usesNumber2 kind || eqb (cell store i 2) 0) && (usesSecond kind || eqb (cell store i 3) 0)))
+    && ((usesWidth kind || eqb (cell store i 8) 0) && cond (usesText kind) (textFits source image store i) (noTextFits store i))
 
 -- Refusal 11's place: 0 for a stop past the store or 2,097,152, else the first row from `from` up to `stop` that is not right. (A store has
 -- length / 9 rows, rounded down.)

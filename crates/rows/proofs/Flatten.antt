@@ -2,11 +2,11 @@
 -- By induction on the nodes: the first nine numbers are the row, the rest are the rows of its parts.
 -- Assumes nothing.
 use mathlib.Core.Path.{_≡_, refl, ap, sym, _∙_, subst}
-use Prim.Native.Nat.{ℕ, zero, suc, _+_, _*_, _≤_, _<_, max}
+use Prim.Native.Nat.{ℕ, suc, _+_, _*_, _≤_, _<_}
 use native.Mathlib.Omega.{arith}
 use native.Mathlib.Numerals.{add-one}
 use native.Mathlib.Nat.{add-zero}
-use mathlib.Core.List.{List, [], _∷_, _++_}
+use mathlib.Core.List.{List, [], _++_}
 use lib.ListN.{length, getD, take, drop, length-append, List·getD-append}
 use lib.Seq.{getD-append-add, getD-take, getD-drop}
 use Rattle.rows.specs.Node.{
@@ -29,8 +29,8 @@ use Rattle.rows.specs.Node.{
   _then_,
 }
 use Rattle.rows.specs.Rows.{size, sizes, depth, depths, row, rowsOf, rows, noText}
-use Rattle.rows.specs.View.{View, cell, viewOf, nodesAt, firstOf}
-use Rattle.rows.specs.Nesting.{Within, Split, TwoParts, Nests, over, leaf, block, two, pair}
+use Rattle.rows.specs.View.{cell, viewOf, nodesAt, firstOf}
+use Rattle.rows.specs.Nesting.{Within, Nests, over, leaf, block, two, pair}
 use Rattle.rows.proofs.Decode.{
   nodeAt,
   nodes-some,

@@ -8,7 +8,7 @@ use mathlib.Core.List.{List}
 use Prim.Native.Nat.{ℕ, zero, suc, _+_, _-_, _≤_, _<_}
 use native.Mathlib.Omega.{arith}
 use native.Mathlib.Numerals.{add-one}
-use Rattle.rows.specs.Node.{Node, Nodes, none, _then_, join, mustWrap, mustWraps}
+use Rattle.rows.specs.Node.{Nodes, none, _then_, join, mustWrap, mustWraps}
 use Rattle.rows.specs.View.{View, viewOf, cell, nodesAt, nodeOf}
 use Rattle.rows.specs.Nesting.{Within, Nests}
 use Rattle.rows.proofs.Decode.{nodeAt, nodes-some, nodes-none, node-indent}

@@ -1,9 +1,9 @@
 -- Laws of rows that nest: what a row of such a range gives by its kind, ranges joined, and the nodes of joined ranges.
 -- Assumes nothing.
-use mathlib.Core.Path.{_≡_, refl, ap, sym, _∙_, subst}
-use Prim.Native.Nat.{ℕ, suc, _+_, _≤_, _<_}
+use mathlib.Core.Path.{_≡_, sym, subst}
+use Prim.Native.Nat.{ℕ, suc, _≤_, _<_}
 use native.Mathlib.Omega.{arith}
-use Rattle.rows.specs.Node.{Node, Nodes, none, _then_, join}
+use Rattle.rows.specs.Node.{join}
 use Rattle.rows.specs.View.{View, nodesAt}
 use Rattle.rows.specs.Nesting.{Within, Split, TwoParts, Nests, over, leaf, block, two, pair}
 use Rattle.rows.proofs.Decode.{nodes-some, nodes-none}

@@ -1,30 +1,11 @@
 -- How many numbers the rows of nodes are, and the rows of joined nodes.
 -- Assumes nothing.
-use mathlib.Core.Path.{_≡_, refl, ap, ap₂, sym, _∙_}
+use mathlib.Core.Path.{_≡_, refl, ap, sym, _∙_}
 use Prim.Native.Nat.{ℕ, _+_, _*_, _<_}
 use native.Mathlib.Omega.{arith}
-use mathlib.Core.List.{List, [], _∷_, _++_, append-assoc}
+use mathlib.Core.List.{List, _∷_, _++_, append-assoc}
 use lib.ListN.{length, length-append}
-use Rattle.rows.specs.Node.{
-  Text,
-  Node,
-  Nodes,
-  group,
-  indent,
-  indentNext,
-  wrapParent,
-  comment,
-  str,
-  ascii,
-  line,
-  emptyLine,
-  lineOrSpace,
-  ifWrap,
-  call,
-  none,
-  _then_,
-  join,
-}
+use Rattle.rows.specs.Node.{Node, Nodes, group, indent, indentNext, wrapParent, comment, str, ascii, line, emptyLine, lineOrSpace, ifWrap, call, none, _then_, join}
 use Rattle.rows.specs.Rows.{size, sizes, rowsOf, rows}
 
 pub size-pos : (n : Node) → 0 < size n

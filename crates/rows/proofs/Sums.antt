@@ -1,34 +1,17 @@
 -- What the loop of `width` keeps: what it has summed, with what is still ahead, is the width of the whole range.
 -- Assumes nothing.
-use mathlib.Core.Path.{_≡_, refl, ap, sym, _∙_, subst}
+use mathlib.Core.Path.{_≡_, refl, sym, _∙_, subst}
 use Prim.Native.Nat.{ℕ, zero, suc, _+_, _*_, _-_, _≤_, _<_}
 use native.Mathlib.Omega.{arith}
 use native.Mathlib.Numerals.{add-one}
 use mathlib.Core.Bool.{true, false}
-use mathlib.Core.List.{List, [], _∷_}
+use mathlib.Core.List.{List}
 use lib.ListN.{length, getD, set}
 use Rattle.rows.specs.Node.{widths, wrapped, byteColumns}
-use Rattle.rows.specs.View.{View, viewOf, cell, ownWidth, nodesAt}
-use Rattle.rows.specs.Nesting.{Nests, Nested}
-use Rattle.rows.proofs.Nested.{nests-kind, nests-two, nests-after, nests-le}
-use Rattle.rows.proofs.Widths.{
-  W,
-  w-start,
-  w-end,
-  w-other,
-  wlimit-top,
-  w-first,
-  w-second,
-  w-pop,
-  w-top,
-  w-jump,
-  w-deep,
-  wlimit,
-  wlimit-pos,
-  wlimit-zero,
-  widthOf,
-  ownOf,
-}
+use Rattle.rows.specs.View.{viewOf, cell, ownWidth, nodesAt}
+use Rattle.rows.specs.Nesting.{Nested}
+use Rattle.rows.proofs.Nested.{nests-two, nests-after, nests-le}
+use Rattle.rows.proofs.Widths.{W, w-start, w-end, w-other, wlimit-top, w-first, w-second, w-pop, w-top, w-jump, w-deep, wlimit, wlimit-pos, wlimit-zero, ownOf}
 
 -- depth of the rows in firsts are open, the sum is at row, in a part that ends at end
 pub record SumAt (s m : List ℕ) (to total : ℕ) (firsts : List ℕ) (depth row end sum : ℕ) : Type 0 where

@@ -1,6 +1,6 @@
 -- The nodes that a range of rows is: rows read back.
 use Prim.Native.Nat.{ℕ, zero, suc, _+_, _*_, _-_, min, max}
-use mathlib.Core.Bool.{Bool, cond}
+use mathlib.Core.Bool.{cond}
 use mathlib.Core.List.{List, [], _∷_}
 use lib.ListN.{getD}
 use lib.Dec.{ltb, eqb}

@@ -1,7 +1,7 @@
 -- The fixed words of fmt.rs, which are text origin 2: one text, with each word at a place of its own.
 use Prim.Native.Nat.{ℕ, _+_}
 use Prim.Native.String.{String, len}
-use mathlib.Core.Bool.{Bool, cond}
+use mathlib.Core.Bool.{cond}
 use mathlib.Core.List.{List, [], _∷_, _++_}
 use lib.Text.{eqt}
 use Rattle.rows.specs.Ascii.{bytes}

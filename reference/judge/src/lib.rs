@@ -32,5 +32,6 @@ mod random;
 pub mod reader;
 pub mod refusal;
 pub mod rows;
+pub mod script;
 pub mod table;
 pub mod tree;

@@ -10,13 +10,14 @@ use judge::{
     answers, examples, explain, frame,
     generate::{self, Class},
     program::{self, Widths},
-    table,
+    script, table,
 };
 
 const USAGE: &str = "\
 usage: judge run [--true-widths] < frame      what the program must write
        judge explain [--true-widths] < frame  rows, marks, states and text
        judge example NAME                     a frame of document 01
+       judge script < text                    a frame for a Roto text
        judge generate CLASS SEED COUNT        frames, each led by its length
        judge table SEED COUNT                 what frames of all classes reach
        judge answers CLASS SEED COUNT         frames with what is due for them
@@ -60,6 +61,7 @@ fn command(words: &[&str]) -> Result<Pieces, String> {
             one(explain::explain(&input(), widths(flags)?))
         }
         ["example", name] => one(examples::frame(name).ok_or_else(names)?),
+        ["script"] => one(frame_of_script()?),
         ["generate", class, seed, count] => {
             Box::new(frames(class, seed, count)?.map(|f| frame::led(&f)))
         }
@@ -95,6 +97,11 @@ fn input() -> Vec<u8> {
         .read_to_end(&mut bytes)
         .expect("input can be read");
     bytes
+}
+
+fn frame_of_script() -> Result<Vec<u8>, String> {
+    let source = String::from_utf8(input()).map_err(|e| format!("{e}\n"))?;
+    script::frame(&source).map_err(|at| format!("not read at byte {at}\n"))
 }
 
 fn widths(flags: &[&str]) -> Result<Widths, String> {

@@ -1,7 +1,6 @@
 use Rattle.render.proofs.Decided.{sum-fits, virtual-small, lower-widths, lower-column}
-use native.Mathlib.Omega.{arith}
-use mathlib.Core.Path.{sym, _∙_}
-use Rattle.render.proofs.Decided.{callee-own, callee-both, virtual-low}
+use mathlib.Core.Path.{_∙_}
+use Rattle.render.proofs.Decided.{callee-own, callee-both}
 use borrow.Author.Needs.{needs}
 use Rattle.render.proofs.machine.callee_wraps.Statement.{statement}
 use Rattle.render.proofs.machine.callee_wraps.Tie as tie

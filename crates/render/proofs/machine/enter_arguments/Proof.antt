@@ -1,4 +1,3 @@
-use native.Mathlib.Omega.{arith}
 use Prim.Native.Nat.{ℕ}
 use mathlib.Core.Path.{refl, ap, _∙_}
 use Rattle.rows.specs.View.{cell}

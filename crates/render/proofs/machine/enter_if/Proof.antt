@@ -1,6 +1,3 @@
-use Prim.Native.Nat.{ℕ}
-use mathlib.Core.Path.{ap, _∙_}
-use Rattle.rows.specs.Node.{wrapped}
 use Rattle.render.proofs.Opening.{if-first, if-second}
 use borrow.Author.Needs.{needs}
 use Rattle.render.proofs.machine.enter_if.Statement.{statement}

@@ -1,7 +1,6 @@
 use Rattle.render.proofs.Decided.{sum-fits, virtual-small, lower, lower-column}
-use native.Mathlib.Omega.{arith}
 use mathlib.Core.Path.{sym, _∙_}
-use Rattle.render.proofs.Decided.{group-must, group-wide, virtual-low}
+use Rattle.render.proofs.Decided.{group-must, group-wide}
 use borrow.Author.Needs.{needs}
 use Rattle.render.proofs.machine.group_wraps.Statement.{statement}
 use Rattle.render.proofs.machine.group_wraps.Tie as tie

@@ -1,7 +1,7 @@
 use Rattle.render.proofs.Decided.{sum-fits, virtual-small, lower, lower-sum, lower-column}
 use native.Mathlib.Omega.{arith}
 use mathlib.Core.Path.{sym, _∙_}
-use Rattle.render.proofs.Decided.{trail-callee, trail-arguments, trail-long, trail-short, virtual-low}
+use Rattle.render.proofs.Decided.{trail-callee, trail-arguments, trail-long, trail-short}
 use borrow.Author.Needs.{needs}
 use Rattle.render.proofs.machine.trails.Statement.{statement}
 use Rattle.render.proofs.machine.trails.Tie as tie

@@ -1,6 +1,4 @@
 use mathlib.Core.Path.{sym, ap, _∙_}
-use Prim.Native.Nat.{ℕ}
-use mathlib.Core.List.{List}
 use lib.ListN.{length}
 use Rattle.render.proofs.Written.{origin-source, origin-image, origin-words, origin-none, words-size}
 use Rattle.render.proofs.output.origin_size.Statement.{statement}

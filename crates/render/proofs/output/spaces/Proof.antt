@@ -1,7 +1,5 @@
 use native.Mathlib.Omega.{arith}
 use Prim.Native.Nat.{_-_}
-use mathlib.Core.Path.{_∙_}
-use borrow.Author.Needs.{needs}
 use Rattle.render.proofs.Written.{Spaces, spaces-start, spaces-more, spaces-end}
 use Rattle.render.proofs.output.spaces.Statement.{statement}
 use Rattle.render.proofs.output.spaces.Tie as tie

@@ -1,11 +1,5 @@
 use native.Mathlib.Omega.{arith}
-use Prim.Native.Nat.{ℕ, _+_, _<_}
-use mathlib.Core.Path.{_≡_, refl, ap, sym, _∙_}
-use mathlib.Core.List.{List, [], _∷_, _++_}
-use lib.ListN.{length, length-append}
-use Rattle.renderer.specs.Page.{textBytes, textOf}
-use Rattle.render.specs.Output.{over}
-use Rattle.render.proofs.Written.{text-fits, over-join}
+use Rattle.render.proofs.Written.{text-fits}
 use Rattle.render.proofs.Drawn.{ended}
 use borrow.Author.Needs.{needs}
 use Rattle.render.proofs.pen.end_line.Statement.{statement}

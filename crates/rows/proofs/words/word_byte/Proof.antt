@@ -1,7 +1,5 @@
-use mathlib.Core.Path.{_≡_, refl, sym, ap}
-use Prim.Native.Nat.{_≤_}
-use native.Mathlib.Omega.{arith}
-use lib.ListN.{length, List·getD-eq-default}
+use mathlib.Core.Path.{refl, sym}
+use lib.ListN.{List·getD-eq-default}
 use Rattle.rows.specs.Ascii.{bytes}
 use Rattle.rows.specs.Words.{words, joined}
 use borrow.Author.Needs.{needs}

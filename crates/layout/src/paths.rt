@@ -1,0 +1,105 @@
+// Identifiers and paths.
+ghost use mathlib.Core.Path.{_≡_};
+ghost use Rattle.tree.specs.At.{IdentAt, IdentsAt, PathAt};
+ghost use Rattle.rows.specs.Node.{line};
+ghost use Rattle.state.specs.Act.{when, push};
+ghost use Rattle.state.specs.Laid.{Laid};
+ghost use Rattle.layout.specs.Layout.{ident, pathNext, pathMore, pathRule};
+ghost use Rattle.layout.specs.Contracts.{Has, LaidAs, HasAll, LaidAll};
+use crate::numbers::end;
+use crate::numbers::past;
+use crate::numbers::second;
+use crate::pieces::gap;
+use comments::pop_trailing_comment;
+use image::bytes::num16;
+use state::Cursor;
+use state::leaves::line;
+use state::leaves::str;
+use state::parts::close;
+use state::parts::open_group;
+use state::parts::open_indent;
+use state::words::DOT;
+use state::words::word;
+
+// `Node::ident`: the text at `at`, with its width.
+pub fn ident(store: &mut [u32], c: Cursor, s: &[u8], b: &[u8], at: usize) -> Cursor
+    requires { ⌜ Has IdentAt (now s) (now b) at ⌝ }
+    ensures { λ r. ⌜ LaidAs IdentAt ident (now (s .entry)) (now (b .entry)) at (now (store .entry)) c (now (store .exit)) r ⌝ }
+{
+    let from = at + 15;
+    let width = num16(b, at + 13);
+    let size = past(b, at) - from;
+    str(store, c, from as u32, size as u32, width as u32)
+}
+
+// A line, where line breaks are allowed.
+fn line_if(store: &mut [u32], c: Cursor, breaks: bool) -> Cursor
+    ensures { λ r. ⌜ Laid (when breaks (push line)) (now (store .entry)) c (now (store .exit)) r ⌝ }
+{
+    if breaks {
+        return line(store, c);
+    }
+    c
+}
+
+// An identifier of a path, after the first.
+fn path_next(store: &mut [u32], c: Cursor, s: &[u8], b: &[u8], at: usize, breaks: bool) -> Cursor
+    requires { ⌜ Has IdentAt (now s) (now b) at ⌝ }
+    ensures { λ r. ⌜ LaidAs IdentAt (λ g. pathNext g breaks) (now (s .entry)) (now (b .entry)) at (now (store .entry)) c (now (store .exit)) r ⌝ }
+{
+    let position = end(b, at);
+    let d = line_if(store, c, breaks);
+    let e = gap(store, d, s, b, position, false, false, false);
+    let f = word(store, e, DOT);
+    ident(store, f, s, b, at)
+}
+
+// The identifiers of a path after the first.
+fn path_more(
+    store: &mut [u32],
+    c: Cursor,
+    s: &[u8],
+    b: &[u8],
+    from: usize,
+    to: usize,
+    breaks: bool,
+) -> Cursor
+    requires { ⌜ HasAll IdentsAt (now s) (now b) from to ⌝ }
+    ensures { λ r. ⌜ LaidAll IdentsAt (λ g. pathMore g breaks) (now (s .entry)) (now (b .entry)) from to (now (store .entry)) c (now (store .exit)) r ⌝ }
+{
+    let mut p = from;
+    let mut d = c;
+    while p < to {
+        d = path_next(store, d, s, b, p, breaks);
+        p = past(b, p);
+    }
+    d
+}
+
+pub fn path(
+    store: &mut [u32],
+    c: Cursor,
+    s: &[u8],
+    b: &[u8],
+    at: usize,
+    group: bool,
+    breaks: bool,
+) -> Cursor
+    requires { ⌜ Has PathAt (now s) (now b) at ⌝ }
+    ensures { λ r. ⌜ LaidAs PathAt (λ g p. pathRule g p group breaks) (now (s .entry)) (now (b .entry)) at (now (store .entry)) c (now (store .exit)) r ⌝ }
+{
+    let from = second(b, at);
+    let to = past(b, at);
+    if group {
+        let g = open_group(store, c);
+        let d = ident(store, g, s, b, at + 13);
+        let i = open_indent(store, d);
+        let e = path_more(store, i, s, b, from, to, breaks);
+        close(store, d.row, e);
+        close(store, c.row, e);
+        return pop_trailing_comment(store, e, s, b);
+    }
+    let d = ident(store, c, s, b, at + 13);
+    let e = path_more(store, d, s, b, from, to, breaks);
+    pop_trailing_comment(store, e, s, b)
+}

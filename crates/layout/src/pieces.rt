@@ -1,0 +1,158 @@
+// Pieces of the rules that lay no part of the syntax tree below them.
+ghost use mathlib.Core.Path.{_≡_};
+ghost use lib.ListN.{getD};
+ghost use Rattle.rows.specs.Words.{table};
+ghost use Rattle.tree.specs.Syntax.{Span};
+ghost use Rattle.rows.specs.Node.{wrapParent};
+ghost use Rattle.state.specs.Act.{_⨟_, says, when, push};
+ghost use Rattle.state.specs.Laid.{Laid};
+ghost use Rattle.comments.specs.Listed.{given};
+ghost use Rattle.layout.specs.Layout.{gap, trailing, edge, isWrap, opens, beforeElem, ends};
+ghost use Rattle.layout.specs.Contracts.{Accepted};
+ghost use Rattle.layout.specs.Elems.{mark, LaidHollow};
+use crate::kinds::WrapStyle;
+use comments::pop_trailing_comment;
+use comments::pop_whitespace;
+use state::Cursor;
+use state::leaves::line;
+use state::leaves::line_or_space;
+use state::leaves::wrap_parent;
+use state::parts::close;
+use state::parts::open_indent;
+use state::words::COMMA;
+use state::words::if_wrap;
+use state::words::word;
+
+// `pop_whitespace` where its answer isn't looked at.
+pub fn gap(
+    store: &mut [u32],
+    c: Cursor,
+    s: &[u8],
+    b: &[u8],
+    position: u32,
+    leading: bool,
+    trailing: bool,
+    only: bool,
+) -> Cursor
+    requires { ⌜ Accepted (now s) (now b) ⌝ }
+    ensures { λ r. ⌜ Laid (gap (given (now (s .entry)) (now (b .entry))) position leading trailing only) (now (store .entry)) c (now (store .exit)) r ⌝ }
+{
+    let a = pop_whitespace(store, c, s, b, position, leading, trailing, only);
+    a.cursor
+}
+
+// The line or the space inside the brackets of `separated`.
+pub fn edge(store: &mut [u32], c: Cursor, style: WrapStyle) -> Cursor
+    ensures { λ r. ⌜ Laid (edge style) (now (store .entry)) c (now (store .exit)) r ⌝ }
+{
+    match style {
+        WrapStyle::Spaced => line_or_space(store, c),
+        WrapStyle::Tight => line(store, c),
+        WrapStyle::Wrap => line(store, c),
+    }
+}
+
+// `WrapParent`, where the list always wraps.
+fn must_wrap(store: &mut [u32], c: Cursor, style: WrapStyle) -> Cursor
+    ensures { λ r. ⌜ Laid (when (isWrap style) (push wrapParent)) (now (store .entry)) c (now (store .exit)) r ⌝ }
+{
+    match style {
+        WrapStyle::Wrap => wrap_parent(store, c),
+        WrapStyle::Tight => c,
+        WrapStyle::Spaced => c,
+    }
+}
+
+// What comes before the elements.
+pub fn open_list(store: &mut [u32], c: Cursor, left: usize, style: WrapStyle) -> Cursor
+    ensures { λ r. ⌜ Laid (opens (getD table left "") style) (now (store .entry)) c (now (store .exit)) r ⌝ }
+{
+    let d = must_wrap(store, c, style);
+    let e = word(store, d, left);
+    edge(store, e, style)
+}
+
+// What comes before an element.
+pub fn before_elem(
+    store: &mut [u32],
+    c: Cursor,
+    s: &[u8],
+    b: &[u8],
+    position: u32,
+    first: bool,
+    commas: bool,
+) -> Cursor
+    requires { ⌜ Accepted (now s) (now b) ⌝ }
+    ensures { λ r. ⌜ Laid (beforeElem (given (now (s .entry)) (now (b .entry))) (mark commas) first position) (now (store .entry)) c (now (store .exit)) r ⌝ }
+{
+    if first {
+        return gap(store, c, s, b, position, true, true, false);
+    }
+    if commas {
+        let d = word(store, c, COMMA);
+        let e = gap(store, d, s, b, position, true, true, false);
+        return line_or_space(store, e);
+    }
+    let e = gap(store, c, s, b, position, true, true, false);
+    line_or_space(store, e)
+}
+
+// What comes after the elements of a list whose group has the number id.
+pub fn end_elems(
+    store: &mut [u32],
+    c: Cursor,
+    s: &[u8],
+    b: &[u8],
+    end: u32,
+    id: u32,
+    commas: bool,
+) -> Cursor
+    requires { ⌜ Accepted (now s) (now b) ⌝ }
+    ensures { λ r. ⌜ ((p : Span) → end ≡ p .end → Laid (ends (given (now (s .entry)) (now (b .entry))) (mark commas) id p) (now (store .entry)) c (now (store .exit)) r) ⌝ }
+{
+    if commas {
+        let d = if_wrap(store, c, id, COMMA);
+        return gap(store, d, s, b, end, true, false, false);
+    }
+    gap(store, c, s, b, end, true, false, false)
+}
+
+// The end of a list: its line or space, its word and the comment after it.
+pub fn close_list(
+    store: &mut [u32],
+    c: Cursor,
+    s: &[u8],
+    b: &[u8],
+    right: usize,
+    style: WrapStyle,
+) -> Cursor
+    requires { ⌜ Accepted (now s) (now b) ⌝ }
+    ensures { λ r. ⌜ Laid (edge style ⨟ says (getD table right "") ⨟ trailing (given (now (s .entry)) (now (b .entry)))) (now (store .entry)) c (now (store .exit)) r ⌝ }
+{
+    let d = edge(store, c, style);
+    let e = word(store, d, right);
+    pop_trailing_comment(store, e, s, b)
+}
+
+// A list without elements, inside its group.
+pub fn hollow(
+    store: &mut [u32],
+    c: Cursor,
+    s: &[u8],
+    b: &[u8],
+    end: u32,
+    left: usize,
+    right: usize,
+) -> Cursor
+    requires { ⌜ Accepted (now s) (now b) ⌝ }
+    ensures { λ r. ⌜ LaidHollow left right end (now (s .entry)) (now (b .entry)) (now (store .entry)) c (now (store .exit)) r ⌝ }
+{
+    let d = word(store, c, left);
+    let e = line(store, d);
+    let i = open_indent(store, e);
+    let f = gap(store, i, s, b, end, false, false, false);
+    close(store, e.row, f);
+    let h = line(store, f);
+    let w = word(store, h, right);
+    pop_trailing_comment(store, w, s, b)
+}

@@ -1,0 +1,3 @@
+pub mod Needed
+pub mod Restored
+pub mod Scratch

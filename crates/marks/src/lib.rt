@@ -1,0 +1,48 @@
+// The marks that a rendering needs.
+ghost use mathlib.Core.Path.{_≡_};
+ghost use Prim.Native.Nat.{_+_, _*_, _-_, _≤_, _<_, max};
+ghost use lib.ListN.{length};
+ghost use Rattle.marks.specs.Marks.{rowMarks, marksNeeded};
+use rows::store::place;
+
+fn larger(a: usize, b: usize) -> usize
+    ensures { λ r. ⌜ r ≡ max a b ⌝ }
+{
+    if a < b {
+        return b;
+    }
+    a
+}
+
+// How many marks a row needs.
+fn row_marks(store: &[u32], row: usize) -> usize
+    requires { ⌜ row * 9 + 8 < length (now store) ⌝ }
+    ensures { λ r. ⌜ (r ≡ rowMarks (now (store .entry)) row) × (r ≤ 4294967296) ⌝ }
+{
+    let kind = place(store, row, 0);
+    let number = place(store, row, 1);
+    if kind == 11 {
+        return 1 + larger(number, place(store, row, 2));
+    }
+    if kind == 0 {
+        return 1 + number;
+    }
+    if kind == 10 {
+        return 1 + number;
+    }
+    0
+}
+
+// How many marks the rows from `from` up to `stop` need: refusal 9's place.
+pub fn marks_needed(store: &[u32], from: usize, stop: usize) -> usize
+    requires { ⌜ (from ≤ stop) × (stop * 9 ≤ length (now store)) ⌝ }
+    ensures { λ r. ⌜ r ≡ marksNeeded (stop - from) (now (store .entry)) from ⌝ }
+{
+    let mut most: usize = 0;
+    let mut row = from;
+    while row < stop {
+        most = larger(most, row_marks(store, row));
+        row += 1;
+    }
+    most
+}

@@ -1,0 +1,69 @@
+use lib.Dec.{eqb}
+use mathlib.Core.Bool.{_||_}
+use Rattle.rows.specs.View.{cell}
+use Rattle.renderer.specs.Check.{usesSecond}
+use mathlib.Core.Path.{refl}
+use Rattle.rowcheck.proofs.Laws.{used-is, three-on, three-second, three-first}
+use borrow.Author.Needs.{needs}
+use Rattle.rowcheck.proofs.numbers_fit.Statement.{statement}
+use Rattle.rowcheck.proofs.numbers_fit.Tie as tie
+
+uses-number-requires : tie.Need-uses-number-requires
+uses-number-requires c κs = search needs
+
+place-requires : tie.Need-place-requires
+place-requires c κs = search needs
+
+used-or-none-requires : tie.Need-used-or-none-requires
+used-or-none-requires c κs = search needs
+
+place-requires-2 : tie.Need-place-requires-2
+place-requires-2 c κs = search needs
+
+used-or-none-requires-2 : tie.Need-used-or-none-requires-2
+used-or-none-requires-2 c κs = search needs
+
+uses-second-requires : tie.Need-uses-second-requires
+uses-second-requires c κs = search needs
+
+place-requires-3 : tie.Need-place-requires-3
+place-requires-3 c κs = search needs
+
+used-or-none-requires-3 : tie.Need-used-or-none-requires-3
+used-or-none-requires-3 c κs = search needs
+
+returns : tie.Need-returns
+returns c =
+    three-on _ _ _ _ _ _
+    (used-is _ _ _ _ _ (c .before .before .before .before .before .before .before .used-or-none .ensures) (c .before .before .before .before .before .before .before .before .before .uses-number .ensures) (c .before .before .before .before .before .before .before .before .place .ensures .0))
+    (used-is (eqb (c .before .before .before .before .before .before .before .before .before .before .before .args .kind) 11) _ _ _ _ (c .before .before .before .before .used-or-none2 .ensures) refl (c .before .before .before .before .before .place2 .ensures .0))
+    (used-is _ _ _ _ _ (c .used-or-none3 .ensures) (c .before .before .uses-second .ensures) (c .before .place3 .ensures .0))
+    (c .before .before .before .before .before .before .if1 .taken)
+    (c .before .before .before .if2 .taken)
+
+returns-2 : tie.Need-returns-2
+returns-2 c =
+    three-second _ _ (usesSecond (c .before .before .before .before .before .before .before .before .args .kind) || eqb (cell (c .before .before .before .before .before .before .before .before .args .store .now) (c .before .before .before .before .before .before .before .before .args .row) 3) 0) _ _
+    (used-is _ _ _ _ _ (c .before .before .before .before .used-or-none .ensures) (c .before .before .before .before .before .before .uses-number .ensures) (c .before .before .before .before .before .place .ensures .0))
+    (used-is (eqb (c .before .before .before .before .before .before .before .before .args .kind) 11) _ _ _ _ (c .before .used-or-none2 .ensures) refl (c .before .before .place2 .ensures .0))
+    (c .before .before .before .if1 .taken)
+    (c .if2 .left)
+
+returns-3 : tie.Need-returns-3
+returns-3 c = three-first _ _ _ (used-is _ _ _ _ _ (c .before .used-or-none .ensures) (c .before .before .before .uses-number .ensures) (c .before .before .place .ensures .0)) (c .if1 .left)
+
+pub numbers-fit-spec : {M : Type 1} → statement M
+numbers-fit-spec =
+    tie.close
+    (tie.spec
+    uses-number-requires
+    place-requires
+    used-or-none-requires
+    place-requires-2
+    used-or-none-requires-2
+    uses-second-requires
+    place-requires-3
+    used-or-none-requires-3
+    returns
+    returns-2
+    returns-3)

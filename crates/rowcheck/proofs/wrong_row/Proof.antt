@@ -1,0 +1,103 @@
+use native.Mathlib.Omega.{arith}
+use Prim.Native.Nat.{_<_, _≤_, _-_}
+use mathlib.Core.Path.{refl, sym, ap, _∙_}
+use mathlib.Core.Logic.{⊎-elim}
+use borrow.Author.Needs.{needs}
+use borrow.Author.Tests.{ltb-true, ltb-false}
+use Rattle.rows.specs.View.{viewOf}
+use Rattle.renderer.specs.Check.{placesFit, wrongRow}
+use Rattle.renderer.proofs.Checked.{fits-row}
+use Rattle.rowcheck.specs.Found.{foundOf}
+use Rattle.rowcheck.proofs.Pending.{Checking, checkLeft, check-start, check-wrong, check-right, check-out-at, check-in}
+use Rattle.rowcheck.proofs.wrong_row.Statement.{statement}
+use Rattle.rowcheck.proofs.wrong_row.Tie as tie
+
+abbrev Inv-loop : tie.InvT-loop
+Inv-loop store source image from stop ends₀ depth₀ end₀ row₀ ends depth end row =
+    Checking (placesFit source image store) store stop (wrongRow (placesFit source image store) (viewOf store) stop 0 from) ends depth end row
+
+abbrev μ-loop : tie.MeasureT-loop
+μ-loop store source image from stop ends₀ depth₀ end₀ row₀ ends depth end row = checkLeft stop depth row
+
+-- where a part is done, rows are around it
+leaves : (c : tie.Then3 Inv-loop μ-loop) → 0 < c .before .before .loop .depth
+leaves c = ⊎-elim {0, 0, 0} (λ w. w .taken) (λ w. absurd (let h : c .before .before .loop .row < c .before .before .loop .end = ltb-true _ _ (w .1 .taken) in let k : c .before .before .loop .end ≤ c .before .before .loop .row = c .if3 .taken in omega arith)) (c .before .if1 .came)
+
+loop-holds : tie.Need-loop-holds Inv-loop μ-loop
+loop-holds c = check-start _ _ _ _ _ refl
+
+sub-depth : tie.Need-sub-depth Inv-loop μ-loop
+sub-depth c = omega (arith, leaves c)
+
+mul-wide : tie.Need-mul-wide Inv-loop μ-loop
+mul-wide c = omega (arith, c .before .before .loop .inv .deep)
+
+array-read-wide : tie.Need-array-read-wide Inv-loop μ-loop
+array-read-wide c = omega (arith, leaves c, c .before .before .loop .inv .deep)
+
+wide-requires : tie.Need-wide-requires Inv-loop μ-loop
+wide-requires c κs = search needs
+
+loop-less : tie.Need-loop-less Inv-loop μ-loop
+loop-less c = omega (arith, leaves (c .before))
+
+loop-again : tie.Need-loop-again Inv-loop μ-loop
+loop-again c = check-out-at _ _ _ _ _ _ _ _ (c .before .before .before .loop .inv) _ (c .wide .ensures) (leaves (c .before)) (c .before .if3 .taken)
+
+row-fits-requires : tie.Need-row-fits-requires Inv-loop μ-loop
+row-fits-requires c κs = (c .if3 .left, (omega (arith, c .before .before .loop .inv .low, c .before .before .before .before .before .before .pre .0), omega (arith, c .before .before .loop .inv .low, c .before .before .before .before .before .before .pre .1)))
+
+cast-ends : tie.Need-cast-ends Inv-loop μ-loop
+cast-ends c = omega (arith, c .before .before .before .before .loop .inv .low, c .before .before .before .before .before .before .before .before .pre .1)
+
+mul-ends : tie.Need-mul-ends Inv-loop μ-loop
+mul-ends c = omega (arith, c .before .before .before .before .loop .inv .deep)
+
+array-write-ends : tie.Need-array-write-ends Inv-loop μ-loop
+array-write-ends c = fits-row _ _ _ _ _ (sym (c .before .row-fits .ensures) ∙ c .if4 .taken) .shallow
+
+add-depth : tie.Need-add-depth Inv-loop μ-loop
+add-depth c = omega (arith, c .before .before .before .before .loop .inv .deep)
+
+place-requires : tie.Need-place-requires Inv-loop μ-loop
+place-requires c κs = omega (arith, c .before .before .before .before .loop .inv .low, c .before .before .before .before .before .before .before .before .pre .0, c .before .before .if3 .left)
+
+add-row : tie.Need-add-row Inv-loop μ-loop
+add-row c = omega (arith, c .before .before .before .before .before .loop .inv .low, c .before .before .before .before .before .before .before .before .before .pre .1, c .before .before .before .if3 .left)
+
+loop-less-2 : tie.Need-loop-less-2 Inv-loop μ-loop
+loop-less-2 c = omega (arith, c .before .before .before .before .before .loop .inv .low, c .before .before .before .if3 .left)
+
+loop-again-2 : tie.Need-loop-again-2 Inv-loop μ-loop
+loop-again-2 c = check-in _ _ _ _ _ _ _ _ (c .before .before .before .before .before .loop .inv) (c .place .result) (c .before .before .before .if3 .left) (c .place .ensures .0) (sym (c .before .before .row-fits .ensures) ∙ c .before .if4 .taken)
+
+returns : tie.Need-returns Inv-loop μ-loop
+returns c = sym (ap foundOf (check-wrong _ _ _ _ _ _ _ _ (c .before .before .before .before .loop .inv) (c .before .before .if3 .left) (sym (c .before .row-fits .ensures) ∙ c .if4 .left)))
+
+returns-2 : tie.Need-returns-2 Inv-loop μ-loop
+returns-2 c = sym (ap foundOf (check-right _ _ _ _ _ _ _ _ (c .before .before .loop .inv) (c .before .if1 .left) (ltb-false _ _ (c .if2 .left))))
+
+pub wrong-row-spec : {M : Type 1} → statement M
+wrong-row-spec =
+    tie.close
+    (tie.spec
+    Inv-loop
+    μ-loop
+    loop-holds
+    sub-depth
+    mul-wide
+    array-read-wide
+    wide-requires
+    loop-less
+    loop-again
+    row-fits-requires
+    cast-ends
+    mul-ends
+    array-write-ends
+    add-depth
+    place-requires
+    add-row
+    loop-less-2
+    loop-again-2
+    returns
+    returns-2)

@@ -1,0 +1,256 @@
+// Refusal 11: the check of rows before they are rendered.
+ghost use mathlib.Core.Path.{_≡_};
+ghost use mathlib.Core.Bool.{_&&_, _||_};
+ghost use Prim.Native.Nat.{_+_, _*_, _-_, _≤_, _<_};
+ghost use lib.ListN.{length};
+ghost use lib.Dec.{eqb};
+ghost use Rattle.rows.specs.View.{cell, viewOf};
+ghost use Rattle.renderer.specs.Check.{reaches, hasTwo, isSplit, partsFit, usesNumber, usesNumber2, usesSecond, usesText, textFits, noTextFits, placesFit, rowFits, wrongRow, wrongPlace};
+ghost use Rattle.rowcheck.specs.Found.{foundOf};
+use render::output::origin_size;
+use rows::store::place;
+use rows::store::wide;
+
+// What the check finds: nothing wrong, or the first row that is.
+pub enum Found {
+    Right,
+    Wrong(usize),
+}
+
+// Whether row b is reached from row a, row after row.
+fn is_reached(store: &[u32], a: usize, b: usize, steps: usize) -> bool
+    requires { ⌜ (a ≤ b) × ((b * 9 ≤ length (now store)) × ((b ≤ 2097152) × (b - a ≤ steps))) ⌝ }
+    ensures { λ r. ⌜ r ≡ reaches steps (viewOf (now (store .entry))) a b ⌝ }
+{
+    let mut row = a;
+    while row < b {
+        let next = place(store, row, 4);
+        if next <= row {
+            return false;
+        }
+        if b < next {
+            return false;
+        }
+        row = next;
+    }
+    true
+}
+
+// Whether the parts of an `IfWrap` are two.
+fn has_two(store: &[u32], row: usize, after: usize) -> bool
+    requires { ⌜ (row < after) × ((after * 9 ≤ length (now store)) × ((after ≤ 2097152) × (after ≡ cell (now store) row 4))) ⌝ }
+    ensures { λ r. ⌜ r ≡ hasTwo (viewOf (now (store .entry))) row ⌝ }
+{
+    let second = place(store, row, 3);
+    if second <= row + 1 {
+        return false;
+    }
+    if after <= second {
+        return false;
+    }
+    if place(store, row + 1, 4) != second {
+        return false;
+    }
+    place(store, second, 4) == after
+}
+
+// Whether the second part of a `Call` starts at a part or at the end.
+fn is_split(store: &[u32], row: usize, after: usize) -> bool
+    requires { ⌜ (row < after) × ((after * 9 ≤ length (now store)) × ((after ≤ 2097152) × (after ≡ cell (now store) row 4))) ⌝ }
+    ensures { λ r. ⌜ r ≡ isSplit (viewOf (now (store .entry))) row ⌝ }
+{
+    let second = place(store, row, 3);
+    if second <= row {
+        return false;
+    }
+    if after < second {
+        return false;
+    }
+    is_reached(store, row + 1, second, after - row)
+}
+
+// Whether the parts of a row are right for its kind.
+fn parts_fit(store: &[u32], row: usize, kind: usize, after: usize) -> bool
+    requires { ⌜ (row < after) × ((after * 9 ≤ length (now store)) × ((after ≤ 2097152) × (after ≡ cell (now store) row 4))) ⌝ }
+    ensures { λ r. ⌜ r ≡ partsFit (viewOf (now (store .entry))) row kind ⌝ }
+{
+    if kind < 3 {
+        return true;
+    }
+    if kind < 10 {
+        return after == row + 1;
+    }
+    if kind == 10 {
+        return has_two(store, row, after);
+    }
+    if kind == 11 {
+        return is_split(store, row, after);
+    }
+    false
+}
+
+// Whether the text of a row is inside its origin.
+fn text_fits(store: &[u32], source: &[u8], image: &[u8], row: usize) -> bool
+    requires { ⌜ row * 9 + 8 < length (now store) ⌝ }
+    ensures { λ r. ⌜ r ≡ textFits (now (source .entry)) (now (image .entry)) (now (store .entry)) row ⌝ }
+{
+    let origin = place(store, row, 5);
+    if 2 < origin {
+        return false;
+    }
+    let size = origin_size(source, image, origin);
+    place(store, row, 6) + place(store, row, 7) <= size
+}
+
+// Whether the text places of a row without a text are 0.
+fn no_text_fits(store: &[u32], row: usize) -> bool
+    requires { ⌜ row * 9 + 8 < length (now store) ⌝ }
+    ensures { λ r. ⌜ r ≡ noTextFits (now (store .entry)) row ⌝ }
+{
+    if place(store, row, 5) != 0 {
+        return false;
+    }
+    if place(store, row, 6) != 0 {
+        return false;
+    }
+    place(store, row, 7) == 0
+}
+
+// Whether a place is used, or 0.
+fn used_or_none(used: bool, value: usize) -> bool
+    ensures { λ r. ⌜ r ≡ (used || eqb value 0) ⌝ }
+{
+    if used {
+        return true;
+    }
+    value == 0
+}
+
+// Whether the text is right, and each unused place is 0.
+fn places_fit(store: &[u32], source: &[u8], image: &[u8], row: usize) -> bool
+    requires { ⌜ row * 9 + 8 < length (now store) ⌝ }
+    ensures { λ r. ⌜ r ≡ placesFit (now (source .entry)) (now (image .entry)) (now (store .entry)) row ⌝ }
+{
+    let kind = place(store, row, 0);
+    if numbers_fit(store, row, kind) {
+        if used_or_none(kind == 5, place(store, row, 8)) {
+            if uses_text(kind) {
+                return text_fits(store, source, image, row);
+            }
+            return no_text_fits(store, row);
+        }
+    }
+    false
+}
+
+fn uses_text(kind: usize) -> bool
+    ensures { λ r. ⌜ r ≡ usesText kind ⌝ }
+{
+    if kind == 4 {
+        return true;
+    }
+    if kind == 5 {
+        return true;
+    }
+    kind == 6
+}
+
+fn uses_second(kind: usize) -> bool
+    ensures { λ r. ⌜ r ≡ usesSecond kind ⌝ }
+{
+    if kind == 10 {
+        return true;
+    }
+    kind == 11
+}
+
+fn uses_number(kind: usize) -> bool
+    ensures { λ r. ⌜ r ≡ usesNumber kind ⌝ }
+{
+    if kind == 0 {
+        return true;
+    }
+    uses_second(kind)
+}
+
+// Whether the numbers and the second part's row are used, or 0.
+fn numbers_fit(store: &[u32], row: usize, kind: usize) -> bool
+    requires { ⌜ row * 9 + 8 < length (now store) ⌝ }
+    ensures { λ r. ⌜ r ≡ ((usesNumber kind || eqb (cell (now (store .entry)) row 1) 0) && ((usesNumber2 kind || eqb (cell (now (store .entry)) row 2) 0) && (usesSecond kind || eqb (cell (now (store .entry)) row 3) 0))) ⌝ }
+{
+    if used_or_none(uses_number(kind), place(store, row, 1)) {
+        if used_or_none(kind == 11, place(store, row, 2)) {
+            return used_or_none(uses_second(kind), place(store, row, 3));
+        }
+    }
+    false
+}
+
+// Whether a row is right, with the rows around it this many and the innermost up to `end`.
+fn row_fits(
+    store: &[u32],
+    source: &[u8],
+    image: &[u8],
+    end: usize,
+    depth: usize,
+    row: usize,
+) -> bool
+    requires { ⌜ (row < end) × ((end * 9 ≤ length (now store)) × (end ≤ 2097152)) ⌝ }
+    ensures { λ r. ⌜ r ≡ rowFits (placesFit (now (source .entry)) (now (image .entry)) (now (store .entry))) (viewOf (now (store .entry))) end depth row ⌝ }
+{
+    let after = place(store, row, 4);
+    if 256 <= depth {
+        return false;
+    }
+    if after <= row {
+        return false;
+    }
+    if end < after {
+        return false;
+    }
+    let kind = place(store, row, 0);
+    if parts_fit(store, row, kind, after) {
+        return places_fit(store, source, image, row);
+    }
+    false
+}
+
+// The first row from `from` up to `stop` that is not right. `ends` has where the rows around the open part end.
+pub fn wrong_row(store: &[u32], source: &[u8], image: &[u8], from: usize, stop: usize) -> Found
+    requires { ⌜ (stop * 9 ≤ length (now store)) × (stop ≤ 2097152) ⌝ }
+    ensures { λ r. ⌜ r ≡ foundOf (wrongRow (placesFit (now (source .entry)) (now (image .entry)) (now (store .entry))) (viewOf (now (store .entry))) stop 0 from) ⌝ }
+{
+    let mut ends = [0u32; 256];
+    let mut depth: usize = 0;
+    let mut end = stop;
+    let mut row = from;
+    while 0 < depth || row < end {
+        if end <= row {
+            depth -= 1;
+            end = wide(ends[depth]);
+        } else {
+            if row_fits(store, source, image, end, depth, row) {
+                ends[depth] = end as u32;
+                depth += 1;
+                end = place(store, row, 4);
+                row += 1;
+            } else {
+                return Found::Wrong(row);
+            }
+        }
+    }
+    Found::Right
+}
+
+// Refusal 11: whether the rows from `from` up to `stop` may be rendered; 0 for the stop.
+pub fn check_rows(store: &[u32], source: &[u8], image: &[u8], from: usize, stop: usize) -> Found
+    ensures { λ r. ⌜ r ≡ foundOf (wrongPlace (now (source .entry)) (now (image .entry)) (now (store .entry)) from stop) ⌝ }
+{
+    if 2097152 < stop {
+        return Found::Wrong(0);
+    }
+    if store.len() < stop * 9 {
+        return Found::Wrong(0);
+    }
+    wrong_row(store, source, image, from, stop)
+}
