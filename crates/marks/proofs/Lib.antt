@@ -1,3 +1,4 @@
+pub mod Aside
 pub mod Needed
 pub mod Restored
 pub mod Scratch

@@ -1,8 +1,8 @@
-// The marks that a rendering needs.
+// The marks that a rendering needs, and the marks that a dry run puts aside.
 ghost use mathlib.Core.Path.{_≡_};
 ghost use Prim.Native.Nat.{_+_, _*_, _-_, _≤_, _<_, max};
-ghost use lib.ListN.{length};
-ghost use Rattle.marks.specs.Marks.{rowMarks, marksNeeded};
+ghost use lib.ListN.{length, getD};
+ghost use Rattle.marks.specs.Marks.{rowMarks, marksNeeded, clear, clearFrom};
 use rows::store::place;
 
 fn larger(a: usize, b: usize) -> usize
@@ -45,4 +45,37 @@ pub fn marks_needed(store: &[u32], from: usize, stop: usize) -> usize
         row += 1;
     }
     most
+}
+
+// Clears the marks from one number up to another.
+pub fn clear_marks(marks: &mut [u8], from: usize, to: usize)
+    requires { ⌜ to ≤ length (now marks) ⌝ }
+    ensures { λ r. ⌜ now (marks .exit) ≡ clearFrom (to - from) from (now (marks .entry)) ⌝ }
+{
+    let mut number = from;
+    while number < to {
+        marks[number] = 0;
+        number += 1;
+    }
+}
+
+fn wide_mark(mark: u8) -> u32
+    ensures { λ r. ⌜ (r ≡ mark) × (r < 256) ⌝ }
+{
+    mark as u32
+}
+
+// Reads the mark of a number, and clears it if the number is not in use.
+fn take_mark(marks: &mut [u8], in_use: usize, number: usize) -> u32
+    ensures { λ r. ⌜ (r ≡ getD (now (marks .entry)) number 0) × ((r < 256) × (now (marks .exit) ≡ clear «in_use» number (now (marks .entry)))) ⌝ }
+{
+    if marks.len() <= number {
+        return 0;
+    }
+    let old = wide_mark(marks[number]);
+    if in_use <= number {
+        marks[number] = 0;
+        return old;
+    }
+    old
 }
