@@ -1,16 +1,17 @@
 -- The loops that clear marks, put them aside and put them back: going on from here gives the whole.
 -- Assumes nothing.
-use mathlib.Core.Path.{_≡_, refl, ap, sym, _∙_}
-use Prim.Native.Nat.{ℕ, suc, _+_, _-_, _≤_, _<_}
+use mathlib.Core.Path.{_≡_, refl, ap, ap₂, sym, _∙_}
+use Prim.Native.Nat.{ℕ, suc, _+_, _*_, _/_, _%_, _-_, _≤_, _<_}
 use native.Mathlib.Omega.{arith}
 use native.Mathlib.Numerals.{add-one}
 use mathlib.Core.Bool.{Bool, true, false, cond}
-use mathlib.Core.List.{List}
+use mathlib.Core.List.{List, [], _∷_}
 use lib.ListN.{length, getD, set, length-set, List·getD-eq-default}
 use lib.Seq.{set-out}
 use lib.Dec.{ltb}
-use borrow.Author.Tests.{lt-ltb, le-ltb}
-use Rattle.marks.specs.Marks.{clear, clearFrom}
+use borrow.Author.Tests.{lt-ltb, le-ltb, ne-eqb}
+use Rattle.rows.specs.View.{cell}
+use Rattle.marks.specs.Marks.{clear, saved, cleared, restore, clearFrom, numbersOf, packed, unpacked, Held, held, rowAside, rowBack}
 
 one-more : (stop row : ℕ) → row < stop → stop - row ≡ suc (stop - (row + 1))
 one-more stop row h = omega arith
@@ -63,3 +64,64 @@ clear-new u m n h = rw (le-ltb n u h)
 
 pub clear-old : (u : ℕ) (m : List ℕ) (n : ℕ) → n < u → m ≡ clear u n m
 clear-old u m n h = rw (lt-ltb n u h)
+
+-- the numbers of a row, by what the code tests
+pub numbers-call : (s : List ℕ) (i kind a b : ℕ) → kind ≡ cell s i 0 → a ≡ cell s i 1 → b ≡ cell s i 2 → kind ≡ 11 → a ∷ b ∷ [] ≡ numbersOf s i
+numbers-call s i kind a b e f g k = rw (← e, k, f, g)
+
+pub numbers-group : (s : List ℕ) (i kind a : ℕ) → kind ≡ cell s i 0 → a ≡ cell s i 1 → kind ≡ 0 → a ∷ [] ≡ numbersOf s i
+numbers-group s i kind a e f k = rw (← e, k, f)
+
+pub numbers-if : (s : List ℕ) (i kind a : ℕ) → kind ≡ cell s i 0 → a ≡ cell s i 1 → kind ≡ 10 → a ∷ [] ≡ numbersOf s i
+numbers-if s i kind a e f k = rw (← e, k, f)
+
+pub numbers-none : (s : List ℕ) (i kind : ℕ) → kind ≡ cell s i 0 → (kind ≡ 11 → ⊥) → (kind ≡ 0 → ⊥) → (kind ≡ 10 → ⊥) → [] ≡ numbersOf s i
+numbers-none s i kind e a b c = rw (← e, ne-eqb kind 11 a, ne-eqb kind 0 b, ne-eqb kind 10 c)
+
+pack-two : (x y : ℕ) → x + 256 * y ≡ packed (x ∷ y ∷ [])
+unfolding packed
+pack-two x y = omega arith
+
+pack-one : (x : ℕ) → x ≡ packed (x ∷ [])
+unfolding packed
+pack-one x = omega arith
+
+pub aside-two : (u : ℕ) (s m : List ℕ) (i a b x y : ℕ) (m1 m2 ns : List ℕ) → a ∷ b ∷ [] ≡ ns → x ≡ getD m a 0 → m1 ≡ clear u a m → y ≡ getD m1 b 0 → m2 ≡ clear u b m1
+    → held (set s (i * 9 + 8) (x + 256 * y)) m2 ≡ rowAside u ns (held s m) i
+unfolding rowAside saved cleared
+aside-two u s m i a b x y m1 m2 ns n e f g h =
+    ap₂ (λ (v : ℕ) (w : List ℕ). held (set s (i * 9 + 8) v) w)
+    (pack-two x y ∙ ap₂ (λ (p : ℕ) (q : ℕ). packed (p ∷ q ∷ [])) e (g ∙ ap (λ (w : List ℕ). getD w b 0) f))
+    (h ∙ ap (λ (w : List ℕ). clear u b w) f)
+    ∙ ap (λ (l : List ℕ). rowAside u l (held s m) i) n
+
+pub aside-one : (u : ℕ) (s m : List ℕ) (i a x : ℕ) (m1 ns : List ℕ) → a ∷ [] ≡ ns → x ≡ getD m a 0 → m1 ≡ clear u a m
+    → held (set s (i * 9 + 8) x) m1 ≡ rowAside u ns (held s m) i
+unfolding rowAside saved cleared
+aside-one u s m i a x m1 ns n e f =
+    ap₂ (λ (v : ℕ) (w : List ℕ). held (set s (i * 9 + 8) v) w) (pack-one x ∙ ap (λ (p : ℕ). packed (p ∷ [])) e) f
+    ∙ ap (λ (l : List ℕ). rowAside u l (held s m) i) n
+
+pub aside-none : (u : ℕ) (h : Held) (i : ℕ) (ns : List ℕ) → [] ≡ ns → h ≡ rowAside u ns h i
+unfolding rowAside
+aside-none u h i ns n = ap (λ (l : List ℕ). rowAside u l h i) n
+
+pub back-two : (s m : List ℕ) (i a b v x y : ℕ) (m1 m2 ns : List ℕ) → a ∷ b ∷ [] ≡ ns → v ≡ cell s i 8 → y ≡ v / 256 % 256 → m1 ≡ set m b y → x ≡ v % 256 → m2 ≡ set m1 a x
+    → held (set s (i * 9 + 8) 0) m2 ≡ rowBack ns (held s m) i
+unfolding rowBack restore
+back-two s m i a b v x y m1 m2 ns n c e f g h =
+    ap (λ (w : List ℕ). held (set s (i * 9 + 8) 0) w)
+    (h
+    ∙ ap₂ (λ (w : List ℕ) (z : ℕ). set w a z) (f ∙ ap (λ (z : ℕ). set m b z) (e ∙ ap (λ (z : ℕ). z / 256 % 256) c)) (g ∙ ap (λ (z : ℕ). z % 256) c))
+    ∙ ap (λ (l : List ℕ). rowBack l (held s m) i) n
+
+pub back-one : (s m : List ℕ) (i a v x : ℕ) (m1 ns : List ℕ) → a ∷ [] ≡ ns → v ≡ cell s i 8 → x ≡ v % 256 → m1 ≡ set m a x
+    → held (set s (i * 9 + 8) 0) m1 ≡ rowBack ns (held s m) i
+unfolding rowBack restore
+back-one s m i a v x m1 ns n c e f =
+    ap (λ (w : List ℕ). held (set s (i * 9 + 8) 0) w) (f ∙ ap (λ (z : ℕ). set m a z) (e ∙ ap (λ (z : ℕ). z % 256) c))
+    ∙ ap (λ (l : List ℕ). rowBack l (held s m) i) n
+
+pub back-none : (h : Held) (i : ℕ) (ns : List ℕ) → [] ≡ ns → h ≡ rowBack ns h i
+unfolding rowBack
+back-none h i ns n = ap (λ (l : List ℕ). rowBack l h i) n
