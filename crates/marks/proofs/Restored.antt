@@ -16,21 +16,21 @@ pub data In (x : ℕ) : List ℕ → Type 0 where
   here : {n : ℕ} {ns : List ℕ} → x ≡ n → In x (n ∷ ns)
   there : {n : ℕ} {ns : List ℕ} → In x ns → In x (n ∷ ns)
 
-clear-length : (u n : ℕ) (m : List ℕ) → length (clear u n m) ≡ length m
+pub clear-length : (u n : ℕ) (m : List ℕ) → length (clear u n m) ≡ length m
 clear-length u n m = go (ltb n u)
   where
     go : (b : Bool) → length (cond b m (set m n 0)) ≡ length m
     go true = refl
     go false = length-set m n 0
 
-clear-other : (u n x : ℕ) (m : List ℕ) → (x ≡ n → ⊥) → getD (clear u n m) x 0 ≡ getD m x 0
+pub clear-other : (u n x : ℕ) (m : List ℕ) → (x ≡ n → ⊥) → getD (clear u n m) x 0 ≡ getD m x 0
 clear-other u n x m h = go (ltb n u)
   where
     go : (b : Bool) → getD (cond b m (set m n 0)) x 0 ≡ getD m x 0
     go true = refl
     go false = getD-set-other m n x 0 0 h
 
-restore-length : (ns log c : List ℕ) → length (restore ns log c) ≡ length c
+pub restore-length : (ns log c : List ℕ) → length (restore ns log c) ≡ length c
 unfolding restore
 restore-length [] log c = refl
 restore-length (n ∷ ns) [] c = refl

@@ -2,7 +2,7 @@
 ghost use mathlib.Core.Path.{_≡_};
 ghost use Prim.Native.Nat.{_+_, _*_, _-_, _%_, _≤_, _<_, max};
 ghost use lib.ListN.{length, getD, set};
-ghost use Rattle.marks.specs.Marks.{rowMarks, marksNeeded, clear, clearFrom, numbersOf, held, rowAside, rowBack};
+ghost use Rattle.marks.specs.Marks.{rowMarks, marksNeeded, clear, clearFrom, numbersOf, held, rowAside, putAside, rowBack, putBack};
 use rows::store::place;
 
 fn larger(a: usize, b: usize) -> usize
@@ -146,5 +146,29 @@ fn row_back(store: &mut [u32], marks: &mut [u8], row: usize)
         set_mark(marks, number, low_mark(old));
         store[row * 9 + 8] = 0;
         return;
+    }
+}
+
+// Puts the old marks of the rows' numbers aside, before a dry run.
+pub fn put_aside(store: &mut [u32], marks: &mut [u8], in_use: usize, from: usize, stop: usize)
+    requires { ⌜ stop * 9 ≤ length (now store) ⌝ }
+    ensures { λ r. ⌜ held (now (store .exit)) (now (marks .exit)) ≡ putAside (stop - from) «in_use» (held (now (store .entry)) (now (marks .entry))) from ⌝ }
+{
+    let mut row = from;
+    while row < stop {
+        row_aside(store, marks, in_use, row);
+        row += 1;
+    }
+}
+
+// Puts the old marks back, after a dry run.
+pub fn put_back(store: &mut [u32], marks: &mut [u8], from: usize, stop: usize)
+    requires { ⌜ (from ≤ stop) × (stop * 9 ≤ length (now store)) ⌝ }
+    ensures { λ r. ⌜ held (now (store .exit)) (now (marks .exit)) ≡ putBack (stop - from) (held (now (store .entry)) (now (marks .entry))) from ⌝ }
+{
+    let mut row = stop;
+    while from < row {
+        row -= 1;
+        row_back(store, marks, row);
     }
 }
