@@ -7,8 +7,9 @@ use native.Mathlib.Omega.{arith}
 use mathlib.Core.Bool.{Bool, true, false, cond, _||_}
 use mathlib.Core.List.{List, [], _∷_}
 use lib.ListN.{length, getD, set}
-use lib.Seq.{getD-set-same, ext-getD}
+use lib.Seq.{getD-set-same, getD-set-other, ext-getD}
 use lib.Dec.{ltb, eqb}
+use borrow.Author.Tests.{eqb-true, eqb-false}
 use Rattle.rows.specs.View.{cell}
 use Rattle.marks.proofs.Restored.{has, clear-length, clear-other, restore-length, put-back, rubbed}
 use Rattle.marks.proofs.Scratch.{other}
@@ -24,9 +25,9 @@ owns x (suc n) s i = has x (numbersOf s i) || owns x n s (suc i)
 pub record Bytes (m : List ℕ) : Type 0 where
   pub at : (k : ℕ) → getD m k 0 < 256
 
--- no row but a `Str` uses its width place
-pub record Unused (s : List ℕ) : Type 0 where
-  pub at : (k : ℕ) → (cell s k 0 ≡ 5 → ⊥) → cell s k 8 ≡ 0
+-- none of the n rows from i on but a `Str` uses its width place
+pub record Unused (n : ℕ) (s : List ℕ) (i : ℕ) : Type 0 where
+  pub at : (k : ℕ) → i ≤ k → k < i + n → (cell s k 0 ≡ 5 → ⊥) → cell s k 8 ≡ 0
 
 -- A number in a width place changes no row's numbers.
 numbers-set : (s : List ℕ) (i x k : ℕ) → numbersOf (set s (i * 9 + 8) x) k ≡ numbersOf s k
@@ -60,3 +61,81 @@ low x y h = omega arith
 
 high : (x y : ℕ) → x < 256 → y < 256 → (x + 256 * y) / 256 % 256 ≡ y
 high x y h k = omega arith
+
+pack-low : (x : ℕ) → x < 256 → packed (x ∷ []) % 256 ≡ x
+unfolding packed
+pack-low x h = low x 0 h
+
+pack-both : (x y : ℕ) → packed (x ∷ y ∷ []) ≡ x + 256 * y
+unfolding packed
+pack-both x y = omega arith
+
+set-zero : (m : List ℕ) (n : ℕ) → getD (set m n 0) n 0 < 256
+set-zero [] n = omega arith
+set-zero (x ∷ m) zero = omega arith
+set-zero (x ∷ m) (suc n) = set-zero m n
+
+clear-bytes : (u n : ℕ) (m : List ℕ) → Bytes m → Bytes (clear u n m)
+clear-bytes u n m b = record { at = λ k. go k (eqb k n) refl }
+  where
+    zeroed : (k : ℕ) (c : Bool) → eqb k n ≡ c → getD (set m n 0) k 0 < 256
+    zeroed k true e = let q = eqb-true k n e in rw q (set-zero m n)
+    zeroed k false e = rw (getD-set-other m n k 0 0 (eqb-false k n e)) (b .at k)
+
+    go : (k : ℕ) (c : Bool) → eqb k n ≡ c → getD (clear u n m) k 0 < 256
+    go k c e = each (ltb n u)
+      where
+        each : (p : Bool) → getD (cond p m (set m n 0)) k 0 < 256
+        each true = b .at k
+        each false = zeroed k c e
+
+cleared-bytes : (u : ℕ) (ns m : List ℕ) → Bytes m → Bytes (cleared u ns m)
+unfolding cleared
+cleared-bytes u [] m b = b
+cleared-bytes u (n ∷ ns) m b = cleared-bytes u ns (clear u n m) (clear-bytes u n m b)
+
+aside-bytes : (u : ℕ) (ns : List ℕ) (h : Held) (i : ℕ) → Bytes (h .marks) → Bytes (rowAside u ns h i .marks)
+unfolding rowAside
+aside-bytes u [] h i b = b
+aside-bytes u (n ∷ ns) h i b = cleared-bytes u (n ∷ ns) (h .marks) b
+
+unpack-row : (u : ℕ) (ns m c : List ℕ) → length ns ≤ 2 → Bytes m → restore ns (unpacked (packed (saved u ns m))) c ≡ restore ns (saved u ns m) c
+unfolding restore saved
+unpack-row u [] m c l b = refl
+unpack-row u (x ∷ []) m c l b = ap (λ (z : ℕ). set c x z) (pack-low (getD m x 0) (b .at x))
+unpack-row u (x ∷ y ∷ []) m c l b =
+    let p = getD m x 0 in
+    let q = getD (clear u x m) y 0 in
+    let e = pack-both p q in
+    ap₂ (λ (v : ℕ) (w : ℕ). set (set c y w) x v)
+    (ap (λ (z : ℕ). z % 256) e ∙ low p q (b .at x))
+    (ap (λ (z : ℕ). z / 256 % 256) e ∙ high p q (b .at x) (clear-bytes u x m b .at y))
+unpack-row u (x ∷ y ∷ z ∷ ns) m c l b = absurd (omega arith)
+
+-- Numbers that are no row's keep their marks.
+has-first : (p q : Bool) → p || q ≡ false → (p ≡ false) × (q ≡ false)
+has-first false q e = (refl, e)
+has-first true q e = absurd (no-true e)
+  where
+    no-true : true ≡ false → ⊥
+    no-true e = let z : _≡_ {A = ℕ} 0 1 = cc in omega arith
+
+cleared-other : (u x : ℕ) (ns m : List ℕ) → has x ns ≡ false → getD (cleared u ns m) x 0 ≡ getD m x 0
+unfolding cleared has
+cleared-other u x [] m e = refl
+cleared-other u x (n ∷ ns) m e =
+    let f = has-first (eqb x n) (has x ns) e in
+    cleared-other u x ns (clear u n m) (f .1) ∙ clear-other u n x m (eqb-false x n (f .0))
+
+row-other : (u x : ℕ) (ns : List ℕ) (h : Held) (i : ℕ) → has x ns ≡ false → getD (rowAside u ns h i .marks) x 0 ≡ getD (h .marks) x 0
+unfolding rowAside
+row-other u x [] h i e = refl
+row-other u x (n ∷ ns) h i e = cleared-other u x (n ∷ ns) (h .marks) e
+
+pub aside-other : (x n u : ℕ) (h : Held) (i : ℕ) → owns x n (h .rows) i ≡ false → getD (putAside n u h i .marks) x 0 ≡ getD (h .marks) x 0
+unfolding putAside owns
+aside-other x zero u h i e = refl
+aside-other x (suc n) u h i e =
+    let ns = numbersOf (h .rows) i in
+    let f = has-first (has x ns) (owns x n (h .rows) (suc i)) e in
+    aside-other x n u (rowAside u ns h i) (suc i) (owns-same x n u ns h i (suc i) ∙ f .1) ∙ row-other u x ns h i (f .0)
