@@ -38,6 +38,9 @@ unfolding rowAside
 numbers-same u [] h i k = refl
 numbers-same u (n ∷ ns) h i k = numbers-set (h .rows) i (packed (saved u (n ∷ ns) (h .marks))) k
 
+numbers-back : (u : ℕ) (h p : Held) (i : ℕ) → p .rows ≡ rowAside u (numbersOf (h .rows) i) h i .rows → numbersOf (p .rows) i ≡ numbersOf (h .rows) i
+numbers-back u h p i e = ap (λ (s : List ℕ). numbersOf s i) e ∙ numbers-same u (numbersOf (h .rows) i) h i i
+
 owns-same : (x n u : ℕ) (ns : List ℕ) (h : Held) (i k : ℕ) → owns x n (rowAside u ns h i .rows) k ≡ owns x n (h .rows) k
 unfolding owns
 owns-same x zero u ns h i k = refl
@@ -139,3 +142,111 @@ aside-other x (suc n) u h i e =
     let ns = numbersOf (h .rows) i in
     let f = has-first (has x ns) (owns x n (h .rows) (suc i)) e in
     aside-other x n u (rowAside u ns h i) (suc i) (owns-same x n u ns h i (suc i) ∙ f .1) ∙ row-other u x ns h i (f .0)
+
+-- One row undone: its store.
+not-str : (s : List ℕ) (i n : ℕ) (ns : List ℕ) → numbersOf s i ≡ n ∷ ns → cell s i 0 ≡ 5 → ⊥
+not-str s i n ns e k = some n ns (sym (none s i k) ∙ e)
+  where
+    none : (s : List ℕ) (i : ℕ) → cell s i 0 ≡ 5 → numbersOf s i ≡ []
+    none s i k = rw k
+
+    some : (n : ℕ) (ns : List ℕ) → [] ≡ n ∷ ns → ⊥
+    some n ns e = let z : _≡_ {A = ℕ} 0 1 = cc in omega arith
+
+row-undone : (u : ℕ) (ns : List ℕ) (h p : Held) (i : ℕ) → numbersOf (h .rows) i ≡ ns → p .rows ≡ rowAside u ns h i .rows → ((cell (h .rows) i 0 ≡ 5 → ⊥) → cell (h .rows) i 8 ≡ 0)
+    → rowBack ns p i .rows ≡ h .rows
+unfolding rowAside rowBack
+row-undone u [] h p i e f z = f
+row-undone u (n ∷ ns) h p i e f z =
+    ap (λ (r : List ℕ). set r (i * 9 + 8) 0) f
+    ∙ rubbed (h .rows) (i * 9 + 8) (packed (saved u (n ∷ ns) (h .marks))) (z (not-str (h .rows) i n ns e))
+
+unused-set : (n : ℕ) (s : List ℕ) (i x : ℕ) → Unused (suc n) s i → Unused n (set s (i * 9 + 8) x) (suc i)
+unused-set n s i x z =
+    record {
+      at = λ k a b f. getD-set-other s (i * 9 + 8) (k * 9 + 8) x 0 (λ e. omega arith) ∙ z .at k (omega arith) (omega arith) (λ e. f (other s i x k 0 (omega arith) ∙ e));
+    }
+
+unused-less : (n : ℕ) (s : List ℕ) (i : ℕ) → Unused (suc n) s i → Unused n s (suc i)
+unused-less n s i z = record { at = λ k a b f. z .at k (omega arith) (omega arith) f }
+
+unused-row : (n u : ℕ) (ns : List ℕ) (h : Held) (i : ℕ) → Unused (suc n) (h .rows) i → Unused n (rowAside u ns h i .rows) (suc i)
+unfolding rowAside
+unused-row n u [] h i z = unused-less n (h .rows) i z
+unused-row n u (x ∷ ns) h i z = unused-set n (h .rows) i (packed (saved u (x ∷ ns) (h .marks))) z
+
+-- The store is as it was.
+rows-step : (n u : ℕ) (h p : Held) (i : ℕ) → Unused (suc n) (h .rows) i → p .rows ≡ rowAside u (numbersOf (h .rows) i) h i .rows
+    → rowBack (numbersOf (p .rows) i) p i .rows ≡ h .rows
+rows-step n u h p i z e =
+    ap (λ (ns : List ℕ). rowBack ns p i .rows) (numbers-back u h p i e)
+    ∙ row-undone u (numbersOf (h .rows) i) h p i refl e (z .at i (omega arith) (omega arith))
+
+pub rows-undone : (n u : ℕ) (h : Held) (c : List ℕ) (i : ℕ) → Unused n (h .rows) i → putBack n (held (putAside n u h i .rows) c) i .rows ≡ h .rows
+unfolding putAside putBack
+rows-undone zero u h c i z = refl
+rows-undone (suc n) u h c i z =
+    let h1 = rowAside u (numbersOf (h .rows) i) h i in
+    rows-step n u h (putBack n (held (putAside n u h1 (suc i) .rows) c) (suc i)) i z
+    (rows-undone n u h1 c (suc i) (unused-row n u (numbersOf (h .rows) i) h i z))
+
+-- One row undone: its numbers' marks.
+row-marked : (u x : ℕ) (ns : List ℕ) (h p : Held) (i : ℕ) → length ns ≤ 2 → Bytes (h .marks) → i * 9 + 8 < length (h .rows) → p .rows ≡ rowAside u ns h i .rows
+    → length (p .marks) ≡ length (h .marks)
+    → x < length (h .marks)
+    → (has x ns ≡ false → getD (p .marks) x 0 ≡ getD (h .marks) x 0)
+    → getD (rowBack ns p i .marks) x 0 ≡ getD (h .marks) x 0
+unfolding rowAside rowBack has
+row-marked u x [] h p i t b r e l k q = q refl
+row-marked u x (n ∷ ns) h p i t b r e l k q =
+    let v = packed (saved u (n ∷ ns) (h .marks)) in
+    ap (λ (w : ℕ). getD (restore (n ∷ ns) (unpacked w) (p .marks)) x 0) (ap (λ (s : List ℕ). cell s i 8) e ∙ getD-set-same (h .rows) (i * 9 + 8) v 0 r)
+    ∙ ap (λ (w : List ℕ). getD w x 0) (unpack-row u (n ∷ ns) (h .marks) (p .marks) t b)
+    ∙ put-back u x (n ∷ ns) (h .marks) (p .marks) l k q
+
+back-size : (n : ℕ) (h : Held) (i : ℕ) → length (putBack n h i .marks) ≡ length (h .marks)
+unfolding putBack
+back-size zero h i = refl
+back-size (suc n) h i = back-marks (numbersOf (putBack n h (suc i) .rows) i) (putBack n h (suc i)) i ∙ back-size n h (suc i)
+
+marks-step : (u x : ℕ) (h p : Held) (i : ℕ) → Bytes (h .marks) → i * 9 + 8 < length (h .rows) → p .rows ≡ rowAside u (numbersOf (h .rows) i) h i .rows
+    → length (p .marks) ≡ length (h .marks)
+    → x < length (h .marks)
+    → (has x (numbersOf (h .rows) i) ≡ false → getD (p .marks) x 0 ≡ getD (h .marks) x 0)
+    → getD (rowBack (numbersOf (p .rows) i) p i .marks) x 0 ≡ getD (h .marks) x 0
+marks-step u x h p i b r e l k q =
+    ap (λ (ns : List ℕ). getD (rowBack ns p i .marks) x 0) (numbers-back u h p i e)
+    ∙ row-marked u x (numbersOf (h .rows) i) h p i (two-numbers (h .rows) i) b r e l k q
+
+-- Each mark is as it was.
+marks-undone : (x n u : ℕ) (h : Held) (c : List ℕ) (i : ℕ) → Unused n (h .rows) i → Bytes (h .marks) → (i + n) * 9 ≤ length (h .rows)
+    → length c ≡ length (h .marks)
+    → x < length (h .marks)
+    → (owns x n (h .rows) i ≡ false → getD c x 0 ≡ getD (h .marks) x 0)
+    → getD (putBack n (held (putAside n u h i .rows) c) i .marks) x 0 ≡ getD (h .marks) x 0
+unfolding putAside putBack owns
+marks-undone x zero u h c i z b r l k q = q refl
+marks-undone x (suc n) u h c i z b r l k q =
+    let ns = numbersOf (h .rows) i in
+    let h1 = rowAside u ns h i in
+    let y = unused-row n u ns h i z in
+    let a = aside-rows u ns h i in
+    let d = aside-marks u ns h i in
+    let g = held (putAside n u h1 (suc i) .rows) c in
+    marks-step u x h (putBack n g (suc i)) i b (omega arith) (rows-undone n u h1 c (suc i) y) (back-size n g (suc i) ∙ l) k
+    (λ e.
+    let o = row-other u x ns h i e in
+    marks-undone x n u h1 c (suc i) y (aside-bytes u ns h i b) (omega arith) (l ∙ sym d) (omega arith)
+    (λ f. q (owns-next x n (h .rows) i e (sym (owns-same x n u ns h i (suc i)) ∙ f)) ∙ sym o)
+    ∙ o)
+
+-- All is as it was.
+pub undone : (n u : ℕ) (s m c : List ℕ) (i : ℕ) → Unused n s i → Bytes m → (i + n) * 9 ≤ length s → length c ≡ length m
+    → ((x : ℕ) → owns x n s i ≡ false → getD c x 0 ≡ getD (putAside n u (held s m) i .marks) x 0)
+    → putBack n (held (putAside n u (held s m) i .rows) c) i ≡ held s m
+undone n u s m c i z b r l q =
+    let g = held (putAside n u (held s m) i .rows) c in
+    let t = back-size n g i in
+    ap₂ (λ (x : List ℕ) (y : List ℕ). held x y)
+    (rows-undone n u (held s m) c i z)
+    (ext-getD 0 (putBack n g i .marks) m (t ∙ l) (λ x k. marks-undone x n u (held s m) c i z b r l (omega arith) (λ e. q x e ∙ aside-other x n u (held s m) i e)))
