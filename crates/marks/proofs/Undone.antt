@@ -41,7 +41,7 @@ numbers-same u (n ∷ ns) h i k = numbers-set (h .rows) i (packed (saved u (n �
 numbers-back : (u : ℕ) (h p : Held) (i : ℕ) → p .rows ≡ rowAside u (numbersOf (h .rows) i) h i .rows → numbersOf (p .rows) i ≡ numbersOf (h .rows) i
 numbers-back u h p i e = ap (λ (s : List ℕ). numbersOf s i) e ∙ numbers-same u (numbersOf (h .rows) i) h i i
 
-owns-same : (x n u : ℕ) (ns : List ℕ) (h : Held) (i k : ℕ) → owns x n (rowAside u ns h i .rows) k ≡ owns x n (h .rows) k
+pub owns-same : (x n u : ℕ) (ns : List ℕ) (h : Held) (i k : ℕ) → owns x n (rowAside u ns h i .rows) k ≡ owns x n (h .rows) k
 unfolding owns
 owns-same x zero u ns h i k = refl
 owns-same x (suc n) u ns h i k = ap₂ (λ (a : List ℕ) (b : Bool). has x a || b) (numbers-same u ns h i k) (owns-same x n u ns h i (suc k))
@@ -116,7 +116,7 @@ unpack-row u (x ∷ y ∷ []) m c l b =
 unpack-row u (x ∷ y ∷ z ∷ ns) m c l b = absurd (omega arith)
 
 -- Numbers that are no row's keep their marks.
-has-first : (p q : Bool) → p || q ≡ false → (p ≡ false) × (q ≡ false)
+pub has-first : (p q : Bool) → p || q ≡ false → (p ≡ false) × (q ≡ false)
 has-first false q e = (refl, e)
 has-first true q e = absurd (no-true e)
   where
@@ -144,7 +144,7 @@ aside-other x (suc n) u h i e =
     aside-other x n u (rowAside u ns h i) (suc i) (owns-same x n u ns h i (suc i) ∙ f .1) ∙ row-other u x ns h i (f .0)
 
 -- One row undone: its store.
-not-str : (s : List ℕ) (i n : ℕ) (ns : List ℕ) → numbersOf s i ≡ n ∷ ns → cell s i 0 ≡ 5 → ⊥
+pub not-str : (s : List ℕ) (i n : ℕ) (ns : List ℕ) → numbersOf s i ≡ n ∷ ns → cell s i 0 ≡ 5 → ⊥
 not-str s i n ns e k = some n ns (sym (none s i k) ∙ e)
   where
     none : (s : List ℕ) (i : ℕ) → cell s i 0 ≡ 5 → numbersOf s i ≡ []
