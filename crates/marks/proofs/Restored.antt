@@ -1,7 +1,7 @@
 -- Marks put aside in order and put back in reverse order are the marks that were there, if nothing but these numbers' marks changed between.
 -- Assumes nothing.
 use mathlib.Core.Path.{_≡_, refl, sym, _∙_, subst}
-use Prim.Native.Nat.{ℕ, _<_}
+use Prim.Native.Nat.{ℕ, zero, suc, _<_}
 use native.Mathlib.Omega.{arith}
 use mathlib.Core.Bool.{Bool, true, false, cond, _||_}
 use mathlib.Core.List.{List, [], _∷_}
@@ -15,6 +15,11 @@ use Rattle.marks.specs.Marks.{clear, saved, restore}
 unfoldable pub has : ℕ → List ℕ → Bool
 has x [] = false
 has x (n ∷ ns) = eqb x n || has x ns
+
+pub set-zero : (m : List ℕ) (n : ℕ) → getD (set m n 0) n 0 ≡ 0
+set-zero [] n = refl
+set-zero (x ∷ m) zero = refl
+set-zero (x ∷ m) (suc n) = set-zero m n
 
 pub clear-length : (u n : ℕ) (m : List ℕ) → length (clear u n m) ≡ length m
 clear-length u n m = go (ltb n u)

@@ -1,17 +1,17 @@
 -- What a dry run sees after `putAside`: the same document, and at the rows' own numbers the marks that the true run starts with.
 -- Assumes nothing.
 use mathlib.Core.Path.{_≡_, refl, ap, sym, _∙_, subst}
-use Prim.Native.Nat.{ℕ, zero, suc, _+_, _*_, _-_, _≤_, _<_, max}
+use Prim.Native.Nat.{ℕ, zero, suc, _+_, _-_, _≤_, _<_, max}
 use native.Mathlib.Omega.{arith}
 use mathlib.Core.Bool.{Bool, true, false, cond, _||_}
 use mathlib.Core.List.{List, [], _∷_}
 use lib.ListN.{length, getD, set}
 use lib.Seq.{getD-set-other}
 use lib.Dec.{ltb, eqb}
-use borrow.Author.Tests.{eqb-true, eqb-false, lt-ltb, le-ltb}
+use borrow.Author.Tests.{eqb-true, eqb-false, ltb-true, ltb-false, lt-ltb, le-ltb}
 use Rattle.rows.specs.View.{cell, viewOf}
 use Rattle.rows.specs.Nesting.{Nests, Nested}
-use Rattle.marks.proofs.Restored.{has, clear-other}
+use Rattle.marks.proofs.Restored.{has, set-zero, clear-other}
 use Rattle.marks.proofs.Scratch.{scratched}
 use Rattle.marks.proofs.Aside.{aside-rows}
 use Rattle.marks.proofs.Undone.{owns, owns-same, not-str}
@@ -63,11 +63,6 @@ aside-used zero u x h i k = refl
 aside-used (suc n) u x h i k = aside-used n u x (rowAside u (numbersOf (h .rows) i) h i) (suc i) k ∙ row-used u x (numbersOf (h .rows) i) h i k
 
 -- A new number of a row has its mark cleared.
-set-zero : (m : List ℕ) (n : ℕ) → getD (set m n 0) n 0 ≡ 0
-set-zero [] n = refl
-set-zero (x ∷ m) zero = refl
-set-zero (x ∷ m) (suc n) = set-zero m n
-
 zero-set : (x n : ℕ) (m : List ℕ) → getD m x 0 ≡ 0 → getD (set m n 0) x 0 ≡ 0
 zero-set x n m z = go (eqb x n) refl
   where
@@ -131,3 +126,75 @@ aside-new zero u x h i k e = absurd (no-false e)
 aside-new (suc n) u x h i k e =
     let ns = numbersOf (h .rows) i in
     rows-step n u x h i (has x ns) refl k e (λ f. aside-new n u x (rowAside u ns h i) (suc i) k (owns-same x n u ns h i (suc i) ∙ f))
+
+-- The marks that the true run starts with: below i as they were, from i on cleared.
+pub clear-below : (n i x : ℕ) (m : List ℕ) → x < i → getD (clearFrom n i m) x 0 ≡ getD m x 0
+unfolding clearFrom
+clear-below zero i x m h = refl
+clear-below (suc n) i x m h = clear-below n (suc i) x (set m i 0) (omega arith) ∙ getD-set-other m i x 0 0 (λ e. omega arith)
+
+from-zero : (n i x : ℕ) (m : List ℕ) → getD m x 0 ≡ 0 → getD (clearFrom n i m) x 0 ≡ 0
+unfolding clearFrom
+from-zero zero i x m z = z
+from-zero (suc n) i x m z = from-zero n (suc i) x (set m i 0) (zero-set x i m z)
+
+from-step : (n i x : ℕ) (m : List ℕ) (b : Bool) → eqb x i ≡ b → i ≤ x → x < i + suc n → (suc i ≤ x → x < suc i + n → getD (clearFrom n (suc i) (set m i 0)) x 0 ≡ 0)
+    → getD (clearFrom n (suc i) (set m i 0)) x 0 ≡ 0
+from-step n i x m true e h k rec = let q = eqb-true x i e in from-zero n (suc i) x (set m i 0) (rw q (set-zero m i))
+from-step n i x m false e h k rec = let q = eqb-false x i e in rec (above i x h q) (omega arith)
+  where
+    above : (i x : ℕ) → i ≤ x → (x ≡ i → ⊥) → suc i ≤ x
+    above i x h q = omega arith
+
+pub clear-in : (n i x : ℕ) (m : List ℕ) → i ≤ x → x < i + n → getD (clearFrom n i m) x 0 ≡ 0
+unfolding clearFrom
+clear-in zero i x m h k = absurd (omega arith)
+clear-in (suc n) i x m h k = from-step n i x m (eqb x i) refl h k (λ a b. clear-in n (suc i) x (set m i 0) a b)
+
+-- A row's number is below the marks needed.
+row-needed : (x : ℕ) (s : List ℕ) (i : ℕ) → has x (numbersOf s i) ≡ true → x < rowMarks s i
+unfolding has
+row-needed x s i e = go (eqb (cell s i 0) 11) (eqb (cell s i 0) 0 || eqb (cell s i 0) 10) (cell s i 1) (cell s i 2) e
+  where
+    one : (a : ℕ) (b : Bool) → eqb x a ≡ b → has x (a ∷ []) ≡ true → x < 1 + a
+    one a true f e = let q = eqb-true x a f in omega arith
+    one a false f e = absurd (no-false (sym (ap (λ (b : Bool). b || false) f) ∙ e))
+
+    two : (a b : ℕ) (c : Bool) → eqb x a ≡ c → has x (a ∷ b ∷ []) ≡ true → x < 1 + max a b
+    two a b true f e = let q = eqb-true x a f in omega arith
+    two a b false f e = let q = one b (eqb x b) refl (sym (ap (λ (c : Bool). c || has x (b ∷ [])) f) ∙ e) in omega arith
+
+    go : (p q : Bool) (a b : ℕ) → has x (cond p (a ∷ b ∷ []) (cond q (a ∷ []) [])) ≡ true → x < cond p (1 + max a b) (cond q (1 + a) 0)
+    go true q a b e = two a b (eqb x a) refl e
+    go false true a b e = one a (eqb x a) refl e
+    go false false a b e = absurd (no-false e)
+
+needed-step : (x n : ℕ) (s : List ℕ) (i : ℕ) (b : Bool) → has x (numbersOf s i) ≡ b → b || owns x n s (suc i) ≡ true → (owns x n s (suc i) ≡ true → x < marksNeeded n s (suc i))
+    → x < max (rowMarks s i) (marksNeeded n s (suc i))
+needed-step x n s i true f e rec = left x (rowMarks s i) (marksNeeded n s (suc i)) (row-needed x s i f)
+  where
+    left : (x a b : ℕ) → x < a → x < max a b
+    left x a b h = omega arith
+needed-step x n s i false f e rec = right x (rowMarks s i) (marksNeeded n s (suc i)) (rec e)
+  where
+    right : (x a b : ℕ) → x < b → x < max a b
+    right x a b h = omega arith
+
+pub owns-needed : (x n : ℕ) (s : List ℕ) (i : ℕ) → owns x n s i ≡ true → x < marksNeeded n s i
+unfolding owns marksNeeded
+owns-needed x zero s i e = absurd (no-false e)
+owns-needed x (suc n) s i e = needed-step x n s i (has x (numbersOf s i)) refl e (λ f. owns-needed x n s (suc i) f)
+
+-- So both runs start with the same marks at the rows' own numbers.
+pub same-start : (n u : ℕ) (h : Held) (i x : ℕ) → owns x n (h .rows) i ≡ true
+    → getD (putAside n u h i .marks) x 0 ≡ getD (clearFrom (marksNeeded n (h .rows) i - u) u (h .marks)) x 0
+same-start n u h i x e = go (ltb x u) refl
+  where
+    go : (b : Bool) → ltb x u ≡ b → getD (putAside n u h i .marks) x 0 ≡ getD (clearFrom (marksNeeded n (h .rows) i - u) u (h .marks)) x 0
+    go true f =
+        let k = ltb-true x u f in
+        aside-used n u x h i k ∙ sym (clear-below (marksNeeded n (h .rows) i - u) u x (h .marks) k)
+    go false f =
+        let k = ltb-false x u f in
+        let w = owns-needed x n (h .rows) i e in
+        aside-new n u x h i k e ∙ sym (clear-in (marksNeeded n (h .rows) i - u) u x (h .marks) k (omega arith))

@@ -11,7 +11,7 @@ use lib.Seq.{getD-set-same, getD-set-other, ext-getD}
 use lib.Dec.{ltb, eqb}
 use borrow.Author.Tests.{eqb-true, eqb-false}
 use Rattle.rows.specs.View.{cell}
-use Rattle.marks.proofs.Restored.{has, clear-length, clear-other, restore-length, put-back, rubbed}
+use Rattle.marks.proofs.Restored.{has, set-zero, clear-other, put-back, rubbed}
 use Rattle.marks.proofs.Scratch.{other}
 use Rattle.marks.proofs.Aside.{aside-rows, aside-marks, back-marks}
 use Rattle.marks.specs.Marks.{clear, saved, cleared, restore, numbersOf, packed, unpacked, Held, held, rowAside, putAside, rowBack, putBack}
@@ -73,16 +73,11 @@ pack-both : (x y : ℕ) → packed (x ∷ y ∷ []) ≡ x + 256 * y
 unfolding packed
 pack-both x y = omega arith
 
-set-zero : (m : List ℕ) (n : ℕ) → getD (set m n 0) n 0 < 256
-set-zero [] n = omega arith
-set-zero (x ∷ m) zero = omega arith
-set-zero (x ∷ m) (suc n) = set-zero m n
-
 clear-bytes : (u n : ℕ) (m : List ℕ) → Bytes m → Bytes (clear u n m)
 clear-bytes u n m b = record { at = λ k. go k (eqb k n) refl }
   where
     zeroed : (k : ℕ) (c : Bool) → eqb k n ≡ c → getD (set m n 0) k 0 < 256
-    zeroed k true e = let q = eqb-true k n e in rw q (set-zero m n)
+    zeroed k true e = let q = eqb-true k n e in rw (q, set-zero m n) (omega arith)
     zeroed k false e = rw (getD-set-other m n k 0 0 (eqb-false k n e)) (b .at k)
 
     go : (k : ℕ) (c : Bool) → eqb k n ≡ c → getD (clear u n m) k 0 < 256
