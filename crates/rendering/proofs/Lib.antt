@@ -1,0 +1,4 @@
+pub mod Tests
+pub mod Needed
+pub mod Table
+pub mod Whole
