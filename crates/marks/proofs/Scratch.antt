@@ -12,7 +12,7 @@ use borrow.Author.Tests.{eqb-true, eqb-false, ne-eqb}
 use Rattle.rows.specs.View.{viewOf, cell}
 
 module _ (s : List ℕ) (i x : ℕ) where
-  other : (k p : ℕ) → p < 8 → cell (set s (i * 9 + 8) x) k p ≡ cell s k p
+  pub other : (k p : ℕ) → p < 8 → cell (set s (i * 9 + 8) x) k p ≡ cell s k p
   other k p h = getD-set-other s (i * 9 + 8) (k * 9 + p) x 0 (λ e. omega arith)
 
   wide-same : (cell s i 0 ≡ 5 → ⊥) → (k : ℕ) → cond (eqb (cell (set s (i * 9 + 8) x) k 0) 5) (cell (set s (i * 9 + 8) x) k 8) 0 ≡ cond (eqb (cell s k 0) 5) (cell s k 8) 0

@@ -1,6 +1,6 @@
 -- Marks needed, and the marks that a dry run puts aside (refusals 9 and 10).
-use Prim.Native.Nat.{ℕ, zero, suc, _+_, max}
-use mathlib.Core.Bool.{Bool, cond, _||_}
+use Prim.Native.Nat.{ℕ, zero, suc, _+_, _*_, _/_, _%_, max}
+use mathlib.Core.Bool.{cond, _||_}
 use mathlib.Core.List.{List, [], _∷_}
 use lib.ListN.{getD, set}
 use lib.Dec.{ltb, eqb}
@@ -36,3 +36,52 @@ unfoldable pub restore : List ℕ → List ℕ → List ℕ → List ℕ
 restore [] log marks = marks
 restore (n ∷ ns) [] marks = marks
 restore (n ∷ ns) (x ∷ log) marks = set (restore ns log marks) n x
+
+-- n marks from number i on set to 0
+unfoldable pub clearFrom : ℕ → ℕ → List ℕ → List ℕ
+clearFrom zero i marks = marks
+clearFrom (suc n) i marks = clearFrom n (suc i) (set marks i 0)
+
+-- the numbers of row i: two of a `Call`, one of a `Group` or an `IfWrap`
+abbrev pub numbersOf : List ℕ → ℕ → List ℕ
+numbersOf store i =
+    cond (eqb (cell store i 0) 11)
+    (cell store i 1 ∷ cell store i 2 ∷ [])
+    (cond (eqb (cell store i 0) 0 || eqb (cell store i 0) 10) (cell store i 1 ∷ []) [])
+
+-- what a row keeps of the old marks of its numbers, the first in the low byte; and the marks read back
+unfoldable pub packed : List ℕ → ℕ
+packed [] = 0
+packed (x ∷ xs) = x + 256 * packed xs
+
+abbrev pub unpacked : ℕ → List ℕ
+unpacked x = x % 256 ∷ x / 256 % 256 ∷ []
+
+-- a store and the marks
+pub record Held : Type 0 where
+  pub rows : List ℕ
+  pub marks : List ℕ
+
+abbrev pub held : List ℕ → List ℕ → Held
+held store marks = record { rows = store; marks = marks }
+
+-- row i, with these numbers, has their old marks put aside in its width place, which it does not use
+unfoldable pub rowAside : ℕ → List ℕ → Held → ℕ → Held
+rowAside used [] h i = h
+rowAside used (n ∷ ns) h i =
+    held (set (h .rows) (i * 9 + 8) (packed (saved used (n ∷ ns) (h .marks)))) (cleared used (n ∷ ns) (h .marks))
+
+-- the n rows from i on, the first row first
+unfoldable pub putAside : ℕ → ℕ → Held → ℕ → Held
+putAside zero used h i = h
+putAside (suc n) used h i = putAside n used (rowAside used (numbersOf (h .rows) i) h i) (suc i)
+
+-- row i, with these numbers, gives their old marks back
+unfoldable pub rowBack : List ℕ → Held → ℕ → Held
+rowBack [] h i = h
+rowBack (n ∷ ns) h i = held (set (h .rows) (i * 9 + 8) 0) (restore (n ∷ ns) (unpacked (cell (h .rows) i 8)) (h .marks))
+
+-- the n rows from i on, the last row first
+unfoldable pub putBack : ℕ → Held → ℕ → Held
+putBack zero h i = h
+putBack (suc n) h i = rowBack (numbersOf (putBack n h (suc i) .rows) i) (putBack n h (suc i)) i

@@ -1,0 +1,136 @@
+// Rendering calls: state, answer, and the refusals before the rows are rendered.
+ghost use mathlib.Core.Path.{_≡_};
+ghost use mathlib.Core.Bool.{not};
+ghost use mathlib.Core.List.{List, [], _∷_};
+ghost use Prim.Native.Nat.{ℕ, _*_, _≤_};
+ghost use lib.ListN.{length, take, drop};
+ghost use lib.Dec.{ltb};
+ghost use Rattle.cut.specs.Parts.{Parts, any, first, oddMark, renderTests, renderTable};
+ghost use Rattle.format.specs.Parts.{parts};
+ghost use Rattle.rendering.specs.Calls.{toState, args, refusalOf, beforeRun};
+use image::header_fits;
+use image::source_fits;
+use marks::marks_needed;
+use rowcheck::Found;
+use rowcheck::check_rows;
+use rows::store::Bytes;
+use rows::store::Columns;
+
+// `indent`, `next_indent`, `column`, marks in use, next row.
+pub struct RenderState {
+    pub indent: usize,
+    pub next_indent: usize,
+    pub column: Columns,
+    pub in_use: usize,
+    pub row: usize,
+}
+
+pub enum Rendering {
+    // the new state, and the bytes written
+    Written(RenderState, Bytes),
+    // the number and the place
+    Refused(u8, usize),
+}
+
+// What the tests before the run say of a call.
+pub enum Verdict {
+    Accepted,
+    // the number and the place
+    Refused(u8, usize),
+}
+
+// Whether one of the marks in use is neither 0 nor 1.
+fn has_odd_mark(marks: &[u8], used: usize) -> bool
+    requires { ⌜ used ≤ length (now marks) ⌝ }
+    ensures { λ r. ⌜ r ≡ oddMark (take used (now (marks .entry))) ⌝ }
+{
+    let mut i: usize = 0;
+    while i < used {
+        if 1 < marks[i] {
+            return true;
+        }
+        i += 1;
+    }
+    false
+}
+
+// Whether `indent`, `next_indent` and `column` are within their limits.
+fn pen_fits(indent: usize, next: usize, column: Columns) -> bool
+    ensures { λ r. ⌜ r ≡ not (any (ltb 64 indent ∷ ltb 64 next ∷ ltb 72057594037927936 (column .0) ∷ [])) ⌝ }
+{
+    if 64 < indent {
+        return false;
+    }
+    if 64 < next {
+        return false;
+    }
+    column.0 <= 72057594037927936
+}
+
+// Whether the marks in use are in the buffer, and each 0 or 1.
+fn marks_fit(marks: &[u8], used: usize) -> bool
+    ensures { λ r. ⌜ r ≡ not (any (ltb (length (now (marks .entry))) used ∷ oddMark (take used (now (marks .entry))) ∷ [])) ⌝ }
+{
+    if marks.len() < used {
+        return false;
+    }
+    !has_odd_mark(marks, used)
+}
+
+// Refusal 12: whether the state is one that a call to this stop may have.
+pub fn state_fits(state: RenderState, stop: usize, store: &[u32], marks: &[u8]) -> bool
+    ensures { λ r. ⌜ ((P : Parts) → r ≡ not (any (renderTests P (args stop 0) (toState state) (now (store .entry)) (now (marks .entry))))) ⌝ }
+{
+    if store.len() / 9 < state.row {
+        return false;
+    }
+    if stop < state.row {
+        return false;
+    }
+    if 2097152 < state.row {
+        return false;
+    }
+    if !pen_fits(state.indent, state.next_indent, state.column) {
+        return false;
+    }
+    marks_fit(marks, state.in_use)
+}
+
+// Refusals 12 and 9, for rows that are right.
+fn state_refusal(state: RenderState, stop: usize, store: &[u32], marks: &[u8]) -> Verdict
+    requires { ⌜ stop * 9 ≤ length (now store) ⌝ }
+    ensures { λ r. ⌜ ((s b : List ℕ) → refusalOf r ≡ first (drop 2 (take 4 (renderTable (parts s b) (args stop 0) (toState state) (now (store .entry)) (now (marks .entry)))))) ⌝ }
+{
+    let from = state.row;
+    if !state_fits(state, stop, store, marks) {
+        return Verdict::Refused(12, 0);
+    }
+    let needed = marks_needed(store, from, stop);
+    if marks.len() < needed {
+        return Verdict::Refused(9, needed);
+    }
+    Verdict::Accepted
+}
+
+// Refusals 1, 3, 11, 12 and 9, the first that holds.
+pub fn refusal(
+    source: &[u8],
+    image: &[u8],
+    store: &[u32],
+    marks: &[u8],
+    state: RenderState,
+    stop: usize,
+) -> Verdict
+    ensures { λ r. ⌜ refusalOf r ≡ beforeRun (now (source .entry)) (now (image .entry)) stop (toState state) (now (store .entry)) (now (marks .entry)) ⌝ }
+{
+    if !source_fits(source) {
+        return Verdict::Refused(1, 0);
+    }
+    if !header_fits(image) {
+        return Verdict::Refused(3, 0);
+    }
+    match check_rows(store, source, image, state.row, stop) {
+        Found::Wrong(row) => Verdict::Refused(11, row),
+        Found::Right => state_refusal(state, stop, store, marks),
+    }
+}
