@@ -2,3 +2,4 @@ pub mod Tests
 pub mod Needed
 pub mod Table
 pub mod Whole
+pub mod Accepted
