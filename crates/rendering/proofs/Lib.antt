@@ -3,3 +3,4 @@ pub mod Needed
 pub mod Table
 pub mod Whole
 pub mod Accepted
+pub mod Starts
