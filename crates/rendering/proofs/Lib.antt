@@ -4,3 +4,4 @@ pub mod Table
 pub mod Whole
 pub mod Accepted
 pub mod Starts
+pub mod Ran
