@@ -5,3 +5,4 @@ pub mod Whole
 pub mod Accepted
 pub mod Starts
 pub mod Ran
+pub mod Finish
