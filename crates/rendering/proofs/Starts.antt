@@ -1,0 +1,50 @@
+-- A call that nothing refuses before its run may run.
+-- Assumes nothing.
+use mathlib.Core.Path.{_≡_, refl, sym, _∙_}
+use mathlib.Core.Bool.{Bool, true, false, cond, _&&_}
+use mathlib.Core.Option.{Option, none, some}
+use mathlib.Core.List.{List}
+use Prim.Native.Nat.{ℕ, _*_, _≤_}
+use native.Mathlib.Omega.{arith}
+use lib.ListN.{length}
+use lib.Dec.{leb}
+use borrow.Author.Tests.{leb-true}
+use Rattle.rows.specs.View.{viewOf}
+use Rattle.rows.specs.Nesting.{Nested}
+use Rattle.renderer.specs.Check.{placesFit, wrongPlace}
+use Rattle.renderer.proofs.Checked.{accepted-nests}
+use Rattle.rowcheck.proofs.Pending.{stop-fits}
+use Rattle.render.specs.Run.{Starting}
+use Rattle.render.specs.declared.pen.Pen.{Pen}
+use Rattle.rendering.specs.declared.RenderState.{RenderState}
+use Rattle.rendering.proofs.Accepted.{Accepted}
+
+few-rows : (s b store : List ℕ) (from stop : ℕ) → wrongPlace s b store from stop ≡ none → stop ≤ 2097152
+unfolding wrongPlace
+few-rows s b store from stop e = leb-true stop 2097152 (go (leb stop 2097152) (leb (stop * 9) (length store)) _ e)
+  where
+    go : (t u : Bool) (x : Option ℕ) → cond (t && u) x (some 0) ≡ none → t ≡ true
+    go true u x e = refl
+    go false u x e = let z : _≡_ {A = ℕ} 0 1 = cc in absurd (omega arith)
+
+module _ (source image : List ℕ) (state : RenderState) (stop : ℕ) (store marks : List ℕ) (a : Accepted source image state stop store marks) where
+  pub nested : Nested store (state .row) stop
+  nested =
+      let few = few-rows source image store (state .row) stop (a .right) in
+      record {
+        room = a .within;
+        few = few;
+        nests =
+            accepted-nests (placesFit source image store) (viewOf store) stop 0 (state .row)
+            (sym (stop-fits source image store (state .row) stop few (a .within)) ∙ a .right)
+            (a .ahead);
+      }
+
+  -- with a pen that has the state's numbers and wrote nothing yet
+  pub starts : (p : Pen) (limit : ℕ) (out : List ℕ) → p .indent ≡ state .indent → p .«next_indent» ≡ state .«next_indent»
+      → p .column .0 ≡ state .column .0 → p .at .0 ≡ 0 → limit ≤ length out → Starting store limit (state .row) stop out p
+  starts p limit out e f g h l =
+      let i = a .indent in
+      let n = a .next in
+      let c = a .column in
+      record { nested = nested; fits = l; margin = omega arith; column = omega arith; at = h }
