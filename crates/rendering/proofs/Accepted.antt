@@ -13,7 +13,8 @@ use Rattle.rows.specs.View.{viewOf}
 use Rattle.renderer.specs.Check.{wrongPlace}
 use Rattle.cut.specs.Rules.{Refusal}
 use Rattle.cut.specs.Parts.{any, first, when, whenFound, oddMark, renderTests}
-use Rattle.format.specs.Parts.{parts, renderImage, marksFrom}
+use Rattle.marks.specs.Marks.{marksNeeded}
+use Rattle.format.specs.Parts.{parts, renderImage}
 use Rattle.rendering.specs.Calls.{toState, args, beforeRun}
 use Rattle.rendering.specs.declared.RenderState.{RenderState}
 use Rattle.rendering.proofs.Tests.{stop-within}
@@ -61,14 +62,14 @@ pub record Accepted (source image : List ℕ) (state : RenderState) (stop : ℕ)
   pub column : state .column .0 ≤ 72057594037927936
   pub in-use : state .«in_use» ≤ length marks
   pub even : oddMark (take (state .«in_use») marks) ≡ false
-  pub enough : marksFrom (stop - state .row) (viewOf store) (state .row) ≤ length marks
+  pub enough : marksNeeded (stop - state .row) store (state .row) ≤ length marks
 
 module _ (source image : List ℕ) (state : RenderState) (stop : ℕ) (store marks : List ℕ) where
   abbrev tests : Bool
   tests = any (renderTests (parts source image) (args stop 0) (toState state) store marks)
 
   abbrev needed : ℕ
-  needed = marksFrom (stop - state .row) (viewOf store) (state .row)
+  needed = marksNeeded (stop - state .row) store (state .row)
 
   abbrev fourth : Option Refusal
   fourth = when (ltb (length marks) needed) 9 needed

@@ -17,7 +17,8 @@ use Rattle.render.proofs.Outcome.{over-full}
 use Rattle.cut.specs.Run.{onto}
 use Rattle.cut.specs.Parts as cut
 use Rattle.cut.specs.PartLaws.{withPast}
-use Rattle.format.specs.Parts.{marksFrom, taken-up, left}
+use Rattle.marks.specs.Marks.{marksNeeded}
+use Rattle.format.specs.Parts.{rendererOf, drawnBy}
 use Rattle.rendering.specs.Calls.{toState, beforeRun}
 use Rattle.rendering.specs.Whole.{Called}
 use Rattle.rendering.specs.declared.RenderState.{RenderState}
@@ -42,7 +43,7 @@ pub record Leaves (q : Pen) (used stop : ℕ) (t : RenderState) : Type 0 where
 module _ (source image : List ℕ) (state : RenderState) (stop : ℕ) (store marks : List ℕ) (ahead : state .row ≤ stop) (out : List ℕ) where
   -- the marks that the rows need
   abbrev needed : ℕ
-  needed = marksFrom (stop - state .row) (viewOf store) (state .row)
+  needed = marksNeeded (stop - state .row) store (state .row)
 
   abbrev taken : List ℕ
   taken = inUse source image state stop store marks ahead
@@ -54,9 +55,9 @@ module _ (source image : List ℕ) (state : RenderState) (stop : ℕ) (store mar
   rendered r = renders (pageOf 80 source image) (nodesAt (viewOf store) (state .row) stop) true r
 
   module _ (p : Pen) (k : Takes state p) (past : List ℕ) where
-    same : left (rendered (stateOf p (taken ++ past) [])) ≡ withPast given past
+    same : drawnBy (rendered (stateOf p (taken ++ past) [])) ≡ withPast given past
     same =
-        ap (λ (r : Renderer). left (rendered r))
+        ap (λ (r : Renderer). drawnBy (rendered r))
         (started source image state stop store marks ahead p (taken ++ past) (k .indent) (k .next) (k .column))
         ∙ ran source image state stop store marks ahead past
 
@@ -74,7 +75,7 @@ module _ (source image : List ℕ) (state : RenderState) (stop : ℕ) (store mar
     abbrev after : Renderer
     after = rendered (stateOf p (taken ++ behind) [])
 
-    end : left after ≡ withPast given behind
+    end : drawnBy after ≡ withPast given behind
     end = same p k behind
 
     pub finished : (t : RenderState) (n : Bytes) → beforeRun source image stop (toState state) store marks ≡ none
@@ -85,7 +86,7 @@ module _ (source image : List ℕ) (state : RenderState) (stop : ℕ) (store mar
         (r .marks ∙ ap (λ (d : cut.Drawn). d .marks) end ∙ marks-onto source image state stop store marks ahead)
         (r .written ∙ over-full (length out) out (after .buf) (let z = ap (λ (d : cut.Drawn). length (d .text)) end in omega arith) (omega arith) ∙ ap (λ (d : cut.Drawn). onto (d .text) out) end)
       where
-        pen-same : _≡_ {A = cut.Pen} (record { indent = t .indent; next-indent = t .«next_indent»; column = t .column .0 }) (left after .pen)
+        pen-same : _≡_ {A = cut.Pen} (record { indent = t .indent; next-indent = t .«next_indent»; column = t .column .0 }) (drawnBy after .pen)
         pen-same = rw (l .indent ∙ r .indent, l .next ∙ r .nextIndent, l .column ∙ r .column)
 
         left-state : toState t ≡ record { pen = given .pen; in-use = max (state .«in_use») needed; row = stop }

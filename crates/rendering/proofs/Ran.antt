@@ -14,7 +14,8 @@ use Rattle.render.specs.declared.pen.Pen.{Pen}
 use Rattle.cut.specs.Run.{onto}
 use Rattle.cut.specs.Parts.{Drawn, cleared, drawnOf}
 use Rattle.cut.specs.PartLaws.{withPast}
-use Rattle.format.specs.Parts.{parts, marksFrom, taken-up, left}
+use Rattle.marks.specs.Marks.{marksNeeded}
+use Rattle.format.specs.Parts.{parts, rendererOf, drawnBy}
 use Rattle.format.proofs.Past.{Unders, renders-ext, renders-length}
 use Rattle.format.proofs.Marks.{nodes-under}
 use Rattle.rendering.specs.Calls.{toState}
@@ -29,7 +30,7 @@ enough-cleared m n =
 
 module _ (source image : List ℕ) (state : RenderState) (stop : ℕ) (store marks : List ℕ) (ahead : state .row ≤ stop) where
   abbrev needed : ℕ
-  needed = marksFrom (stop - state .row) (viewOf store) (state .row)
+  needed = marksNeeded (stop - state .row) store (state .row)
 
   -- the marks in use, "the new ones cleared first"
   abbrev pub inUse : List ℕ
@@ -40,26 +41,26 @@ module _ (source image : List ℕ) (state : RenderState) (stop : ℕ) (store mar
 
   under : Unders (length inUse) (nodesAt (viewOf store) (state .row) stop)
   under =
-      nodes-under (viewOf store) (stop - state .row) (state .row) (state .row) stop (length inUse)
+      nodes-under store (stop - state .row) (state .row) (state .row) stop (length inUse)
       (enough-cleared (take (state .«in_use») marks) needed)
       (omega arith)
       (omega arith)
 
   -- with any marks behind those in use
   pub ran : (past : List ℕ)
-      → left (renders (pageOf 80 source image) (nodesAt (viewOf store) (state .row) stop) true (taken-up (toState state .pen) (inUse ++ past)))
+      → drawnBy (renders (pageOf 80 source image) (nodesAt (viewOf store) (state .row) stop) true (rendererOf (toState state .pen) (inUse ++ past)))
       ≡ withPast gives past
   ran past =
-      ap left
-      (renders-ext [] past (pageOf 80 source image) (nodesAt (viewOf store) (state .row) stop) true (taken-up (toState state .pen) inUse) under)
+      ap drawnBy
+      (renders-ext [] past (pageOf 80 source image) (nodesAt (viewOf store) (state .row) stop) true (rendererOf (toState state .pen) inUse) under)
 
   -- what the run leaves of the marks is as many as it took up, so with the buffer's own behind them the buffer is as the call leaves it
   pub marks-onto : gives .marks ++ drop (length inUse) marks ≡ onto (gives .marks) marks
   marks-onto =
       ap (λ (n : ℕ). gives .marks ++ drop n marks)
-      (sym (renders-length (pageOf 80 source image) (nodesAt (viewOf store) (state .row) stop) true (taken-up (toState state .pen) inUse)))
+      (sym (renders-length (pageOf 80 source image) (nodesAt (viewOf store) (state .row) stop) true (rendererOf (toState state .pen) inUse)))
 
   -- the renderer that a pen with the state's numbers starts as
   pub started : (p : Pen) (m : List ℕ) → p .indent ≡ state .indent → p .«next_indent» ≡ state .«next_indent» → p .column .0 ≡ state .column .0
-      → stateOf p m [] ≡ taken-up (toState state .pen) m
+      → stateOf p m [] ≡ rendererOf (toState state .pen) m
   started p m e f g = rw (e, f, g)
