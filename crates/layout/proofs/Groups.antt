@@ -21,7 +21,7 @@ use Rattle.comments.specs.Listed.{given}
 use Rattle.layout.specs.Layout.{pathRule, isSome, isGroup, importFirst, importPath, importGroup, importItems, importElems}
 use Rattle.layout.specs.Contracts.{Has, LaidAs, Within, Whole}
 use Rattle.layout.specs.Forms.{MaybePathAt}
-use Rattle.layout.proofs.Parts.{head-whole, import-whole}
+use Rattle.layout.proofs.Places.{head-whole, import-whole}
 use Rattle.layout.proofs.Runs.{list-of, import-elems}
 use Rattle.layout.specs.Elems.{ListOf, LaidList}
 use Rattle.layout.specs.declared.kinds.Element.the-variants as element

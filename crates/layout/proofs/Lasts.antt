@@ -12,7 +12,7 @@ use Rattle.tree.specs.At.{Done, Before, TypeAt, TypesAt}
 use Rattle.layout.specs.Layout.{lastSpan}
 use Rattle.layout.specs.Contracts.{Whole}
 use Rattle.layout.specs.Forms.{SomeTypesAt, LastEnd}
-use Rattle.layout.proofs.Parts.{type-whole}
+use Rattle.layout.proofs.Places.{type-whole}
 
 module _ {b : List ℕ} {p to : ℕ} where
   pub first-whole : SomeTypesAt b p to → Whole b p

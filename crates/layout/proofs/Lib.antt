@@ -1,6 +1,11 @@
 pub mod Idents
-pub mod Parts
+pub mod Places
 pub mod Groups
 pub mod Lasts
 pub mod Runs
 pub mod TypeForms
+pub mod Symbols
+pub mod ExprForms
+pub mod Spines
+pub mod Optionals
+pub mod Bodies

@@ -8,8 +8,8 @@ use native.Mathlib.Omega.{arith}
 use lib.ListN.{length, getD}
 use Rattle.image.specs.Bytes.{be32}
 use Rattle.image.specs.Read.{stopAt}
-use Rattle.tree.specs.Syntax.{Span, Ident, TypeExpr, type, Types, noTypes, _∷ᵗ_, Fields, noFields, field, Import, import, Imports, noImports, _∷ⁱ_, Variants, noVariants, variant}
-use Rattle.tree.specs.At.{Head, Done, Before, IdentsAt, TypeAt, TypesAt, FieldsAt, ImportAt, ImportsAt, VariantsAt}
+use Rattle.tree.specs.Syntax.{Span, Ident, TypeExpr, type, Types, noTypes, _∷ᵗ_, Fields, noFields, field, Import, import, Imports, noImports, _∷ⁱ_, Variants, noVariants, variant, Expr, expr, Exprs, noExprs, _∷ᵉ_, Entries, noEntries, entry, Arms, noArms, arm}
+use Rattle.tree.specs.At.{Head, Done, Before, IdentsAt, TypeAt, TypesAt, FieldsAt, ImportAt, ImportsAt, VariantsAt, ExprAt, ExprsAt, EntriesAt, ArmsAt}
 use Rattle.rows.specs.Words.{table}
 use Rattle.state.specs.Act.{Given, Act}
 use Rattle.state.specs.Laid.{Laid}
@@ -19,10 +19,10 @@ use Rattle.comments.specs.Listed.{given}
 use Rattle.layout.specs.declared.kinds.Element.{Element}
 use Rattle.layout.specs.declared.kinds.Element.the-variants as element
 use Rattle.layout.specs.declared.kinds.WrapStyle.{WrapStyle}
-use Rattle.layout.specs.Layout.{Elem, elements, inside, beforeElem, identElems, typeElems, fieldElems, importElems, variantElems}
+use Rattle.layout.specs.Layout.{Elem, elements, inside, beforeElem, identElems, typeElems, fieldElems, importElems, variantElems, exprElems, groupedElems, entryElems, armElems}
 use Rattle.layout.specs.Contracts.{Has, LaidAs, HasAll, LaidAll, Whole}
 use Rattle.layout.specs.Elems.{Is, ItemAt, itemRule, ElemAt, ElemsAt, mark, elementsRule, ListOf, LaidInside, LaidHollow}
-use Rattle.layout.proofs.Parts.{head-whole}
+use Rattle.layout.proofs.Places.{head-whole}
 
 -- the first of the elements that are left, and those after it
 pub record MoreElems (k : Element) (s b : List ℕ) (p to : ℕ) : Type 0 where
@@ -130,6 +130,42 @@ module _ (s b : List ℕ) (to : ℕ) where
     record { start = a .0 .start; long = a .0 .long; item = record { tree = (p, i, ts); held = (a .0, a .1, a .2, a .3, a .4); same = refl } },
     a .5,
     variant-elems (stopAt b at) vs (a .6),
+  )
+
+  pub expr-elems : (at : ℕ) (es : Exprs) → ExprsAt s b es at to → ElemsAt element.Expr s b (exprElems (given s b) es) at to
+  unfolding ExprsAt ExprAt ElemsAt ItemAt exprElems
+  expr-elems at noExprs a = a
+  expr-elems at (expr p f ∷ᵉ es) a = (
+    record { start = a .0 .0 .start; long = a .0 .0 .long; item = record { tree = expr p f; held = a .0; same = refl } },
+    a .1,
+    expr-elems (stopAt b at) es (a .2),
+  )
+
+  pub grouped-elems : (at : ℕ) (es : Exprs) → ExprsAt s b es at to → ElemsAt element.Grouped s b (groupedElems (given s b) es) at to
+  unfolding ExprsAt ExprAt ElemsAt ItemAt groupedElems
+  grouped-elems at noExprs a = a
+  grouped-elems at (expr p f ∷ᵉ es) a = (
+    record { start = a .0 .0 .start; long = a .0 .0 .long; item = record { tree = expr p f; held = a .0; same = refl } },
+    a .1,
+    grouped-elems (stopAt b at) es (a .2),
+  )
+
+  pub entry-elems : (at : ℕ) (es : Entries) → EntriesAt s b es at to → ElemsAt element.Entry s b (entryElems (given s b) es) at to
+  unfolding EntriesAt ElemsAt ItemAt entryElems
+  entry-elems at noEntries a = a
+  entry-elems at (entry p i e es) a = (
+    record { start = a .0 .start; long = a .0 .long; item = record { tree = (p, i, e); held = (a .0, a .1, a .2, a .3); same = refl } },
+    a .4,
+    entry-elems (stopAt b at) es (a .5),
+  )
+
+  pub arm-elems : (at : ℕ) (arms : Arms) → ArmsAt s b arms at to → ElemsAt element.Arm s b (armElems (given s b) arms) at to
+  unfolding ArmsAt ElemsAt ItemAt armElems
+  arm-elems at noArms a = a
+  arm-elems at (arm p q g e arms) a = (
+    record { start = a .0 .start; long = a .0 .long; item = record { tree = (p, q, g, e); held = (a .0, a .1, a .2, a .3, a .4); same = refl } },
+    a .5,
+    arm-elems (stopAt b at) arms (a .6),
   )
 
 -- the record that holds them, as a list

@@ -18,7 +18,7 @@ use Rattle.state.proofs.Laws.{laid-skip}
 use Rattle.comments.specs.Listed.{given}
 use Rattle.layout.specs.declared.kinds.Element.the-variants as element
 use Rattle.layout.specs.declared.kinds.WrapStyle.the-variants.{Tight}
-use Rattle.layout.proofs.Parts.{type-whole}
+use Rattle.layout.proofs.Places.{type-whole}
 use Rattle.layout.proofs.Runs.{list-of, type-elems}
 use Rattle.layout.specs.Layout.{typeExpr, typeForm, typeArgs, typeElems, variantTypes, lastSpan}
 use Rattle.layout.specs.Contracts.{Has, LaidAs, Whole}

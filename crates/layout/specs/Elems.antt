@@ -2,22 +2,22 @@
 use Prim.Native.Nat.{ℕ, _+_, _≤_}
 use Prim.Native.String.{String}
 use mathlib.Core.Path.{_≡_}
-use mathlib.Core.Bool.{Bool, true, cond}
+use mathlib.Core.Bool.{Bool, true, cond, not}
 use mathlib.Core.List.{List, [], _∷_}
 use lib.ListN.{length, getD}
 use Rattle.image.specs.Bytes.{be32}
 use Rattle.image.specs.Read.{stopAt}
-use Rattle.tree.specs.Syntax.{Span, Ident, TypeExpr, Types}
-use Rattle.tree.specs.At.{Head, Record, Ends, Done, Before, IdentAt, TypeAt, TypesAt, ImportAt}
+use Rattle.tree.specs.Syntax.{Span, Ident, TypeExpr, Types, Pattern, MaybeExpr, Expr}
+use Rattle.tree.specs.At.{Head, Record, Ends, Done, Before, IdentAt, TypeAt, TypesAt, ImportAt, PatternAt, MaybeExprAt, ExprAt}
 use Rattle.rows.specs.Words.{table}
-use Rattle.state.specs.Act.{Given, Act, _⨟_}
+use Rattle.state.specs.Act.{Given, Act, _⨟_, says, when, grouped}
 use Rattle.state.specs.Laid.{Laid}
 use Rattle.state.specs.declared.Cursor.{Cursor}
 use Rattle.comments.specs.Listed.{given}
 use Rattle.layout.specs.declared.kinds.Element.{Element}
 use Rattle.layout.specs.declared.kinds.Element.the-variants as element
 use Rattle.layout.specs.declared.kinds.WrapStyle.{WrapStyle}
-use Rattle.layout.specs.Layout.{Elem, ident, named, typeExpr, importPath, elements, inside, separated, variantTypes}
+use Rattle.layout.specs.Layout.{Elem, ident, named, typeExpr, importPath, elements, inside, separated, variantTypes, pattern, maybeExpr, exprRule, isBlock}
 
 -- 20: a name and its type
 abbrev pub FieldAt : List ℕ → List ℕ → Span × Ident × TypeExpr → ℕ → Type 0
@@ -39,6 +39,31 @@ VariantAt s b v at =
 abbrev pub variantRule : Given → Span × Ident × Types → Act
 variantRule g v = ident g (v .1) ⨟ variantTypes g (v .2)
 
+-- 22: a name and its value
+abbrev pub EntryAt : List ℕ → List ℕ → Span × Ident × Expr → ℕ → Type 0
+EntryAt s b f at =
+    Head s b 22 (f .0) at × IdentAt s b (f .1) (at + 13) × ExprAt s b (f .2) (stopAt b (at + 13)) × Ends s b (stopAt b (at + 13)) at
+
+abbrev pub entryRule : Given → Span × Ident × Expr → Act
+entryRule g f = named g (f .1) (exprRule g (f .2))
+
+-- 81: pattern, guard and body
+abbrev pub ArmAt : List ℕ → List ℕ → Span × Pattern × MaybeExpr × Expr → ℕ → Type 0
+ArmAt s b a at =
+    Head s b 81 (a .0) at
+    × PatternAt s b (a .1) (at + 13)
+    × MaybeExprAt s b (a .2) (stopAt b (at + 13))
+    × ExprAt s b (a .3) (stopAt b (stopAt b (at + 13)))
+    × Ends s b (stopAt b (stopAt b (at + 13))) at
+
+abbrev pub armRule : Given → Span × Pattern × MaybeExpr × Expr → Act
+armRule g a =
+    pattern g (a .1) ⨟ maybeExpr g " if " (a .2) ⨟ says " => " ⨟ exprRule g (a .3) ⨟ when (not (isBlock (a .3))) (says ",")
+
+-- an expression in a group of its own
+abbrev pub groupedRule : Given → Expr → Act
+groupedRule g e = grouped (λ id. exprRule g e)
+
 -- a part of the syntax tree stands at `at`, and the element e lays it
 pub record Is {T : Type 0} (R : List ℕ → List ℕ → T → ℕ → Type 0) (rule : Given → T → Act) (s b : List ℕ) (e : Elem) (at : ℕ) : Type 0 where
   pub tree : T
@@ -51,6 +76,10 @@ ItemAt element.Ident s b e at = Is IdentAt ident s b e at
 ItemAt element.Type s b e at = Is TypeAt typeExpr s b e at
 ItemAt element.Field s b e at = Is FieldAt fieldRule s b e at
 ItemAt element.Import s b e at = Is ImportAt importPath s b e at
+ItemAt element.Expr s b e at = Is ExprAt exprRule s b e at
+ItemAt element.Grouped s b e at = Is ExprAt groupedRule s b e at
+ItemAt element.Entry s b e at = Is EntryAt entryRule s b e at
+ItemAt element.Arm s b e at = Is ArmAt armRule s b e at
 ItemAt element.Variant s b e at = Is VariantAt variantRule s b e at
 
 -- the rule of an element

@@ -1,18 +1,29 @@
--- The forms of types, as the records at an offset hold them, and the rule of each.
-use Prim.Native.Nat.{ℕ, _≤_}
+-- The forms of types and expressions, as the records at an offset hold them, and the rule of each.
+use Prim.Native.Nat.{ℕ, _+_, _≤_, _<_}
 use mathlib.Core.Path.{_≡_}
+use mathlib.Core.Bool.{Bool, true, false, not}
 use mathlib.Core.List.{List}
 use mathlib.Core.Option.{Option}
-use lib.ListN.{length}
-use Rattle.tree.specs.Syntax.{Span, Path, TypeExpr, type, TypeForm, Types, _∷ᵗ_}
-use Rattle.tree.specs.At.{PathAt, Maybe, TypeAt, TypesAt}
-use Rattle.state.specs.Act.{Given, Act}
+use lib.ListN.{length, getD}
+use Rattle.image.specs.Read.{stopAt}
+use Rattle.tree.specs.Syntax.{Span, Ident, Path, TypeExpr, type, TypeForm, Types, _∷ᵗ_, Expr, expr, Form, MaybeExpr, Block, braces, Stmts, stmt, let′}
+use Rattle.tree.specs.At.{Head, Record, Done, Ends, ByteAt, PathAt, Maybe, TypeAt, TypesAt, ExprAt, BlockAt, StmtAt}
+use Rattle.rows.specs.Node.{ascii, line}
+use Rattle.rows.specs.Words.{table}
+use Rattle.state.specs.Act.{Given, Act, _⨟_, says, push, indented, content}
 use Rattle.layout.specs.Layout as layout
 
 -- a constructor of two or more arguments, as one of a tuple
 abbrev pub two : {A B C : Type 0} → (A → B → C) → A × B → C
 two f x = f (x .0) (x .1)
 
+abbrev pub three : {A B C D : Type 0} → (A → B → C → D) → A × B × C → D
+three f x = f (x .0) (x .1) (x .2)
+
+abbrev pub four : {A B C D E : Type 0} → (A → B → C → D → E) → A × B × C × D → E
+four f x = f (x .0) (x .1) (x .2) (x .3)
+
+-- ---- types
 -- a type of one form, and its rule
 abbrev pub OfType : {X : Type 0} → (X → TypeForm) → List ℕ → List ℕ → Span × X → ℕ → Type 0
 OfType mk s b x at = TypeAt s b (type (x .0) (mk (x .1))) at
@@ -38,3 +49,96 @@ pub record SomeTypesAt (b : List ℕ) (from to : ℕ) : Type 0 where
 -- where the last of them ends
 pub record LastEnd (b : List ℕ) (from to r : ℕ) : Type 0 where
   pub of : (s : List ℕ) (t : TypeExpr) (ts : Types) → TypesAt s b (t ∷ᵗ ts) from to → r ≡ layout.lastSpan t ts .end
+
+-- ---- expressions
+-- an expression by the precedence around it, with the comment after it and without
+abbrev pub exprWith : ℕ → Given → Expr → Act
+exprWith outer g e = layout.whole g (layout.look g e) outer
+
+abbrev pub formWith : ℕ → Given → Expr → Act
+formWith outer g e = layout.look g e .form outer
+
+-- an expression of one form, and its rule
+abbrev pub Of : {X : Type 0} → (X → Form) → List ℕ → List ℕ → Span × X → ℕ → Type 0
+Of mk s b x at = ExprAt s b (expr (x .0) (mk (x .1))) at
+
+abbrev pub formRule : {X : Type 0} → (X → Form) → ℕ → Given → Span × X → Act
+formRule mk outer g x = layout.lookForm g (x .0) (mk (x .1)) .form outer
+
+-- the fixed word at a place, and an expression
+abbrev pub afterWord : ℕ → ℕ → Given → Expr → Act
+afterWord k outer g e = says (getD table k "") ⨟ exprWith outer g e
+
+abbrev pub maybeAfter : ℕ → Given → MaybeExpr → Act
+maybeAfter k g m = layout.maybeExpr g (getD table k "") m
+
+-- a condition and the block after it
+abbrev pub ClauseAt : List ℕ → List ℕ → Expr × Block → ℕ → Type 0
+ClauseAt s b x at = ExprAt s b (x .0) at × BlockAt s b (x .1) (stopAt b at)
+
+abbrev pub clauseRule : ℕ → Given → Expr × Block → Act
+clauseRule k g x = layout.clause (getD table k "") (exprWith 0 g (x .0)) (layout.blockRule g (x .1))
+
+-- a record's span, and the source between its ends
+abbrev pub SpanAt : List ℕ → List ℕ → Span → ℕ → Type 0
+SpanAt s b p at = (k : ℕ) × Head s b k p at
+
+abbrev pub contentRule : Given → Span → Act
+contentRule g p = push (ascii (content p))
+
+-- 87
+abbrev pub LiteralAt : List ℕ → List ℕ → Span × ℕ → ℕ → Type 0
+LiteralAt s b x at = ByteAt s b 87 (x .0) (x .1) at × (x .1 < 4)
+
+abbrev pub literalRule : Given → Span × ℕ → Act
+literalRule g x = layout.literalRule g (x .0) (x .1)
+
+-- 86
+abbrev pub OperatorAt : List ℕ → List ℕ → Span × ℕ → ℕ → Type 0
+OperatorAt s b x at = ByteAt s b 86 (x .0) (x .1) at × (x .1 < 14)
+
+abbrev pub operatorRule : Bool → Given → Span × ℕ → Act
+operatorRule first g x = layout.operator g first (x .0) (x .1)
+
+-- 84 and 85: a part of an f-string
+pub data Part : Type 0 where
+  text : Span → Part
+  value : Expr → Part
+
+abbrev pub PartAt : List ℕ → List ℕ → Part → ℕ → Type 0
+PartAt s b (text p) at = Head s b 84 p at × Done (at + 13) (stopAt b at)
+PartAt s b (value e) at = Record s b 85 at × ExprAt s b e (at + 13) × Ends s b (at + 13) at
+
+abbrev pub partRule : Given → Part → Act
+partRule g (text p) = push (ascii (content p))
+partRule g (value e) = layout.placeholder (exprWith 0 g e)
+
+-- the field of an access, after its dot
+abbrev pub fieldName : Given → Ident → Act
+fieldName g i = push line ⨟ says "." ⨟ layout.ident g i
+
+-- ---- blocks and statements
+-- the statements, of which the next is the first or not; and the last expression, before which there is a statement or not
+abbrev pub stmtsFrom : Bool → Given → Stmts → Act
+stmtsFrom first g ss = layout.stmtsRule g ss first
+
+abbrev pub lastFrom : Bool → Given → MaybeExpr → Act
+lastFrom first g m = layout.lastRule g m first
+
+-- 30
+abbrev pub MaybeTypeAt : List ℕ → List ℕ → Option TypeExpr → ℕ → Type 0
+MaybeTypeAt s b = Maybe s b (TypeAt s b)
+
+abbrev pub LetAt : List ℕ → List ℕ → Span × Ident × Option TypeExpr × Expr → ℕ → Type 0
+LetAt s b x at = StmtAt s b (stmt (x .0) (let′ (x .1) (x .2) (x .3))) at
+
+abbrev pub letRule : Given → Span × Ident × Option TypeExpr × Expr → Act
+letRule g x = layout.stmtForm g (let′ (x .1) (x .2) (x .3))
+
+-- what stands between the braces of a block
+abbrev pub bodyRule : Given → Block → Act
+bodyRule g (braces s ss last) =
+    indented (
+    layout.stmtsRule g ss true
+    ⨟ layout.lastRule g last (layout.noneOf ss)
+    ⨟ layout.gap g (s .end) (not (layout.isEmpty ss last)) false false)

@@ -9,6 +9,7 @@ ghost use Rattle.state.specs.Act.{when, says};
 ghost use Rattle.state.specs.Laid.{Laid};
 ghost use Rattle.layout.specs.Contracts.{Has, LaidAs, Within, Whole};
 ghost use Rattle.layout.specs.Forms.{MaybePathAt, importFirst};
+use crate::numbers::HEAD;
 use crate::numbers::is_absent;
 use crate::numbers::past;
 use crate::paths::path;
@@ -49,8 +50,8 @@ pub fn is_single(b: &[u8], at: usize) -> bool
     ensures { λ r. ⌜ r ≡ (not (eqb (stopAt (now (b .entry)) at) (at + 13)) && eqb (stopAt (now (b .entry)) (at + 13)) (stopAt (now (b .entry)) at)) ⌝ }
 {
     let to = past(b, at);
-    if at + 13 == to {
+    if at + HEAD == to {
         return false;
     }
-    past(b, at + 13) == to
+    past(b, at + HEAD) == to
 }

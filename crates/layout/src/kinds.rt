@@ -1,4 +1,11 @@
-// What `separated` is given besides its words.
+// What the layout functions are given besides offsets: precedences, and what `separated` needs to know of its list.
+
+// `Precedence::Bottom`, `Precedence::Chain` and `Precedence::Unit`
+pub const BOTTOM: usize = 0;
+
+pub const CHAIN: usize = 8;
+
+pub const UNIT_PRECEDENCE: usize = 9;
 
 // The kind of a list's elements, which stands for the closure of the Rust.
 pub enum Element {
@@ -6,6 +13,10 @@ pub enum Element {
     Type,
     Field,
     Import,
+    Expr,
+    Grouped,
+    Entry,
+    Arm,
     Variant,
 }
 

@@ -8,6 +8,9 @@ ghost use Rattle.image.specs.Read.{stopAt, kindAt};
 ghost use Rattle.layout.specs.Contracts.{Within, Whole};
 use image::bytes::num32;
 
+// How many bytes a record has before its payload: its length, its kind and its span.
+pub const HEAD: usize = 13;
+
 // Where the record at `at` ends.
 pub fn past(b: &[u8], at: usize) -> usize
     requires { ⌜ Within (now b) at ⌝ }
@@ -21,7 +24,7 @@ pub fn second(b: &[u8], at: usize) -> usize
     requires { ⌜ Within (now b) (at + 13) ⌝ }
     ensures { λ r. ⌜ r ≡ stopAt (now (b .entry)) (at + 13) ⌝ }
 {
-    past(b, at + 13)
+    past(b, at + HEAD)
 }
 
 // Where the third child of the record at `at` starts.
@@ -69,5 +72,5 @@ pub fn payload(b: &[u8], at: usize) -> usize
     requires { ⌜ at + 14 ≤ length (now b) ⌝ }
     ensures { λ r. ⌜ r ≡ getD (now (b .entry)) (at + 13) 0 ⌝ }
 {
-    b[at + 13] as usize
+    b[at + HEAD] as usize
 }

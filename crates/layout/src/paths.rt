@@ -6,6 +6,8 @@ ghost use Rattle.state.specs.Act.{when, push};
 ghost use Rattle.state.specs.Laid.{Laid};
 ghost use Rattle.layout.specs.Layout.{ident, pathNext, pathMore, pathRule};
 ghost use Rattle.layout.specs.Contracts.{Has, LaidAs, HasAll, LaidAll};
+ghost use Rattle.layout.specs.Forms.{fieldName};
+use crate::numbers::HEAD;
 use crate::numbers::end;
 use crate::numbers::past;
 use crate::numbers::second;
@@ -27,7 +29,7 @@ pub fn ident(store: &mut [u32], c: Cursor, s: &[u8], b: &[u8], at: usize) -> Cur
     ensures { λ r. ⌜ LaidAs IdentAt ident (now (s .entry)) (now (b .entry)) at (now (store .entry)) c (now (store .exit)) r ⌝ }
 {
     let from = at + 15;
-    let width = num16(b, at + 13);
+    let width = num16(b, at + HEAD);
     let size = past(b, at) - from;
     str(store, c, from as u32, size as u32, width as u32)
 }
@@ -92,14 +94,24 @@ pub fn path(
     let to = past(b, at);
     if group {
         let g = open_group(store, c);
-        let d = ident(store, g, s, b, at + 13);
+        let d = ident(store, g, s, b, at + HEAD);
         let i = open_indent(store, d);
         let e = path_more(store, i, s, b, from, to, breaks);
         close(store, d.row, e);
         close(store, c.row, e);
         return pop_trailing_comment(store, e, s, b);
     }
-    let d = ident(store, c, s, b, at + 13);
+    let d = ident(store, c, s, b, at + HEAD);
     let e = path_more(store, d, s, b, from, to, breaks);
     pop_trailing_comment(store, e, s, b)
+}
+
+// The field of an access, after its dot.
+pub fn field_name(store: &mut [u32], c: Cursor, s: &[u8], b: &[u8], at: usize) -> Cursor
+    requires { ⌜ Has IdentAt (now s) (now b) at ⌝ }
+    ensures { λ r. ⌜ LaidAs IdentAt fieldName (now (s .entry)) (now (b .entry)) at (now (store .entry)) c (now (store .exit)) r ⌝ }
+{
+    let d = line(store, c);
+    let e = word(store, d, DOT);
+    ident(store, e, s, b, at)
 }

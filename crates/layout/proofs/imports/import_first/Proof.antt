@@ -1,4 +1,4 @@
-use Rattle.layout.proofs.Parts.{absent, present, maybe-path}
+use Rattle.layout.proofs.Places.{absent, present, maybe-path}
 use Rattle.layout.proofs.Groups.{has-path, no-path, some-path}
 use borrow.Author.Needs.{needs}
 use Rattle.layout.proofs.imports.import_first.Statement.{statement}

@@ -11,8 +11,8 @@ use lib.Dec.{eqb}
 use borrow.Author.Tests.{eqb-true, eqb-false}
 use Rattle.image.specs.Bytes.{be32}
 use Rattle.image.specs.Read.{stopAt}
-use Rattle.tree.specs.Syntax.{Span, Ident, Path, TypeExpr, type, TypeArgs, noArgs, args, Import, import, ImportGroup, noGroup, group}
-use Rattle.tree.specs.At.{Head, Absent, IdentAt, PathAt, Maybe, TypeAt, TypeArgsAt, ImportAt, ImportGroupAt}
+use Rattle.tree.specs.Syntax.{Span, Ident, Path, TypeExpr, type, TypeArgs, noArgs, args, Import, import, ImportGroup, noGroup, group, Idents, Expr, expr, Block, braces, Stmt, stmt, Pattern, underscore, enumVariant, MaybeExpr, noExpr, someExpr, MaybeBlock, noBlock, someBlock}
+use Rattle.tree.specs.At.{Head, Absent, IdentAt, PathAt, Maybe, TypeAt, TypeArgsAt, ImportAt, ImportGroupAt, ListAt, ExprAt, BlockAt, StmtAt, PatternAt, MaybeExprAt, MaybeBlockAt}
 use Rattle.layout.specs.Contracts.{Within, Whole}
 
 -- what the test for absence says of the length
@@ -47,7 +47,44 @@ module _ (s b : List ℕ) (at : ℕ) where
   unfolding ImportAt
   import-whole (import p q g) a = head-whole (a .0)
 
+  pub expr-whole : (e : Expr) → ExprAt s b e at → Whole b at
+  unfolding ExprAt
+  expr-whole (expr p f) a = head-whole (a .0)
+
+  pub block-whole : (k : Block) → BlockAt s b k at → Whole b at
+  unfolding BlockAt
+  block-whole (braces p ss last) a = head-whole (a .0)
+
+  pub stmt-whole : (x : Stmt) → StmtAt s b x at → Whole b at
+  unfolding StmtAt
+  stmt-whole (stmt p f) a = head-whole (a .0)
+
+  pub pattern-whole : (p : Pattern) → PatternAt s b p at → Whole b at
+  unfolding PatternAt
+  pattern-whole underscore a = head-whole (a .0 .head)
+  pattern-whole (enumVariant i is) a = head-whole (a .0 .head)
+
   -- optional parts
+  pub maybe-expr : (m : MaybeExpr) → MaybeExprAt s b m at → Within b at
+  unfolding MaybeExprAt
+  maybe-expr noExpr a = absent-within a
+  maybe-expr (someExpr e) a = within (expr-whole e a)
+
+  pub maybe-block : (m : MaybeBlock) → MaybeBlockAt s b m at → Within b at
+  unfolding MaybeBlockAt
+  maybe-block noBlock a = absent-within a
+  maybe-block (someBlock k) a = within (block-whole k a)
+
+  pub maybe-type : (m : Option TypeExpr) → Maybe s b (TypeAt s b) m at → Within b at
+  unfolding Maybe
+  maybe-type none a = absent-within a
+  maybe-type (some t) a = within (type-whole t a)
+
+  pub maybe-list : (m : Option Idents) → Maybe s b (ListAt s b) m at → Within b at
+  unfolding Maybe
+  maybe-list none a = absent-within a
+  maybe-list (some is) a = within (head-whole (a .head))
+
   pub maybe-path : (q : Option Path) → Maybe s b (PathAt s b) q at → Within b at
   unfolding Maybe
   maybe-path none a = absent-within a

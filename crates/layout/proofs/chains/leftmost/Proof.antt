@@ -1,0 +1,140 @@
+use borrow.Author.Needs.{needs}
+-- of the precedence.
+-- The operand at p stands below the operators on the stack, each the left operand of the one before; the loop ends where it is no operator
+use native.Mathlib.Omega.{arith}
+use Prim.Native.Nat.{ℕ, _+_, _-_, _*_, _≤_, _<_}
+use mathlib.Core.Path.{_≡_, refl, sym, _∙_}
+use mathlib.Core.List.{List}
+use lib.ListN.{length, getD, length-set}
+use Rattle.tree.specs.Syntax.{Span, Expr, expr, binOp}
+use Rattle.tree.specs.At.{ExprAt}
+use Rattle.layout.specs.Layout.{binopPrecedence}
+use Rattle.layout.specs.Forms.{four, Of}
+use Rattle.layout.specs.Chains.{Above, top, up}
+use Rattle.layout.proofs.Places.{expr-whole}
+use Rattle.layout.proofs.Spines.{down, stop-kind, stop-op, symbol-of, filled-more, room-left}
+use Rattle.layout.proofs.chains.leftmost.Statement.{statement}
+use Rattle.layout.proofs.chains.leftmost.Tie as tie
+use Rattle.layout.proofs.chains.leftmost.Reads as reads
+use Rattle.layout.proofs.chains.leftmost.Lts as lts
+use Rattle.layout.proofs.chains.precedence.Reads as precedence-reads
+use Rattle.layout.proofs.numbers.kind.Reads as kind-reads
+
+abbrev Inv-loop : tie.InvT-loop
+Inv-loop b at q ops₀ n₀ p₀ ops n p = (length ops ≡ 64)
+    × (p ≡ at + 13 * n)
+    × (1 ≤ n)
+    × (n ≤ 64)
+    × ((i : ℕ) → i < n → getD ops i 0 ≡ at + 13 * i)
+    × ((s : List ℕ) (t : Span × (Expr × Span × ℕ × Expr)) → Of (four binOp) s b t at → binopPrecedence (t .1 .2) ≡ q
+    → (x : Expr) × Above q s b (expr (t .0) (four binOp (t .1))) at p x × ExprAt s b x p)
+
+abbrev μ-loop : tie.MeasureT-loop
+μ-loop b at q ops₀ n₀ p₀ ops n p = length b - p
+
+-- src/chains.rt:92:5
+element-write-ops : tie.Need-element-write-ops Inv-loop μ-loop
+element-write-ops c = search needs
+
+-- src/chains.rt:94:17
+add-p : tie.Need-add-p Inv-loop μ-loop
+add-p c = let w = expr-whole _ _ _ _ (c .before .pre .0 .held) in omega (arith, w .long, w .fits)
+
+-- src/chains.rt:95:9
+loop-holds : tie.Need-loop-holds Inv-loop μ-loop
+unfolding ExprAt
+loop-holds c = let h : length (c .before .args .ops .now) ≡ 64 = c .before .pre .1 in
+    let z : c .before .args .at ≡ c .before .args .at + 13 * 0 = omega arith in (
+      length-set (c .before .args .ops .now) 0 (c .before .args .at) ∙ h,
+      omega arith,
+      omega arith,
+      omega arith,
+      filled-more (c .before .args .ops .now) (c .before .args .at) 0 (c .before .args .at) (omega (arith, h)) z (λ i l. absurd (omega arith)),
+      λ s t a e. (t .1 .0, up refl e a top, a .1 .0),
+    )
+
+-- src/chains.rt:96:12
+kind-requires : tie.Need-kind-requires Inv-loop μ-loop
+kind-requires c κs = let z = c .loop .inv .5 (c .before .before .pre .0 .source) (c .before .before .pre .0 .tree) (c .before .before .pre .0 .held) (c .before .before .pre .0 .same) in expr-whole _ _ _ (z .0) (z .2)
+
+-- src/chains.rt:99:12
+precedence-requires : tie.Need-precedence-requires Inv-loop μ-loop
+precedence-requires c κs = let z = c .before .before .loop .inv .5 (c .before .before .before .before .pre .0 .source) (c .before .before .before .before .pre .0 .tree) (c .before .before .before .before .pre .0 .held) (c .before .before .before .before .pre .0 .same) in
+    let w = symbol-of _ _ _ (sym (c .before .kind .ensures) ∙ c .if1 .left) (z .0) (z .2) in
+    (w .operand, w .byte)
+
+-- src/chains.rt:102:9
+mul-ops : tie.Need-mul-ops Inv-loop μ-loop
+mul-ops c = omega (arith, c .before .before .before .before .loop .inv .3)
+
+-- src/chains.rt:102:9
+element-write-ops-2 : tie.Need-element-write-ops-2 Inv-loop μ-loop
+element-write-ops-2 c = let z = c .before .before .before .before .loop .inv .5 (c .before .before .before .before .before .before .pre .0 .source) (c .before .before .before .before .before .before .pre .0 .tree) (c .before .before .before .before .before .before .pre .0 .held) (c .before .before .before .before .before .before .pre .0 .same) in let f = room-left _ _ (c .before .before .before .before .before .before .pre .0 .tree) _ _ _ _ (z .0) (c .before .before .before .before .before .before .pre .0 .held) (z .1) (z .2) (sym (c .before .before .before .kind .ensures) ∙ c .before .before .if1 .left) (c .before .before .before .before .loop .inv .1) in omega (arith, f, c .before .before .before .before .loop .inv .0)
+
+-- src/chains.rt:103:13
+add-n : tie.Need-add-n Inv-loop μ-loop
+add-n c = omega (arith, c .before .before .before .before .loop .inv .3)
+
+-- src/chains.rt:104:13
+add-p-2 : tie.Need-add-p-2 Inv-loop μ-loop
+add-p-2 c = let z = c .before .before .before .before .loop .inv .5 (c .before .before .before .before .before .before .pre .0 .source) (c .before .before .before .before .before .before .pre .0 .tree) (c .before .before .before .before .before .before .pre .0 .held) (c .before .before .before .before .before .before .pre .0 .same) in let w = expr-whole _ _ _ (z .0) (z .2) in omega (arith, w .long, w .fits)
+
+-- src/chains.rt:95:9
+loop-less : tie.Need-loop-less Inv-loop μ-loop
+loop-less c = let z = c .before .before .before .before .loop .inv .5 (c .before .before .before .before .before .before .pre .0 .source) (c .before .before .before .before .before .before .pre .0 .tree) (c .before .before .before .before .before .before .pre .0 .held) (c .before .before .before .before .before .before .pre .0 .same) in let w = expr-whole _ _ _ (z .0) (z .2) in omega (arith, w .long, w .fits)
+
+-- src/chains.rt:95:9
+loop-again : tie.Need-loop-again Inv-loop μ-loop
+loop-again c = let z = c .before .before .before .before .loop .inv .5 (c .before .before .before .before .before .before .pre .0 .source) (c .before .before .before .before .before .before .pre .0 .tree) (c .before .before .before .before .before .before .pre .0 .held) (c .before .before .before .before .before .before .pre .0 .same) in
+    let f = room-left _ _ (c .before .before .before .before .before .before .pre .0 .tree) _ _ _ _ (z .0) (c .before .before .before .before .before .before .pre .0 .held) (z .1) (z .2) (sym (c .before .before .before .kind .ensures) ∙ c .before .before .if1 .left) (c .before .before .before .before .loop .inv .1) in (
+      length-set (c .before .before .before .before .loop .ops) (c .before .before .before .before .loop .n) (c .before .before .before .before .loop .p) ∙ c .before .before .before .before .loop .inv .0,
+      omega (arith, c .before .before .before .before .loop .inv .1),
+      omega arith,
+      omega (arith, f),
+      filled-more (c .before .before .before .before .loop .ops) _ _ _ (omega (arith, f, c .before .before .before .before .loop .inv .0)) (c .before .before .before .before .loop .inv .1) (c .before .before .before .before .loop .inv .4),
+      λ s t a h.
+          let y = c .before .before .before .before .loop .inv .5 s t a h in
+          down s _ _ _ _ (sym (c .before .before .before .kind .ensures) ∙ c .before .before .if1 .left) (c .before .precedence .ensures) (c .if2 .left) (y .1) (y .2),
+    )
+
+-- src/chains.rt:87:1
+returns : tie.Need-returns Inv-loop μ-loop
+returns c = record {
+  filled = record { count = c .before .before .loop .n; far = c .before .before .loop .inv .1; few = c .before .before .loop .inv .3; each = c .before .before .loop .inv .4 };
+  further = omega (arith, c .before .before .loop .inv .1, c .before .before .loop .inv .2);
+  of =
+      λ s t a h.
+      let z = c .before .before .loop .inv .5 s t a h in
+      record { tree = z .0; above = z .1; held = z .2; stop = stop-kind s _ _ _ (z .0) (z .2) (λ e. c .if1 .taken (c .before .kind .ensures ∙ e)) };
+}
+
+-- src/chains.rt:87:1
+returns-2 : tie.Need-returns-2 Inv-loop μ-loop
+returns-2 c = record {
+  filled = record { count = c .before .before .before .before .loop .n; far = c .before .before .before .before .loop .inv .1; few = c .before .before .before .before .loop .inv .3; each = c .before .before .before .before .loop .inv .4 };
+  further = omega (arith, c .before .before .before .before .loop .inv .1, c .before .before .before .before .loop .inv .2);
+  of =
+      λ s t a h.
+      let z = c .before .before .before .before .loop .inv .5 s t a h in
+      record { tree = z .0; above = z .1; held = z .2; stop = stop-op s _ _ _ _ (sym (c .before .before .before .kind .ensures) ∙ c .before .before .if1 .left) (c .before .precedence .ensures) (z .0) (c .if2 .taken) (z .2) };
+}
+
+pub leftmost-spec : {M : Type 1} → statement M
+leftmost-spec =
+    tie.close
+    (tie.spec
+    Inv-loop
+    μ-loop
+    element-write-ops
+    add-p
+    loop-holds
+    kind-requires
+    precedence-requires
+    mul-ops
+    element-write-ops-2
+    add-n
+    add-p-2
+    loop-less
+    loop-again
+    returns
+    returns-2)

@@ -1,0 +1,66 @@
+-- A chain of operators of one precedence, from its top down to the leftmost operand.
+use mathlib.Core.Path.{_≡_}
+use mathlib.Core.List.{List}
+use Prim.Native.Nat.{ℕ, _+_, _*_, _≤_, _<_}
+use lib.ListN.{getD, length}
+use Rattle.tree.specs.Syntax.{Span, Expr, expr, Form, binOp}
+use Rattle.tree.specs.At.{ExprAt}
+use Rattle.state.specs.Act.{Act}
+use Rattle.state.specs.Laid.{Laid}
+use Rattle.state.specs.declared.Cursor.{Cursor}
+use Rattle.comments.specs.Listed.{given}
+use Rattle.layout.specs.Layout.{Spine, lone, extend, binopPrecedence, look, whole}
+use Rattle.layout.specs.Contracts.{Accepted}
+use Rattle.layout.specs.Forms.{four, Of, exprWith}
+
+-- x at p stands below the top e at `at`, by left operands of operators of precedence q
+pub data Above (q : ℕ) (s b : List ℕ) (e : Expr) (at : ℕ) : ℕ → Expr → Type 0 where
+  top : Above q s b e at at e
+  up : {p p′ o : ℕ} {x r : Expr} {m t : Span} → p′ ≡ p + 13 → binopPrecedence o ≡ q → ExprAt s b (expr m (binOp x t o r)) p
+      → Above q s b e at p (expr m (binOp x t o r)) → Above q s b e at p′ x
+
+-- a chain, with the operators above x put to it
+unfoldable pub grown : {q : ℕ} {s b : List ℕ} {e : Expr} {at p : ℕ} {x : Expr} → Above q s b e at p x → Spine → Spine
+grown top c = c
+grown {s = s} {b = b} (up {o = o} {r = r} {t = t} i j k a) c = grown a (extend (given s b) c t o (exprWith 0 (given s b) r))
+
+-- the operand at `left` starts the chain of e
+pub record Starts (q : ℕ) (s b : List ℕ) (e : Expr) (at left : ℕ) : Type 0 where
+  pub tree : Expr
+  pub above : Above q s b e at left tree
+  pub held : ExprAt s b tree left
+  pub stop : look (given s b) tree .under q ≡ lone (exprWith q (given s b) tree)
+
+-- the operators' offsets, the top first
+pub record Filled (ops : List ℕ) (at left : ℕ) : Type 0 where
+  pub count : ℕ
+  pub far : left ≡ at + 13 * count
+  pub few : count ≤ 64
+  pub each : (i : ℕ) → i < count → getD ops i 0 ≡ at + 13 * i
+
+-- an operator of precedence q at `at`
+pub record HasChain (b : List ℕ) (at q : ℕ) : Type 0 where
+  pub source : List ℕ
+  pub tree : Span × (Expr × Span × ℕ × Expr)
+  pub held : Of (four binOp) source b tree at
+  pub same : binopPrecedence (tree .1 .2) ≡ q
+
+pub record Leftmost (b : List ℕ) (at q : ℕ) (ops : List ℕ) (left : ℕ) : Type 0 where
+  pub filled : Filled ops at left
+  pub further : at + 13 ≤ left
+  pub of : (s : List ℕ) (t : Span × (Expr × Span × ℕ × Expr)) → Of (four binOp) s b t at → binopPrecedence (t .1 .2) ≡ q
+      → Starts q s b (expr (t .0) (four binOp (t .1))) at left
+
+-- the operators above the operand at `left`
+pub record HasTail (s b : List ℕ) (at left : ℕ) (ops : List ℕ) : Type 0 where
+  pub accepted : Accepted s b
+  pub tree : Expr
+  pub held : ExprAt s b tree at
+  pub precedence : ℕ
+  pub low : Expr
+  pub above : Above precedence s b tree at left low
+  pub filled : Filled ops at left
+
+pub record LaidTail (s b : List ℕ) (at left : ℕ) (store : List ℕ) (c : Cursor) (store′ : List ℕ) (c′ : Cursor) : Type 0 where
+  pub of : (q : ℕ) (e : Expr) → ExprAt s b e at → (x : Expr) (a : Above q s b e at left x) (h : Act)
+      → Laid (grown a (lone h) .tail) store c store′ c′

@@ -1,0 +1,132 @@
+// The parts of `block` and `stmt` that lay no statement below them.
+ghost use mathlib.Core.Path.{_≡_};
+ghost use mathlib.Core.Bool.{not, _&&_, _||_};
+ghost use Prim.Native.Nat.{_+_, _<_, _≤_};
+ghost use lib.ListN.{getD, length};
+ghost use Rattle.rows.specs.Words.{table};
+ghost use lib.Dec.{eqb, leb};
+ghost use Rattle.image.specs.Bytes.{be32};
+ghost use Rattle.image.specs.Read.{stopAt, kindAt};
+ghost use Rattle.state.specs.Act.{when, says};
+ghost use Rattle.state.specs.Laid.{Laid};
+ghost use Rattle.comments.specs.Listed.{given};
+ghost use Rattle.layout.specs.Layout.{beforeStmt, afterStmt, blockStart, assignSymbol};
+ghost use Rattle.layout.specs.Contracts.{Accepted, Within, Whole};
+use crate::numbers::HEAD;
+use crate::numbers::is_absent;
+use crate::numbers::kind;
+use crate::numbers::payload;
+use crate::numbers::second;
+use crate::pieces::gap;
+use comments::pop_trailing_comment;
+use state::Cursor;
+use state::leaves::line;
+use state::leaves::wrap_parent;
+use state::words::ADD_ASSIGN;
+use state::words::BRACE_OPEN;
+use state::words::COMMA;
+use state::words::SEMICOLON;
+use state::words::word;
+
+// Whether the block at `at` has no statements.
+pub fn no_stmts(b: &[u8], at: usize) -> bool
+    requires { ⌜ Whole (now b) (at + 13) ⌝ }
+    ensures { λ r. ⌜ r ≡ eqb (stopAt (now (b .entry)) (at + 13)) (at + 13 + 13) ⌝ }
+{
+    second(b, at) == at + HEAD + HEAD
+}
+
+// Whether it has no last expression either.
+pub fn is_empty(b: &[u8], at: usize) -> bool
+    requires { ⌜ Whole (now b) (at + 13) ⌝ }
+    requires { ⌜ Within (now b) (stopAt (now b) (at + 13)) ⌝ }
+    ensures { λ r. ⌜ r ≡ (eqb (stopAt (now (b .entry)) (at + 13)) (at + 13 + 13) && eqb (be32 (now (b .entry)) (stopAt (now (b .entry)) (at + 13))) 0) ⌝ }
+{
+    if no_stmts(b, at) {
+        return is_absent(b, second(b, at));
+    }
+    false
+}
+
+// How a block starts.
+pub fn block_start(store: &mut [u32], c: Cursor, empty: bool) -> Cursor
+    ensures { λ r. ⌜ Laid (blockStart empty) (now (store .entry)) c (now (store .exit)) r ⌝ }
+{
+    let d = word(store, c, BRACE_OPEN);
+    let e = line(store, d);
+    if empty {
+        return e;
+    }
+    wrap_parent(store, e)
+}
+
+// What comes before a statement, or before the last expression.
+pub fn before_stmt(
+    store: &mut [u32],
+    c: Cursor,
+    s: &[u8],
+    b: &[u8],
+    position: u32,
+    first: bool,
+) -> Cursor
+    requires { ⌜ Accepted (now s) (now b) ⌝ }
+    ensures { λ r. ⌜ Laid (beforeStmt (given (now (s .entry)) (now (b .entry))) first position) (now (store .entry)) c (now (store .exit)) r ⌝ }
+{
+    if first {
+        let d = gap(store, c, s, b, position, false, true, false);
+        return line(store, d);
+    }
+    let d = gap(store, c, s, b, position, true, true, true);
+    line(store, d)
+}
+
+// What comes after a statement.
+pub fn after_stmt(store: &mut [u32], c: Cursor, s: &[u8], b: &[u8], position: u32) -> Cursor
+    requires { ⌜ Accepted (now s) (now b) ⌝ }
+    ensures { λ r. ⌜ Laid (afterStmt (given (now (s .entry)) (now (b .entry))) position) (now (store .entry)) c (now (store .exit)) r ⌝ }
+{
+    let d = gap(store, c, s, b, position, false, false, false);
+    pop_trailing_comment(store, d, s, b)
+}
+
+// The comma after an arm, unless its body, which is at `at`, is a block.
+pub fn arm_comma(store: &mut [u32], c: Cursor, b: &[u8], at: usize) -> Cursor
+    requires { ⌜ Whole (now b) at ⌝ }
+    ensures { λ r. ⌜ Laid (when (not (eqb (kindAt (now (b .entry)) at) 52)) (says ",")) (now (store .entry)) c (now (store .exit)) r ⌝ }
+{
+    if kind(b, at) == 52 {
+        return c;
+    }
+    word(store, c, COMMA)
+}
+
+// The semicolon after an expression, which is at `at`, unless it ends with a brace: block, match, if, while or for.
+pub fn semicolon(store: &mut [u32], c: Cursor, b: &[u8], at: usize) -> Cursor
+    requires { ⌜ Whole (now b) at ⌝ }
+    ensures { λ r. ⌜ Laid (when (not (eqb (kindAt (now (b .entry)) at) 52 || eqb (kindAt (now (b .entry)) at) 53 || (leb 65 (kindAt (now (b .entry)) at) && leb (kindAt (now (b .entry)) at) 67))) (says ";")) (now (store .entry)) c (now (store .exit)) r ⌝ }
+{
+    let k = kind(b, at);
+    if k == 52 {
+        return c;
+    }
+    if k == 53 {
+        return c;
+    }
+    if k < 65 {
+        return word(store, c, SEMICOLON);
+    }
+    if k <= 67 {
+        return c;
+    }
+    word(store, c, SEMICOLON)
+}
+
+// The place among the words of the symbol of the compound assignment at `at`.
+pub fn assign_word(b: &[u8], at: usize) -> usize
+    requires { ⌜ Within (now b) (at + 13) ⌝ }
+    requires { ⌜ stopAt (now b) (at + 13) + 14 ≤ length (now b) ⌝ }
+    requires { ⌜ getD (now b) (stopAt (now b) (at + 13) + 13) 0 < 5 ⌝ }
+    ensures { λ r. ⌜ getD table r "" ≡ assignSymbol (getD (now (b .entry)) (stopAt (now (b .entry)) (at + 13) + 13) 0) ⌝ }
+{
+    ADD_ASSIGN + payload(b, second(b, at))
+}

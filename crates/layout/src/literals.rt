@@ -1,0 +1,38 @@
+// Texts of the source, and literals.
+ghost use mathlib.Core.Path.{_≡_};
+ghost use Rattle.layout.specs.Contracts.{Has, LaidAs};
+ghost use Rattle.layout.specs.Forms.{SpanAt, contentRule, LiteralAt, literalRule};
+use crate::numbers::end;
+use crate::numbers::payload;
+use crate::numbers::start;
+use crate::pieces::gap;
+use state::Cursor;
+use state::leaves::ascii;
+use state::words::FALSE;
+use state::words::TRUE;
+use state::words::UNIT;
+use state::words::word;
+
+// `Node::Ascii` of `span_content`: the source between the ends of the record's span.
+pub fn content(store: &mut [u32], c: Cursor, s: &[u8], b: &[u8], at: usize) -> Cursor
+    requires { ⌜ Has SpanAt (now s) (now b) at ⌝ }
+    ensures { λ r. ⌜ LaidAs SpanAt contentRule (now (s .entry)) (now (b .entry)) at (now (store .entry)) c (now (store .exit)) r ⌝ }
+{
+    let from = start(b, at);
+    let to = end(b, at);
+    ascii(store, c, from, to - from)
+}
+
+pub fn literal(store: &mut [u32], c: Cursor, s: &[u8], b: &[u8], at: usize) -> Cursor
+    requires { ⌜ Has LiteralAt (now s) (now b) at ⌝ }
+    ensures { λ r. ⌜ LaidAs LiteralAt literalRule (now (s .entry)) (now (b .entry)) at (now (store .entry)) c (now (store .exit)) r ⌝ }
+{
+    let position = end(b, at);
+    let d = gap(store, c, s, b, position, true, true, false);
+    match payload(b, at) {
+        0 => content(store, d, s, b, at),
+        1 => word(store, d, TRUE),
+        2 => word(store, d, FALSE),
+        _ => word(store, d, UNIT),
+    }
+}
