@@ -3,5 +3,6 @@ pub mod Texts
 pub mod Types
 pub mod Exprs
 pub mod Declarations
+pub mod Walk
 pub mod Whole
 pub mod Examples
