@@ -9,3 +9,4 @@ pub mod ExprForms
 pub mod Spines
 pub mod Optionals
 pub mod Bodies
+pub mod DeclarationForms

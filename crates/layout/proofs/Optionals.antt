@@ -20,7 +20,7 @@ use Rattle.layout.specs.declared.kinds.WrapStyle.the-variants.{Tight}
 use Rattle.layout.specs.Layout.{ident, typeExpr, identElems, letType, maybeExpr, otherwise, lastRule, beforeStmt, trailing, blockRule, pattern}
 use Rattle.layout.specs.Contracts.{Has, LaidAs, Whole}
 use Rattle.layout.specs.Elems.{ListOf, LaidList}
-use Rattle.layout.specs.Forms.{exprWith, afterWord, maybeAfter, lastFrom, MaybeTypeAt}
+use Rattle.layout.specs.Forms.{exprWith, afterWord, maybeAfter, lastFrom, MaybeTypeAt, MaybeListAt}
 use Rattle.layout.proofs.Places.{head-whole, type-whole, expr-whole, block-whole}
 use Rattle.layout.proofs.Runs.{list-of, ident-elems}
 
@@ -124,9 +124,6 @@ module _ {s b : List ℕ} {at : ℕ} where
       go (someBlock k) a = laid-then w (l .of k a)
 
 -- ---- patterns
-abbrev pub MaybeListAt : List ℕ → List ℕ → Option Idents → ℕ → Type 0
-MaybeListAt s b = Maybe s b (ListAt s b)
-
 pub record PatternParts (s b : List ℕ) (at : ℕ) : Type 0 where
   pub whole : Whole b at
   pub name : Has IdentAt s b (at + 13)

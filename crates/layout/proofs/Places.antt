@@ -13,6 +13,7 @@ use Rattle.image.specs.Bytes.{be32}
 use Rattle.image.specs.Read.{stopAt}
 use Rattle.tree.specs.Syntax.{Span, Ident, Path, TypeExpr, type, TypeArgs, noArgs, args, Import, import, ImportGroup, noGroup, group, Idents, Expr, expr, Block, braces, Stmt, stmt, Pattern, underscore, enumVariant, MaybeExpr, noExpr, someExpr, MaybeBlock, noBlock, someBlock}
 use Rattle.tree.specs.At.{Head, Absent, IdentAt, PathAt, Maybe, TypeAt, TypeArgsAt, ImportAt, ImportGroupAt, ListAt, ExprAt, BlockAt, StmtAt, PatternAt, MaybeExprAt, MaybeBlockAt}
+use Rattle.layout.specs.Layout.{importSpan}
 use Rattle.layout.specs.Contracts.{Within, Whole}
 
 -- what the test for absence says of the length
@@ -99,3 +100,13 @@ module _ (s b : List ℕ) (at : ℕ) where
   unfolding ImportGroupAt
   group-within noGroup a = absent-within a
   group-within (group p is) a = within (head-whole (a .0))
+
+  pub maybe-ident : (m : Option Ident) → Maybe s b (IdentAt s b) m at → Within b at
+  unfolding Maybe
+  maybe-ident none a = absent-within a
+  maybe-ident (some i) a = within (ident-whole a)
+
+  -- where the span of an import starts
+  pub import-start : (i : Import) → ImportAt s b i at → be32 b (at + 5) ≡ importSpan i .start
+  unfolding ImportAt
+  import-start (import p q g) a = a .0 .start

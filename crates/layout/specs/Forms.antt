@@ -6,8 +6,8 @@ use mathlib.Core.List.{List}
 use mathlib.Core.Option.{Option}
 use lib.ListN.{length, getD}
 use Rattle.image.specs.Read.{stopAt}
-use Rattle.tree.specs.Syntax.{Span, Ident, Path, TypeExpr, type, TypeForm, Types, _∷ᵗ_, Expr, expr, Form, MaybeExpr, Block, braces, Stmts, stmt, let′}
-use Rattle.tree.specs.At.{Head, Record, Done, Ends, ByteAt, PathAt, Maybe, TypeAt, TypesAt, ExprAt, BlockAt, StmtAt}
+use Rattle.tree.specs.Syntax.{Span, Ident, Path, TypeExpr, type, TypeForm, Types, _∷ᵗ_, Expr, expr, Form, MaybeExpr, Block, braces, Stmts, stmt, let′, Idents, Declaration}
+use Rattle.tree.specs.At.{Head, Record, Done, Ends, ByteAt, PathAt, Maybe, TypeAt, TypesAt, ExprAt, BlockAt, StmtAt, IdentAt, ListAt, DeclarationAt}
 use Rattle.rows.specs.Node.{ascii, line}
 use Rattle.rows.specs.Words.{table}
 use Rattle.state.specs.Act.{Given, Act, _⨟_, says, push, indented, content}
@@ -22,6 +22,9 @@ three f x = f (x .0) (x .1) (x .2)
 
 abbrev pub four : {A B C D E : Type 0} → (A → B → C → D → E) → A × B × C × D → E
 four f x = f (x .0) (x .1) (x .2) (x .3)
+
+abbrev pub five : {A B C D E F : Type 0} → (A → B → C → D → E → F) → A × B × C × D × E → F
+five f x = f (x .0) (x .1) (x .2) (x .3) (x .4)
 
 -- ---- types
 -- a type of one form, and its rule
@@ -142,3 +145,30 @@ bodyRule g (braces s ss last) =
     layout.stmtsRule g ss true
     ⨟ layout.lastRule g last (layout.noneOf ss)
     ⨟ layout.gap g (s .end) (not (layout.isEmpty ss last)) false false)
+
+-- ---- declarations
+-- a declaration of one form, and its rule
+abbrev pub OfDeclaration : {X : Type 0} → (X → Declaration) → List ℕ → List ℕ → X → ℕ → Type 0
+OfDeclaration mk s b x at = DeclarationAt s b (mk x) at
+
+abbrev pub declarationRule : {X : Type 0} → (X → Declaration) → Bool → Given → X → Act
+declarationRule mk first g x = layout.declaration g (mk x) first
+
+abbrev pub anyDeclaration : Declaration → Declaration
+anyDeclaration d = d
+
+-- the word at a place, and the name
+abbrev pub declaresAt : ℕ → Bool → Given → Ident → Act
+declaresAt k first g i = layout.declares g (getD table k "") first i
+
+-- optional lists of type parameters
+abbrev pub MaybeListAt : List ℕ → List ℕ → Option Idents → ℕ → Type 0
+MaybeListAt s b = Maybe s b (ListAt s b)
+
+-- the shebang
+abbrev pub MaybeIdentAt : List ℕ → List ℕ → Option Ident → ℕ → Type 0
+MaybeIdentAt s b = Maybe s b (IdentAt s b)
+
+-- the declarations, of which the next is the first or not
+abbrev pub declarationsFrom : Bool → Given → List Declaration → Act
+declarationsFrom first g ds = layout.declarationsRule g ds first

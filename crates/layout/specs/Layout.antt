@@ -567,23 +567,18 @@ module _ (g : Given) where
   variantElems noVariants = []
   variantElems (variant s i ts vs) = record { start = s .start; act = ident i ⨟ variantTypes ts } ∷ variantElems vs
 
+  -- the start of each declaration but `import`: its word and its name
+  unfoldable pub declares : String → Bool → Ident → Act
+  declares w first i = opening (i .span .start) first ⨟ says w ⨟ ident i
+
   unfoldable pub declaration : Declaration → Bool → Act
-  declaration (filterMap i s fs b) first =
-      opening (i .span .start) first ⨟ says "filtermap " ⨟ ident i ⨟ params fs s ⨟ says " " ⨟ blockRule b
-  declaration (const i t e) first =
-      opening (i .span .start) first ⨟ says "const " ⨟ ident i ⨟ says ": " ⨟ typeExpr t ⨟ says " = " ⨟ exprRule e ⨟ says ";"
-  declaration (recordDecl i ps s fs) first =
-      opening (i .span .start) first ⨟ says "record " ⨟ ident i ⨟ someTypeParams ps ⨟ says " " ⨟ recordTypeRule fs s Wrap
+  declaration (filterMap i s fs b) first = declares "filtermap " first i ⨟ params fs s ⨟ says " " ⨟ blockRule b
+  declaration (const i t e) first = declares "const " first i ⨟ says ": " ⨟ typeExpr t ⨟ says " = " ⨟ exprRule e ⨟ says ";"
+  declaration (recordDecl i ps s fs) first = declares "record " first i ⨟ someTypeParams ps ⨟ says " " ⨟ recordTypeRule fs s Wrap
   declaration (enumDecl i ps s vs) first =
-      opening (i .span .start) first
-      ⨟ says "enum "
-      ⨟ ident i
-      ⨟ someTypeParams ps
-      ⨟ says " "
-      ⨟ separated "{" "}" "," (variantElems vs) s Wrap
-  declaration (function i s fs t b) first =
-      opening (i .span .start) first ⨟ says "fn " ⨟ ident i ⨟ params fs s ⨟ says " " ⨟ returnType t ⨟ blockRule b
-  declaration (test i b) first = opening (i .span .start) first ⨟ says "test " ⨟ ident i ⨟ says " " ⨟ blockRule b
+      declares "enum " first i ⨟ someTypeParams ps ⨟ says " " ⨟ separated "{" "}" "," (variantElems vs) s Wrap
+  declaration (function i s fs t b) first = declares "fn " first i ⨟ params fs s ⨟ says " " ⨟ returnType t ⨟ blockRule b
+  declaration (test i b) first = declares "test " first i ⨟ says " " ⨟ blockRule b
   declaration (importDecl p) first = opening (importSpan p .start) first ⨟ says "import " ⨟ importPath p ⨟ says ";"
 
   -- ---- `fmt_parsed`

@@ -1,6 +1,7 @@
 // The layout functions: `State` of fmt.rs from `separated` on. They call each other, and the record's length falls at each call.
 mod blocks;
 mod chains;
+pub mod declarations;
 mod imports;
 pub mod kinds;
 mod literals;

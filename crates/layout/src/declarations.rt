@@ -1,0 +1,336 @@
+// `declaration`, and `fmt_parsed` up to its rows.
+ghost use mathlib.Core.Path.{_≡_};
+ghost use mathlib.Core.Bool.{true, not, _&&_};
+ghost use Rattle.rows.specs.Node.{line};
+ghost use Rattle.tree.specs.Syntax.{filterMap, const, recordDecl, enumDecl, function, test, importDecl};
+ghost use Rattle.tree.specs.At.{IdentAt, DeclarationsAt, TreeAt};
+ghost use Rattle.state.specs.Act.{when, push};
+ghost use Rattle.state.specs.Laid.{Laid};
+ghost use Rattle.comments.specs.Listed.{given};
+ghost use Rattle.layout.specs.Layout.{opening, someTypeParams, returnType, shebangRule, fmtParsed};
+ghost use Rattle.layout.specs.Contracts.{Accepted, Has, LaidAs, HasAll, LaidAll};
+ghost use Rattle.layout.specs.Forms.{
+  two,
+  three,
+  four,
+  five,
+  OfDeclaration,
+  declarationRule,
+  anyDeclaration,
+  declaresAt,
+  MaybeListAt,
+  MaybeTypeAt,
+  MaybeIdentAt,
+  declarationsFrom,
+};
+use crate::block;
+use crate::expr;
+use crate::import;
+use crate::kinds::BOTTOM;
+use crate::kinds::Element;
+use crate::kinds::WrapStyle;
+use crate::list;
+use crate::numbers::HEAD;
+use crate::numbers::is_absent;
+use crate::numbers::kind;
+use crate::numbers::past;
+use crate::numbers::second;
+use crate::numbers::start;
+use crate::numbers::third;
+use crate::paths::ident;
+use crate::type_expr;
+use comments::pop_whitespace;
+use image::bytes::num16;
+use state::Cursor;
+use state::leaves::empty_line;
+use state::leaves::line;
+use state::leaves::str;
+use state::words::ARROW;
+use state::words::ASSIGN;
+use state::words::BRACE_CLOSE;
+use state::words::BRACE_OPEN;
+use state::words::BRACKET_CLOSE;
+use state::words::BRACKET_OPEN;
+use state::words::COLON;
+use state::words::CONST;
+use state::words::ENUM;
+use state::words::FILTERMAP;
+use state::words::FN;
+use state::words::IMPORT;
+use state::words::PAREN_CLOSE;
+use state::words::PAREN_OPEN;
+use state::words::RECORD;
+use state::words::SEMICOLON;
+use state::words::SPACE;
+use state::words::TEST;
+use state::words::word;
+use text::space::trim_end;
+
+// A line, except before the file's first declaration and after white space.
+fn line_between(store: &mut [u32], c: Cursor, first: bool, whitespace: bool) -> Cursor
+    ensures { λ r. ⌜ Laid (when (not first && not whitespace) (push line)) (now (store .entry)) c (now (store .exit)) r ⌝ }
+{
+    if first {
+        return c;
+    }
+    if whitespace {
+        return c;
+    }
+    line(store, c)
+}
+
+// How each declaration begins.
+fn opening(store: &mut [u32], c: Cursor, s: &[u8], b: &[u8], position: u32, first: bool) -> Cursor
+    requires { ⌜ Accepted (now s) (now b) ⌝ }
+    ensures { λ r. ⌜ Laid (opening (given (now (s .entry)) (now (b .entry))) position first) (now (store .entry)) c (now (store .exit)) r ⌝ }
+{
+    let a = pop_whitespace(store, c, s, b, position, !first, true, !first);
+    line_between(store, a.cursor, first, a.answer)
+}
+
+// The start of each declaration but `import`: the word at place k, and the name at `at`.
+fn declares(
+    store: &mut [u32],
+    c: Cursor,
+    s: &[u8],
+    b: &[u8],
+    at: usize,
+    k: usize,
+    first: bool,
+) -> Cursor
+    requires { ⌜ Has IdentAt (now s) (now b) at ⌝ }
+    ensures { λ r. ⌜ LaidAs IdentAt (declaresAt k first) (now (s .entry)) (now (b .entry)) at (now (store .entry)) c (now (store .exit)) r ⌝ }
+{
+    let d = opening(store, c, s, b, start(b, at), first);
+    let e = word(store, d, k);
+    ident(store, e, s, b, at)
+}
+
+// Type parameters, where there are any.
+fn type_params(store: &mut [u32], c: Cursor, s: &[u8], b: &[u8], at: usize) -> Cursor
+    requires { ⌜ Has MaybeListAt (now s) (now b) at ⌝ }
+    ensures { λ r. ⌜ LaidAs MaybeListAt someTypeParams (now (s .entry)) (now (b .entry)) at (now (store .entry)) c (now (store .exit)) r ⌝ }
+{
+    if is_absent(b, at) {
+        return c;
+    }
+    if at + HEAD == past(b, at) {
+        return c;
+    }
+    list(
+        store,
+        c,
+        s,
+        b,
+        at,
+        Element::Ident,
+        BRACKET_OPEN,
+        BRACKET_CLOSE,
+        true,
+        WrapStyle::Tight,
+    )
+}
+
+// The type that a function returns, where it says one.
+fn return_type(store: &mut [u32], c: Cursor, s: &[u8], b: &[u8], at: usize) -> Cursor
+    requires { ⌜ Has MaybeTypeAt (now s) (now b) at ⌝ }
+    ensures { λ r. ⌜ LaidAs MaybeTypeAt returnType (now (s .entry)) (now (b .entry)) at (now (store .entry)) c (now (store .exit)) r ⌝ }
+{
+    if is_absent(b, at) {
+        return c;
+    }
+    let d = word(store, c, ARROW);
+    let e = type_expr(store, d, s, b, at);
+    word(store, e, SPACE)
+}
+
+fn filter_map(store: &mut [u32], c: Cursor, s: &[u8], b: &[u8], at: usize, first: bool) -> Cursor
+    requires { ⌜ Has (OfDeclaration (four filterMap)) (now s) (now b) at ⌝ }
+    ensures { λ r. ⌜ LaidAs (OfDeclaration (four filterMap)) (declarationRule (four filterMap) first) (now (s .entry)) (now (b .entry)) at (now (store .entry)) c (now (store .exit)) r ⌝ }
+{
+    let p = second(b, at);
+    let q = third(b, at);
+    let d = declares(store, c, s, b, at + HEAD, FILTERMAP, first);
+    let e = list(
+        store,
+        d,
+        s,
+        b,
+        p,
+        Element::Field,
+        PAREN_OPEN,
+        PAREN_CLOSE,
+        true,
+        WrapStyle::Tight,
+    );
+    let f = word(store, e, SPACE);
+    block(store, f, s, b, q)
+}
+
+fn constant(store: &mut [u32], c: Cursor, s: &[u8], b: &[u8], at: usize, first: bool) -> Cursor
+    requires { ⌜ Has (OfDeclaration (three const)) (now s) (now b) at ⌝ }
+    ensures { λ r. ⌜ LaidAs (OfDeclaration (three const)) (declarationRule (three const) first) (now (s .entry)) (now (b .entry)) at (now (store .entry)) c (now (store .exit)) r ⌝ }
+{
+    let p = second(b, at);
+    let q = third(b, at);
+    let d = declares(store, c, s, b, at + HEAD, CONST, first);
+    let e = word(store, d, COLON);
+    let f = type_expr(store, e, s, b, p);
+    let g = word(store, f, ASSIGN);
+    let h = expr(store, g, s, b, q, BOTTOM);
+    word(store, h, SEMICOLON)
+}
+
+fn decl_record(store: &mut [u32], c: Cursor, s: &[u8], b: &[u8], at: usize, first: bool) -> Cursor
+    requires { ⌜ Has (OfDeclaration (four recordDecl)) (now s) (now b) at ⌝ }
+    ensures { λ r. ⌜ LaidAs (OfDeclaration (four recordDecl)) (declarationRule (four recordDecl) first) (now (s .entry)) (now (b .entry)) at (now (store .entry)) c (now (store .exit)) r ⌝ }
+{
+    let p = second(b, at);
+    let q = third(b, at);
+    let d = declares(store, c, s, b, at + HEAD, RECORD, first);
+    let e = type_params(store, d, s, b, p);
+    let f = word(store, e, SPACE);
+    list(
+        store,
+        f,
+        s,
+        b,
+        q,
+        Element::Field,
+        BRACE_OPEN,
+        BRACE_CLOSE,
+        true,
+        WrapStyle::Wrap,
+    )
+}
+
+fn decl_enum(store: &mut [u32], c: Cursor, s: &[u8], b: &[u8], at: usize, first: bool) -> Cursor
+    requires { ⌜ Has (OfDeclaration (four enumDecl)) (now s) (now b) at ⌝ }
+    ensures { λ r. ⌜ LaidAs (OfDeclaration (four enumDecl)) (declarationRule (four enumDecl) first) (now (s .entry)) (now (b .entry)) at (now (store .entry)) c (now (store .exit)) r ⌝ }
+{
+    let p = second(b, at);
+    let q = third(b, at);
+    let d = declares(store, c, s, b, at + HEAD, ENUM, first);
+    let e = type_params(store, d, s, b, p);
+    let f = word(store, e, SPACE);
+    list(
+        store,
+        f,
+        s,
+        b,
+        q,
+        Element::Variant,
+        BRACE_OPEN,
+        BRACE_CLOSE,
+        true,
+        WrapStyle::Wrap,
+    )
+}
+
+fn function(store: &mut [u32], c: Cursor, s: &[u8], b: &[u8], at: usize, first: bool) -> Cursor
+    requires { ⌜ Has (OfDeclaration (five function)) (now s) (now b) at ⌝ }
+    ensures { λ r. ⌜ LaidAs (OfDeclaration (five function)) (declarationRule (five function) first) (now (s .entry)) (now (b .entry)) at (now (store .entry)) c (now (store .exit)) r ⌝ }
+{
+    let p = second(b, at);
+    let q = third(b, at);
+    let d = declares(store, c, s, b, at + HEAD, FN, first);
+    let e = list(
+        store,
+        d,
+        s,
+        b,
+        p,
+        Element::Field,
+        PAREN_OPEN,
+        PAREN_CLOSE,
+        true,
+        WrapStyle::Tight,
+    );
+    let f = word(store, e, SPACE);
+    let g = return_type(store, f, s, b, q);
+    block(store, g, s, b, past(b, q))
+}
+
+fn test(store: &mut [u32], c: Cursor, s: &[u8], b: &[u8], at: usize, first: bool) -> Cursor
+    requires { ⌜ Has (OfDeclaration (two test)) (now s) (now b) at ⌝ }
+    ensures { λ r. ⌜ LaidAs (OfDeclaration (two test)) (declarationRule (two test) first) (now (s .entry)) (now (b .entry)) at (now (store .entry)) c (now (store .exit)) r ⌝ }
+{
+    let p = second(b, at);
+    let d = declares(store, c, s, b, at + HEAD, TEST, first);
+    let e = word(store, d, SPACE);
+    block(store, e, s, b, p)
+}
+
+fn decl_import(store: &mut [u32], c: Cursor, s: &[u8], b: &[u8], at: usize, first: bool) -> Cursor
+    requires { ⌜ Has (OfDeclaration importDecl) (now s) (now b) at ⌝ }
+    ensures { λ r. ⌜ LaidAs (OfDeclaration importDecl) (declarationRule importDecl first) (now (s .entry)) (now (b .entry)) at (now (store .entry)) c (now (store .exit)) r ⌝ }
+{
+    let d = opening(store, c, s, b, start(b, at), first);
+    let e = word(store, d, IMPORT);
+    let f = import(store, e, s, b, at);
+    word(store, f, SEMICOLON)
+}
+
+// The declaration at `at`, which is the file's first or not.
+pub fn declaration(
+    store: &mut [u32],
+    c: Cursor,
+    s: &[u8],
+    b: &[u8],
+    at: usize,
+    first: bool,
+) -> Cursor
+    requires { ⌜ Has (OfDeclaration anyDeclaration) (now s) (now b) at ⌝ }
+    ensures { λ r. ⌜ LaidAs (OfDeclaration anyDeclaration) (declarationRule anyDeclaration first) (now (s .entry)) (now (b .entry)) at (now (store .entry)) c (now (store .exit)) r ⌝ }
+{
+    match kind(b, at) {
+        10 => filter_map(store, c, s, b, at, first),
+        11 => constant(store, c, s, b, at, first),
+        12 => decl_record(store, c, s, b, at, first),
+        13 => decl_enum(store, c, s, b, at, first),
+        14 => function(store, c, s, b, at, first),
+        15 => test(store, c, s, b, at, first),
+        _ => decl_import(store, c, s, b, at, first),
+    }
+}
+
+// The shebang at `at`, without the white space at its end, where there is one.
+pub fn shebang(store: &mut [u32], c: Cursor, s: &[u8], b: &[u8], at: usize) -> Cursor
+    requires { ⌜ Has MaybeIdentAt (now s) (now b) at ⌝ }
+    ensures { λ r. ⌜ LaidAs MaybeIdentAt shebangRule (now (s .entry)) (now (b .entry)) at (now (store .entry)) c (now (store .exit)) r ⌝ }
+{
+    if is_absent(b, at) {
+        return c;
+    }
+    let from = at + 15;
+    let width = num16(b, at + HEAD);
+    let size = trim_end(b, from, past(b, at)) - from;
+    let d = str(store, c, from as u32, size as u32, width as u32);
+    empty_line(store, d)
+}
+
+// The declarations from `from` up to `to`.
+fn declarations(store: &mut [u32], c: Cursor, s: &[u8], b: &[u8], from: usize, to: usize) -> Cursor
+    requires { ⌜ HasAll DeclarationsAt (now s) (now b) from to ⌝ }
+    ensures { λ r. ⌜ LaidAll DeclarationsAt (declarationsFrom true) (now (s .entry)) (now (b .entry)) from to (now (store .entry)) c (now (store .exit)) r ⌝ }
+{
+    let mut p = from;
+    let mut d = c;
+    let mut first = true;
+    while p < to {
+        d = declaration(store, d, s, b, p, first);
+        p = past(b, p);
+        first = false;
+    }
+    d
+}
+
+// The rows of a whole file, whose tree is at `at`.
+pub fn document(store: &mut [u32], c: Cursor, s: &[u8], b: &[u8], at: usize) -> Cursor
+    requires { ⌜ Has TreeAt (now s) (now b) at ⌝ }
+    ensures { λ r. ⌜ LaidAs TreeAt fmtParsed (now (s .entry)) (now (b .entry)) at (now (store .entry)) c (now (store .exit)) r ⌝ }
+{
+    let d = shebang(store, c, s, b, at + HEAD);
+    let e = declarations(store, d, s, b, second(b, at), past(b, at));
+    line(store, e)
+}
