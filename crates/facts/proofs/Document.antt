@@ -42,6 +42,7 @@ use Rattle.layout.specs.Layout.{
   opening,
   variantElems,
   declaration,
+  declares,
   shebangRule,
   declarationsRule,
   fmtParsed,
@@ -129,13 +130,11 @@ module _ {g : Given} (commented : Commented g) where
   -- ---- each declaration
   pub sound-declaration : (x : Declaration) (at : ℕ) {d : ℕ} (first : Bool) → DeclarationAt (g .source) (g .image) x at
       → 2 * declarationHeight x ≤ d → Sounds g (be32 (g .image) at) d (declaration g x first)
-  unfolding declaration recordTypeRule DeclarationAt declarationHeight Maybe placeIn
+  unfolding declaration declares recordTypeRule DeclarationAt declarationHeight Maybe placeIn
   sound-declaration (filterMap i s fs b) at first a h =
       let v : ℕ = past (g .source) (g .image) (at + 13) in
       fewer
-      (sound-opening (i .span .start) first (from-start (ranged (a .1 .head)))
-      ⨾ sound-says "filtermap " refl
-      ⨾ sound-ident (a .1)
+      ((sound-opening (i .span .start) first (from-start (ranged (a .1 .head))) ⨾ sound-says "filtermap " refl ⨾ sound-ident (a .1))
       ⨾ sound-params fs s v (a .2) (a .3) (omega arith)
       ⨾ sound-says " " refl
       ⨾ sound-block commented b (past (g .source) (g .image) v) (a .4) (omega arith))
@@ -143,9 +142,7 @@ module _ {g : Given} (commented : Commented g) where
   sound-declaration (const i t e) at first a h =
       let v : ℕ = past (g .source) (g .image) (at + 13) in
       fewer
-      (sound-opening (i .span .start) first (from-start (ranged (a .1 .head)))
-      ⨾ sound-says "const " refl
-      ⨾ sound-ident (a .1)
+      ((sound-opening (i .span .start) first (from-start (ranged (a .1 .head))) ⨾ sound-says "const " refl ⨾ sound-ident (a .1))
       ⨾ sound-says ": " refl
       ⨾ sound-type commented t v (a .2) (omega arith)
       ⨾ sound-says " = " refl
@@ -156,9 +153,7 @@ module _ {g : Given} (commented : Commented g) where
       let v : ℕ = past (g .source) (g .image) (at + 13) in
       let w : ℕ = past (g .source) (g .image) v in
       fewer
-      (sound-opening (i .span .start) first (from-start (ranged (a .1 .head)))
-      ⨾ sound-says "record " refl
-      ⨾ sound-ident (a .1)
+      ((sound-opening (i .span .start) first (from-start (ranged (a .1 .head))) ⨾ sound-says "record " refl ⨾ sound-ident (a .1))
       ⨾ some-params ps v (omega arith) (a .2)
       ⨾ sound-says " " refl
       ⨾ sound-separated commented "{" "}" "," refl refl refl
@@ -169,9 +164,7 @@ module _ {g : Given} (commented : Commented g) where
       let v : ℕ = past (g .source) (g .image) (at + 13) in
       let w : ℕ = past (g .source) (g .image) v in
       fewer
-      (sound-opening (i .span .start) first (from-start (ranged (a .1 .head)))
-      ⨾ sound-says "enum " refl
-      ⨾ sound-ident (a .1)
+      ((sound-opening (i .span .start) first (from-start (ranged (a .1 .head))) ⨾ sound-says "enum " refl ⨾ sound-ident (a .1))
       ⨾ some-params ps v (omega arith) (a .2)
       ⨾ sound-says " " refl
       ⨾ sound-separated commented "{" "}" "," refl refl refl
@@ -182,9 +175,7 @@ module _ {g : Given} (commented : Commented g) where
       let v : ℕ = past (g .source) (g .image) (at + 13) in
       let w : ℕ = past (g .source) (g .image) v in
       fewer
-      (sound-opening (i .span .start) first (from-start (ranged (a .1 .head)))
-      ⨾ sound-says "fn " refl
-      ⨾ sound-ident (a .1)
+      ((sound-opening (i .span .start) first (from-start (ranged (a .1 .head))) ⨾ sound-says "fn " refl ⨾ sound-ident (a .1))
       ⨾ sound-params fs s v (a .2) (a .3) (omega arith)
       ⨾ sound-says " " refl
       ⨾ sound-skip
@@ -194,9 +185,7 @@ module _ {g : Given} (commented : Commented g) where
       let v : ℕ = past (g .source) (g .image) (at + 13) in
       let w : ℕ = past (g .source) (g .image) v in
       fewer
-      (sound-opening (i .span .start) first (from-start (ranged (a .1 .head)))
-      ⨾ sound-says "fn " refl
-      ⨾ sound-ident (a .1)
+      ((sound-opening (i .span .start) first (from-start (ranged (a .1 .head))) ⨾ sound-says "fn " refl ⨾ sound-ident (a .1))
       ⨾ sound-params fs s v (a .2) (a .3) (omega arith)
       ⨾ sound-says " " refl
       ⨾ (sound-says "-> " refl ⨾ sound-type commented t w (a .4) (omega arith) ⨾ sound-says " " refl)
@@ -205,9 +194,7 @@ module _ {g : Given} (commented : Commented g) where
   sound-declaration (test i b) at first a h =
       let v : ℕ = past (g .source) (g .image) (at + 13) in
       fewer
-      (sound-opening (i .span .start) first (from-start (ranged (a .1 .head)))
-      ⨾ sound-says "test " refl
-      ⨾ sound-ident (a .1)
+      ((sound-opening (i .span .start) first (from-start (ranged (a .1 .head))) ⨾ sound-says "test " refl ⨾ sound-ident (a .1))
       ⨾ sound-says " " refl
       ⨾ sound-block commented b v (a .2) (omega arith))
       (omega (arith, a .1 .head .long, a .3 .same))

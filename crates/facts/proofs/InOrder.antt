@@ -114,7 +114,7 @@ use Rattle.rows.specs.Node.{Text, ascii, str, line, lineOrSpace, wrapParent, if
 use Rattle.state.specs.Act.{Given, Act, push}
 use Rattle.layout.specs.declared.kinds.WrapStyle.{WrapStyle}
 use Rattle.layout.specs.declared.kinds.WrapStyle.the-variants.{Tight, Spaced, Wrap}
-use Rattle.layout.specs.Layout.{edge, isWrap, opens, ends, inside, beforeElem, pathNext, operator, whole, maybeExpr, placeholder, clause, blockStart, beforeStmt, afterStmt, lone, pickSpine, plain, extend, someTypeParams, Elem, Spine, Look, Bottom, Chain, Unit′, binopPrecedence, elements, separated, pathMore, pathRule, identElems, typeExpr, typeForm, typeArgs, typeElems, fieldElems, params, recordTypeRule, typeParams, importPath, importGroup, importItems, importElems, pattern, chained, literalRule, look, lookForm, otherwise, exprElems, groupedElems, entryElems, armElems, partsRule, blockRule, stmtsRule, lastRule, stmtRule, stmtForm, opening, variantElems, declaration, shebangRule, declarationsRule, fmtParsed, importSpan, noneOf, isEmpty, isBlock, isBraced, unlessEmpty, oneOr}
+use Rattle.layout.specs.Layout.{edge, isWrap, opens, ends, inside, beforeElem, pathNext, operator, whole, maybeExpr, placeholder, clause, blockStart, beforeStmt, afterStmt, lone, pickSpine, plain, extend, someTypeParams, Elem, Spine, Look, Bottom, Chain, Unit′, binopPrecedence, elements, separated, pathMore, pathRule, identElems, typeExpr, typeForm, typeArgs, typeElems, fieldElems, params, recordTypeRule, typeParams, importPath, importGroup, importItems, importElems, pattern, chained, literalRule, look, lookForm, otherwise, exprElems, groupedElems, entryElems, armElems, partsRule, blockRule, stmtsRule, lastRule, stmtRule, stmtForm, opening, variantElems, declaration, declares, shebangRule, declarationsRule, fmtParsed, importSpan, noneOf, isEmpty, isBlock, isBraced, unlessEmpty, oneOr}
 use Rattle.comments.specs.Comments.{popWhitespace}
 use Rattle.facts.specs.Placing.{commentsOf, commentsIn, trimmed, Places}
 use Rattle.facts.specs.Accepted.{fresh, callRule}
@@ -457,36 +457,30 @@ module _ (g : Given) where
 
   -- ---- each declaration, and the whole file
   pub places-declaration : (d : Declaration) (first : Bool) → Places g (declaration g d first)
-  unfolding declaration recordTypeRule
+  unfolding declaration declares recordTypeRule
   places-declaration (filterMap i s fs b) first =
-      places-opening (i .span .start) first ⨾ said ⨾ named ⨾ places-params fs s ⨾ said ⨾ places-block b
+      (places-opening (i .span .start) first ⨾ said ⨾ named) ⨾ places-params fs s ⨾ said ⨾ places-block b
   places-declaration (const i t e) first =
-      places-opening (i .span .start) first ⨾ said ⨾ named ⨾ said ⨾ places-type t ⨾ said ⨾ places-expr e Bottom ⨾ said
+      (places-opening (i .span .start) first ⨾ said ⨾ named) ⨾ said ⨾ places-type t ⨾ said ⨾ places-expr e Bottom ⨾ said
   places-declaration (recordDecl i ps s fs) first =
-      places-opening (i .span .start) first
-      ⨾ said
-      ⨾ named
+      (places-opening (i .span .start) first ⨾ said ⨾ named)
       ⨾ some-params ps
       ⨾ said
       ⨾ places-separated "{" "}" "," (all-fields fs) s Wrap
   places-declaration (enumDecl i ps s vs) first =
-      places-opening (i .span .start) first
-      ⨾ said
-      ⨾ named
+      (places-opening (i .span .start) first ⨾ said ⨾ named)
       ⨾ some-params ps
       ⨾ said
       ⨾ places-separated "{" "}" "," (all-variants vs) s Wrap
   places-declaration (function i s fs nothing b) first =
-      places-opening (i .span .start) first ⨾ said ⨾ named ⨾ places-params fs s ⨾ said ⨾ places-skip ⨾ places-block b
+      (places-opening (i .span .start) first ⨾ said ⨾ named) ⨾ places-params fs s ⨾ said ⨾ places-skip ⨾ places-block b
   places-declaration (function i s fs (some t) b) first =
-      places-opening (i .span .start) first
-      ⨾ said
-      ⨾ named
+      (places-opening (i .span .start) first ⨾ said ⨾ named)
       ⨾ places-params fs s
       ⨾ said
       ⨾ (said ⨾ places-type t ⨾ said)
       ⨾ places-block b
-  places-declaration (test i b) first = places-opening (i .span .start) first ⨾ said ⨾ named ⨾ said ⨾ places-block b
+  places-declaration (test i b) first = (places-opening (i .span .start) first ⨾ said ⨾ named) ⨾ said ⨾ places-block b
   places-declaration (importDecl i) first = places-opening _ first ⨾ said ⨾ places-import i ⨾ said
 
   pub places-declarations : (ds : List Declaration) (first : Bool) → Places g (declarationsRule g ds first)
