@@ -37,6 +37,7 @@ use Rattle.comments.specs.Comments as comments
 use Rattle.layout.specs.Layout.{
   shebangRule,
   declaration,
+  declares,
   opening,
   typeExpr,
   typeForm,
@@ -78,7 +79,7 @@ unfolding header commentFits commentsFrom commentList shape opens childrenAt ski
     mustWrap mustWraps width widths size sizes rowsOf rows viewOf nodeOf decode nodesAt commentsOf pairsAt push atColumn newLine margin remark text
     virtualColumn insert indented outdented nextIndented nextOutdented wraps groupWraps trailing calleeWraps render renders originText textBytes
     reaches partsFit rowFits firstWrong wrongRow placesFit wrongPlace marksNeeded placeIn word
-    joined words _⨟_ _⨟?_ _⨟!_ join grouped indents countNewlines newlines charAt decoded scalar something seek oneOf trimEnd trim charBefore ending ends shebangRule declaration
+    joined words _⨟_ _⨟?_ _⨟!_ join grouped indents countNewlines newlines charAt decoded scalar something seek oneOf trimEnd trim charBefore ending ends shebangRule declaration declares
     opening typeExpr typeForm typeArgs pathRule pathMore look lookForm literalRule comments.nth comments.newlines comments.ignoreNewlines
     comments.popComment comments.popComments comments.popWhitespace comments.popTrailingComment
 edges-hold = refl
