@@ -24,13 +24,8 @@ use Rattle.rendering.specs.Whole.{Called}
 use Rattle.rendering.specs.declared.RenderState.{RenderState}
 use Rattle.rendering.specs.declared.Rendering.the-variants as rendering
 use Rattle.rendering.proofs.Whole.{bytes, ends-written}
+use Rattle.rendering.proofs.Starts.{Takes}
 use Rattle.rendering.proofs.Ran.{inUse, gives, ran, marks-onto, started}
-
--- p has the state's numbers
-pub record Takes (state : RenderState) (p : Pen) : Type 0 where
-  pub indent : p .indent ≡ state .indent
-  pub next : p .«next_indent» ≡ state .«next_indent»
-  pub column : p .column .0 ≡ state .column .0
 
 -- t has the pen's numbers, the marks then in use, and the stop as its next row
 pub record Leaves (q : Pen) (used stop : ℕ) (t : RenderState) : Type 0 where
@@ -80,7 +75,7 @@ module _ (source image : List ℕ) (state : RenderState) (stop : ℕ) (store mar
 
     pub finished : (t : RenderState) (n : Bytes) → beforeRun source image stop (toState state) store marks ≡ none
         → n .0 ≡ bytes source image state stop store marks out → n .0 ≤ length out → Leaves q (max (state .«in_use») needed) stop t
-        → Called source image state stop store marks out (rendering.Written t n) marks2 out2
+        → Called source image state stop store marks out (rendering.Written t n) store marks2 out2
     finished t n e f h l =
         ends-written source image state stop store marks out t n marks2 out2 e f h left-state
         (r .marks ∙ ap (λ (d : cut.Drawn). d .marks) end ∙ marks-onto source image state stop store marks ahead)

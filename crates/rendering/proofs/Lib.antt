@@ -5,3 +5,4 @@ pub mod Accepted
 pub mod Starts
 pub mod Ran
 pub mod Finish
+pub mod Owned

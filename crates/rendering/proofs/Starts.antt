@@ -27,6 +27,12 @@ few-rows s b store from stop e = leb-true stop 2097152 (go (leb stop 2097152) (l
     go true u x e = refl
     go false u x e = let z : _≡_ {A = ℕ} 0 1 = cc in absurd (omega arith)
 
+-- p has the state's numbers
+pub record Takes (state : RenderState) (p : Pen) : Type 0 where
+  pub indent : p .indent ≡ state .indent
+  pub next : p .«next_indent» ≡ state .«next_indent»
+  pub column : p .column .0 ≡ state .column .0
+
 module _ (source image : List ℕ) (state : RenderState) (stop : ℕ) (store marks : List ℕ) (a : Accepted source image state stop store marks) where
   pub nested : Nested store (state .row) stop
   nested =
@@ -40,11 +46,14 @@ module _ (source image : List ℕ) (state : RenderState) (stop : ℕ) (store mar
             (a .ahead);
       }
 
-  -- with a pen that has the state's numbers and wrote nothing yet
-  pub starts : (p : Pen) (limit : ℕ) (out : List ℕ) → p .indent ≡ state .indent → p .«next_indent» ≡ state .«next_indent»
-      → p .column .0 ≡ state .column .0 → p .at .0 ≡ 0 → limit ≤ length out → Starting store limit (state .row) stop out p
-  starts p limit out e f g h l =
+  -- with a pen that has the state's numbers and wrote nothing yet, over rows that nest as the store's do
+  pub starts : (rows : List ℕ) → Nested rows (state .row) stop → (p : Pen) (limit : ℕ) (out : List ℕ) → Takes state p → p .at .0 ≡ 0 → limit ≤ length out
+      → Starting rows limit (state .row) stop out p
+  starts rows nests p limit out k h l =
+      let e = k .indent in
+      let f = k .next in
+      let g = k .column in
       let i = a .indent in
       let n = a .next in
       let c = a .column in
-      record { nested = nested; fits = l; margin = omega arith; column = omega arith; at = h }
+      record { nested = nests; fits = l; margin = omega arith; column = omega arith; at = h }
