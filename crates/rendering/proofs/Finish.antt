@@ -50,16 +50,11 @@ module _ (source image : List ℕ) (state : RenderState) (stop : ℕ) (store mar
   rendered r = renders (pageOf 80 source image) (nodesAt (viewOf store) (state .row) stop) true r
 
   module _ (p : Pen) (k : Takes state p) (past : List ℕ) where
-    same : drawnBy (rendered (stateOf p (taken ++ past) [])) ≡ withPast given past
+    pub same : drawnBy (rendered (stateOf p (taken ++ past) [])) ≡ withPast given past
     same =
         ap (λ (r : Renderer). drawnBy (rendered r))
         (started source image state stop store marks ahead p (taken ++ past) (k .indent) (k .next) (k .column))
         ∙ ran source image state stop store marks ahead past
-
-    -- whatever it may write, the run counts the bytes needed
-    pub counts : (limit : ℕ) (o marks2 out2 : List ℕ) (q : Pen) → Rendered limit (rendered (stateOf p (taken ++ past) [])) o marks2 out2 q
-        → q .at .0 ≡ bytes source image state stop store marks out
-    counts limit o marks2 out2 q r = r .bytes ∙ ap (λ (d : cut.Drawn). length (d .text)) same
 
   -- the run with room enough, over the buffer in which the new marks are cleared
   module _ (p : Pen) (k : Takes state p) (marks2 out2 : List ℕ) (q : Pen)

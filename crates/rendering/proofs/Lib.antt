@@ -6,3 +6,4 @@ pub mod Starts
 pub mod Ran
 pub mod Finish
 pub mod Owned
+pub mod Dry
