@@ -26,10 +26,10 @@ use Rattle.marks.proofs.Undone.{owns, Bytes, Unused, undone}
 use Rattle.marks.proofs.Seen.{aside-view, aside-size, aside-count, aside-nested, clear-count, clear-parts, same-start}
 use Rattle.format.proofs.Past.{renders-length}
 use Rattle.format.proofs.Right.{right}
-use Rattle.rendering.specs.Whole.{Counted}
+use Rattle.rendering.specs.Whole.{Counted, Takes}
 use Rattle.rendering.specs.declared.RenderState.{RenderState}
 use Rattle.rendering.proofs.Accepted.{Accepted}
-use Rattle.rendering.proofs.Starts.{Takes, nested}
+use Rattle.rendering.proofs.Starts.{nested}
 use Rattle.rendering.proofs.Ran.{inUse}
 use Rattle.rendering.proofs.Finish.{same}
 use Rattle.rendering.proofs.Owned.{nodes-other}
@@ -108,7 +108,7 @@ module _ (source image : List ℕ) (state : RenderState) (stop : ℕ) (store mar
             ∙ sym (clear-count (needed - state .«in_use») (state .«in_use») marks)
             ∙ ap length cleared-whole;
         at = λ x e.
-        same-start count (state .«in_use») (held store marks) (state .row) x e ∙ ap (λ (m : List ℕ). getD m x 0) cleared-whole;
+            same-start count (state .«in_use») (held store marks) (state .row) x e ∙ ap (λ (m : List ℕ). getD m x 0) cleared-whole;
       }
 
   abbrev rendered : Renderer → Renderer

@@ -20,11 +20,10 @@ use Rattle.cut.specs.PartLaws.{withPast}
 use Rattle.marks.specs.Marks.{marksNeeded}
 use Rattle.format.specs.Parts.{rendererOf, drawnBy}
 use Rattle.rendering.specs.Calls.{toState, beforeRun}
-use Rattle.rendering.specs.Whole.{Called}
+use Rattle.rendering.specs.Whole.{Called, Takes}
 use Rattle.rendering.specs.declared.RenderState.{RenderState}
 use Rattle.rendering.specs.declared.Rendering.the-variants as rendering
 use Rattle.rendering.proofs.Whole.{bytes, ends-written}
-use Rattle.rendering.proofs.Starts.{Takes}
 use Rattle.rendering.proofs.Ran.{inUse, gives, ran, marks-onto, started}
 
 -- t has the pen's numbers, the marks then in use, and the stop as its next row

@@ -7,3 +7,4 @@ pub mod Ran
 pub mod Finish
 pub mod Owned
 pub mod Dry
+pub mod Steps

@@ -5,6 +5,7 @@ use mathlib.Core.List.{List}
 use Prim.Native.Nat.{ℕ, _≤_}
 use lib.ListN.{length}
 use Rattle.rows.specs.declared.store.Bytes.{Bytes}
+use Rattle.render.specs.declared.pen.Pen.{Pen}
 use Rattle.cut.specs.Entries.{renderAnswer, renderMarks, renderOutput}
 use Rattle.cut.specs.Parts.{bytesNeeded}
 use Rattle.format.specs.Parts.{parts}
@@ -27,7 +28,18 @@ pub record Counted (source image : List ℕ) (state : RenderState) (stop : ℕ) 
   pub marks-left : marks2 ≡ marks
   pub output-left : out2 ≡ out
 
--- nothing refuses the call
+-- nothing refuses the call before its run
+pub record Passing (source image : List ℕ) (state : RenderState) (stop : ℕ) (store marks : List ℕ) : Type 0 where
+  pub passes : beforeRun source image stop (toState state) store marks ≡ none
+
+-- and its text has room
 pub record Fitting (source image : List ℕ) (state : RenderState) (stop : ℕ) (store marks out : List ℕ) : Type 0 where
-  pub accepted : beforeRun source image stop (toState state) store marks ≡ none
+  pub passing : Passing source image state stop store marks
   pub room : bytesNeeded (parts source image) (args stop (length out)) (toState state) store marks ≤ length out
+
+-- p has the state's numbers, and wrote nothing yet
+pub record Takes (state : RenderState) (p : Pen) : Type 0 where
+  pub indent : p .indent ≡ state .indent
+  pub next : p .«next_indent» ≡ state .«next_indent»
+  pub column : p .column .0 ≡ state .column .0
+  pub at : p .at .0 ≡ 0

@@ -2,14 +2,13 @@
 ghost use mathlib.Core.Path.{_≡_};
 ghost use mathlib.Core.Bool.{not};
 ghost use mathlib.Core.List.{List, [], _∷_};
-ghost use mathlib.Core.Option.{none};
 ghost use Prim.Native.Nat.{ℕ, _*_, _≤_};
 ghost use lib.ListN.{length, take, drop};
 ghost use lib.Dec.{ltb};
 ghost use Rattle.cut.specs.Parts.{Parts, any, first, oddMark, renderTests, renderTable};
 ghost use Rattle.format.specs.Parts.{parts};
 ghost use Rattle.rendering.specs.Calls.{toState, args, refusalOf, beforeRun};
-ghost use Rattle.rendering.specs.Whole.{Called, Counted, Fitting};
+ghost use Rattle.rendering.specs.Whole.{Called, Counted, Passing, Fitting, Takes};
 use image::header_fits;
 use image::source_fits;
 use marks::clear_marks;
@@ -145,7 +144,7 @@ pub fn refusal(
 
 // A pen with the state's numbers that wrote nothing yet.
 fn start_pen(state: RenderState) -> Pen
-    ensures { λ r. ⌜ (r .indent ≡ state .indent) × ((r .«next_indent» ≡ state .«next_indent») × ((r .column .0 ≡ state .column .0) × (r .at .0 ≡ 0))) ⌝ }
+    ensures { λ r. ⌜ Takes state r ⌝ }
 {
     let column = state.column;
     Pen {
@@ -167,7 +166,7 @@ fn bytes_needed(
     state: RenderState,
     stop: usize,
 ) -> Bytes
-    requires { ⌜ beforeRun (now source) (now image) stop (toState state) (now store) (now marks) ≡ none ⌝ }
+    requires { ⌜ Passing (now source) (now image) state stop (now store) (now marks) ⌝ }
     ensures { λ r. ⌜ Counted (now (source .entry)) (now (image .entry)) state stop (now (store .entry)) (now (marks .entry)) (now (out .entry)) r (now (store .exit)) (now (marks .exit)) (now (out .exit)) ⌝ }
 {
     let from = state.row;
@@ -197,7 +196,18 @@ fn write_rows(
     let start = start_pen(state);
     let needed = marks_needed(store, from, stop);
     clear_marks(marks, state.in_use, needed);
-    let end = run_rows(start, store, source, image, marks, out, room, 80, from, stop);
+    let end = run_rows(
+        start,
+        store,
+        source,
+        image,
+        marks,
+        out,
+        room,
+        80,
+        from,
+        stop,
+    );
     let column = end.column;
     let bytes = end.at;
     let left = RenderState {
@@ -220,7 +230,7 @@ fn render_accepted(
     state: RenderState,
     stop: usize,
 ) -> Rendering
-    requires { ⌜ beforeRun (now source) (now image) stop (toState state) (now store) (now marks) ≡ none ⌝ }
+    requires { ⌜ Passing (now source) (now image) state stop (now store) (now marks) ⌝ }
     ensures { λ r. ⌜ Called (now (source .entry)) (now (image .entry)) state stop (now (store .entry)) (now (marks .entry)) (now (out .entry)) r (now (store .exit)) (now (marks .exit)) (now (out .exit)) ⌝ }
 {
     let bytes = bytes_needed(source, image, store, marks, out, state, stop);
