@@ -188,7 +188,8 @@ pub fn comment(
     requires { ⌜ Room 1152921504606846976 limit (now out) p × ((start < 4294967296) × (size < 4294967296)) ⌝ }
     ensures { λ r. ⌜ Drawn limit (remark (textBytes (now (source .entry)) (now (image .entry)) (textOf origin start size)) (shown p [])) (now (out .entry)) p (now (out .exit)) r ⌝ }
 {
-    if 0 < p.column.0 {
+    let column = p.column.0;
+    if 0 < column {
         let q = put(p, out, limit, b' ', Columns(0));
         return end_line(q, out, limit, source, image, origin, start, size);
     }
