@@ -22,6 +22,7 @@ ghost use Rattle.comments.specs.Comments.{
   popTrailingComment,
 };
 ghost use Rattle.comments.specs.Listed.{span, commentsOf, given, ListFits, Listed, pendingOf};
+
 mod reading;
 
 use crate::reading::newlines_from;
