@@ -18,6 +18,7 @@ use Rattle.render.specs.declared.lent.Numbers.{Numbers}
 use Rattle.render.proofs.lent.Numbers as T
 use Rattle.render.proofs.lent.Numbers.Laws as T′
 
+-- the machine values of the numbers
 abbrev pub vals : Numbers → List Val
 vals = LL.vals T.the-type T′.the-laws
 

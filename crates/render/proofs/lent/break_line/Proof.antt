@@ -24,7 +24,7 @@ use denote.Laws.{Is, shows}
 use denote.Memory.{mem}
 use denote.Ref.{RefT, MutRef, ptr-vals, mut-tells}
 use denote.Signature.{plain}
-use denote.Steps.{opens, closes, owned, peeks, heard, nothing}
+use denote.Steps.{opens, closes, peeks, heard, nothing}
 use denote.Struct.Steps.{spelt}
 use denote.Struct.Laws as LL
 use denote.Triple.Statement.{Contract, Triple}
@@ -36,6 +36,7 @@ use denote.Triple.Table.{entered, cited}
 use denote.Triple.Walked.{says, needs, Stays, stay-ref, walkOf, goes-ref, Walks, ends-at, walked, walk-meets}
 use Rattle.render.specs.Lent.{broken}
 use Rattle.render.specs.declared.lent.Numbers.{Numbers}
+use Rattle.render.proofs.Loan.{vals}
 use Rattle.render.proofs.lent.Numbers as T
 use Rattle.render.proofs.lent.Numbers.Laws as T′
 use Rattle.render.proofs.lent.broken as by-value
@@ -49,9 +50,6 @@ use Rattle.render.proofs.lent.break_line.Code as code
 
 abbrev stayed : Stays (break-line.ended .signature .params) (break-line.ended .kept)
 stayed = (stay-ref (0 ∷ []) tt (plain (λ _. T.the-row)), tt)
-
-abbrev vals : Numbers → List Val
-vals = LL.vals T.the-type T′.the-laws
 
 module _ {M : Type 1} (𝓤 : URA M) (H : Heap 𝓤) (A : Atoms 𝓤) (mem : Memory → SProp 𝓤) (run : Routine → Fun 𝓤) where
   -- the contract that the proof cites

@@ -39,6 +39,7 @@ use denote.Triple.Walked.{says, Stays, stay-ref, stay-none, walkOf, goes-ref, go
 use denote.Exit.{yes}
 use Rattle.render.specs.Lent.{moved}
 use Rattle.render.specs.declared.lent.Numbers.{Numbers}
+use Rattle.render.proofs.Loan.{vals}
 use Rattle.render.proofs.lent.Numbers as T
 use Rattle.render.proofs.lent.Numbers.Laws as T′
 use Rattle.render.proofs.lent.moved as by-value
@@ -52,9 +53,6 @@ use Rattle.render.proofs.lent.set_margin.Code as code
 
 abbrev stayed : Stays (set-margin.ended .signature .params) (set-margin.ended .kept)
 stayed = (stay-ref (0 ∷ []) tt (plain (λ _. T.the-row)), (stay-none (λ _. usize) yes, (stay-none (λ _. usize) yes, tt)))
-
-abbrev vals : Numbers → List Val
-vals = LL.vals T.the-type T′.the-laws
 
 module _ {M : Type 1} (𝓤 : URA M) (H : Heap 𝓤) (A : Atoms 𝓤) (mem : Memory → SProp 𝓤) (run : Routine → Fun 𝓤) where
   -- the contract that the proof cites
