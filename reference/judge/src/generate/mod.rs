@@ -61,7 +61,8 @@ pub fn frames(
     (0..count).map(move |index| frame(class, seed, index))
 }
 
-fn frame(class: Class, seed: u64, index: u64) -> Vec<u8> {
+/// One frame of a class.
+pub fn frame(class: Class, seed: u64, index: u64) -> Vec<u8> {
     let mut random = Random::new(class as u64, seed, index);
     match class {
         Class::Realistic => realistic::draft(&mut random).frame(),
