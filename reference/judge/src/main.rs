@@ -23,6 +23,7 @@ usage: judge run [--true-widths] < frame      what the program must write
        judge answers CLASS SEED COUNT         frames with what is due for them
        judge call-answers SEED COUNT          lists of calls with their answers
        judge size-answers                     the same for all sizes
+       judge render-answers                   the same for rows made for it
        judge text-answers                     answers of Rust's text functions
 CLASS: realistic, wild, edges, damaged or sizes
 ";
@@ -77,6 +78,10 @@ fn command(words: &[&str]) -> Result<Pieces, String> {
         }
         ["size-answers"] => {
             let cases = generate::size_call_cases();
+            Box::new(cases.map(|case| answers::calls::answered(&case)))
+        }
+        ["render-answers"] => {
+            let cases = generate::rendering_cases().into_iter();
             Box::new(cases.map(|case| answers::calls::answered(&case)))
         }
         ["text-answers"] => one(answers::text::answers()),

@@ -5,6 +5,7 @@ mod edges;
 mod lists;
 mod random_rows;
 mod realistic;
+mod rendering;
 mod shape;
 mod sizes;
 mod wild;
@@ -18,6 +19,7 @@ use crate::{
 };
 
 pub use lists::{CallCase, case as call_case};
+pub use rendering::cases as rendering_cases;
 pub use sizes::{
     Case as SizeCase, call_cases as size_call_cases, cases as size_cases,
 };

@@ -1,11 +1,15 @@
 //! What there is to compare, and its sharing among threads.
 
+#[cfg(feature = "calls")]
+use std::sync::LazyLock;
 use std::{
     panic::{AssertUnwindSafe, catch_unwind},
     sync::atomic::{AtomicUsize, Ordering},
     thread,
 };
 
+#[cfg(feature = "calls")]
+use judge::generate::CallCase;
 use judge::{
     frame::Frame,
     generate::{self, Class},
@@ -26,6 +30,12 @@ pub enum Item {
     Stretched(u64),
     #[cfg(feature = "calls")]
     Large(usize),
+    /// A size of document 01 as calls.
+    #[cfg(feature = "calls")]
+    SizeCalls(usize),
+    /// A case of the fixed list of rendering calls.
+    #[cfg(feature = "calls")]
+    Rendering(usize),
 }
 
 /// All items of a run: so many frames of each class but `sizes`, all sizes
@@ -50,7 +60,14 @@ impl Plan {
         let mut items = Vec::new();
         #[cfg(feature = "calls")]
         items.extend((0..super::large::COUNT).map(Item::Large));
-        items.extend((0..generate::size_cases().len()).map(Item::Size));
+        let sizes = generate::size_cases().len();
+        items.extend((0..sizes).map(Item::Size));
+        #[cfg(feature = "calls")]
+        {
+            items.extend((0..sizes).map(Item::SizeCalls));
+            let rendering = rendering_cases().len();
+            items.extend((0..rendering).map(Item::Rendering));
+        }
         for class in CLASSES {
             items.extend((0..self.frames).map(|i| Item::Frame(class, i)));
         }
@@ -135,7 +152,24 @@ fn compare(tally: &mut Tally, item: Item, seed: u64) {
             let case = super::large::numbered(place);
             super::lists::compare(tally, "largest stores", &case);
         }
+        #[cfg(feature = "calls")]
+        Item::SizeCalls(place) => {
+            let case = generate::size_cases()[place].as_calls();
+            super::lists::compare(tally, "sizes as calls", &case);
+        }
+        #[cfg(feature = "calls")]
+        Item::Rendering(place) => {
+            let case = &rendering_cases()[place];
+            super::lists::compare(tally, "rendering answers", case);
+        }
     }
+}
+
+#[cfg(feature = "calls")]
+fn rendering_cases() -> &'static [CallCase] {
+    static CASES: LazyLock<Vec<CallCase>> =
+        LazyLock::new(generate::rendering_cases);
+    &CASES
 }
 
 fn class_name(class: Class) -> &'static str {
@@ -154,6 +188,10 @@ fn name(item: Item, seed: u64) -> String {
         Item::Stretched(index) => ("stretched", index),
         #[cfg(feature = "calls")]
         Item::Large(place) => ("large", place as u64),
+        #[cfg(feature = "calls")]
+        Item::SizeCalls(place) => ("size-calls", place as u64),
+        #[cfg(feature = "calls")]
+        Item::Rendering(place) => ("rendering", place as u64),
     };
     format!("{kind} {seed} {index}")
 }
@@ -169,6 +207,10 @@ impl Item {
             "stretched" => Some(Item::Stretched(index)),
             #[cfg(feature = "calls")]
             "large" => Some(Item::Large(index as usize)),
+            #[cfg(feature = "calls")]
+            "size-calls" => Some(Item::SizeCalls(index as usize)),
+            #[cfg(feature = "calls")]
+            "rendering" => Some(Item::Rendering(index as usize)),
             _ => Class::from_name(kind).map(|c| Item::Frame(c, index)),
         }
     }
