@@ -32,6 +32,16 @@ pub fn case(seed: u64, index: u64) -> CallCase {
     }
 }
 
+/// A list that stops at every declaration, by seed and index.
+pub fn cut_case(seed: u64, index: u64) -> CallCase {
+    every_declaration(&mut Random::new(102, seed, index))
+}
+
+/// A source or an image that the reader turns down, by seed and index.
+pub fn unreadable_case(seed: u64, index: u64) -> CallCase {
+    unreadable(&mut Random::new(103, seed, index))
+}
+
 fn draft(random: &mut Random) -> Draft {
     match random.below(4) {
         0 => wild::draft(random),
@@ -98,7 +108,10 @@ fn list(random: &mut Random) -> CallCase {
 /// Layout with a stop before each declaration, rendering behind it with a
 /// stop at the same rows, and calls between that are refused.
 fn every_declaration(random: &mut Random) -> CallCase {
-    let draft = draft(random);
+    let draft = match random.below(3) {
+        0 => draft(random),
+        _ => realistic::short_draft(random),
+    };
     let image = draft.image();
     let Some(run) = formatted(&draft, &image) else {
         return unreadable(random);

@@ -18,7 +18,7 @@ use crate::{
     random::Random,
 };
 
-pub use lists::{CallCase, case as call_case};
+pub use lists::{CallCase, case as call_case, cut_case, unreadable_case};
 pub use rendering::cases as rendering_cases;
 pub use sizes::{
     Case as SizeCase, call_cases as size_call_cases, cases as size_cases,
