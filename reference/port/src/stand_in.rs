@@ -101,6 +101,37 @@ fn put_refusal(out: &mut [u64], refusal: Refusal) {
     put(out, &[refusal.number.into(), refusal.place]);
 }
 
+/// Numbers that are missing count as 0.
+fn at(state: &[u64], place: usize) -> usize {
+    state.get(place).copied().unwrap_or(0) as usize
+}
+
+fn layout_state(state: &[u64]) -> LayoutState {
+    LayoutState {
+        begun: at(state, 0) != 0,
+        closed: at(state, 1) != 0,
+        next_declaration: at(state, 2),
+        at: Stop {
+            next_row: at(state, 3),
+            next_number: at(state, 4),
+            comments_placed: at(state, 5),
+            position: at(state, 6),
+        },
+    }
+}
+
+fn render_state(state: &[u64]) -> RenderState {
+    RenderState {
+        pen: Pen {
+            indent: at(state, 0),
+            next_indent: at(state, 1),
+            column: at(state, 2),
+        },
+        marks_in_use: at(state, 3),
+        next_row: at(state, 4),
+    }
+}
+
 pub fn check(source: &[u8], image: &[u8], out: &mut [u64]) {
     match reader::read(source, image) {
         Ok(read) => {
@@ -122,20 +153,9 @@ pub fn layout(
     close: u64,
     out: &mut [u64],
 ) {
-    let at = |place: usize| state.get(place).copied().unwrap_or(0) as usize;
     let mut world = World {
         store: store.to_vec(),
-        laying: LayoutState {
-            begun: at(0) != 0,
-            closed: at(1) != 0,
-            next_declaration: at(2),
-            at: Stop {
-                next_row: at(3),
-                next_number: at(4),
-                comments_placed: at(5),
-                position: at(6),
-            },
-        },
+        laying: layout_state(state),
         ..World::default()
     };
     let given = Given { source, image };
@@ -217,21 +237,13 @@ pub fn render(
     stop: u64,
     out: &mut [u64],
 ) {
-    let at = |place: usize| state.get(place).copied().unwrap_or(0) as usize;
     let mut world = World {
         store: store.to_vec(),
         marks: marks.to_vec(),
-        rendering: RenderState {
-            pen: Pen {
-                indent: at(0),
-                next_indent: at(1),
-                column: at(2),
-            },
-            marks_in_use: at(3),
-            next_row: at(4),
-        },
+        rendering: render_state(state),
         ..World::default()
     };
+    let indent = world.rendering.pen.indent;
     let given = Given { source, image };
     match render_call(given, &mut world, stop as usize, output.len()) {
         Ok(Answer::Written { state, bytes }) => {
@@ -242,21 +254,25 @@ pub fn render(
             put_written(out, &state, bytes);
         }
         Err(mut refusal) => {
-            if refusal.number == 10 && planted(Fault::MarksBeforeRefusal) {
-                marks.iter_mut().for_each(|mark| *mark = 0);
-            }
-            if refusal.number == 11 && planted(Fault::FaultyRow) {
-                refusal.place += 1;
-            }
-            if refusal.number == 11 && planted(Fault::Order) && at(0) > 64 {
-                refusal = Refusal {
-                    number: 12,
-                    place: 0,
-                };
-            }
+            spoil_rendering(marks, indent, &mut refusal);
             put_refusal(out, refusal);
         }
         _ => unreachable!("a rendering call"),
+    }
+}
+
+fn spoil_rendering(marks: &mut [u8], indent: usize, refusal: &mut Refusal) {
+    if refusal.number == 10 && planted(Fault::MarksBeforeRefusal) {
+        marks.iter_mut().for_each(|mark| *mark = 0);
+    }
+    if refusal.number == 11 && planted(Fault::FaultyRow) {
+        refusal.place += 1;
+    }
+    if refusal.number == 11 && planted(Fault::Order) && indent > 64 {
+        *refusal = Refusal {
+            number: 12,
+            place: 0,
+        };
     }
 }
 

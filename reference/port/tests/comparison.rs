@@ -5,6 +5,7 @@
 use judge::rows;
 use port::{
     compare::{Item, PORT_WORDS, Plan, Tally, one},
+    measure::inputs,
     stand_in::{Fault, plant},
 };
 
@@ -49,4 +50,17 @@ fn items_are_repeated_by_their_names() {
     assert!(matches!(wild, Some(Item::Frame(_, 3))));
     assert_eq!(Item::from_words("list", 4), Some(Item::List(4)));
     assert_eq!(Item::from_words("other", 4), None);
+}
+
+/// Reading the texts is part of making the inputs.
+#[test]
+fn files_to_time_have_their_sizes() {
+    let all = inputs::all();
+    let sizes: Vec<usize> = all
+        .iter()
+        .map(|input| input.files[0].source.len())
+        .collect();
+    assert!((1_900..2_200).contains(&sizes[0]), "{sizes:?}");
+    assert!((63_000..=65_536).contains(&sizes[1]), "{sizes:?}");
+    assert_eq!(all[3].files.len(), 100);
 }

@@ -121,6 +121,16 @@ fn every_declaration(random: &mut Random) -> CallCase {
         marks: vec![random.byte(); run.marks.len() + 1],
         ..World::default()
     };
+    CallCase {
+        calls: through(random, &run),
+        source: draft.source.into_bytes(),
+        image,
+        world,
+    }
+}
+
+/// Calls that stop at each declaration in turn.
+fn through(random: &mut Random, run: &Run) -> Vec<Call> {
     let last = run.stops.len() - 1;
     let mut calls = Vec::new();
     for (place, stop) in run.stops.iter().enumerate() {
@@ -128,7 +138,7 @@ fn every_declaration(random: &mut Random) -> CallCase {
             stop: place,
             close: false,
         });
-        calls.extend(refused_at(random, &run, place));
+        calls.extend(refused_at(random, run, place));
         // Rendering may lag behind, and is level again at the last.
         if place == last || !random.once_in(3) {
             calls.push(Call::Render {
@@ -141,17 +151,12 @@ fn every_declaration(random: &mut Random) -> CallCase {
         stop: last,
         close: true,
     });
-    calls.extend(refused_at(random, &run, last));
+    calls.extend(refused_at(random, run, last));
     calls.push(Call::Render {
         stop: run.rows.len(),
         room: run.text.len(),
     });
-    CallCase {
-        source: draft.source.into_bytes(),
-        image,
-        world,
-        calls,
-    }
+    calls
 }
 
 fn junk_for(random: &mut Random, rows: usize) -> Vec<u32> {

@@ -1,9 +1,10 @@
 //! Lists of calls, every buffer compared whole after every call.
 
 use judge::{
-    calls::{self, Call, Given, World},
+    calls::{self, Answer, Call, Given, World},
     generate::CallCase,
     random::Random,
+    refusal::Refusal,
 };
 
 use super::{
@@ -45,33 +46,17 @@ fn compare_call(
 ) -> bool {
     let written = due.text.len();
     let answer = calls::call(given, due, one);
+    let (kind, room) = match one {
+        Call::Layout { .. } => ("layout", 0),
+        Call::Render { room, .. } => ("rendering", room),
+    };
     let number = answer.err().map_or(0, |refusal| refusal.number);
-    let kind = match one {
-        Call::Layout { .. } => "layout",
-        Call::Render { .. } => "rendering",
-    };
     tally.count(&format!("{heading}, {kind}"), number);
-    let room = match one {
-        Call::Layout { .. } => 0,
-        Call::Render { room, .. } => room,
-    };
     let mut output = junk_bytes(room);
     let mut due_output = output.clone();
     let text = &due.text[written..];
     due_output[..text.len()].copy_from_slice(text);
-    let port_answer = match one {
-        Call::Layout { stop, close } => {
-            crate::layout(given, &mut got.store, &got.laying, stop, close)
-        }
-        Call::Render { stop, .. } => crate::render(
-            given,
-            &mut got.store,
-            &mut got.marks,
-            &mut output,
-            &got.rendering,
-            stop,
-        ),
-    };
+    let port_answer = port_call(given, got, &mut output, one);
     // States are handed on as answered, and the answers are the same.
     got.laying = due.laying;
     got.rendering = due.rendering;
@@ -83,6 +68,25 @@ fn compare_call(
         && tally.expect(what, &answer, &port_answer)
         && tally.expect_bytes(what, &due.marks, &got.marks)
         && tally.expect_bytes(what, &due_output, &output)
+}
+
+/// The port's call on the buffers of a world.
+fn port_call(
+    given: Given,
+    world: &mut World,
+    output: &mut [u8],
+    one: Call,
+) -> Result<Answer, Refusal> {
+    let World { store, marks, .. } = world;
+    match one {
+        Call::Layout { stop, close } => {
+            crate::layout(given, store, &world.laying, stop, close)
+        }
+        Call::Render { stop, .. } => {
+            let state = &world.rendering;
+            crate::render(given, store, marks, output, state, stop)
+        }
+    }
 }
 
 /// A copy of a case with one number of its states or calls far out.

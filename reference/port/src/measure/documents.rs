@@ -48,12 +48,15 @@ pub fn texts() -> HeldTexts {
     })
 }
 
+/// Puts about so many rows.
+type Fill = fn(&mut Vec<Row>, usize);
+
 /// Documents of growing size, of three shapes each.
 pub fn growing() -> Vec<Document> {
     let sizes = [1_000, 10_000, 100_000, 1_000_000, 2_000_000];
     let mut documents = Vec::new();
     for size in sizes {
-        let shapes: [(&str, fn(&mut Vec<Row>, usize)); 3] =
+        let shapes: [(&str, Fill); 3] =
             [("flat", flat), ("nested", nested), ("250 deep", deep)];
         for (name, fill) in shapes {
             let mut rows = Vec::new();

@@ -4,7 +4,7 @@ use std::{fmt::Write, hint::black_box};
 
 use judge::{
     calls::{Given, LayoutState, RenderState},
-    driver::{self, Held},
+    driver::{self, Held, Run},
     reader,
     rows::{self, Row},
     tree,
@@ -13,7 +13,7 @@ use judge::{
 use super::{
     Line, both,
     documents::{self, Document, Empty},
-    inputs::Input,
+    inputs::{File, Input},
     stack,
 };
 
@@ -86,17 +86,7 @@ pub fn of_files(input: &Input) -> [Line; 3] {
         let run = driver::run(tree);
         rows += run.rows.len();
         bytes += run.text.len();
-        ported.push(Ported {
-            given: Given {
-                source: &file.source,
-                image: &file.image,
-            },
-            declarations: tree.declarations(),
-            rows: run.rows.len(),
-            store: vec![0; run.rows.len() * Row::CELLS],
-            marks: vec![0; run.marks.len()],
-            output: vec![0; run.text.len() + SPARE],
-        });
+        ported.push(of_file(file, &run));
     }
     let line =
         |step, size, unit, [port_seconds, rust_seconds]: [f64; 2]| Line {
@@ -112,6 +102,20 @@ pub fn of_files(input: &Input) -> [Line; 3] {
         line("rendering", rows, "row", rendered(&mut ported, &trees)),
         line("whole", bytes, "byte", whole(&mut ported, &trees)),
     ]
+}
+
+fn of_file<'f>(file: &'f File, run: &Run) -> Ported<'f> {
+    Ported {
+        given: Given {
+            source: &file.source,
+            image: &file.image,
+        },
+        declarations: run.stops.len() - 1,
+        rows: run.rows.len(),
+        store: vec![0; run.rows.len() * Row::CELLS],
+        marks: vec![0; run.marks.len()],
+        output: vec![0; run.text.len() + SPARE],
+    }
 }
 
 fn layout(ported: &mut [Ported], trees: &[tree::Input]) -> [f64; 2] {

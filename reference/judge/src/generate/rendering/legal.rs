@@ -19,7 +19,7 @@ pub fn kinds() -> Vec<CallCase> {
         }
         let flat = group(1, [kind.clone(), Part::LineOrSpace, word()]);
         let wrapped = [Part::WrapParent, kind, Part::LineOrSpace, word()];
-        cases.push(on_from([1, 0, 0], &[flat.clone()]));
+        cases.push(on_from([1, 0, 0], std::slice::from_ref(&flat)));
         cases.push(on_from([1, 1, 76], &[flat]));
         cases.push(on_from([1, 0, 0], &[group(0, wrapped)]));
     }
@@ -41,7 +41,7 @@ pub fn widths() -> Vec<CallCase> {
             cases.push(on(&[called]));
         }
         let called = call(vec![wide(width - 44)], 40);
-        cases.push(on_from([1, 0, 0], &[called.clone()]));
+        cases.push(on_from([1, 0, 0], std::slice::from_ref(&called)));
         cases.push(on(&[group(1, [called])]));
     }
     let most = Part::Str(u32::MAX, [rows::SOURCE, 0, 1]);

@@ -7,10 +7,7 @@ use super::{
         rows, wide, word,
     },
 };
-use crate::{
-    calls::{MOST_ROW_DEPTH, RenderState},
-    rows::Row,
-};
+use crate::{calls::MOST_ROW_DEPTH, rows::Row};
 
 /// Rows 257 deep: refused from the first one on, and 256 deep from the
 /// second.
@@ -28,12 +25,14 @@ pub fn depth() -> Vec<CallCase> {
     vec![first, second]
 }
 
-/// States at their limits and one more: refusal 12.
-pub fn states() -> Vec<CallCase> {
-    let parts = [
-        group(0, [word()]),
-        Part::IndentNext(vec![Part::Line, word()]),
-    ];
+/// A few rows for states to try.
+fn few() -> [Part; 2] {
+    let line = Part::IndentNext(vec![Part::Line, word()]);
+    [group(0, [word()]), line]
+}
+
+/// Indents and columns at their limits and one more: refusal 12.
+pub fn pens() -> Vec<CallCase> {
     let column = 1 << 56;
     let mut cases = Vec::new();
     for of_pen in [
@@ -49,10 +48,15 @@ pub fn states() -> Vec<CallCase> {
         [0, u32::MAX as usize, 0],
         [0, 0, usize::MAX],
     ] {
-        cases.push(on_from(of_pen, &parts));
+        cases.push(on_from(of_pen, &few()));
         cases.push(on_from(of_pen, &[]));
     }
-    // Marks in use over the buffer, or not 0 or 1; junk behind them.
+    cases
+}
+
+/// Marks in use over the buffer, or not 0 or 1, with junk behind them; and
+/// the next row at the stop and past it, where no row is tested.
+pub fn states() -> Vec<CallCase> {
     let marks: [(usize, &[u8]); 9] = [
         (2, &[0, 1]),
         (3, &[0, 1]),
@@ -64,16 +68,17 @@ pub fn states() -> Vec<CallCase> {
         (u32::MAX as usize, &[0, 0]),
         (0, &[6, 7, 8]),
     ];
+    let mut cases = Vec::new();
     for (in_use, marks) in marks {
-        let mut case = on(&parts);
+        let mut case = on(&few());
         case.world.marks = marks.to_vec();
         case.world.rendering.marks_in_use = in_use;
         cases.push(case);
     }
-    // The next row at the stop, and past it; then no row is tested.
     for next_row in [4, 5, 6, u32::MAX as usize] {
-        let mut case = on(&parts);
+        let mut case = on(&few());
         case.world.rendering.next_row = next_row;
+        // The first row is faulty.
         case.world.store[4] = 0;
         cases.push(case);
     }
@@ -153,16 +158,8 @@ fn written(case: &CallCase) -> usize {
     world.text.len()
 }
 
-/// Several causes at once: 3, 11, 12, 9, 10 in this order.
-pub fn order() -> Vec<CallCase> {
-    let good = rows(&[group(7, [wide(90)])], 0);
-    let bad = [
-        Row {
-            after: 0,
-            ..good[0]
-        },
-        good[1],
-    ];
+/// Images that are no image, before any row is looked at: refusal 3.
+pub fn headers() -> Vec<CallCase> {
     let images: [&[u8]; 6] = [
         b"\x01\0\0\0\x02im",
         b"",
@@ -171,31 +168,32 @@ pub fn order() -> Vec<CallCase> {
         b"\x01\0\0\0\x02imm",
         b"\x01\0\0\0\x03im",
     ];
-    let mut cases = Vec::new();
-    for image in images {
-        let mut case = on_rows(&bad);
+    let case = |image: &[u8]| {
+        let mut case = on_rows(&wide_group(0));
         case.image = image.to_vec();
+        case
+    };
+    images.map(case).into()
+}
+
+/// A group too wide for a line and its text; the row after it is given, and
+/// 2 is right.
+fn wide_group(after: u32) -> [Row; 2] {
+    let rows = rows(&[group(7, [wide(90)])], 0);
+    [Row { after, ..rows[0] }, rows[1]]
+}
+
+/// Several causes at once: 11, 12, 9, 10 in this order.
+pub fn order() -> Vec<CallCase> {
+    let mut cases = Vec::new();
+    for causes in 0..16 {
+        let chosen = |cause: usize| causes >> cause & 1;
+        let mut case = on_rows(&wide_group([2, 0][chosen(0)]));
+        case.world.rendering.pen = pen([[0, 65][chosen(1)], 0, 0]);
+        case.world.marks = vec![4; [8, 2][chosen(2)]];
+        let stop = [2, 3][chosen(3)];
+        case.calls = vec![render(stop, 3), render(stop, PLENTY)];
         cases.push(case);
-    }
-    let rows_of = [&bad[..], &good];
-    let states = [[65, 0, 0], [0, 0, 0]];
-    let marks = [2, 8];
-    for (rows, state) in rows_of
-        .into_iter()
-        .flat_map(|rows| states.map(|state| (rows, state)))
-    {
-        for marks in marks {
-            for stop in [2, 3] {
-                let mut case = on_rows(rows);
-                case.world.rendering = RenderState {
-                    pen: pen(state),
-                    ..RenderState::default()
-                };
-                case.world.marks = vec![4; marks];
-                case.calls = vec![render(stop, 3), render(stop, PLENTY)];
-                cases.push(case);
-            }
-        }
     }
     cases
 }

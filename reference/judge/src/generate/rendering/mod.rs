@@ -24,9 +24,11 @@ pub fn cases() -> Vec<CallCase> {
         faults::unused(),
         faults::ignored(),
         limits::depth(),
+        limits::pens(),
         limits::states(),
         limits::numbers(),
         limits::output(),
+        limits::headers(),
         limits::order(),
     ];
     parts.into_iter().flatten().collect()
