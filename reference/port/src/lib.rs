@@ -28,6 +28,15 @@ pub fn check(source: &[u8], image: &[u8]) -> Result<Accepted, Refusal> {
     Ok(Accepted { comments, tree })
 }
 
+/// What a reader of results must know: who answered, and to what.
+pub const NOTICE: Option<&str> = if cfg!(feature = "stand-in") {
+    Some("not the port: the judge stands in for it")
+} else if cfg!(not(feature = "calls")) {
+    Some("the reader alone: the feature `calls` is off")
+} else {
+    None
+};
+
 /// Stands in `out` before each call; no answer holds it.
 const UNTOUCHED: u64 = 0xABAD_1DEA_ABAD_1DEA;
 

@@ -15,6 +15,12 @@ const PLAN: Plan = Plan {
     lists: 300,
 };
 
+const SHORT: Plan = Plan {
+    seed: 5,
+    frames: 1,
+    lists: 0,
+};
+
 /// One test, since a planted fault holds for all threads.
 #[test]
 fn each_planted_fault_is_found() {
@@ -27,6 +33,10 @@ fn each_planted_fault_is_found() {
             if !matches!(item, Item::Large(_)) {
                 one(&mut tally, item, PLAN.seed);
             }
+        }
+        if fault == Fault::TextByte {
+            let report = SHORT.run().report();
+            assert!(report.contains("difference, edges 5 0: "), "{report}");
         }
         plant(Fault::None);
         assert!(tally.differences > 0, "{fault:?} isn't found");

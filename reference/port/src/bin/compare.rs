@@ -18,8 +18,8 @@ fn main() -> ExitCode {
         return ExitCode::FAILURE;
     };
     print!("{}", tally.report());
-    if cfg!(not(feature = "calls")) {
-        println!("the reader alone: the feature `calls` is off");
+    if let Some(notice) = port::NOTICE {
+        println!("{notice}");
     }
     println!("{:.1} seconds", start.elapsed().as_secs_f64());
     println!("{} differences", tally.differences);

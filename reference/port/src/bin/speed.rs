@@ -1,14 +1,18 @@
 //! Times the port beside the original on the same inputs, in one run:
-//! `speed [FILE]` prints a table and writes it to FILE as CSV.
+//! `speed FILE STACK` prints tables and writes them to these files as CSV.
 
-use std::{env, fs};
+use std::{env, fs, process::ExitCode};
 
 use judge::reader;
 use port::measure::{self, Line, both, inputs};
 #[cfg(feature = "calls")]
 use port::measure::{documents, steps};
 
-fn main() {
+fn main() -> ExitCode {
+    let paths: Vec<String> = env::args().skip(1).collect();
+    if let Some(notice) = port::NOTICE {
+        println!("{notice}\n");
+    }
     let mut lines = Vec::new();
     for input in inputs::growing().into_iter().chain(inputs::all()) {
         lines.push(check(&input));
@@ -20,11 +24,33 @@ fn main() {
         lines.extend(documents.into_iter().map(steps::rendering));
     }
     print!("{}", measure::table(&lines));
-    #[cfg(feature = "calls")]
-    println!("\n{}", steps::stack());
-    if let Some(path) = env::args().nth(1) {
-        fs::write(&path, measure::csv(&lines)).expect("the file is written");
+    write(paths.first(), &measure::csv(&lines));
+    stack(paths.get(1))
+}
+
+fn write(path: Option<&String>, text: &str) {
+    if let Some(path) = path {
+        fs::write(path, text).expect("the file is written");
     }
+}
+
+/// Fails if a call takes too much stack.
+#[cfg(feature = "calls")]
+fn stack(path: Option<&String>) -> ExitCode {
+    let lines = steps::stack();
+    print!("\n{}", steps::stack_table(&lines));
+    write(path, &steps::stack_csv(&lines));
+    if lines.iter().all(|line| line.bytes < steps::MOST_STACK) {
+        ExitCode::SUCCESS
+    } else {
+        println!("\nmore than {} bytes of stack", steps::MOST_STACK);
+        ExitCode::FAILURE
+    }
+}
+
+#[cfg(not(feature = "calls"))]
+fn stack(_: Option<&String>) -> ExitCode {
+    ExitCode::SUCCESS
 }
 
 /// The reader beside the judge's; the original has none.

@@ -2,8 +2,8 @@
 
 use std::collections::BTreeMap;
 
-/// How many differences are kept to be shown.
-const SHOWN: usize = 10;
+/// How many differences of a kind are kept to be shown.
+const SHOWN: usize = 3;
 
 /// What was counted. Tallies of several threads are joined.
 #[derive(Debug, Default)]
@@ -11,8 +11,8 @@ pub struct Tally {
     /// How often a refusal number came under a heading, 0 for accepted.
     counts: BTreeMap<(String, u8), u64>,
     pub differences: u64,
-    /// The first ones by item; what differs, and where.
-    first: BTreeMap<(usize, u64), String>,
+    /// The first ones of each kind of item, by the item's place in the plan.
+    first: BTreeMap<String, BTreeMap<(usize, u64), String>>,
     /// The item under way: its place in the plan, and how it is repeated.
     item: (usize, String),
 }
@@ -31,10 +31,12 @@ impl Tally {
     pub fn differ(&mut self, what: String) {
         self.differences += 1;
         let (place, name) = &self.item;
+        let kind = name.split(' ').next().unwrap_or_default();
+        let first = self.first.entry(kind.into()).or_default();
         let key = (*place, self.differences);
-        self.first.insert(key, format!("{name}: {what}"));
-        if self.first.len() > SHOWN {
-            self.first.pop_last();
+        first.insert(key, format!("{name}: {what}"));
+        if first.len() > SHOWN {
+            first.pop_last();
         }
     }
 
@@ -78,9 +80,12 @@ impl Tally {
             *self.counts.entry(key).or_default() += count;
         }
         self.differences += other.differences;
-        self.first.extend(other.first);
-        while self.first.len() > SHOWN {
-            self.first.pop_last();
+        for (kind, others) in other.first {
+            let first = self.first.entry(kind).or_default();
+            first.extend(others);
+            while first.len() > SHOWN {
+                first.pop_last();
+            }
         }
     }
 
@@ -98,7 +103,7 @@ impl Tally {
         for (heading, parts) in lines {
             out += &format!("{heading}: {}\n", parts.join(", "));
         }
-        for what in self.first.values() {
+        for what in self.first.values().flat_map(BTreeMap::values) {
             out += &format!("difference, {what}\n");
         }
         out

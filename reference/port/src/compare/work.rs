@@ -39,7 +39,8 @@ pub enum Item {
 }
 
 /// All items of a run: so many frames of each class but `sizes`, all sizes
-/// once, and so many lists.
+/// and rendering answers once, and so many lists. With lists come the largest
+/// stores.
 #[derive(Clone, Copy, Debug)]
 pub struct Plan {
     pub seed: u64,
@@ -59,7 +60,9 @@ impl Plan {
         // Those that take longest come first.
         let mut items = Vec::new();
         #[cfg(feature = "calls")]
-        items.extend((0..super::large::COUNT).map(Item::Large));
+        if self.lists > 0 {
+            items.extend((0..super::large::COUNT).map(Item::Large));
+        }
         let sizes = generate::size_cases().len();
         items.extend((0..sizes).map(Item::Size));
         #[cfg(feature = "calls")]

@@ -5,6 +5,9 @@ use std::{fmt::Write, hint::black_box};
 use judge::{
     calls::{Given, LayoutState, RenderState},
     driver::{self, Held, Run},
+    frame::Frame,
+    generate::{self, SizeCase},
+    program::{self, Widths},
     reader,
     rows::{self, Row},
     tree,
@@ -196,25 +199,92 @@ fn of_document<'e>(
     }
 }
 
-/// The stack that rendering calls take, which must be under 256 KB.
-pub fn stack() -> String {
-    let mut out = String::new();
-    let empty = Empty::new();
-    let texts = documents::texts();
+/// The stack that a call took.
+pub struct StackLine {
+    pub step: &'static str,
+    pub input: String,
+    pub rows: usize,
+    pub bytes: usize,
+}
+
+/// What any call may take.
+pub const MOST_STACK: usize = 256 << 10;
+
+/// The stack that rendering takes on large and on deep documents, and the
+/// whole run on trees as deep as trees get.
+pub fn stack() -> Vec<StackLine> {
     let largest = documents::growing().into_iter().rev().take(3);
-    for document in largest.chain([documents::deepest()]) {
-        let bytes = Held::of_rows(&texts, &document.rows).render().len();
-        let mut ported = of_document(&empty, &document, bytes);
-        let used = stack::used(|| ported.render());
-        let count = document.rows.len();
-        writeln!(
-            out,
-            "Stack of rendering, {}, {count} rows: {used} bytes.",
-            document.name
-        )
-        .unwrap();
-        let judged = cfg!(feature = "stand-in");
-        assert!(judged || used < 256 << 10, "more than 256 KB");
+    let documents = largest.chain([documents::deepest()]);
+    let sizes = generate::size_cases().iter();
+    let deep =
+        sizes.filter(|case| case.refusal == 0 && case.name.contains("deep"));
+    documents
+        .map(stack_of_rendering)
+        .chain(deep.map(stack_of_run))
+        .collect()
+}
+
+fn stack_of_rendering(document: Document) -> StackLine {
+    let texts = documents::texts();
+    let empty = Empty::new();
+    let bytes = Held::of_rows(&texts, &document.rows).render().len();
+    let mut ported = of_document(&empty, &document, bytes);
+    StackLine {
+        step: "rendering",
+        bytes: stack::used(|| ported.render()),
+        input: document.name,
+        rows: document.rows.len(),
+    }
+}
+
+fn stack_of_run(case: &SizeCase) -> StackLine {
+    let file = File {
+        source: case.source.clone(),
+        image: case.image.clone(),
+    };
+    let frame = Frame {
+        source: &file.source,
+        image: &file.image,
+    };
+    let run = program::format(frame, Widths::Supplied).expect("accepted");
+    let mut ported = of_file(&file, &run);
+    StackLine {
+        step: "whole",
+        input: case.name.replace(',', ""),
+        rows: run.rows.len(),
+        bytes: stack::used(|| {
+            black_box(ported.format());
+        }),
+    }
+}
+
+/// The lines as Markdown.
+pub fn stack_table(lines: &[StackLine]) -> String {
+    let mut out = String::from("| Stack of | Input | Rows | Bytes |\n");
+    out += "|---|---|---:|---:|\n";
+    for StackLine {
+        step,
+        input,
+        rows,
+        bytes,
+    } in lines
+    {
+        writeln!(out, "| {step} | {input} | {rows} | {bytes} |").unwrap();
+    }
+    out
+}
+
+/// The lines as comma-separated values.
+pub fn stack_csv(lines: &[StackLine]) -> String {
+    let mut out = String::from("step,input,rows,stack_bytes\n");
+    for StackLine {
+        step,
+        input,
+        rows,
+        bytes,
+    } in lines
+    {
+        writeln!(out, "{step},{input},{rows},{bytes}").unwrap();
     }
     out
 }
