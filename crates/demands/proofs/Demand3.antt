@@ -3,7 +3,7 @@
 use mathlib.Core.Path.{_≡_, refl, sym, ap, ap₂, subst, _∙_}
 use mathlib.Core.Bool.{Bool}
 use mathlib.Core.Option.{some}
-use mathlib.Core.List.{List, [], _∷_, map}
+use mathlib.Core.List.{List, [], _∷_, map, append-nil}
 use Prim.Native.Nat.{ℕ}
 use lib.ListN.{length}
 use Rattle.cut.specs.Run.{Carried, Answer, layoutCall, renderCall, start, call, run, answer, answers}
@@ -16,25 +16,30 @@ use Rattle.format.proofs.Demands.{demand-3}
 use Rattle.laying.specs.declared.Laying.{Laying}
 use Rattle.laying.specs.declared.Laying.the-variants as laying
 use Rattle.laying.specs.Calls as layout
-use Rattle.laying.specs.Whole as layout
+use Rattle.laying.specs.Whole as layoutPromise
 use Rattle.rendering.specs.declared.Rendering.{Rendering}
 use Rattle.rendering.specs.declared.Rendering.the-variants as rendering
 use Rattle.rendering.specs.Calls as render
-use Rattle.rendering.specs.Whole as render
+use Rattle.rendering.specs.Whole as renderPromise
 use Rattle.demands.specs.Demand3.{Caller, fresh, Made, laid, rendered, Promised, after, afterAll, AllPromised, callOf, answerOf, held, CutRule, Demand3}
 
 module _ (s b : List ℕ) where
   -- one call
-  layout-held : (w : Caller) (stop : ℕ) (close : Bool) (r : Laying) (store2 : List ℕ) → layout.Called s b (w .layout-state) stop close (w .store) r store2
+  layout-held : (w : Caller) (stop : ℕ) (close : Bool) (r : Laying) (store2 : List ℕ) → layoutPromise.Called s b (w .layout-state) stop close (w .store) r store2
       → held s b (after w (laid stop close r store2)) ≡ entryCall (rulesOf s b) (held s b w) [] (layoutCall (layout.args stop close))
   layout-held w stop close (laying.Laid t n) store2 p = rw (sym (p .answer), p .store-left)
   layout-held w stop close (laying.Refused n q) store2 p = rw (sym (p .answer), p .store-left)
 
+  abbrev withText : Carried (rulesOf s b) → List ℕ → Carried (rulesOf s b)
+  withText v t = record { store = v .store; marks = v .marks; layout-state = v .layout-state; render-state = v .render-state; text = t; left = v .left }
+
   render-held : (w : Caller) (stop : ℕ) (out : List ℕ) (r : Rendering) (store2 marks2 out2 : List ℕ)
-      → render.Called s b (w .render-state) stop (w .store) (w .marks) out r store2 marks2 out2
+      → renderPromise.Called s b (w .render-state) stop (w .store) (w .marks) out r store2 marks2 out2
       → held s b (after w (rendered stop out r store2 marks2 out2)) ≡ entryCall (rulesOf s b) (held s b w) out (renderCall (render.args stop (length out)))
   render-held w stop out (rendering.Written t n) store2 marks2 out2 p = rw (sym (p .answer), p .store-left, p .marks-left, p .output-left)
-  render-held w stop out (rendering.Refused n q) store2 marks2 out2 p = rw (sym (p .answer), p .store-left, p .marks-left, p .output-left)
+  render-held w stop out (rendering.Refused n q) store2 marks2 out2 p =
+      ap (withText (held s b (after w (rendered stop out (rendering.Refused n q) store2 marks2 out2)))) (sym (append-nil (w .text)))
+      ∙ rw (sym (p .answer), p .store-left, p .marks-left, p .output-left)
 
   one-held : (w : Caller) (m : Made) → Promised s b w m → held s b (after w m) ≡ call (rulesOf s b) (held s b w) (callOf s b m)
   one-held w (laid stop close r store2) p = layout-held w stop close r store2 p ∙ entries-are-calls (rulesOf s b) (held s b w) [] (layoutCall (layout.args stop close))

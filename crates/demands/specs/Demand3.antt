@@ -16,12 +16,12 @@ use Rattle.laying.specs.declared.LayoutState.{LayoutState}
 use Rattle.laying.specs.declared.Laying.{Laying}
 use Rattle.laying.specs.declared.Laying.the-variants as laying
 use Rattle.laying.specs.Calls as layout
-use Rattle.laying.specs.Whole as layout
+use Rattle.laying.specs.Whole as layoutPromise
 use Rattle.rendering.specs.declared.RenderState.{RenderState}
 use Rattle.rendering.specs.declared.Rendering.{Rendering}
 use Rattle.rendering.specs.declared.Rendering.the-variants as rendering
 use Rattle.rendering.specs.Calls as render
-use Rattle.rendering.specs.Whole as render
+use Rattle.rendering.specs.Whole as renderPromise
 
 -- ---- a caller
 -- what it holds: the buffers that it lends again, both states, the text joined in call order, and the comments left that it was told last
@@ -51,20 +51,30 @@ pub data Made : Type 0 where
 
 -- the function's own promise, for what the caller held
 abbrev pub Promised : (s b : List ℕ) → Caller → Made → Type 0
-Promised s b w (laid stop close r store2) = layout.Called s b (w .layout-state) stop close (w .store) r store2
+Promised s b w (laid stop close r store2) = layoutPromise.Called s b (w .layout-state) stop close (w .store) r store2
 Promised s b w (rendered stop out r store2 marks2 out2) =
-    render.Called s b (w .render-state) stop (w .store) (w .marks) out r store2 marks2 out2
+    renderPromise.Called s b (w .render-state) stop (w .store) (w .marks) out r store2 marks2 out2
 
 -- what the caller keeps of an answer: a new state, the comments left, the bytes written
 abbrev pub keepLaying : Laying → Caller → Caller
 keepLaying (laying.Laid t n) w = record {
-  store = w .store; marks = w .marks; layout-state = t; render-state = w .render-state; text = w .text; left = some n;
+  store = w .store;
+  marks = w .marks;
+  layout-state = t;
+  render-state = w .render-state;
+  text = w .text;
+  left = some n;
 }
 keepLaying (laying.Refused n p) w = w
 
 abbrev pub keepRendering : Rendering → List ℕ → Caller → Caller
 keepRendering (rendering.Written t n) out w = record {
-  store = w .store; marks = w .marks; layout-state = w .layout-state; render-state = t; text = w .text ++ take (n .0) out; left = w .left;
+  store = w .store;
+  marks = w .marks;
+  layout-state = w .layout-state;
+  render-state = t;
+  text = w .text ++ take (n .0) out;
+  left = w .left;
 }
 keepRendering (rendering.Refused n p) out w = w
 
