@@ -4,16 +4,16 @@ use mathlib.Core.Path.{_≡_, refl, ap, sym, _∙_, subst}
 use Prim.Native.Nat.{ℕ, zero, suc, _+_, _-_, _≤_, _<_, max}
 use native.Mathlib.Omega.{arith}
 use mathlib.Core.Bool.{Bool, true, false, cond, _||_}
-use mathlib.Core.List.{List, [], _∷_}
-use lib.ListN.{length, getD, set}
-use lib.Seq.{getD-set-other}
+use mathlib.Core.List.{List, [], _∷_, _++_, append-assoc}
+use lib.ListN.{length, getD, set, take, drop, replicate, length-set, take-append-drop}
+use lib.Seq.{getD-set-other, take-suc-set, drop-set-lt}
 use lib.Dec.{ltb, eqb}
 use borrow.Author.Tests.{eqb-true, eqb-false, ltb-true, ltb-false, lt-ltb, le-ltb}
 use Rattle.rows.specs.View.{cell, viewOf}
 use Rattle.rows.specs.Nesting.{Nests, Nested}
 use Rattle.marks.proofs.Restored.{has, set-zero, clear-other}
 use Rattle.marks.proofs.Scratch.{scratched}
-use Rattle.marks.proofs.Aside.{aside-rows}
+use Rattle.marks.proofs.Aside.{aside-rows, aside-marks}
 use Rattle.marks.proofs.Undone.{owns, owns-same, not-str}
 use Rattle.marks.specs.Marks.{rowMarks, marksNeeded, clear, cleared, saved, clearFrom, numbersOf, packed, Held, rowAside, putAside}
 
@@ -32,6 +32,11 @@ pub aside-size : (n u : ℕ) (h : Held) (i : ℕ) → length (putAside n u h i .
 unfolding putAside
 aside-size zero u h i = refl
 aside-size (suc n) u h i = aside-size n u (rowAside u (numbersOf (h .rows) i) h i) (suc i) ∙ aside-rows u (numbersOf (h .rows) i) h i
+
+pub aside-count : (n u : ℕ) (h : Held) (i : ℕ) → length (putAside n u h i .marks) ≡ length (h .marks)
+unfolding putAside
+aside-count zero u h i = refl
+aside-count (suc n) u h i = aside-count n u (rowAside u (numbersOf (h .rows) i) h i) (suc i) ∙ aside-marks u (numbersOf (h .rows) i) h i
 
 pub aside-nested : (n u : ℕ) (h : Held) (i from to : ℕ) → Nested (h .rows) from to → Nested (putAside n u h i .rows) from to
 aside-nested n u h i from to c =
@@ -150,6 +155,25 @@ pub clear-in : (n i x : ℕ) (m : List ℕ) → i ≤ x → x < i + n → getD (
 unfolding clearFrom
 clear-in zero i x m h k = absurd (omega arith)
 clear-in (suc n) i x m h k = from-step n i x m (eqb x i) refl h k (λ a b. clear-in n (suc i) x (set m i 0) a b)
+
+pub clear-count : (n i : ℕ) (m : List ℕ) → length (clearFrom n i m) ≡ length m
+unfolding clearFrom
+clear-count zero i m = refl
+clear-count (suc n) i m = clear-count n (suc i) (set m i 0) ∙ length-set m i 0
+
+pub clear-parts : (n i : ℕ) (m : List ℕ) → i + n ≤ length m → clearFrom n i m ≡ take i m ++ (replicate n 0 ++ drop (i + n) m)
+unfolding clearFrom
+clear-parts zero i m h = sym (rw (none i) (take-append-drop i m))
+  where
+    none : (i : ℕ) → i + 0 ≡ i
+    none i = omega arith
+clear-parts (suc n) i m h =
+    clear-parts n (suc i) (set m i 0) (let e = length-set m i 0 in omega arith)
+    ∙ rw (take-suc-set m i 0 (omega arith), drop-set-lt (suc i + n) m i 0 (omega arith), along i n)
+    (append-assoc (take i m) (0 ∷ []) (replicate n 0 ++ drop (i + suc n) m))
+  where
+    along : (i n : ℕ) → suc i + n ≡ i + suc n
+    along i n = omega arith
 
 -- A row's number is below the marks needed.
 row-needed : (x : ℕ) (s : List ℕ) (i : ℕ) → has x (numbersOf s i) ≡ true → x < rowMarks s i

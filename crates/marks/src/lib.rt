@@ -5,7 +5,7 @@ ghost use lib.ListN.{length, getD, set};
 ghost use Rattle.marks.specs.Marks.{rowMarks, marksNeeded, clear, clearFrom, numbersOf, held, rowAside, putAside, rowBack, putBack};
 use rows::store::place;
 
-fn larger(a: usize, b: usize) -> usize
+pub fn larger(a: usize, b: usize) -> usize
     ensures { λ r. ⌜ r ≡ max a b ⌝ }
 {
     if a < b {

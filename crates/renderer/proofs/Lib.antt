@@ -7,4 +7,5 @@ pub mod Margin
 pub mod Meaning
 pub mod Names
 pub mod Opened
+pub mod OwnMarks
 pub mod Safe

@@ -20,17 +20,11 @@ use Rattle.cut.specs.PartLaws.{withPast}
 use Rattle.marks.specs.Marks.{marksNeeded}
 use Rattle.format.specs.Parts.{rendererOf, drawnBy}
 use Rattle.rendering.specs.Calls.{toState, beforeRun}
-use Rattle.rendering.specs.Whole.{Called}
+use Rattle.rendering.specs.Whole.{Called, Takes}
 use Rattle.rendering.specs.declared.RenderState.{RenderState}
 use Rattle.rendering.specs.declared.Rendering.the-variants as rendering
 use Rattle.rendering.proofs.Whole.{bytes, ends-written}
 use Rattle.rendering.proofs.Ran.{inUse, gives, ran, marks-onto, started}
-
--- p has the state's numbers
-pub record Takes (state : RenderState) (p : Pen) : Type 0 where
-  pub indent : p .indent ≡ state .indent
-  pub next : p .«next_indent» ≡ state .«next_indent»
-  pub column : p .column .0 ≡ state .column .0
 
 -- t has the pen's numbers, the marks then in use, and the stop as its next row
 pub record Leaves (q : Pen) (used stop : ℕ) (t : RenderState) : Type 0 where
@@ -55,16 +49,11 @@ module _ (source image : List ℕ) (state : RenderState) (stop : ℕ) (store mar
   rendered r = renders (pageOf 80 source image) (nodesAt (viewOf store) (state .row) stop) true r
 
   module _ (p : Pen) (k : Takes state p) (past : List ℕ) where
-    same : drawnBy (rendered (stateOf p (taken ++ past) [])) ≡ withPast given past
+    pub same : drawnBy (rendered (stateOf p (taken ++ past) [])) ≡ withPast given past
     same =
         ap (λ (r : Renderer). drawnBy (rendered r))
         (started source image state stop store marks ahead p (taken ++ past) (k .indent) (k .next) (k .column))
         ∙ ran source image state stop store marks ahead past
-
-    -- whatever it may write, the run counts the bytes needed
-    pub counts : (limit : ℕ) (o marks2 out2 : List ℕ) (q : Pen) → Rendered limit (rendered (stateOf p (taken ++ past) [])) o marks2 out2 q
-        → q .at .0 ≡ bytes source image state stop store marks out
-    counts limit o marks2 out2 q r = r .bytes ∙ ap (λ (d : cut.Drawn). length (d .text)) same
 
   -- the run with room enough, over the buffer in which the new marks are cleared
   module _ (p : Pen) (k : Takes state p) (marks2 out2 : List ℕ) (q : Pen)
@@ -80,7 +69,7 @@ module _ (source image : List ℕ) (state : RenderState) (stop : ℕ) (store mar
 
     pub finished : (t : RenderState) (n : Bytes) → beforeRun source image stop (toState state) store marks ≡ none
         → n .0 ≡ bytes source image state stop store marks out → n .0 ≤ length out → Leaves q (max (state .«in_use») needed) stop t
-        → Called source image state stop store marks out (rendering.Written t n) marks2 out2
+        → Called source image state stop store marks out (rendering.Written t n) store marks2 out2
     finished t n e f h l =
         ends-written source image state stop store marks out t n marks2 out2 e f h left-state
         (r .marks ∙ ap (λ (d : cut.Drawn). d .marks) end ∙ marks-onto source image state stop store marks ahead)

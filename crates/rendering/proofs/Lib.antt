@@ -5,3 +5,6 @@ pub mod Accepted
 pub mod Starts
 pub mod Ran
 pub mod Finish
+pub mod Owned
+pub mod Dry
+pub mod Steps

@@ -16,6 +16,7 @@ use Rattle.renderer.proofs.Checked.{accepted-nests}
 use Rattle.rowcheck.proofs.Pending.{stop-fits}
 use Rattle.render.specs.Run.{Starting}
 use Rattle.render.specs.declared.pen.Pen.{Pen}
+use Rattle.rendering.specs.Whole.{Takes}
 use Rattle.rendering.specs.declared.RenderState.{RenderState}
 use Rattle.rendering.proofs.Accepted.{Accepted}
 
@@ -40,11 +41,14 @@ module _ (source image : List ℕ) (state : RenderState) (stop : ℕ) (store mar
             (a .ahead);
       }
 
-  -- with a pen that has the state's numbers and wrote nothing yet
-  pub starts : (p : Pen) (limit : ℕ) (out : List ℕ) → p .indent ≡ state .indent → p .«next_indent» ≡ state .«next_indent»
-      → p .column .0 ≡ state .column .0 → p .at .0 ≡ 0 → limit ≤ length out → Starting store limit (state .row) stop out p
-  starts p limit out e f g h l =
+  -- with a pen that has the state's numbers and wrote nothing yet, over rows that nest as the store's do
+  pub starts : (rows : List ℕ) → Nested rows (state .row) stop → (p : Pen) (limit : ℕ) (out : List ℕ) → Takes state p → limit ≤ length out
+      → Starting rows limit (state .row) stop out p
+  starts rows nests p limit out k l =
+      let e = k .indent in
+      let f = k .next in
+      let g = k .column in
       let i = a .indent in
       let n = a .next in
       let c = a .column in
-      record { nested = nested; fits = l; margin = omega arith; column = omega arith; at = h }
+      record { nested = nests; fits = l; margin = omega arith; column = omega arith; at = k .at }

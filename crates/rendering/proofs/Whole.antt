@@ -51,17 +51,18 @@ module _ (s b : List ℕ) (state : RenderState) (stop : ℕ) (store marks out : 
   abbrev gives : Rendered cut.RenderState
   gives = renderGives (rulesOf s b) (args stop (length out)) (toState state) store marks
 
-  refused-by : (r : Refusal) (x : Rendering) → table ≡ some r → answerOf s b x ≡ refused r → Called s b state stop store marks out x marks out
+  refused-by : (r : Refusal) (x : Rendering) → table ≡ some r → answerOf s b x ≡ refused r → Called s b state stop store marks out x store marks out
   refused-by r x e f =
       record {
         answer = f ∙ ap (λ (t : Option Refusal). answerBy (rulesOf s b) t (written (gives .state) (length (gives .text)))) (sym e);
+        store-left = refl;
         marks-left = ap (λ (t : Option Refusal). unless t marks (onto (gives .marks) marks)) (sym e);
         output-left = ap (λ (t : Option Refusal). unless t out (onto (gives .text) out)) (sym e);
       }
 
   -- refused before the run
   pub ends-early : (n p : ℕ) → beforeRun s b stop (toState state) store marks ≡ some (record { number = n; place = p })
-      → Called s b state stop store marks out (rendering.Refused n p) marks out
+      → Called s b state stop store marks out (rendering.Refused n p) store marks out
   ends-early n p e = refused-by _ _ (split ∙ ap (λ (t : Option Refusal). orElse t (first (when (ltb (length out) bytes) 10 bytes ∷ []))) e) refl
 
   last : beforeRun s b stop (toState state) store marks ≡ none → table ≡ first (when (ltb (length out) bytes) 10 bytes ∷ [])
@@ -69,7 +70,7 @@ module _ (s b : List ℕ) (state : RenderState) (stop : ℕ) (store marks out : 
 
   -- a text longer than the output
   pub ends-full : (n : ℕ) → beforeRun s b stop (toState state) store marks ≡ none → n ≡ bytes → length out < n
-      → Called s b state stop store marks out (rendering.Refused 10 n) marks out
+      → Called s b state stop store marks out (rendering.Refused 10 n) store marks out
   ends-full n e f h =
       refused-by _ _
       (last e ∙ ap (λ (m : ℕ). first (when (ltb (length out) m) 10 m ∷ [])) (sym f) ∙ ap (λ t. first (when t 10 n ∷ [])) (lt-ltb (length out) n h))
@@ -78,10 +79,11 @@ module _ (s b : List ℕ) (state : RenderState) (stop : ℕ) (store marks out : 
   -- a text that has room
   pub ends-written : (t : RenderState) (n : Bytes) (marks2 out2 : List ℕ) → beforeRun s b stop (toState state) store marks ≡ none
       → n .0 ≡ bytes → n .0 ≤ length out → toState t ≡ gives .state → marks2 ≡ onto (gives .marks) marks → out2 ≡ onto (gives .text) out
-      → Called s b state stop store marks out (rendering.Written t n) marks2 out2
+      → Called s b state stop store marks out (rendering.Written t n) store marks2 out2
   ends-written t n marks2 out2 e f h g m o =
       record {
         answer = ap₂ written g f ∙ ap (λ (z : Option Refusal). answerBy (rulesOf s b) z (written (gives .state) (length (gives .text)))) (sym none-left);
+        store-left = refl;
         marks-left = m ∙ ap (λ (z : Option Refusal). unless z marks (onto (gives .marks) marks)) (sym none-left);
         output-left = o ∙ ap (λ (z : Option Refusal). unless z out (onto (gives .text) out)) (sym none-left);
       }

@@ -1,4 +1,4 @@
-// Rendering calls: state, answer, and the refusals before the rows are rendered.
+// Rendering calls: state, answer, refusals, and the call itself.
 ghost use mathlib.Core.Path.{_≡_};
 ghost use mathlib.Core.Bool.{not};
 ghost use mathlib.Core.List.{List, [], _∷_};
@@ -8,9 +8,16 @@ ghost use lib.Dec.{ltb};
 ghost use Rattle.cut.specs.Parts.{Parts, any, first, oddMark, renderTests, renderTable};
 ghost use Rattle.format.specs.Parts.{parts};
 ghost use Rattle.rendering.specs.Calls.{toState, args, refusalOf, beforeRun};
+ghost use Rattle.rendering.specs.Whole.{Called, Counted, Passing, Fitting, Takes};
 use image::header_fits;
 use image::source_fits;
+use marks::clear_marks;
+use marks::larger;
 use marks::marks_needed;
+use marks::put_aside;
+use marks::put_back;
+use render::machine::run_rows;
+use render::pen::Pen;
 use rowcheck::Found;
 use rowcheck::check_rows;
 use rows::store::Bytes;
@@ -132,5 +139,122 @@ pub fn refusal(
     match check_rows(store, source, image, state.row, stop) {
         Found::Wrong(row) => Verdict::Refused(11, row),
         Found::Right => state_refusal(state, stop, store, marks),
+    }
+}
+
+// A pen with the state's numbers that wrote nothing yet.
+fn start_pen(state: RenderState) -> Pen
+    ensures { λ r. ⌜ Takes state r ⌝ }
+{
+    let column = state.column;
+    Pen {
+        indent: state.indent,
+        next_indent: state.next_indent,
+        column: column,
+        at: Bytes(0),
+    }
+}
+
+// How many bytes the rows give: a dry run. The marks of the rows' numbers are put aside in the rows, in a place that these don't use, and
+// put back.
+fn bytes_needed(
+    source: &[u8],
+    image: &[u8],
+    store: &mut [u32],
+    marks: &mut [u8],
+    out: &mut [u8],
+    state: RenderState,
+    stop: usize,
+) -> Bytes
+    requires { ⌜ Passing (now source) (now image) state stop (now store) (now marks) ⌝ }
+    ensures { λ r. ⌜ Counted (now (source .entry)) (now (image .entry)) state stop (now (store .entry)) (now (marks .entry)) (now (out .entry)) r (now (store .exit)) (now (marks .exit)) (now (out .exit)) ⌝ }
+{
+    let from = state.row;
+    let start = start_pen(state);
+    put_aside(store, marks, state.in_use, from, stop);
+    let end = run_rows(start, store, source, image, marks, out, 0, 80, from, stop);
+    put_back(store, marks, from, stop);
+    let bytes = end.at;
+    bytes
+}
+
+// Renders rows whose text has room.
+fn write_rows(
+    source: &[u8],
+    image: &[u8],
+    store: &[u32],
+    marks: &mut [u8],
+    out: &mut [u8],
+    state: RenderState,
+    stop: usize,
+) -> Rendering
+    requires { ⌜ Fitting (now source) (now image) state stop (now store) (now marks) (now out) ⌝ }
+    ensures { λ r. ⌜ Called (now (source .entry)) (now (image .entry)) state stop (now (store .entry)) (now (marks .entry)) (now (out .entry)) r (now (store .entry)) (now (marks .exit)) (now (out .exit)) ⌝ }
+{
+    let from = state.row;
+    let room = out.len();
+    let start = start_pen(state);
+    let needed = marks_needed(store, from, stop);
+    clear_marks(marks, state.in_use, needed);
+    let end = run_rows(
+        start,
+        store,
+        source,
+        image,
+        marks,
+        out,
+        room,
+        80,
+        from,
+        stop,
+    );
+    let column = end.column;
+    let bytes = end.at;
+    let left = RenderState {
+        indent: end.indent,
+        next_indent: end.next_indent,
+        column: column,
+        in_use: larger(state.in_use, needed),
+        row: stop,
+    };
+    Rendering::Written(left, bytes)
+}
+
+// Renders what nothing refuses before the run, or refuses it with 10.
+fn render_accepted(
+    source: &[u8],
+    image: &[u8],
+    store: &mut [u32],
+    marks: &mut [u8],
+    out: &mut [u8],
+    state: RenderState,
+    stop: usize,
+) -> Rendering
+    requires { ⌜ Passing (now source) (now image) state stop (now store) (now marks) ⌝ }
+    ensures { λ r. ⌜ Called (now (source .entry)) (now (image .entry)) state stop (now (store .entry)) (now (marks .entry)) (now (out .entry)) r (now (store .exit)) (now (marks .exit)) (now (out .exit)) ⌝ }
+{
+    let bytes = bytes_needed(source, image, store, marks, out, state, stop);
+    let needed = bytes.0;
+    if out.len() < needed {
+        return Rendering::Refused(10, needed);
+    }
+    write_rows(source, image, store, marks, out, state, stop)
+}
+
+// A rendering call: renders the rows from the state's next row up to `stop`.
+pub fn render_call(
+    source: &[u8],
+    image: &[u8],
+    store: &mut [u32],
+    marks: &mut [u8],
+    out: &mut [u8],
+    state: RenderState,
+    stop: usize,
+) -> Rendering
+    ensures { λ r. ⌜ Called (now (source .entry)) (now (image .entry)) state stop (now (store .entry)) (now (marks .entry)) (now (out .entry)) r (now (store .exit)) (now (marks .exit)) (now (out .exit)) ⌝ }
+{
+    match refusal(source, image, store, marks, state, stop) {
+        Verdict::Refused(number, place) => Rendering::Refused(number, place),
+        Verdict::Accepted => render_accepted(source, image, store, marks, out, state, stop),
     }
 }

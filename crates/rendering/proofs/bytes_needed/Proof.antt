@@ -1,0 +1,44 @@
+-- The laws of the dry run, step by step.
+-- Assumes nothing.
+use native.Mathlib.Omega.{arith}
+use Rattle.rendering.proofs.Steps.{rows-within, dry-starts, back-within, dry-ends}
+use borrow.Author.Needs.{needs}
+use Rattle.rendering.proofs.bytes_needed.Statement.{statement}
+use Rattle.rendering.proofs.bytes_needed.Tie as tie
+
+start-pen-requires : tie.Need-start-pen-requires
+start-pen-requires c κs = search needs
+
+put-aside-requires : tie.Need-put-aside-requires
+put-aside-requires c κs = rows-within _ _ _ _ _ _ (c .before .before .before .before .before .before .before .before .pre)
+
+run-rows-requires : tie.Need-run-rows-requires
+run-rows-requires c κs = dry-starts _ _ _ _ _ _ (c .before .before .before .before .before .before .before .before .before .before .before .before .before .before .before .before .pre) _ _ (c .before .before .before .before .before .before .before .put-aside .ensures) _ _ (c .before .before .before .before .before .before .before .before .before .before .start-pen .ensures)
+
+put-back-requires : tie.Need-put-back-requires
+put-back-requires c κs = back-within _ _ _ _ _ _ (c .before .before .before .before .before .before .before .before .before .before .before .before .before .before .before .before .before .before .before .before .before .before .before .pre) _ _ (c .before .before .before .before .before .before .before .before .before .before .before .before .before .before .put-aside .ensures)
+
+same-length : tie.Need-same-length
+same-length c = search needs
+
+same-length-2 : tie.Need-same-length-2
+same-length-2 c = search needs
+
+same-length-3 : tie.Need-same-length-3
+same-length-3 c = search needs
+
+returns : tie.Need-returns
+returns c = dry-ends _ _ _ _ _ _ (c .before .before .before .before .before .before .before .before .before .before .before .before .before .before .before .before .before .before .before .before .before .before .before .before .before .before .before .before .before .pre) _ _ (c .before .before .before .before .before .before .before .before .before .before .before .before .before .before .before .before .before .before .before .before .put-aside .ensures) _ _ (c .before .before .before .before .before .before .before .before .before .before .before .before .before .before .before .before .before .before .before .before .before .before .before .start-pen .ensures) (λ k. omega (arith, c .before .before .before .before .before .before .before .before .before .before .before .before .before .before .before .before .before .before .before .before .before .before .before .before .before .slice-known2 .given k)) _ _ _ _ _ (c .before .before .before .before .before .before .before .before .before .before .before .before .run-rows .ensures) (c .before .before .before .before .before .put-back .ensures)
+
+pub bytes-needed-spec : {M : Type 1} → statement M
+bytes-needed-spec =
+    tie.close
+    (tie.spec
+    start-pen-requires
+    put-aside-requires
+    run-rows-requires
+    put-back-requires
+    same-length
+    same-length-2
+    same-length-3
+    returns)
