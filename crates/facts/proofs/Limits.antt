@@ -14,6 +14,7 @@ use Rattle.image.proofs.Accepted.{Root}
 use Rattle.tree.specs.Syntax.{Declaration, SyntaxTree}
 use Rattle.tree.specs.At.{past, DeclarationsAt}
 use Rattle.tree.specs.Records.{syntaxTree}
+use Rattle.tree.proofs.Walk.{declarations-order}
 use Rattle.tree.proofs.Whole.{root-at}
 use Rattle.rows.specs.Node.{Nodes}
 use Rattle.rows.specs.Rows.{sizes, rows}
@@ -66,11 +67,6 @@ stands ordered s b n at r =
     }
 
 -- ---- parts of the declarations
-declarations-order : (s b : List ℕ) (xs : List Declaration) (at end : ℕ) → DeclarationsAt s b xs at end → at ≤ end
-unfolding DeclarationsAt
-declarations-order s b [] at end a = omega (arith, a .same)
-declarations-order s b (x ∷ xs) at end a = omega (arith, a .1 .least, declarations-order s b xs (past s b at) end (a .2))
-
 -- the declarations xs and then ys, from `at` to `end`
 record Parted (s b : List ℕ) (xs ys : List Declaration) (at end : ℕ) : Type 0 where
   mid : ℕ

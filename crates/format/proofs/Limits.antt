@@ -12,6 +12,7 @@ use lib.ListN.{length, getD, take, drop, take-append-drop}
 use borrow.Author.Tests.{le-leb}
 use Rattle.text.specs.Utf8.{wellFormed}
 use Rattle.image.specs.Read.{Read, got, bad, Image, sourceFits, readImage, readAll, answerOf}
+use Rattle.image.specs.declared.Answer.the-variants.{Accepted}
 use Rattle.image.proofs.Accepted.{accepted}
 use Rattle.tree.specs.Syntax.{SyntaxTree}
 use Rattle.tree.specs.Records.{syntaxTree}
@@ -38,6 +39,14 @@ module _ (s b : List ℕ) where
   unfolding readAll sourceFits
   reads-image h w = rw (le-leb (length s) 65536 h, w)
 
+  -- an accepted source and image have the tree at the answered offset
+  pub standing : (n at : ℕ) → answerOf (readAll s b) ≡ Accepted n at → Stands g (treeOf b (readAll s b)) at
+  standing n at h =
+      let a = accepted s b n at h in
+      let c = a .root in
+      let same : readAll s b ≡ got (record { comments = n; tree = c .tree; at = at }) (length b) = reads-image (a .short) (a .well) ∙ c .whole in
+      subst (λ (t : SyntaxTree). Stands g t at) (sym (ap (treeOf b) same)) (stands false s b n at c)
+
   -- where the tree stands
   record Stood : Type 0 where
     at : ℕ
@@ -48,18 +57,7 @@ module _ (s b : List ℕ) where
     where
       go : (r : Read Image) → readAll s b ≡ r → refusalOf r ≡ none → Stood
       go (bad n p) e h = let z : _≡_ {A = ℕ} 0 1 = cc in absurd (omega arith)
-      go (got i end) e h =
-          let a = accepted s b (i .comments) (i .at) (ap answerOf e) in
-          let c = a .root in
-          let same : got i end ≡ got (record { comments = i .comments; tree = c .tree; at = i .at }) (length b) =
-          sym e ∙ reads-image (a .short) (a .well) ∙ c .whole
-          in
-          let tree : i ≡ record { comments = i .comments; tree = c .tree; at = i .at } = cc in
-          let is : treeOf b (readAll s b) ≡ syntaxTree b (c .tree) = ap (treeOf b) e ∙ ap (λ (j : Image). syntaxTree b (j .tree)) tree in
-          record {
-            at = i .at;
-            stood = subst (λ (t : SyntaxTree). Stands g t (i .at)) (sym is) (stands false s b (i .comments) (i .at) c);
-          }
+      go (got i end) e h = record { at = i .at; stood = standing (i .comments) (i .at) (ap answerOf e) }
 
   -- ---- limits
   held : (l : List ℕ) → Holds l 0 l

@@ -2,14 +2,15 @@
 -- at a time are the loop over them.
 -- Assumes nothing.
 use mathlib.Core.Path.{_≡_, refl, sym, ap, ap₂, _∙_}
-use mathlib.Core.Bool.{Bool, true, false}
+use mathlib.Core.Bool.{Bool, true, false, not}
 use mathlib.Core.Option.{Option, none as nothing, some}
 use mathlib.Core.List.{List, [], _∷_, _++_, append-assoc, append-nil}
 use Prim.Native.Nat.{ℕ, zero, suc, _+_, _-_, _≤_, _<_}
 use native.Mathlib.Omega.{arith}
-use native.Mathlib.Nat.{zero-add, add-zero, sub-zero}
+use native.Mathlib.Nat.{zero-add, add-zero, sub-zero, suc-add}
 use borrow.Author.Tests.{ne-eqb}
-use lib.ListN.{length, take}
+use lib.Dec.{eqb}
+use lib.ListN.{length, take, drop, length-drop}
 use lib.Seq.{take-length}
 use Rattle.image.specs.Read.{readAll}
 use Rattle.tree.specs.Syntax.{Declaration, SyntaxTree}
@@ -17,14 +18,15 @@ use Rattle.rows.specs.Node.{Nodes, line}
 use Rattle.rows.specs.Rows.{sizes, rows}
 use Rattle.rows.specs.View.{viewOf, nodesAt}
 use Rattle.rows.proofs.Flatten.{flattened}
-use Rattle.state.specs.Act.{Given, St, Act, _⨟_, skip, push, next, join}
+use Rattle.state.specs.Act.{Given, St, Act, _⨟_, when, skip, push, next, join}
 use Rattle.state.proofs.Joins.{sizes-join, rows-join}
 use Rattle.comments.specs.Comments.{nth}
 use Rattle.comments.specs.Listed.{commentsOf, given}
 use Rattle.layout.specs.Layout.{shebangRule, declaration, declarationsRule, fmtParsed}
-use Rattle.facts.specs.Accepted.{fresh, upTo}
+use Rattle.facts.specs.Accepted.{fresh, upTo, callRule}
 use Rattle.renderer.specs.Renderer.{renders}
-use Rattle.cut.specs.Parts.{Cursor, Piece, Pen, layoutFresh, still, andThen, several}
+use Rattle.cut.specs.Parts as cut
+use Rattle.cut.specs.Parts.{Cursor, LayoutState, Piece, Pen, layoutFresh, still, andThen, begin, several, end}
 use Rattle.format.specs.Parts.{treeOf, pieceOf, declarationAct, rendererOf, drawnBy, page, drawn, parts}
 use Rattle.format.specs.Demands.{Gives, laidTo, FmtParsed}
 
@@ -64,6 +66,16 @@ then-skip p = then-at p (pieceOf skip) still (piece-skip (p .cursor)) ∙ then-s
 abbrev flag : ℕ → Bool → Bool
 flag zero first = first
 flag (suc n) first = false
+
+flag-at : (d n : ℕ) → eqb (d + n) 0 ≡ flag n (eqb d 0)
+flag-at d zero = ap (λ (k : ℕ). eqb k 0) (add-zero d)
+flag-at d (suc n) = ne-eqb (d + suc n) 0 (λ e. omega arith)
+
+nth-drop : {A : Type 0} (d : ℕ) (xs : List A) (n : ℕ) → nth (drop d xs) n ≡ nth xs (d + n)
+unfolding nth
+nth-drop zero xs n = ap (nth xs) (sym (zero-add n))
+nth-drop (suc d) [] n = refl
+nth-drop (suc d) (x ∷ xs) n = nth-drop d xs n ∙ ap (nth (x ∷ xs)) (sym (suc-add d n))
 
 flag-false : (n : ℕ) → flag n false ≡ false
 flag-false zero = refl
@@ -105,23 +117,53 @@ module _ (s b : List ℕ) where
   abbrev ds : List Declaration
   ds = tree .declarations
 
-  same-act : (n : ℕ) (d : Option Declaration) → declarationAct s b n d ≡ one g (flag n true) d
-  same-act n nothing = refl
-  same-act zero (some d) = refl
-  same-act (suc n) (some d) = ap (declaration g d) (ne-eqb (suc n) 0 (λ e. omega arith))
+  same-act : (k : ℕ) (first : Bool) (d : Option Declaration) → eqb k 0 ≡ first → declarationAct s b k d ≡ one g first d
+  same-act k first nothing e = refl
+  same-act k first (some d) e = ap (declaration g d) e
 
-  -- n declarations are the loop over the first n
-  loop : (n : ℕ) (p : Piece) → n ≤ length ds → several (parts s b) n 0 p ≡ andThen p (pieceOf (declarationsRule g (take n ds) true))
+  at-place : (d n : ℕ) → declarationAct s b (d + n) (nth ds (d + n)) ≡ one g (flag n (eqb d 0)) (nth (drop d ds) n)
+  at-place d n = same-act (d + n) (flag n (eqb d 0)) (nth ds (d + n)) (flag-at d n) ∙ ap (one g (flag n (eqb d 0))) (sym (nth-drop d ds n))
+
+  -- n declarations from declaration d on are the loop over these
+  loop : (n d : ℕ) (p : Piece) → d + n ≤ length ds
+      → several (parts s b) n d p ≡ andThen p (pieceOf (declarationsRule g (take n (drop d ds)) (eqb d 0)))
   unfolding declarationsRule
-  loop zero p h = sym (then-skip p)
-  loop (suc n) p h =
-      let rule = pieceOf (declarationsRule g (take n ds) true) in
-      let last = pieceOf (one g (flag n true) (nth ds n)) in
-      ap (λ (x : Piece). andThen x (pieceOf (declarationAct s b (0 + n) (nth ds (0 + n))))) (loop n p (omega arith))
-      ∙ ap (λ (k : ℕ). andThen (andThen p rule) (pieceOf (declarationAct s b k (nth ds k)))) (zero-add n)
-      ∙ ap (λ (a : Act). andThen (andThen p rule) (pieceOf a)) (same-act n (nth ds n))
+  loop zero d p h = sym (then-skip p)
+  loop (suc n) d p h =
+      let rest = drop d ds in
+      let rule = pieceOf (declarationsRule g (take n rest) (eqb d 0)) in
+      let last = pieceOf (one g (flag n (eqb d 0)) (nth rest n)) in
+      let l = length-drop d ds in
+      ap (λ (x : Piece). andThen x (pieceOf (declarationAct s b (d + n) (nth ds (d + n))))) (loop n d p (omega arith))
+      ∙ ap (λ (a : Act). andThen (andThen p rule) (pieceOf a)) (at-place d n)
       ∙ then-then p rule last
-      ∙ then-at p (λ c. andThen (rule c) last) (pieceOf (declarationsRule g (take (suc n) ds) true)) (sym (more g n ds true (p .cursor) h))
+      ∙ then-at p (λ c. andThen (rule c) last) (pieceOf (declarationsRule g (take (suc n) rest) (eqb d 0)))
+      (sym (more g n rest (eqb d 0) (p .cursor) (omega arith)))
+
+  -- what a call lays from any state, by the rules
+  pub call-piece : (z : LayoutState) (stop : ℕ) (close : Bool) → z .declaration ≤ stop → stop ≤ length ds
+      → cut.pieceOf (parts s b) z (record { stop = stop; close = close; choice = tt })
+      ≡ pieceOf (callRule g tree (not (z .begun)) (take (stop - z .declaration) (drop (z .declaration) ds)) (eqb (z .declaration) 0) close) (z .cursor)
+  call-piece z stop close h k =
+      let d = z .declaration in
+      let a = when (not (z .begun)) (shebangRule g (tree .shebang)) in
+      let rule = declarationsRule g (take (stop - d) (drop d ds)) (eqb d 0) in
+      let last = when close (push line) in
+      ends close (several (parts s b) (stop - d) d (begin (parts s b) (z .begun) (z .cursor)))
+      ∙ ap (λ (p : Piece). andThen p (pieceOf last)) (loop (stop - d) d (begin (parts s b) (z .begun) (z .cursor)) (omega arith))
+      ∙ ap (λ (p : Piece). andThen (andThen p (pieceOf rule)) (pieceOf last)) (begins (z .begun) (z .cursor))
+      ∙ then-then (pieceOf a (z .cursor)) (pieceOf rule) (pieceOf last)
+      ∙ then-at (pieceOf a (z .cursor)) (λ c. andThen (pieceOf rule c) (pieceOf last)) (pieceOf (rule ⨟ last))
+      (sym (piece-then rule last (pieceOf a (z .cursor) .cursor)))
+      ∙ sym (piece-then a (rule ⨟ last) (z .cursor))
+    where
+      begins : (begun : Bool) (c : Cursor) → begin (parts s b) begun c ≡ pieceOf (when (not begun) (shebangRule g (tree .shebang))) c
+      begins true c = sym (piece-skip c)
+      begins false c = refl
+
+      ends : (close : Bool) (p : Piece) → end (parts s b) close p ≡ andThen p (pieceOf (when close (push line)))
+      ends true p = refl
+      ends false p = sym (then-skip p)
 
   abbrev start : Cursor
   start = layoutFresh .cursor
@@ -130,7 +172,7 @@ module _ (s b : List ℕ) where
   laid n h =
       let one = pieceOf (shebangRule g (tree .shebang)) start in
       ap (λ (k : ℕ). several (parts s b) k 0 one) (sub-zero n)
-      ∙ loop n one h
+      ∙ loop n 0 one (omega arith)
       ∙ sym (piece-then (shebangRule g (tree .shebang)) (declarationsRule g (take n ds) true) start)
 
   -- rows of nodes render as the nodes do, since they are read back as those

@@ -309,14 +309,22 @@ pub fn shebang(store: &mut [u32], c: Cursor, s: &[u8], b: &[u8], at: usize) -> C
     empty_line(store, d)
 }
 
-// The declarations from `from` up to `to`.
-fn declarations(store: &mut [u32], c: Cursor, s: &[u8], b: &[u8], from: usize, to: usize) -> Cursor
+// The declarations from `from` up to `to`, of which the first is the file's first or not.
+pub fn declarations(
+    store: &mut [u32],
+    c: Cursor,
+    s: &[u8],
+    b: &[u8],
+    from: usize,
+    to: usize,
+    opens: bool,
+) -> Cursor
     requires { ⌜ HasAll DeclarationsAt (now s) (now b) from to ⌝ }
-    ensures { λ r. ⌜ LaidAll DeclarationsAt (declarationsFrom true) (now (s .entry)) (now (b .entry)) from to (now (store .entry)) c (now (store .exit)) r ⌝ }
+    ensures { λ r. ⌜ LaidAll DeclarationsAt (declarationsFrom opens) (now (s .entry)) (now (b .entry)) from to (now (store .entry)) c (now (store .exit)) r ⌝ }
 {
     let mut p = from;
     let mut d = c;
-    let mut first = true;
+    let mut first = opens;
     while p < to {
         d = declaration(store, d, s, b, p, first);
         p = past(b, p);
@@ -331,6 +339,6 @@ pub fn document(store: &mut [u32], c: Cursor, s: &[u8], b: &[u8], at: usize) -> 
     ensures { λ r. ⌜ LaidAs TreeAt fmtParsed (now (s .entry)) (now (b .entry)) at (now (store .entry)) c (now (store .exit)) r ⌝ }
 {
     let d = shebang(store, c, s, b, at + HEAD);
-    let e = declarations(store, d, s, b, second(b, at), past(b, at));
+    let e = declarations(store, d, s, b, second(b, at), past(b, at), true);
     line(store, e)
 }

@@ -5,7 +5,7 @@ pub mod declarations;
 mod imports;
 pub mod kinds;
 mod literals;
-mod numbers;
+pub mod numbers;
 mod paths;
 mod pieces;
 mod types;

@@ -19,13 +19,13 @@ use Rattle.layout.proofs.declarations.declaration.Reads as declaration-
 use Rattle.layout.proofs.numbers.past.Reads as past-reads
 
 abbrev Inv-loop : tie.InvT-loop
-Inv-loop store₀ s b from to p₀ d₀ first₀ store p d first = (length store ≡ length store₀)
+Inv-loop store₀ s b from to opens p₀ d₀ first₀ store p d first = (length store ≡ length store₀)
     × HasAll DeclarationsAt s b p to
     × ((x : List ℕ) (e : Cursor) → LaidAll DeclarationsAt (declarationsFrom first) s b p to store d x e
-    → LaidAll DeclarationsAt (declarationsFrom true) s b from to store₀ d₀ x e)
+    → LaidAll DeclarationsAt (declarationsFrom opens) s b from to store₀ d₀ x e)
 
 abbrev μ-loop : tie.MeasureT-loop
-μ-loop store₀ s b from to p₀ d₀ first₀ store p d first = to - p
+μ-loop store₀ s b from to opens p₀ d₀ first₀ store p d first = to - p
 
 -- src/declarations.rt:250:5
 loop-holds : tie.Need-loop-holds Inv-loop μ-loop
