@@ -15,8 +15,11 @@ use Rattle.rendering.specs.declared.RenderState.{RenderState}
 use Rattle.rendering.specs.declared.Rendering.{Rendering}
 use Rattle.rendering.specs.Calls as rendering
 use Rattle.rendering.specs.Whole as render
-use Rattle.exports.specs.Numbers.{flag, layoutState, renderState, told}
-use Rattle.exports.specs.Calls.{Lays, Renders}
+use Rattle.format.specs.File.{FileAnswer}
+use Rattle.file.specs.declared.Formatted.{Formatted}
+use Rattle.file.specs.Whole as file
+use Rattle.exports.specs.Numbers.{flag, layoutState, renderState, told, toldFile}
+use Rattle.exports.specs.Calls.{Lays, Renders, FormatsFile}
 
 pub lays : (s b store state : List ℕ) (stop close : ℕ) (out store2 out2 : List ℕ) (z : LayoutState) (closing : Bool) (r q : Laying)
     → z ≡ layoutState state → closing ≡ flag close → layout.Called s b z stop closing store r store2 → r ≡ q
@@ -37,4 +40,16 @@ renders s b store marks output state stop out store2 marks2 output2 out2 z r q e
       marks-left = c .marks-left;
       output-left = c .output-left;
       told-as = h ∙ ap (λ (a : Answer (rulesOf s b)). told s b a out) (c .answer);
+    }
+
+pub formats : (s b store marks output out store2 marks2 output2 out2 : List ℕ) (r q : Formatted)
+    → file.Formats s b store marks output r store2 marks2 output2 → r ≡ q → out2 ≡ toldFile (file.answerOf q) out
+    → FormatsFile s b store marks output out store2 marks2 output2 out2
+formats s b store marks output out store2 marks2 output2 out2 r q p g h =
+    let c = rw g at p in
+    record {
+      store-left = c .store-left;
+      marks-left = c .marks-left;
+      output-left = c .output-left;
+      told-as = h ∙ ap (λ (a : FileAnswer). toldFile a out) (c .answer);
     }

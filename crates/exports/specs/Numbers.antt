@@ -10,6 +10,7 @@ use Rattle.image.specs.declared.Answer.the-variants.{Accepted, Refused}
 use Rattle.cut.specs.Run.{Answer, refused, laidOut, written}
 use Rattle.cut.specs.Parts as cut
 use Rattle.format.specs.Demands.{rulesOf}
+use Rattle.format.specs.File as file
 use Rattle.laying.specs.declared.LayoutState.{LayoutState}
 use Rattle.rendering.specs.declared.RenderState.{RenderState}
 
@@ -62,3 +63,8 @@ told s b (laidOut t n) out =
     ∷ [])
 told s b (written t n) out =
     sets out 0 (0 ∷ n ∷ t .pen .indent ∷ t .pen .next-indent ∷ t .pen .column ∷ t .in-use ∷ t .row ∷ [])
+
+-- a whole file's answer: a refusal's number and place; or 0, the bytes written, the comments left, the rows and the group numbers
+abbrev pub toldFile : file.FileAnswer → List ℕ → List ℕ
+toldFile (file.refused r) out = sets out 0 (r .number ∷ r .place ∷ [])
+toldFile (file.formatted bytes left rows numbers) out = sets out 0 (0 ∷ bytes ∷ left ∷ rows ∷ numbers ∷ [])

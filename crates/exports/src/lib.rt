@@ -4,14 +4,17 @@ mod numbers;
 ghost use mathlib.Core.Path.{_≡_};
 ghost use Rattle.image.specs.Read.{readAll, answerOf};
 ghost use Rattle.exports.specs.Numbers.{answered};
-ghost use Rattle.exports.specs.Calls.{Lays, Renders};
+ghost use Rattle.exports.specs.Calls.{Lays, Renders, FormatsFile};
 use crate::numbers::flag;
 use crate::numbers::layout_state;
 use crate::numbers::put;
+use crate::numbers::put_formatted;
 use crate::numbers::put_laid;
 use crate::numbers::put_two;
 use crate::numbers::put_written;
 use crate::numbers::render_state;
+use file::Formatted;
+use file::format_file;
 use image::Answer;
 use laying::Laying;
 use laying::layout_call;
@@ -73,5 +76,29 @@ pub extern "C" fn rrufthim_render(
     match render_call(source, image, store, marks, output, from, stop as usize) {
         Rendering::Refused(n, p) => put_two(out, n as usize, p),
         Rendering::Written(t, bytes) => put_written(out, t, bytes),
+    }
+}
+
+// The run of one file: all is laid out and rendered. `out` gets the refusal's number and place, or 0, the bytes written, the comments left,
+// the rows and the group numbers.
+#[no_mangle]
+pub extern "C" fn rrufthim_format(
+    source: &[u8],
+    image: &[u8],
+    store: &mut [u32],
+    marks: &mut [u8],
+    output: &mut [u8],
+    out: &mut [u64],
+)
+    ensures { λ r. ⌜ FormatsFile (now (source .entry)) (now (image .entry)) (now (store .entry)) (now (marks .entry)) (now (output .entry)) (now (out .entry)) (now (store .exit)) (now (marks .exit)) (now (output .exit)) (now (out .exit)) ⌝ }
+{
+    match format_file(source, image, store, marks, output) {
+        Formatted::Refused(n, p) => put_two(out, n as usize, p),
+        Formatted::Text {
+            bytes,
+            left,
+            rows,
+            numbers,
+        } => put_formatted(out, bytes, left, rows, numbers),
     }
 }

@@ -102,3 +102,13 @@ pub fn put_written(out: &mut [u64], t: RenderState, bytes: Bytes)
     put(out, 5, t.in_use as u64);
     put(out, 6, t.row as u64);
 }
+
+// What the run of a file that is accepted tells.
+pub fn put_formatted(out: &mut [u64], bytes: Bytes, left: usize, rows: usize, numbers: usize)
+    ensures { λ r. ⌜ now (out .exit) ≡ sets (now (out .entry)) 0 (0 ∷ bytes .0 ∷ left ∷ rows ∷ numbers ∷ []) ⌝ }
+{
+    put_two(out, 0, bytes.0);
+    put(out, 2, left as u64);
+    put(out, 3, rows as u64);
+    put(out, 4, numbers as u64);
+}
