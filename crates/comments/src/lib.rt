@@ -22,6 +22,11 @@ ghost use Rattle.comments.specs.Comments.{
   popTrailingComment,
 };
 ghost use Rattle.comments.specs.Listed.{span, commentsOf, given, ListFits, Listed, pendingOf};
+
+mod reading;
+
+use crate::reading::newlines_from;
+use crate::reading::something_from;
 use image::bytes::num16;
 use image::bytes::num32;
 use state::Asked;
@@ -30,9 +35,7 @@ use state::leaves::empty_line;
 use state::leaves::line;
 use state::move_to;
 use state::with_placed;
-use text::newlines::count_newlines;
 use text::space::Found;
-use text::space::find_something;
 use text::space::trim_end;
 
 // The comment at the front of those that wait: its start and its end.
@@ -93,7 +96,7 @@ fn break_line(store: &mut [u32], c: Cursor, n: usize) -> Cursor
 fn newlines(store: &mut [u32], c: Cursor, source: &[u8], position: u32) -> Asked
     ensures { λ r. ⌜ ((b : List ℕ) → LaidAsking (newlines (given (now (source .entry)) b) position) (now (store .entry)) c (now (store .exit)) r) ⌝ }
 {
-    let n = count_newlines(source, c.pos as usize, position as usize);
+    let n = newlines_from(source, c.pos as usize, position as usize);
     let d = break_line(store, c, n);
     Asked {
         cursor: move_to(d, position),
@@ -224,7 +227,7 @@ pub fn pop_trailing_comment(store: &mut [u32], c: Cursor, source: &[u8], image: 
     requires { ⌜ Listed (now source) (now image) ⌝ }
     ensures { λ r. ⌜ Laid (popTrailingComment (given (now (source .entry)) (now (image .entry)))) (now (store .entry)) c (now (store .exit)) r ⌝ }
 {
-    match find_something(source, c.pos as usize) {
+    match something_from(source, c.pos as usize) {
         Found::Nowhere => c,
         Found::At(place) => match front(image, c) {
             Pending::Nothing => c,

@@ -1,11 +1,64 @@
--- What the exported functions leave in the numbers that they are lent. A number past the end is left out.
+-- The numbers that the exported functions take and leave. A number past the end of what is lent is left out; one that is missing is 0.
 use Prim.Native.Nat.{ℕ}
-use mathlib.Core.List.{List}
-use lib.ListN.{set}
-use Rattle.image.specs.declared.Answer.{Answer}
+use mathlib.Core.Bool.{Bool, cond, not}
+use mathlib.Core.List.{List, [], _∷_}
+use lib.Dec.{eqb}
+use lib.ListN.{set, getD}
+use lib.Seq.{sets}
+use Rattle.image.specs.declared.Answer as image
 use Rattle.image.specs.declared.Answer.the-variants.{Accepted, Refused}
+use Rattle.cut.specs.Run.{Answer, refused, laidOut, written}
+use Rattle.cut.specs.Parts as cut
+use Rattle.format.specs.Demands.{rulesOf}
+use Rattle.laying.specs.declared.LayoutState.{LayoutState}
+use Rattle.rendering.specs.declared.RenderState.{RenderState}
 
 -- a refusal's number and place; or 0, the number of comments and the tree's offset
-abbrev pub answered : Answer → List ℕ → List ℕ
-answered (Refused n p) out = set (set out 0 n) 1 p
-answered (Accepted n at) out = set (set (set out 0 0) 1 n) 2 at
+abbrev pub answered : image.Answer → List ℕ → List ℕ
+answered (Refused n p) out = sets out 0 (n ∷ p ∷ [])
+answered (Accepted n at) out = sets out 0 (0 ∷ n ∷ at ∷ [])
+
+-- ---- states, in document 01's order
+abbrev pub flag : ℕ → Bool
+flag n = not (eqb n 0)
+
+abbrev pub bit : Bool → ℕ
+bit b = cond b 1 0
+
+abbrev pub layoutState : List ℕ → LayoutState
+layoutState l = record {
+  begun = flag (getD l 0 0);
+  closed = flag (getD l 1 0);
+  declaration = getD l 2 0;
+  row = getD l 3 0;
+  number = getD l 4 0;
+  placed = getD l 5 0;
+  position = getD l 6 0;
+}
+
+abbrev pub renderState : List ℕ → RenderState
+renderState l = record {
+  indent = getD l 0 0;
+  «next_indent» = getD l 1 0;
+  column = record { 0 = getD l 2 0 };
+  «in_use» = getD l 3 0;
+  row = getD l 4 0;
+}
+
+-- a call's answer: a refusal's number and place; or 0, the comments left or the bytes written, and the new state
+abbrev pub told : (s b : List ℕ) → Answer (rulesOf s b) → List ℕ → List ℕ
+told s b (refused r) out = sets out 0 (r .number ∷ r .place ∷ [])
+told s b (laidOut t n) out =
+    sets out 0
+    (0
+    ∷ n
+    ∷ bit (t .begun)
+    ∷ bit (t .closed)
+    ∷ t .declaration
+    ∷ t .cursor .row
+    ∷ t .cursor .number
+    ∷ t .cursor .placed
+    ∷ t .cursor .position
+    ∷ [])
+told s b (written t n) out =
+    sets out 0 (0 ∷ n ∷ t .pen .indent ∷ t .pen .next-indent ∷ t .pen .column ∷ t .in-use ∷ t .row ∷ [])

@@ -1,9 +1,22 @@
 // The functions that other languages call: numbers and slices in, numbers out.
+mod numbers;
+
 ghost use mathlib.Core.Path.{_≡_};
-ghost use lib.ListN.{set};
 ghost use Rattle.image.specs.Read.{readAll, answerOf};
 ghost use Rattle.exports.specs.Numbers.{answered};
+ghost use Rattle.exports.specs.Calls.{Lays, Renders};
+use crate::numbers::flag;
+use crate::numbers::layout_state;
+use crate::numbers::put;
+use crate::numbers::put_laid;
+use crate::numbers::put_two;
+use crate::numbers::put_written;
+use crate::numbers::render_state;
 use image::Answer;
+use laying::Laying;
+use laying::layout_call;
+use rendering::Rendering;
+use rendering::render_call;
 
 // Whether a source and an image are accepted. `out` gets the refusal's number and place, or 0, the number of comments and the tree's
 // offset, as far as it has room.
@@ -12,23 +25,53 @@ pub extern "C" fn rrufthim_check(source: &[u8], image: &[u8], out: &mut [u64])
     ensures { λ r. ⌜ now (out .exit) ≡ answered (answerOf (readAll (now (source .entry)) (now (image .entry)))) (now (out .entry)) ⌝ }
 {
     match image::check(source, image) {
-        Answer::Refused(n, p) => {
-            put(out, 0, n as u64);
-            put(out, 1, p as u64);
-        }
+        Answer::Refused(n, p) => put_two(out, n as usize, p),
         Answer::Accepted { comments, tree } => {
-            put(out, 0, 0);
-            put(out, 1, comments as u64);
+            put_two(out, 0, comments);
             put(out, 2, tree as u64);
         }
     }
 }
 
-// A number at a place, if there is room for it.
-fn put(out: &mut [u64], at: usize, x: u64)
-    ensures { λ r. ⌜ now (out .exit) ≡ set (now (out .entry)) at x ⌝ }
+// A layout call. The state: begun, closed, next declaration, next row, next number, comments placed, position. `out` gets the refusal's
+// number and place, or 0, the comments left and the new state.
+#[no_mangle]
+pub extern "C" fn rrufthim_layout(
+    source: &[u8],
+    image: &[u8],
+    store: &mut [u32],
+    state: &[u64],
+    stop: u64,
+    close: u64,
+    out: &mut [u64],
+)
+    ensures { λ r. ⌜ Lays (now (source .entry)) (now (image .entry)) (now (store .entry)) (now (state .entry)) stop close (now (out .entry)) (now (store .exit)) (now (out .exit)) ⌝ }
 {
-    if at < out.len() {
-        out[at] = x;
+    let from = layout_state(state);
+    match layout_call(source, image, store, from, stop as usize, flag(close)) {
+        Laying::Refused(n, p) => put_two(out, n as usize, p),
+        Laying::Laid(t, left) => put_laid(out, t, left),
+    }
+}
+
+// A rendering call. The state: indent, next indent, column, marks in use, next row. `out` gets the refusal's number and place, or 0, the
+// bytes written and the new state.
+#[no_mangle]
+pub extern "C" fn rrufthim_render(
+    source: &[u8],
+    image: &[u8],
+    store: &mut [u32],
+    marks: &mut [u8],
+    output: &mut [u8],
+    state: &[u64],
+    stop: u64,
+    out: &mut [u64],
+)
+    ensures { λ r. ⌜ Renders (now (source .entry)) (now (image .entry)) (now (store .entry)) (now (marks .entry)) (now (output .entry)) (now (state .entry)) stop (now (out .entry)) (now (store .exit)) (now (marks .exit)) (now (output .exit)) (now (out .exit)) ⌝ }
+{
+    let from = render_state(state);
+    match render_call(source, image, store, marks, output, from, stop as usize) {
+        Rendering::Refused(n, p) => put_two(out, n as usize, p),
+        Rendering::Written(t, bytes) => put_written(out, t, bytes),
     }
 }

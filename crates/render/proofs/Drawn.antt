@@ -11,6 +11,8 @@ use borrow.Author.Tests.{lt-ltb, le-ltb}
 use Rattle.renderer.specs.Renderer.{Renderer, push, atColumn, newLine, margin, remark, text}
 use Rattle.render.specs.declared.pen.Pen.{Pen}
 use Rattle.render.specs.Output.{over}
+use Rattle.render.specs.declared.lent.Numbers.{Numbers}
+use Rattle.render.specs.Lent.{numbersOf, penOf, moved, broken}
 use Rattle.render.specs.Pen.{shown, penAfter, Drawn, Room}
 use Rattle.render.proofs.Written.{over-length, over-join}
 
@@ -47,6 +49,21 @@ none-drawn limit out p h = rw (le-ltb 0 (p .column .0) h) (record { pen = ap (λ
   where
     plus-none : (n : ℕ) → n ≡ n + 0
     plus-none n = omega arith
+
+-- the lent numbers in their pen again: another margin, and a new line, for which they are in range
+pub margin-set : (p : Pen) (n m : Numbers) (q : Pen) (i j : ℕ) → n ≡ numbersOf p → m ≡ moved n i j → q ≡ penOf m (p .at .0)
+    → q ≡ record { indent = i; «next_indent» = j; column = p .column; at = p .at }
+unfolding numbersOf moved penOf
+margin-set p n m q i j e f g = g ∙ ap (λ (k : Numbers). penOf k (p .at .0)) (f ∙ ap (λ (k : Numbers). moved k i j) e)
+
+pub numbers-small : (p : Pen) (n : Numbers) → n ≡ numbersOf p → p .indent + p .«next_indent» ≤ 384 → n .indent + n .«next_indent» ≤ 384
+unfolding numbersOf
+numbers-small p n e h = rw e h
+
+pub line-broken : (p : Pen) (n m : Numbers) (q : Pen) (at : ℕ) → n ≡ numbersOf p → m ≡ broken n → q ≡ penOf m at
+    → q ≡ record { indent = p .indent + p .«next_indent»; «next_indent» = 0; column = record { 0 = 0 }; at = record { 0 = at } }
+unfolding numbersOf broken penOf
+line-broken p n m q at e f g = g ∙ ap (λ (k : Numbers). penOf k at) (f ∙ ap broken e)
 
 -- the same numbers, with a text behind
 pub then-put : (limit : ℕ) (s : Renderer) (t : List ℕ) (c : ℕ) (out : List ℕ) (p : Pen) (out2 : List ℕ) (q : Pen) (out3 : List ℕ) (r : Pen)

@@ -3,6 +3,7 @@ pub mod Drawn
 pub mod Followed
 pub mod Framed
 pub mod Leaves
+pub mod Loan
 pub mod Opening
 pub mod Outcome
 pub mod Running

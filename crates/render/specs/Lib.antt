@@ -1,3 +1,4 @@
+pub mod Lent
 pub mod Output
 pub mod Pen
 pub mod Run

@@ -19,6 +19,8 @@ use crate::pen::Pen;
 use crate::pen::comment;
 use crate::pen::empty_line;
 use crate::pen::new_line;
+use crate::pen::numbers;
+use crate::pen::pen_of;
 use crate::pen::space;
 use crate::pen::text;
 use renderer::Frame;
@@ -125,12 +127,8 @@ fn insert(marks: &mut [u8], number: usize, wraps: bool)
 fn with_margin(p: Pen, indent: usize, next_indent: usize) -> Pen
     ensures { λ r. ⌜ r ≡ record { indent = indent; «next_indent» = «next_indent»; column = p .column; at = p .at } ⌝ }
 {
-    Pen {
-        indent: indent,
-        next_indent: next_indent,
-        column: Columns(p.column.0),
-        at: Bytes(p.at.0),
-    }
+    let n = crate::lent::with_margin(numbers(p), indent, next_indent);
+    pen_of(n, p.at.0)
 }
 
 // `indent` one more, where `wrap` holds.

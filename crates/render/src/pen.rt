@@ -4,7 +4,10 @@ ghost use Prim.Native.Nat.{_+_, _*_, _≤_, _<_};
 ghost use mathlib.Core.List.{[], _∷_, _++_};
 ghost use Rattle.renderer.specs.Page.{textBytes, textOf};
 ghost use Rattle.renderer.specs.Renderer.{push, atColumn, newLine, margin, remark, text};
+ghost use Rattle.render.specs.Lent.{numbersOf, penOf};
 ghost use Rattle.render.specs.Pen.{shown, Drawn, Room};
+use crate::lent::Numbers;
+use crate::lent::on_new_line;
 use crate::output::copy;
 use crate::output::emit;
 use crate::output::spaces;
@@ -17,6 +20,29 @@ pub struct Pen {
     pub next_indent: usize,
     pub column: Columns,
     pub at: Bytes,
+}
+
+// The pen's numbers, to be lent.
+pub fn numbers(p: Pen) -> Numbers
+    ensures { λ r. ⌜ r ≡ numbersOf p ⌝ }
+{
+    Numbers {
+        indent: p.indent,
+        next_indent: p.next_indent,
+        column: Columns(p.column.0),
+    }
+}
+
+// The pen with these numbers, once `at` bytes are written.
+pub fn pen_of(n: Numbers, at: usize) -> Pen
+    ensures { λ r. ⌜ r ≡ penOf n at ⌝ }
+{
+    Pen {
+        indent: n.indent,
+        next_indent: n.next_indent,
+        column: Columns(n.column.0),
+        at: Bytes(at),
+    }
 }
 
 // Writes one byte, `w` columns wide.
@@ -81,22 +107,12 @@ pub fn new_line(p: Pen, out: &mut [u8], limit: usize) -> Pen
     ensures { λ r. ⌜ Drawn limit (newLine (shown p [])) (now (out .entry)) p (now (out .exit)) r ⌝ }
 {
     let at = p.at.0;
-    let indent = p.indent + p.next_indent;
+    let n = on_new_line(numbers(p));
     if 0 < p.column.0 {
         emit(out, limit, at, 0x0A);
-        return Pen {
-            indent: indent,
-            next_indent: 0,
-            column: Columns(0),
-            at: Bytes(at + 1),
-        };
+        return pen_of(n, at + 1);
     }
-    Pen {
-        indent: indent,
-        next_indent: 0,
-        column: Columns(0),
-        at: Bytes(at),
-    }
+    pen_of(n, at)
 }
 
 // An `EmptyLine`.
@@ -188,7 +204,8 @@ pub fn comment(
     requires { ⌜ Room 1152921504606846976 limit (now out) p × ((start < 4294967296) × (size < 4294967296)) ⌝ }
     ensures { λ r. ⌜ Drawn limit (remark (textBytes (now (source .entry)) (now (image .entry)) (textOf origin start size)) (shown p [])) (now (out .entry)) p (now (out .exit)) r ⌝ }
 {
-    if 0 < p.column.0 {
+    let column = p.column.0;
+    if 0 < column {
         let q = put(p, out, limit, b' ', Columns(0));
         return end_line(q, out, limit, source, image, origin, start, size);
     }

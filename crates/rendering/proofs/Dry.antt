@@ -3,7 +3,7 @@
 use mathlib.Core.Path.{_≡_, refl, sym, ap, ap₂, subst₂, _∙_}
 use mathlib.Core.Bool.{Bool, true, false, cond, _&&_, _||_}
 use mathlib.Core.List.{List, [], _++_, append-assoc}
-use Prim.Native.Nat.{ℕ, _+_, _*_, _-_, _≤_}
+use Prim.Native.Nat.{ℕ, _+_, _-_, _≤_}
 use native.Mathlib.Omega.{arith}
 use lib.ListN.{length, getD, take, drop, replicate, length-append, length-replicate}
 use lib.Seq.{length-take-le}
@@ -16,7 +16,7 @@ use Rattle.renderer.specs.Check.{usesNumber, usesNumber2, usesSecond, usesText,
 use Rattle.renderer.specs.Renderer.{Renderer, renders}
 use Rattle.renderer.specs.Page.{pageOf}
 use Rattle.renderer.proofs.Names.{renders-same}
-use Rattle.renderer.proofs.OwnMarks.{Agree, Alike, Inside, renders-alike}
+use Rattle.renderer.proofs.OwnMarks.{Agree, Inside, renders-alike}
 use Rattle.render.specs.Run.{Rendered, stateOf}
 use Rattle.render.specs.declared.pen.Pen.{Pen}
 use Rattle.render.proofs.Outcome.{over-dry}

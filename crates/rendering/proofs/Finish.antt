@@ -1,6 +1,6 @@
 -- From what the run ensures to what the call does: the dry run counts the bytes needed, the run writes text, marks and state.
 -- Assumes nothing.
-use mathlib.Core.Path.{_≡_, refl, sym, ap, _∙_}
+use mathlib.Core.Path.{_≡_, ap, _∙_}
 use mathlib.Core.Bool.{true}
 use mathlib.Core.Option.{none}
 use mathlib.Core.List.{List, [], _++_}
@@ -18,7 +18,7 @@ use Rattle.cut.specs.Run.{onto}
 use Rattle.cut.specs.Parts as cut
 use Rattle.cut.specs.PartLaws.{withPast}
 use Rattle.marks.specs.Marks.{marksNeeded}
-use Rattle.format.specs.Parts.{rendererOf, drawnBy}
+use Rattle.format.specs.Parts.{drawnBy}
 use Rattle.rendering.specs.Calls.{toState, beforeRun}
 use Rattle.rendering.specs.Whole.{Called, Takes}
 use Rattle.rendering.specs.declared.RenderState.{RenderState}

@@ -1,6 +1,6 @@
 -- The numbers of the nodes of a range are those of its rows.
 -- Assumes nothing.
-use mathlib.Core.Path.{_≡_, refl, sym, ap, ap₂, subst, _∙_}
+use mathlib.Core.Path.{_≡_, refl, subst}
 use mathlib.Core.Bool.{Bool, true, false, cond, _||_}
 use mathlib.Core.List.{List}
 use Prim.Native.Nat.{ℕ, zero, suc, _+_, _-_, _≤_, _<_}
@@ -8,7 +8,7 @@ use native.Mathlib.Omega.{arith}
 use native.Mathlib.Decide.{decLt}
 use lib.Dec.{ltb, eqb}
 use borrow.Author.Tests.{ltb-true}
-use Rattle.rows.specs.Node.{Node, Nodes, none, _then_}
+use Rattle.rows.specs.Node.{Nodes, none, _then_}
 use Rattle.rows.specs.View.{View, cell, viewOf, firstOf, nodeOf, endIn, secondIn, decode, nodesAt}
 use Rattle.renderer.proofs.Names.{names, namesIn}
 use Rattle.marks.specs.Marks.{numbersOf}

@@ -2,7 +2,6 @@
 -- Assumes nothing.
 use mathlib.Core.Path.{_≡_, refl, sym, ap, subst, _∙_}
 use mathlib.Core.Bool.{true}
-use mathlib.Core.Option.{Option, none, some}
 use mathlib.Core.List.{List, []}
 use Prim.Native.Nat.{ℕ, _*_, _-_, _≤_, _<_, max}
 use native.Mathlib.Omega.{arith}
@@ -13,7 +12,6 @@ use Rattle.renderer.specs.Renderer.{renders}
 use Rattle.renderer.specs.Page.{pageOf}
 use Rattle.render.specs.Run.{Starting, Rendered, stateOf}
 use Rattle.render.specs.declared.pen.Pen.{Pen}
-use Rattle.cut.specs.Rules.{Refusal}
 use Rattle.cut.specs.Parts as cut
 use Rattle.marks.specs.Marks.{marksNeeded, clearFrom, held, putAside, putBack}
 use Rattle.rendering.specs.Calls.{toState, refusalOf, beforeRun}
@@ -27,7 +25,7 @@ use Rattle.rendering.proofs.Accepted.{Accepted, accepted}
 use Rattle.rendering.proofs.Starts.{nested, starts}
 use Rattle.rendering.proofs.Ran.{inUse}
 use Rattle.rendering.proofs.Dry as dry
-use Rattle.rendering.proofs.Finish.{Leaves, same, finished}
+use Rattle.rendering.proofs.Finish.{same, finished}
 use Rattle.rendering.proofs.Whole.{bytes, ends-early, ends-full}
 
 module _ (source image : List ℕ) (state : RenderState) (stop : ℕ) (store marks : List ℕ) (h : Passing source image state stop store marks) where

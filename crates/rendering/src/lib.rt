@@ -192,22 +192,11 @@ fn write_rows(
     ensures { λ r. ⌜ Called (now (source .entry)) (now (image .entry)) state stop (now (store .entry)) (now (marks .entry)) (now (out .entry)) r (now (store .entry)) (now (marks .exit)) (now (out .exit)) ⌝ }
 {
     let from = state.row;
-    let room = out.len();
+    let len = out.len();
     let start = start_pen(state);
     let needed = marks_needed(store, from, stop);
     clear_marks(marks, state.in_use, needed);
-    let end = run_rows(
-        start,
-        store,
-        source,
-        image,
-        marks,
-        out,
-        room,
-        80,
-        from,
-        stop,
-    );
+    let end = run_rows(start, store, source, image, marks, out, len, 80, from, stop);
     let column = end.column;
     let bytes = end.at;
     let left = RenderState {

@@ -4,11 +4,11 @@ use borrow.Author.Needs.{needs}
 use Rattle.comments.proofs.newlines.Statement.{statement}
 use Rattle.comments.proofs.newlines.Tie as tie
 
-cast-count-newlines : tie.Need-cast-count-newlines
-cast-count-newlines c = search needs
+cast-newlines-from : tie.Need-cast-newlines-from
+cast-newlines-from c = search needs
 
-count-newlines-requires : tie.Need-count-newlines-requires
-count-newlines-requires c κs = search needs
+newlines-from-requires : tie.Need-newlines-from-requires
+newlines-from-requires c κs = search needs
 
 break-line-requires : tie.Need-break-line-requires
 break-line-requires c κs = search needs
@@ -20,14 +20,14 @@ same-length : tie.Need-same-length
 same-length c = search needs
 
 returns : tie.Need-returns
-returns c = λ b. laid-newlines (given (c .before .before .before .before .before .before .before .before .before .args .source .now) b) (c .before .before .before .before .before .before .before .before .before .args .position) _ (c .before .before .before .before .before .count-newlines .ensures) (c .before .before .before .break-line .ensures) (c .move-to .ensures)
+returns c = λ b. laid-newlines (given (c .before .before .before .before .before .before .before .before .before .args .source .now) b) (c .before .before .before .before .before .before .before .before .before .args .position) _ (c .before .before .before .before .before .newlines-from .ensures) (c .before .before .before .break-line .ensures) (c .move-to .ensures)
 
 pub newlines-spec : {M : Type 1} → statement M
 newlines-spec =
     tie.close
     (tie.spec
-    cast-count-newlines
-    count-newlines-requires
+    cast-newlines-from
+    newlines-from-requires
     break-line-requires
     move-to-requires
     same-length

@@ -16,7 +16,7 @@ run-rows-requires : tie.Need-run-rows-requires
 run-rows-requires c κs = dry-starts _ _ _ _ _ _ (c .before .before .before .before .before .before .before .before .before .before .before .before .before .before .before .before .pre) _ _ (c .before .before .before .before .before .before .before .put-aside .ensures) _ _ (c .before .before .before .before .before .before .before .before .before .before .start-pen .ensures)
 
 put-back-requires : tie.Need-put-back-requires
-put-back-requires c κs = back-within _ _ _ _ _ _ (c .before .before .before .before .before .before .before .before .before .before .before .before .before .before .before .before .before .before .before .before .before .before .before .pre) _ _ (c .before .before .before .before .before .before .before .before .before .before .before .before .before .before .put-aside .ensures)
+put-back-requires c κs = let w = back-within _ _ _ _ _ _ (c .before .before .before .before .before .before .before .before .before .before .before .before .before .before .before .before .before .before .before .before .before .before .before .pre) _ _ (c .before .before .before .before .before .before .before .before .before .before .before .before .before .before .put-aside .ensures) in (omega arith, omega arith)
 
 same-length : tie.Need-same-length
 same-length c = search needs

@@ -8,7 +8,7 @@ put-requires : tie.Need-put-requires
 put-requires c κs = search needs
 
 end-line-requires : tie.Need-end-line-requires
-end-line-requires c κs = (room-put _ _ _ _ _ _ _ (c .before .before .before .before .before .before .before .before .before .before .pre .0) (c .before .before .before .put .ensures) (omega arith) (omega arith), search needs)
+end-line-requires c κs = (room-put _ _ _ _ _ _ _ (c .before .before .before .before .before .before .before .before .before .pre .0) (c .before .before .before .put .ensures) (omega arith) (omega arith), search needs)
 
 same-length : tie.Need-same-length
 same-length c = search needs
@@ -20,7 +20,7 @@ start-line-requires : tie.Need-start-line-requires
 start-line-requires c κs = search needs
 
 end-line-requires-2 : tie.Need-end-line-requires-2
-end-line-requires-2 c κs = (room-margin _ _ _ _ _ (c .before .before .before .before .before .before .before .before .before .before .pre .0) (c .before .before .before .start-line .ensures), search needs)
+end-line-requires-2 c κs = (room-margin _ _ _ _ _ (c .before .before .before .before .before .before .before .before .before .pre .0) (c .before .before .before .start-line .ensures), search needs)
 
 same-length-2 : tie.Need-same-length-2
 same-length-2 c = search needs

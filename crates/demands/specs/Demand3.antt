@@ -1,0 +1,134 @@
+-- Demand 3 of the two public calls, `laying::layout_call` and `rendering::render_call`, by what they promise and nothing else: whatever list of
+-- calls a caller makes, refused ones included, what it then holds is what the plain run of document 01 has due. proofs/Demand3.antt proves it.
+-- What is due: crates/cut/specs/Plain.antt; by which rules and which table: crates/format/specs/Parts.antt.
+use mathlib.Core.Path.{_≡_}
+use mathlib.Core.Bool.{Bool, false}
+use mathlib.Core.Option.{Option, none, some}
+use mathlib.Core.List.{List, [], _∷_, _++_, map}
+use Prim.Native.Nat.{ℕ}
+use lib.ListN.{length, take}
+use Rattle.cut.specs.Run.{Call, layoutCall, renderCall, Carried, Answer, start}
+use Rattle.cut.specs.Plain.{AllReadLaid, atFirst, due, plain, answersDue}
+use Rattle.cut.specs.CutRule.{CommentsKept}
+use Rattle.format.specs.Parts.{listed}
+use Rattle.format.specs.Demands.{rulesOf}
+use Rattle.laying.specs.declared.LayoutState.{LayoutState}
+use Rattle.laying.specs.declared.Laying.{Laying}
+use Rattle.laying.specs.declared.Laying.the-variants as laying
+use Rattle.laying.specs.Calls as layout
+use Rattle.laying.specs.Whole as layoutPromise
+use Rattle.rendering.specs.declared.RenderState.{RenderState}
+use Rattle.rendering.specs.declared.Rendering.{Rendering}
+use Rattle.rendering.specs.declared.Rendering.the-variants as rendering
+use Rattle.rendering.specs.Calls as render
+use Rattle.rendering.specs.Whole as renderPromise
+
+-- ---- a caller
+-- what it holds: the buffers that it lends again, both states, the text joined in call order, and the comments left that it was told last
+pub record Caller : Type 0 where
+  pub store : List ℕ
+  pub marks : List ℕ
+  pub layout-state : LayoutState
+  pub render-state : RenderState
+  pub text : List ℕ
+  pub left : Option ℕ
+
+-- "Fresh is all 0", whatever store and marks hold
+abbrev pub fresh : List ℕ → List ℕ → Caller
+fresh store₀ marks₀ = record {
+  store = store₀;
+  marks = marks₀;
+  layout-state = record { begun = false; closed = false; declaration = 0; row = 0; number = 0; placed = 0; position = 0 };
+  render-state = record { indent = 0; «next_indent» = 0; column = record { 0 = 0 }; «in_use» = 0; row = 0 };
+  text = [];
+  left = none;
+}
+
+-- a call that was made: its arguments, its answer, and the buffers at exit
+pub data Made : Type 0 where
+  laid : (stop : ℕ) (close : Bool) → Laying → (store2 : List ℕ) → Made
+  rendered : (stop : ℕ) (out : List ℕ) → Rendering → (store2 marks2 out2 : List ℕ) → Made
+
+-- the function's own promise, for what the caller held
+abbrev pub Promised : (s b : List ℕ) → Caller → Made → Type 0
+Promised s b w (laid stop close r store2) = layoutPromise.Called s b (w .layout-state) stop close (w .store) r store2
+Promised s b w (rendered stop out r store2 marks2 out2) =
+    renderPromise.Called s b (w .render-state) stop (w .store) (w .marks) out r store2 marks2 out2
+
+-- what the caller keeps of an answer: a new state, the comments left, the bytes written
+abbrev pub keepLaying : Laying → Caller → Caller
+keepLaying (laying.Laid t n) w = record {
+  store = w .store;
+  marks = w .marks;
+  layout-state = t;
+  render-state = w .render-state;
+  text = w .text;
+  left = some n;
+}
+keepLaying (laying.Refused n p) w = w
+
+abbrev pub keepRendering : Rendering → List ℕ → Caller → Caller
+keepRendering (rendering.Written t n) out w = record {
+  store = w .store;
+  marks = w .marks;
+  layout-state = w .layout-state;
+  render-state = t;
+  text = w .text ++ take (n .0) out;
+  left = w .left;
+}
+keepRendering (rendering.Refused n p) out w = w
+
+-- what it holds after a call
+abbrev pub after : Caller → Made → Caller
+after w (laid stop close r store2) =
+    keepLaying r (record { store = store2; marks = w .marks; layout-state = w .layout-state; render-state = w .render-state; text = w .text; left = w .left })
+after w (rendered stop out r store2 marks2 out2) =
+    keepRendering r out2
+    (record { store = store2; marks = marks2; layout-state = w .layout-state; render-state = w .render-state; text = w .text; left = w .left })
+
+-- ---- a list of calls
+abbrev pub afterAll : Caller → List Made → Caller
+afterAll w [] = w
+afterAll w (m ∷ ms) = afterAll (after w m) ms
+
+abbrev pub AllPromised : (s b : List ℕ) → Caller → List Made → Type 0
+AllPromised s b w [] = Unit {0}
+AllPromised s b w (m ∷ ms) = Promised s b w m × AllPromised s b (after w m) ms
+
+-- the same in the words of the cut rule: arguments, answers, and what is held
+abbrev pub callOf : (s b : List ℕ) → Made → Call (rulesOf s b)
+callOf s b (laid stop close r store2) = layoutCall (layout.args stop close)
+callOf s b (rendered stop out r store2 marks2 out2) = renderCall (render.args stop (length out))
+
+abbrev pub answerOf : (s b : List ℕ) → Made → Answer (rulesOf s b)
+answerOf s b (laid stop close r store2) = layout.answerOf s b r
+answerOf s b (rendered stop out r store2 marks2 out2) = render.answerOf s b r
+
+abbrev pub held : (s b : List ℕ) → Caller → Carried (rulesOf s b)
+held s b w = record {
+  store = w .store;
+  marks = w .marks;
+  layout-state = layout.toState (w .layout-state);
+  render-state = render.toState (w .render-state);
+  text = w .text;
+  left = w .left;
+}
+
+-- ---- demand 3
+-- store, marks, both states, joined text and comments left are those due; so is every answer; and the comments in the rows are the first of
+-- the list, in order, each once, the others being left
+pub record CutRule (s b store₀ marks₀ : List ℕ) (made : List Made) : Type 0 where
+  pub same :
+      held s b (afterAll (fresh store₀ marks₀) made)
+      ≡ due (rulesOf s b) store₀ marks₀ (plain (rulesOf s b) store₀ marks₀ (atFirst (rulesOf s b)) (map (callOf s b) made))
+  pub answered : map (answerOf s b) made ≡ answersDue (rulesOf s b) store₀ marks₀ (atFirst (rulesOf s b)) (map (callOf s b) made)
+  pub comments : (n : ℕ) → afterAll (fresh store₀ marks₀) made .left ≡ some n
+      → CommentsKept (rulesOf s b) (listed s b) (held s b (afterAll (fresh store₀ marks₀) made)) n
+
+-- for every source and image, whatever store and marks held, and every list of calls that keep their promise, in which no accepted call reads
+-- rows not yet laid out
+abbrev pub Demand3 : Type 0
+Demand3 =
+    (s b store₀ marks₀ : List ℕ) (made : List Made) → AllPromised s b (fresh store₀ marks₀) made
+    → AllReadLaid (rulesOf s b) (start (rulesOf s b) store₀ marks₀) (map (callOf s b) made)
+    → CutRule s b store₀ marks₀ made

@@ -1,0 +1,40 @@
+-- From a call's promise and the numbers that are put out to what an exported function leaves.
+-- Assumes nothing.
+use mathlib.Core.Path.{_≡_, ap, _∙_}
+use mathlib.Core.Bool.{Bool}
+use mathlib.Core.List.{List}
+use Prim.Native.Nat.{ℕ}
+use lib.ListN.{length}
+use Rattle.cut.specs.Run.{Answer}
+use Rattle.format.specs.Demands.{rulesOf}
+use Rattle.laying.specs.declared.LayoutState.{LayoutState}
+use Rattle.laying.specs.declared.Laying.{Laying}
+use Rattle.laying.specs.Calls as laying
+use Rattle.laying.specs.Whole as layout
+use Rattle.rendering.specs.declared.RenderState.{RenderState}
+use Rattle.rendering.specs.declared.Rendering.{Rendering}
+use Rattle.rendering.specs.Calls as rendering
+use Rattle.rendering.specs.Whole as render
+use Rattle.exports.specs.Numbers.{flag, layoutState, renderState, told}
+use Rattle.exports.specs.Calls.{Lays, Renders}
+
+pub lays : (s b store state : List ℕ) (stop close : ℕ) (out store2 out2 : List ℕ) (z : LayoutState) (closing : Bool) (r q : Laying)
+    → z ≡ layoutState state → closing ≡ flag close → layout.Called s b z stop closing store r store2 → r ≡ q
+    → out2 ≡ told s b (laying.answerOf s b q) out
+    → Lays s b store state stop close out store2 out2
+lays s b store state stop close out store2 out2 z closing r q e f p g h =
+    let c = rw (e, f, g) at p in
+    record { store-left = c .store-left; told-as = h ∙ ap (λ (a : Answer (rulesOf s b)). told s b a out) (c .answer) }
+
+pub renders : (s b store marks output state : List ℕ) (stop : ℕ) (out store2 marks2 output2 out2 : List ℕ) (z : RenderState) (r q : Rendering)
+    → z ≡ renderState state → render.Called s b z stop store marks output r store2 marks2 output2 → r ≡ q
+    → out2 ≡ told s b (rendering.answerOf s b q) out
+    → Renders s b store marks output state stop out store2 marks2 output2 out2
+renders s b store marks output state stop out store2 marks2 output2 out2 z r q e p g h =
+    let c = rw (e, g) at p in
+    record {
+      store-left = c .store-left;
+      marks-left = c .marks-left;
+      output-left = c .output-left;
+      told-as = h ∙ ap (λ (a : Answer (rulesOf s b)). told s b a out) (c .answer);
+    }

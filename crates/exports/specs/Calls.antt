@@ -1,0 +1,22 @@
+-- What the exported calls leave in each slice that they are lent.
+use mathlib.Core.Path.{_≡_}
+use Prim.Native.Nat.{ℕ}
+use mathlib.Core.List.{List}
+use lib.ListN.{length}
+use Rattle.cut.specs.Entries.{layoutAnswer, layoutStore, renderAnswer, renderMarks, renderOutput}
+use Rattle.format.specs.Demands.{rulesOf}
+use Rattle.laying.specs.Calls as laying
+use Rattle.rendering.specs.Calls as rendering
+use Rattle.exports.specs.Numbers.{flag, layoutState, renderState, told}
+
+-- a layout call: the store, and the answer's numbers
+pub record Lays (s b store state : List ℕ) (stop close : ℕ) (out store2 out2 : List ℕ) : Type 0 where
+  pub store-left : store2 ≡ layoutStore (rulesOf s b) (laying.args stop (flag close)) (laying.toState (layoutState state)) store
+  pub told-as : out2 ≡ told s b (layoutAnswer (rulesOf s b) (laying.args stop (flag close)) (laying.toState (layoutState state)) store) out
+
+-- a rendering call: the store as it was, marks, output, and the answer's numbers
+pub record Renders (s b store marks output state : List ℕ) (stop : ℕ) (out store2 marks2 output2 out2 : List ℕ) : Type 0 where
+  pub store-left : store2 ≡ store
+  pub marks-left : marks2 ≡ renderMarks (rulesOf s b) (rendering.args stop (length output)) (rendering.toState (renderState state)) store marks
+  pub output-left : output2 ≡ renderOutput (rulesOf s b) (rendering.args stop (length output)) (rendering.toState (renderState state)) store marks output
+  pub told-as : out2 ≡ told s b (renderAnswer (rulesOf s b) (rendering.args stop (length output)) (rendering.toState (renderState state)) store marks) out
