@@ -6,17 +6,16 @@ use mathlib.Core.Option.{Option, none, some}
 use mathlib.Core.List.{List}
 use Prim.Native.Nat.{ℕ, _+_, _-_, _≤_, _<_}
 use native.Mathlib.Omega.{arith}
-use lib.ListN.{length, take, drop, length-drop}
+use lib.ListN.{length, take, drop, length-append, length-drop}
 use lib.Seq.{take-all}
 use borrow.Author.Tests.{le-leb, lt-leb}
 use Rattle.rows.specs.declared.store.Bytes.{Bytes}
 use Rattle.image.specs.Bytes.{be32}
 use Rattle.cut.specs.Rules.{Refusal}
-use Rattle.cut.specs.Run.{unless}
+use Rattle.cut.specs.Run.{onto, unless}
 use Rattle.cut.specs.Parts.{when}
-use Rattle.format.specs.File.{fileStore, fileMarks, fileOutput, FileAnswer, formatted, fileAnswerBy, fileAnswer}
-use Rattle.format.proofs.File.{text-fits}
-use Rattle.file.specs.Whole.{Formats, sourceOf, imageOf, frameFits, frameRefusal, FormatsFrame}
+use Rattle.format.specs.File.{drawnDue, fileRefusal, fileStore, fileMarks, fileOutput, formatted, fileAnswerBy, fileAnswer}
+use Rattle.file.specs.Whole.{answerOf, Formats, sourceOf, imageOf, frameFits, frameRefusal, FormatsFrame}
 use Rattle.file.specs.declared.Formatted.{Formatted}
 use Rattle.file.specs.declared.Formatted.the-variants as answer
 
@@ -79,12 +78,20 @@ module _ (frame store marks out : List ℕ) where
           runs l r store2 marks2 out2 (subst₂ (λ (x y : List ℕ). Formats x y store marks out r store2 marks2 out2) source image f)
 
 -- ---- the text lies in the output
-by-refusal : (x : Option Refusal) (a : FileAnswer) (n l r k : ℕ) → formatted n l r k ≡ fileAnswerBy x a → formatted n l r k ≡ a
-by-refusal none a n l r k e = e
-by-refusal (some q) a n l r k e = let z : _≡_ {A = ℕ} 0 1 = cc in absurd (omega arith)
+text-kept : (x y : Option Refusal) (text out : List ℕ) (n l r k l′ r′ k′ : ℕ)
+    → formatted n l r k ≡ fileAnswerBy x (fileAnswerBy y (formatted (length text) l′ r′ k′)) → n ≤ length (unless x out (unless y out (onto text out)))
+text-kept none none text out n l r k l′ r′ k′ e =
+    let same : n ≡ length text = cc in
+    omega (arith, length-append text (drop (length text) out))
+text-kept none (some q) text out n l r k l′ r′ k′ e = let z : _≡_ {A = ℕ} 0 1 = cc in absurd (omega arith)
+text-kept (some q) y text out n l r k l′ r′ k′ e = let z : _≡_ {A = ℕ} 0 1 = cc in absurd (omega arith)
 
-pub text-within : (frame store marks out : List ℕ) (bytes : Bytes) (l r k : ℕ) (store2 marks2 out2 : List ℕ)
-    → FormatsFrame frame store marks out (answer.Text bytes l r k) store2 marks2 out2 → bytes .0 ≤ length out
-text-within frame store marks out bytes l r k store2 marks2 out2 f =
-    text-fits (sourceOf frame) (imageOf frame) store marks out (bytes .0) l r k
-    (by-refusal (frameRefusal frame) (fileAnswer (sourceOf frame) (imageOf frame) store marks out) (bytes .0) l r k (f .answer))
+pub text-within : (frame store marks out : List ℕ) (a : Formatted) (bytes : Bytes) (l r k : ℕ) (store2 marks2 out2 : List ℕ)
+    → FormatsFrame frame store marks out a store2 marks2 out2 → a ≡ answer.Text bytes l r k → bytes .0 ≤ length out2
+text-within frame store marks out a bytes l r k store2 marks2 out2 f e =
+    let s = sourceOf frame in
+    let b = imageOf frame in
+    let h = text-kept (frameRefusal frame) (fileRefusal s b store marks out) (drawnDue s b .text) out (bytes .0) l r k _ _ _
+    (ap answerOf (sym e) ∙ f .answer)
+    in
+    omega (arith, ap length (f .output-left))

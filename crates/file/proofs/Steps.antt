@@ -43,10 +43,10 @@ at n p = record { number = n; place = p }
 module _ (s b : List ℕ) where
   -- ---- what an answer tells
   -- a refusal is the table's
-  refused-told : (x : Option Refusal) (a : Answer (rulesOf s b)) (r : Refusal) → refused r ≡ answerBy (rulesOf s b) x a → (x ≡ none → refused r ≡ a → ⊥)
+  refused-told : (x : Option Refusal) (a : Answer (rulesOf s b)) (r : Refusal) → refused r ≡ answerBy (rulesOf s b) x a → (refused r ≡ a → ⊥)
       → x ≡ some r
   refused-told (some q) a r e n = ap some (cc)
-  refused-told none a r e n = absurd (n refl e)
+  refused-told none a r e n = absurd (n e)
 
   -- rows laid out are those due
   record LaidTold (x : Option Refusal) (t : cut.LayoutState) (l : ℕ) (u : cut.LayoutState) (m : ℕ) : Type 0 where
@@ -144,7 +144,7 @@ module _ (s b : List ℕ) where
       layout-refused n p e =
           laid-refused n p store2
           (refused-told (laidRefusal s b store) (laidOut (stateDue s b) leftDue) (at n p) (ap (layouts.answerOf s b) (sym e) ∙ layout-answer)
-          (λ y z. never-laid (at n p) (stateDue s b) leftDue z))
+          (never-laid (at n p) (stateDue s b) leftDue))
           layout-left
 
       -- ---- the rendering call
@@ -188,7 +188,7 @@ module _ (s b : List ℕ) where
         drawn-refused n p e =
             refused-formats n p store3 marks2 out2
             (refused-told (fileRefusal s b store marks out) (written (renderedDue s b) textDue) (at n p) (ap (renders.answerOf s b) (sym e) ∙ drawn-answer)
-            (λ y z. never-written (at n p) (renderedDue s b) textDue z))
+            (never-written (at n p) (renderedDue s b) textDue))
             store-same
             marks-same
             output-same

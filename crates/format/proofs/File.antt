@@ -11,7 +11,7 @@ use native.Mathlib.Nat.{sub-zero}
 use lib.Dec.{ltb}
 use lib.ListN.{length, getD, drop, replicate}
 use lib.Seq.{take-append-le}
-use borrow.Author.Tests.{ltb-false, le-ltb, le-leb, eq-eqb}
+use borrow.Author.Tests.{le-ltb, le-leb, eq-eqb}
 use Rattle.image.specs.Bytes.{be32}
 use Rattle.image.specs.Read.{Read, got, bad, Image, header, sourceFits, readAll, answerOf}
 use Rattle.image.proofs.Accepted.{Header, accepted}
@@ -42,7 +42,7 @@ use Rattle.cut.specs.Parts.{
 }
 use Rattle.format.specs.Parts.{refusalOf, renderImage, treeOf, drawn, parts}
 use Rattle.format.specs.Demands.{rulesOf, laidTo}
-use Rattle.format.specs.File.{built, rowsDue, marksDue, drawnDue, laidRefusal, fileRefusal, fileStore, fileMarks, fileOutput, formatted, fileAnswerBy, fileAnswer}
+use Rattle.format.specs.File.{built, rowsDue, marksDue, drawnDue, laidRefusal, fileRefusal, fileStore, fileMarks, fileOutput}
 use Rattle.format.proofs.Whole.{fmt-parsed}
 use Rattle.format.proofs.Limits.{all-limited}
 use Rattle.format.proofs.RenderParts.{render-parts}
@@ -263,21 +263,3 @@ module _ (s b : List ℕ) where
     pub render-output-due : renderOutput (rulesOf s b) (renderArgs out) renderFresh (fileStore s b store) marks out ≡ fileOutput s b store marks out
     render-output-due =
         ap₂ (λ (r : Option Refusal) (l : Rendered RenderState). unless r out (onto (l .text) out)) render-refusal-due gives-due
-
--- ---- the text of a file that is formatted lies in the output
-within : (r : Option Refusal) (marks out n m : ℕ) (a : ℕ) (l k j l′ k′ j′ : ℕ)
-    → formatted n l k j ≡ fileAnswerBy (first (r ∷ when (ltb marks m) 9 m ∷ when (ltb out a) 10 a ∷ [])) (formatted a l′ k′ j′)
-    → n ≤ out
-within r marks out n m a l k j l′ k′ j′ e = go r (ltb marks m) (ltb out a) refl e
-  where
-    go : (x : Option Refusal) (y z : Bool) → ltb out a ≡ z
-        → formatted n l k j ≡ fileAnswerBy (first (x ∷ when y 9 m ∷ when z 10 a ∷ [])) (formatted a l′ k′ j′)
-        → n ≤ out
-    go none false false p e = let same : n ≡ a = cc in omega (arith, ltb-false out a p)
-    go none false true p e = let z : _≡_ {A = ℕ} 0 1 = cc in absurd (omega arith)
-    go none true z p e = let z : _≡_ {A = ℕ} 0 1 = cc in absurd (omega arith)
-    go (some q) y z p e = let z : _≡_ {A = ℕ} 0 1 = cc in absurd (omega arith)
-
-pub text-fits : (s b store marks out : List ℕ) (n l r k : ℕ) → formatted n l r k ≡ fileAnswer s b store marks out → n ≤ length out
-text-fits s b store marks out n l r k e =
-    within (laidRefusal s b store) (length marks) (length out) n (marksDue s b) (length (drawnDue s b .text)) l r k _ _ _ e

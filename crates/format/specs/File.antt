@@ -49,7 +49,7 @@ module _ (s b : List ℕ) where
       ∷ when (ltb (length out) (length (drawnDue .text))) 10 (length (drawnDue .text))
       ∷ [])
 
-  -- what is left of store, marks and output
+  -- what is left of store, marks and output; where 9 or 10 refuses, the rows are laid already
   abbrev pub fileStore : List ℕ → List ℕ
   fileStore store = unless (laidRefusal store) store (onto (rows (built .nodes) 0) store)
 
