@@ -1,6 +1,12 @@
--- What is claimed of the whole; proofs/Demands.antt proves it. From here down: the run, the plain run and the rule are crates/cut's (Run.antt,
--- Plain.antt, CutRule.antt), so are the states and the table (Parts.antt there); this crate's Parts.antt says by which definition of which layer
--- each part of them goes. The marked edges are in Edges.antt.
+-- What is claimed of the whole; proofs/Demands.antt and proofs/File.antt prove it, and nothing is assumed.
+--
+-- Demand 1: each call is accepted, or refused under a number of document 01: the table is crates/cut/specs/Parts.antt's, by the parts of
+-- Parts.antt here, and the calls promise to answer as it says (crates/laying/specs/Whole.antt, crates/rendering/specs/Whole.antt).
+-- Demand 2: a whole file's rows, marks, text and comments left are what `fmt_parsed` builds and renders: File.antt; what is due at each stop is
+-- what `fmt_parsed` has there: `DueIsFmtParsed`, below.
+-- Demand 3: the cut rule: `Demand3`, below, over the run and the plain run of crates/cut (Run.antt, Plain.antt, CutRule.antt); of the two public
+-- functions by what they promise: crates/demands/specs/Demand3.antt.
+-- The marked edges are in Edges.antt.
 use mathlib.Core.Path.{_≡_}
 use mathlib.Core.Bool.{Bool, true, false}
 use mathlib.Core.List.{List}
