@@ -178,3 +178,12 @@ module _ {g : Given} {t : SyntaxTree} {at : ℕ} (a : Stands g t at) where
       → c .row ≤ 2097152 → c .number ≤ 1048576 → c .placed ≤ length (g .comments) → Room (callRule g t begins ys first closes (st c)) c
   call-room xs ys zs begins first closes e =
       room (callRule g t begins ys first closes) (call-sound xs ys zs begins first closes e) (places-call g t begins ys first closes)
+
+  -- no call takes more rows than the tree's record has bytes, and two more for each comment
+  pub call-few : (xs ys zs : List Declaration) (begins first closes : Bool) → xs ++ (ys ++ zs) ≡ t .declarations → (z : St)
+      → z .placed ≤ length (g .comments)
+      → sizes (callRule g t begins ys first closes z .nodes) ≤ be32 (g .image) at + 2 * length (g .comments)
+  call-few xs ys zs begins first closes e z h =
+      let r = call-sound xs ys zs begins first closes e .from z in
+      let w = places-call g t begins ys first closes .from z h in
+      omega (arith, r .rows, w .within)

@@ -3,7 +3,7 @@
 use mathlib.Core.Path.{_≡_, refl, sym, ap, subst, _∙_}
 use mathlib.Core.Bool.{Bool, not}
 use mathlib.Core.List.{List, [], _∷_, _++_}
-use Prim.Native.Nat.{ℕ, _+_, _-_, _≤_, _<_}
+use Prim.Native.Nat.{ℕ, _+_, _-_, _*_, _≤_, _<_}
 use native.Mathlib.Omega.{arith}
 use lib.ListN.{length, take, drop, length-drop, take-append-drop}
 use lib.Dec.{eqb}
@@ -20,7 +20,8 @@ use Rattle.comments.proofs.Fronts.{count-of}
 use Rattle.layout.specs.Contracts.{Accepted, Has, HasAll, Within}
 use Rattle.layout.specs.Forms.{MaybeIdentAt}
 use Rattle.facts.specs.Accepted.{Stands}
-use Rattle.facts.proofs.Limits.{call-room}
+use Rattle.rows.specs.Rows.{sizes}
+use Rattle.facts.proofs.Limits.{call-room, call-few}
 use Rattle.format.proofs.Limits.{standing}
 use Rattle.laying.specs.Steps.{Accepts, Small, tree, declared, startOf, callAct}
 
@@ -135,3 +136,11 @@ module _ {s b : List ℕ} {n at : ℕ} (a : Accepts s b n at) where
     room c begun close k =
         call-room stands (take from ds) ys (drop (to - from) (drop from ds)) (not begun) (eqb from 0) close parted c (k .row) (k .number)
         (omega (arith, comments-count, k .placed))
+
+    pub few-rows : (c : Cursor) (begun close : Bool) → Small c n → sizes (callAct s b begun from to close (st c) .nodes) ≤ length b + 2 * n
+    few-rows c begun close k =
+        let l =
+        call-few stands (take from ds) ys (drop (to - from) (drop from ds)) (not begun) (eqb from 0) close parted (st c)
+        (omega (arith, comments-count, k .placed))
+        in
+        omega (arith, l, comments-count, stands .tree .end)

@@ -2,7 +2,7 @@
 use mathlib.Core.Path.{_≡_}
 use mathlib.Core.Bool.{Bool, false, not}
 use mathlib.Core.List.{List}
-use Prim.Native.Nat.{ℕ, _+_, _-_, _≤_}
+use Prim.Native.Nat.{ℕ, _+_, _-_, _≤_, _<_}
 use lib.Dec.{eqb}
 use lib.ListN.{length, take, drop}
 use Rattle.image.specs.Read.{readAll, answerOf, stopAt}
@@ -43,6 +43,11 @@ pub record Small (c : Cursor) (n : ℕ) : Type 0 where
   pub row : c .row ≤ 2097152
   pub number : c .number ≤ 1048576
   pub placed : c .placed ≤ n
+
+-- r is the row behind what is laid, if that is past the rows of the store; else it is not past them either
+pub record Wanted (rows needed r : ℕ) : Type 0 where
+  pub short : rows < r → r ≡ needed
+  pub enough : r ≤ rows → needed ≤ rows
 
 -- 12 does not refuse
 pub record Fits (s b : List ℕ) (state : LayoutState) (stop : ℕ) (close : Bool) (store : List ℕ) : Type 0 where

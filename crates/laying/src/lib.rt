@@ -8,7 +8,7 @@ ghost use lib.ListN.{length};
 ghost use Rattle.rows.specs.Rows.{sizes};
 ghost use Rattle.state.specs.Laid.{cursor, st};
 ghost use Rattle.laying.specs.Whole.{Called};
-ghost use Rattle.laying.specs.Steps.{Accepts, Small, Fits, Roomy, declared, callAct};
+ghost use Rattle.laying.specs.Steps.{Accepts, Small, Fits, Roomy, Wanted, declared, callAct};
 use crate::fits::state_fits;
 use crate::steps::count_declarations;
 use crate::steps::lay;
@@ -66,6 +66,30 @@ fn rows_needed(
     let mut none = [0u32; 1];
     let d = lay(&mut none, c, s, b, n, at, begun, from, to, close);
     wide(d.row)
+}
+
+// The same if it is past `rows`, and else a row that is not. A tree has no more rows than its image has bytes, and two more for each comment:
+// where the store has that many, nothing is counted.
+fn rows_wanted(
+    c: Cursor,
+    s: &[u8],
+    b: &[u8],
+    n: usize,
+    at: usize,
+    begun: bool,
+    from: usize,
+    to: usize,
+    close: bool,
+    rows: usize,
+) -> usize
+    requires { ⌜ Accepts (now s) (now b) n at × ((from ≤ to) × ((to ≤ length (declared (now s) (now b))) × Small c n)) ⌝ }
+    ensures { λ r. ⌜ Wanted rows (c .row + sizes (callAct (now (s .entry)) (now (b .entry)) begun from to close (st c) .nodes)) r ⌝ }
+{
+    let most = wide(c.row) + b.len() + 2 * n;
+    if most <= rows {
+        return rows;
+    }
+    rows_needed(c, s, b, n, at, begun, from, to, close)
 }
 
 // Lays what is due, in a store that has room for it.
@@ -128,7 +152,7 @@ pub fn accepted(
         return Laying::Refused(12, 0);
     }
     let c = cursor_of(state);
-    let needed = rows_needed(
+    let needed = rows_wanted(
         c,
         source,
         image,
@@ -138,6 +162,7 @@ pub fn accepted(
         state.declaration,
         stop,
         close,
+        rows,
     );
     if rows < needed {
         return Laying::Refused(8, needed);
