@@ -28,7 +28,7 @@ pub mod generate;
 pub mod grammar;
 pub mod image;
 pub mod program;
-mod random;
+pub mod random;
 pub mod reader;
 pub mod refusal;
 pub mod rows;

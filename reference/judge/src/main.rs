@@ -7,7 +7,8 @@ use std::{
 };
 
 use judge::{
-    answers, examples, explain, frame,
+    answers::{self, stored},
+    examples, explain, frame,
     generate::{self, Class},
     program::{self, Widths},
     script, table,
@@ -23,6 +24,10 @@ usage: judge run [--true-widths] < frame      what the program must write
        judge answers CLASS SEED COUNT         frames with what is due for them
        judge call-answers SEED COUNT          lists of calls with their answers
        judge size-answers                     the same for all sizes
+       judge render-answers                   the same for rows made for it
+       judge stored-frames                    a fixed set of frames, answered
+       judge stored-calls                     a fixed set of lists, answered
+       judge stored-table                     what the fixed sets reach
        judge text-answers                     answers of Rust's text functions
 CLASS: realistic, wild, edges, damaged or sizes
 ";
@@ -79,6 +84,17 @@ fn command(words: &[&str]) -> Result<Pieces, String> {
             let cases = generate::size_call_cases();
             Box::new(cases.map(|case| answers::calls::answered(&case)))
         }
+        ["render-answers"] => {
+            let cases = generate::rendering_cases().into_iter();
+            Box::new(cases.map(|case| answers::calls::answered(&case)))
+        }
+        ["stored-frames"] => {
+            Box::new(stored::frames().map(|f| answers::frames::answered(&f)))
+        }
+        ["stored-calls"] => Box::new(
+            stored::lists().map(|case| answers::calls::answered(&case)),
+        ),
+        ["stored-table"] => one(table::stored()),
         ["text-answers"] => one(answers::text::answers()),
         ["table", seed, count] => {
             one(table::table(number(seed)?, number(count)?))

@@ -39,6 +39,11 @@ pub fn answer(bytes: &[u8], widths: Widths) -> Result<Run, Refusal> {
 /// refusals, then 8, 9, 10.
 pub fn within_limits(frame: Frame, widths: Widths) -> Result<Run, Refusal> {
     let run = format(frame, widths)?;
+    fits(&run).map(|()| run)
+}
+
+/// Whether the program's rows, marks and output are enough: 8, 9, 10.
+pub fn fits(run: &Run) -> Result<(), Refusal> {
     if run.rows.len() > ROWS {
         return Err(refusal(8, run.rows.len()));
     }
@@ -52,7 +57,7 @@ pub fn within_limits(frame: Frame, widths: Widths) -> Result<Run, Refusal> {
     if run.text.len() > OUTPUT {
         return Err(refusal(10, run.text.len()));
     }
-    Ok(run)
+    Ok(())
 }
 
 /// The bytes that the program writes.

@@ -129,8 +129,8 @@ const RENDER_STATE: usize = 2 * 4 + 8 + 2 * 4;
 
 #[test]
 fn call_answers_are_laid_out_as_described() {
-    for index in 0..100 {
-        let case = generate::call_case(3, index);
+    let random = (0..100).map(|index| generate::call_case(3, index));
+    for case in random.chain(generate::rendering_cases()) {
         let answered = answers::calls::answered(&case);
         let mut input = Input(&answered);
         for given in [&case.source, &case.image] {

@@ -1,17 +1,17 @@
-//! The port's exported functions as safe Rust, for comparison with the judge.
+//! The port beside the judge: the same calls, answered in the same types.
+
+pub mod compare;
+pub mod measure;
+pub mod port;
+#[cfg(feature = "stand-in")]
+pub mod stand_in;
 
 use judge::refusal::Refusal;
+#[cfg(feature = "calls")]
+pub use typed::{Formatted, format, layout, render};
 
-unsafe extern "C" {
-    fn rrufthim_check(
-        source: *const u8,
-        source_len: usize,
-        image: *const u8,
-        image_len: usize,
-        out: *mut u64,
-        out_len: usize,
-    );
-}
+#[cfg(feature = "calls")]
+mod typed;
 
 /// What the reader says of an accepted image.
 #[derive(Clone, Copy, Debug, PartialEq, Eq)]
@@ -22,23 +22,48 @@ pub struct Accepted {
 
 /// The port's reader: refusals 1 to 7.
 pub fn check(source: &[u8], image: &[u8]) -> Result<Accepted, Refusal> {
-    let mut out = [0u64; 3];
-    // Safety: three slices, each with its own length; nothing is kept.
-    unsafe {
-        rrufthim_check(
-            source.as_ptr(),
-            source.len(),
-            image.as_ptr(),
-            image.len(),
-            out.as_mut_ptr(),
-            out.len(),
-        );
+    let mut out = [UNTOUCHED; 4];
+    port::check(source, image, &mut out);
+    let [comments, tree] = accepted(&out)?;
+    Ok(Accepted { comments, tree })
+}
+
+/// What a reader of results must know: who answered, and to what.
+pub const NOTICE: Option<&str> = if cfg!(feature = "stand-in") {
+    Some("not the port: the judge stands in for it")
+} else if cfg!(not(feature = "calls")) {
+    Some("the reader alone: the feature `calls` is off")
+} else {
+    None
+};
+
+/// Stands in `out` before each call; no answer holds it.
+const UNTOUCHED: u64 = 0xABAD_1DEA_ABAD_1DEA;
+
+/// A refusal that no table knows: the numbers answered are not in the form
+/// that the call promises.
+pub const ILL_FORMED: u8 = 255;
+
+/// What follows the 0 of an accepted call, or the refusal. Past the answer
+/// `out` must be as it was.
+fn accepted<const N: usize>(out: &[u64]) -> Result<[u64; N], Refusal> {
+    let answered = if out[0] == 0 { 1 + N } else { 2 };
+    let strange = Refusal {
+        number: ILL_FORMED,
+        place: out[0],
+    };
+    let touched = |number: &u64| *number != UNTOUCHED;
+    if !out[..answered].iter().all(touched)
+        || out[answered..].iter().any(touched)
+    {
+        return Err(strange);
     }
     match out {
-        [0, comments, tree] => Ok(Accepted { comments, tree }),
-        [number, place, _] => Err(Refusal {
-            number: number as u8,
-            place,
+        [0, rest @ ..] => Ok(*rest.first_chunk().expect("long enough")),
+        [number @ 1..=13, place, ..] => Err(Refusal {
+            number: *number as u8,
+            place: *place,
         }),
+        _ => Err(strange),
     }
 }

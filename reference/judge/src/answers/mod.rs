@@ -3,6 +3,7 @@
 
 pub mod calls;
 pub mod frames;
+pub mod stored;
 pub mod text;
 
 /// Four bytes, big-endian.

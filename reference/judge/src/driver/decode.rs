@@ -51,10 +51,11 @@ pub fn render_rows(
     }
 }
 
-/// The texts with a letter in place of each byte.
-struct Shadow([String; 3]);
+/// The texts of all three origins, as the real `Renderer` takes them.
+pub(super) struct Shadow(pub(super) [String; 3]);
 
 impl Shadow {
+    /// A letter in place of each byte.
     fn new(texts: Texts, half: fn(u8) -> u8) -> Self {
         let letters = |bytes: &[u8]| {
             bytes.iter().map(|b| char::from(b'A' + half(*b))).collect()
@@ -76,7 +77,7 @@ fn whole(high: u8, low: u8) -> u8 {
     }
 }
 
-fn decode<'t>(
+pub(super) fn decode<'t>(
     shadow: &'t Shadow,
     rows: &[Row],
     from: usize,

@@ -3,7 +3,7 @@
 use super::{
     super::{Node, Nodes, State, fmt_parsed},
     Run,
-    render::{Pen, render},
+    render::{Pen, Rendering, Shown},
 };
 use crate::{
     parser::Extras,
@@ -25,19 +25,23 @@ pub fn run(input: &Input) -> Run {
     let mut layout = Layout::new(input, Stop::default());
     layout.shebang();
     let mut stops = vec![layout.stop()];
+    let mut ends = vec![layout.nodes.len()];
     for place in 0..input.declarations() {
         layout.declaration(place);
         stops.push(layout.stop());
+        ends.push(layout.nodes.len());
     }
     layout.close();
     let closed = layout.stop();
-    let rendered = render(&layout.nodes, Pen::default(), Vec::new());
+    let (shown, rendering) = rendered(&layout.nodes, &ends);
+    let rendered = rendering.finish();
     let original =
         fmt_parsed(&input.ast, &input.files, &input.spans, &input.extras);
     assert_eq!(rendered.text, original, "the driver strays from fmt_parsed");
     Run {
         rows: layout.rows,
         stops,
+        shown,
         closed,
         comments_left: input.extras.comments.len() - closed.comments_placed,
         text: rendered.text,
@@ -46,10 +50,24 @@ pub fn run(input: &Input) -> Run {
     }
 }
 
+/// Renders all nodes, and says how far it came at each of these ends.
+fn rendered(nodes: &[Node], ends: &[usize]) -> (Vec<Shown>, Rendering) {
+    let mut rendering = Rendering::new(Pen::default(), &[]);
+    let mut shown = Vec::new();
+    let mut from = 0;
+    for end in ends {
+        rendering.nodes(&nodes[from..*end]);
+        shown.push(rendering.shown());
+        from = *end;
+    }
+    rendering.nodes(&nodes[from..]);
+    (shown, rendering)
+}
+
 /// The layout of `fmt_parsed` taken apart, to start and stop in between.
 pub struct Layout<'s> {
     input: &'s Input<'s>,
-    nodes: Vec<Node<'s>>,
+    pub(super) nodes: Vec<Node<'s>>,
     /// The nodes as rows, as far as [`Layout::stop`] was asked for them.
     pub rows: Vec<Row>,
     first_row: usize,

@@ -4,12 +4,14 @@
 //! nodes as rows, the state at each declaration, the groups that wrapped.
 
 mod decode;
+mod held;
 mod layout;
 mod render;
 
 pub use decode::{RenderedRows, Texts, render_rows};
+pub use held::{Held, HeldTexts, format};
 pub use layout::{Layout, Stop, run};
-pub use render::Pen;
+pub use render::{Pen, Shown};
 
 use crate::rows::Row;
 
@@ -20,6 +22,8 @@ pub struct Run {
     pub rows: Vec<Row>,
     /// The state before each declaration, and after the last one.
     pub stops: Vec<Stop>,
+    /// How far rendering is there, if it stops at the same rows.
+    pub shown: Vec<Shown>,
     /// The state after closing.
     pub closed: Stop,
     pub comments_left: usize,

@@ -12,11 +12,21 @@ pub struct Pen {
     pub column: usize,
 }
 
-#[derive(Debug)]
+#[derive(Clone, Debug)]
 pub struct Rendered {
     pub text: String,
     pub marks: Vec<u8>,
     pub pen: Pen,
+}
+
+/// How far a rendering came.
+#[derive(Clone, Debug, PartialEq, Eq)]
+pub struct Shown {
+    pub pen: Pen,
+    /// The bytes written so far.
+    pub bytes: usize,
+    /// The marks in use.
+    pub marks: Vec<u8>,
 }
 
 /// Renders nodes as `fmt_parsed` does, from a given state. Marks grow to the
@@ -26,30 +36,71 @@ pub(in super::super) fn render(
     pen: Pen,
     marks: Vec<u8>,
 ) -> Rendered {
-    let mut renderer = Renderer {
-        buf: String::new(),
-        indent: pen.indent,
-        next_indent: pen.next_indent,
-        column: pen.column,
-        max: 80,
-        wrapped: wrapped_numbers(&marks),
-    };
-    for node in nodes {
-        renderer.render_node(node, true);
+    let mut rendering = Rendering::new(pen, &marks);
+    rendering.nodes(nodes);
+    rendering.finish()
+}
+
+/// A `Renderer` under way, with its marks as bytes.
+pub(super) struct Rendering {
+    renderer: Renderer,
+    marks_in_use: usize,
+}
+
+impl Rendering {
+    pub(super) fn new(pen: Pen, marks: &[u8]) -> Self {
+        let renderer = Renderer {
+            buf: String::new(),
+            indent: pen.indent,
+            next_indent: pen.next_indent,
+            column: pen.column,
+            max: 80,
+            wrapped: wrapped_numbers(marks),
+        };
+        Rendering {
+            renderer,
+            marks_in_use: marks.len(),
+        }
     }
-    let needed = nodes.iter().map(marks_needed).max().unwrap_or(0);
-    let mut marks = vec![0; needed.max(marks.len())];
-    for number in renderer.wrapped {
-        marks[number] = 1;
+
+    pub(super) fn nodes(&mut self, nodes: &[Node]) {
+        for node in nodes {
+            self.renderer.render_node(node, true);
+        }
+        let needed = nodes.iter().map(marks_needed).max().unwrap_or(0);
+        self.marks_in_use = self.marks_in_use.max(needed);
     }
-    Rendered {
-        text: renderer.buf,
-        marks,
-        pen: Pen {
-            indent: renderer.indent,
-            next_indent: renderer.next_indent,
-            column: renderer.column,
-        },
+
+    pub(super) fn shown(&self) -> Shown {
+        Shown {
+            pen: self.pen(),
+            bytes: self.renderer.buf.len(),
+            marks: self.marks(),
+        }
+    }
+
+    pub(super) fn finish(self) -> Rendered {
+        Rendered {
+            marks: self.marks(),
+            pen: self.pen(),
+            text: self.renderer.buf,
+        }
+    }
+
+    fn pen(&self) -> Pen {
+        Pen {
+            indent: self.renderer.indent,
+            next_indent: self.renderer.next_indent,
+            column: self.renderer.column,
+        }
+    }
+
+    fn marks(&self) -> Vec<u8> {
+        let mut marks = vec![0; self.marks_in_use];
+        for number in &self.renderer.wrapped {
+            marks[*number] = 1;
+        }
+        marks
     }
 }
 

@@ -23,12 +23,23 @@ pub struct CallCase {
 /// A case by seed and index.
 pub fn case(seed: u64, index: u64) -> CallCase {
     let random = &mut Random::new(100, seed, index);
-    match random.below(8) {
+    match random.below(9) {
         0 => unreadable(random),
         1 => one_layout(random),
         2 | 3 => one_rendering(random),
+        4 => every_declaration(random),
         _ => list(random),
     }
+}
+
+/// A list that stops at every declaration, by seed and index.
+pub fn cut_case(seed: u64, index: u64) -> CallCase {
+    every_declaration(&mut Random::new(102, seed, index))
+}
+
+/// A source or an image that the reader turns down, by seed and index.
+pub fn unreadable_case(seed: u64, index: u64) -> CallCase {
+    unreadable(&mut Random::new(103, seed, index))
 }
 
 fn draft(random: &mut Random) -> Draft {
@@ -91,6 +102,85 @@ fn list(random: &mut Random) -> CallCase {
         image,
         world,
         calls,
+    }
+}
+
+/// Layout with a stop before each declaration, rendering behind it with a
+/// stop at the same rows, and calls between that are refused.
+fn every_declaration(random: &mut Random) -> CallCase {
+    let draft = match random.below(3) {
+        0 => draft(random),
+        _ => realistic::short_draft(random),
+    };
+    let image = draft.image();
+    let Some(run) = formatted(&draft, &image) else {
+        return unreadable(random);
+    };
+    let world = World {
+        store: junk_for(random, run.rows.len() + 1),
+        marks: vec![random.byte(); run.marks.len() + 1],
+        ..World::default()
+    };
+    CallCase {
+        calls: through(random, &run),
+        source: draft.source.into_bytes(),
+        image,
+        world,
+    }
+}
+
+/// Calls that stop at each declaration in turn.
+fn through(random: &mut Random, run: &Run) -> Vec<Call> {
+    let last = run.stops.len() - 1;
+    let mut calls = Vec::new();
+    for (place, stop) in run.stops.iter().enumerate() {
+        calls.push(Call::Layout {
+            stop: place,
+            close: false,
+        });
+        calls.extend(refused_at(random, run, place));
+        // Rendering may lag behind, and is level again at the last.
+        if place == last || !random.once_in(3) {
+            calls.push(Call::Render {
+                stop: stop.next_row,
+                room: 1 << 16,
+            });
+        }
+    }
+    calls.push(Call::Layout {
+        stop: last,
+        close: true,
+    });
+    calls.extend(refused_at(random, run, last));
+    calls.push(Call::Render {
+        stop: run.rows.len(),
+        room: run.text.len(),
+    });
+    calls
+}
+
+fn junk_for(random: &mut Random, rows: usize) -> Vec<u32> {
+    let junk = random.below(3);
+    (0..rows * Row::CELLS).map(|_| cell(random, junk)).collect()
+}
+
+/// A call that is refused, most times, where layout stands at a place.
+fn refused_at(random: &mut Random, run: &Run, place: usize) -> Option<Call> {
+    let last = run.stops.len() - 1;
+    let layout = |stop, close| Some(Call::Layout { stop, close });
+    match random.below(10) {
+        0 => layout(last + 1, false),
+        1 => layout(place.saturating_sub(1), false),
+        2 => layout(place, place < last),
+        3 => Some(Call::Render {
+            stop: run.rows.len() + 2,
+            room: 1 << 16,
+        }),
+        4 => Some(Call::Render {
+            stop: run.stops[place].next_row,
+            room: 0,
+        }),
+        _ => None,
     }
 }
 

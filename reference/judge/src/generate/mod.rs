@@ -5,6 +5,7 @@ mod edges;
 mod lists;
 mod random_rows;
 mod realistic;
+mod rendering;
 mod shape;
 mod sizes;
 mod wild;
@@ -17,7 +18,8 @@ use crate::{
     random::Random,
 };
 
-pub use lists::{CallCase, case as call_case};
+pub use lists::{CallCase, case as call_case, cut_case, unreadable_case};
+pub use rendering::cases as rendering_cases;
 pub use sizes::{
     Case as SizeCase, call_cases as size_call_cases, cases as size_cases,
 };
@@ -61,7 +63,8 @@ pub fn frames(
     (0..count).map(move |index| frame(class, seed, index))
 }
 
-fn frame(class: Class, seed: u64, index: u64) -> Vec<u8> {
+/// One frame of a class.
+pub fn frame(class: Class, seed: u64, index: u64) -> Vec<u8> {
     let mut random = Random::new(class as u64, seed, index);
     match class {
         Class::Realistic => realistic::draft(&mut random).frame(),

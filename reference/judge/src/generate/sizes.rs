@@ -31,10 +31,15 @@ pub fn cases() -> &'static [Case] {
 /// The cases as calls, for a library without the program's limit on frames:
 /// all is laid out, then rendered.
 pub fn call_cases() -> impl Iterator<Item = CallCase> {
-    cases().iter().map(|case| {
+    cases().iter().map(Case::as_calls)
+}
+
+impl Case {
+    /// Layout of all, then rendering of all.
+    pub fn as_calls(&self) -> CallCase {
         let frame = Frame {
-            source: &case.source,
-            image: &case.image,
+            source: &self.source,
+            image: &self.image,
         };
         let run = program::format(frame, Widths::Supplied);
         // A refused image is refused at any stop.
@@ -49,8 +54,8 @@ pub fn call_cases() -> impl Iterator<Item = CallCase> {
             room: program::OUTPUT,
         };
         CallCase {
-            source: case.source.clone(),
-            image: case.image.clone(),
+            source: self.source.clone(),
+            image: self.image.clone(),
             world: World {
                 store: vec![0; program::ROWS * Row::CELLS],
                 marks: vec![0; program::MARKS as usize],
@@ -58,7 +63,7 @@ pub fn call_cases() -> impl Iterator<Item = CallCase> {
             },
             calls: vec![layout, rendering],
         }
-    })
+    }
 }
 
 fn make_cases() -> Vec<Case> {

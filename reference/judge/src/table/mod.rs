@@ -5,6 +5,7 @@ mod report;
 use std::{collections::BTreeMap, fmt::Write};
 
 use crate::{
+    answers::{self, stored},
     calls::{self, Call, Given},
     frame,
     generate::{self, CallCase, Class},
@@ -49,6 +50,28 @@ pub fn table(seed: u64, count: u64) -> String {
         all.add_calls(&generate::call_case(seed, index));
     }
     writeln!(out, "- lists of calls: {count}").unwrap();
+    out + &all.report()
+}
+
+/// The same table over the stored frames and lists.
+pub fn stored() -> String {
+    let mut out = String::from("# What the stored answers hold\n\n");
+    out.push_str("    judge stored-table\n\n");
+    let mut all = Counts::default();
+    let [mut count, mut bytes] = [0, 0];
+    for frame in stored::frames() {
+        all.add(&frame);
+        count += 1;
+        bytes += answers::frames::answered(&frame).len();
+    }
+    writeln!(out, "- frames: {count}, {bytes} bytes").unwrap();
+    [count, bytes] = [0, 0];
+    for case in stored::lists() {
+        all.add_calls(&case);
+        count += 1;
+        bytes += answers::calls::answered(&case).len();
+    }
+    writeln!(out, "- lists of calls: {count}, {bytes} bytes").unwrap();
     out + &all.report()
 }
 

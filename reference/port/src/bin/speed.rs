@@ -1,90 +1,74 @@
-//! Times the port beside the judge on the same inputs, in one run.
+//! Times the port beside the original on the same inputs, in one run:
+//! `speed FILE STACK` prints tables and writes them to these files as CSV.
 
-use std::{hint::black_box, time::Instant};
+use std::{env, fs, process::ExitCode};
 
-use judge::{
-    image::{self, Tree, chosen, node, text},
-    reader,
-};
+use judge::reader;
+use port::measure::{self, Line, both, inputs};
+#[cfg(feature = "calls")]
+use port::measure::{documents, steps};
 
-/// How long a measurement goes on, in seconds.
-const LEAST: f64 = 0.2;
-const ROUNDS: usize = 5;
+fn main() -> ExitCode {
+    let paths: Vec<String> = env::args().skip(1).collect();
+    if let Some(notice) = port::NOTICE {
+        println!("{notice}\n");
+    }
+    let mut lines = Vec::new();
+    for input in inputs::growing().into_iter().chain(inputs::all()) {
+        lines.push(check(&input));
+    }
+    #[cfg(feature = "calls")]
+    {
+        lines.extend(inputs::all().iter().flat_map(steps::of_files));
+        let documents = documents::growing();
+        lines.extend(documents.into_iter().map(steps::rendering));
+    }
+    print!("{}", measure::table(&lines));
+    write(paths.first(), &measure::csv(&lines));
+    stack(paths.get(1))
+}
 
-fn main() {
-    println!("reader: time to check a source and an image, best of {ROUNDS}");
-    println!(
-        "| image bytes | port, us | judge, us | port, ns a byte | port / judge |"
-    );
-    println!("|---:|---:|---:|---:|---:|");
-    for bytes in [1 << 10, 1 << 12, 1 << 14, 1 << 16, 1 << 18, 1 << 20] {
-        let image = image_of(bytes);
-        let port = seconds(|| port::check(b"", &image).is_ok());
-        let judge = seconds(|| reader::read(b"", &image).is_ok());
-        println!(
-            "| {} | {:.2} | {:.2} | {:.2} | {:.2} |",
-            image.len(),
-            port * 1e6,
-            judge * 1e6,
-            port * 1e9 / image.len() as f64,
-            port / judge,
-        );
+fn write(path: Option<&String>, text: &str) {
+    if let Some(path) = path {
+        fs::write(path, text).expect("the file is written");
     }
 }
 
-/// Constants whose values are sums of paths and lists, in an image of about so many bytes.
-fn image_of(bytes: usize) -> Vec<u8> {
-    let one = declaration();
-    let each = image::write(&[], &tree(vec![one.clone()])).len() - 24;
-    image::write(&[], &tree(vec![one; bytes.saturating_sub(64) / each]))
-}
-
-fn tree(declarations: Vec<Tree>) -> Tree {
-    let shebang = std::iter::once(None);
-    node(1, 0..0, shebang.chain(declarations.into_iter().map(Some)))
-}
-
-fn declaration() -> Tree {
-    let value = node(
-        63,
-        0..0,
-        [Some(path()), Some(chosen(86, 0..0, 8, [])), Some(list())],
-    );
-    node(
-        11,
-        0..0,
-        [text(0..0, 6, "factor"), node(42, 0..0, []), value].map(Some),
-    )
-}
-
-fn path() -> Tree {
-    node(
-        56,
-        0..0,
-        [Some(node(
-            4,
-            0..0,
-            [text(0..0, 7, "storeys"), text(0..0, 4, "roof")].map(Some),
-        ))],
-    )
-}
-
-fn list() -> Tree {
-    let elements = vec![Some(path()); 3];
-    node(59, 0..0, [Some(node(3, 0..0, elements))])
-}
-
-/// The best time of one call.
-fn seconds(mut call: impl FnMut() -> bool) -> f64 {
-    let mut best = f64::INFINITY;
-    for _ in 0..ROUNDS {
-        let start = Instant::now();
-        let mut calls = 0;
-        while start.elapsed().as_secs_f64() < LEAST / ROUNDS as f64 {
-            assert!(black_box(call()), "the image is legal");
-            calls += 1;
-        }
-        best = best.min(start.elapsed().as_secs_f64() / f64::from(calls));
+/// Fails if a call takes too much stack.
+#[cfg(feature = "calls")]
+fn stack(path: Option<&String>) -> ExitCode {
+    let lines = steps::stack();
+    print!("\n{}", steps::stack_table(&lines));
+    write(path, &steps::stack_csv(&lines));
+    if lines.iter().all(|line| line.bytes < steps::MOST_STACK) {
+        ExitCode::SUCCESS
+    } else {
+        println!("\nmore than {} bytes of stack", steps::MOST_STACK);
+        ExitCode::FAILURE
     }
-    best
+}
+
+#[cfg(not(feature = "calls"))]
+fn stack(_: Option<&String>) -> ExitCode {
+    ExitCode::SUCCESS
+}
+
+/// The reader beside the judge's; the original has none.
+fn check(input: &inputs::Input) -> Line {
+    let files = &input.files;
+    let accept = |accepts: &dyn Fn(&inputs::File) -> bool| {
+        assert!(files.iter().all(accepts), "the files are legal")
+    };
+    let [port_seconds, rust_seconds] = both(
+        || accept(&|file| port::check(&file.source, &file.image).is_ok()),
+        || accept(&|file| reader::read(&file.source, &file.image).is_ok()),
+    );
+    Line {
+        step: "check",
+        input: input.name.clone(),
+        size: input.bytes(),
+        unit: "byte",
+        port_seconds,
+        rust_seconds,
+    }
 }

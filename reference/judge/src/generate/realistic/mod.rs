@@ -50,18 +50,28 @@ const REMARKS: [&str; 10] = [
 const SHEBANGS: [&str; 4] =
     ["#!/usr/bin/env roto", "#!/x", "#!/é \u{2003}", "#!変数\t "];
 
+/// A program of up to five declarations.
 pub fn draft(random: &mut Random) -> Draft {
+    printed(random, 0, &[5, 20, 60, 150])
+}
+
+/// A program of three to five short declarations.
+pub fn short_draft(random: &mut Random) -> Draft {
+    printed(random, 3, &[0, 1, 3])
+}
+
+fn printed(random: &mut Random, least: usize, fuels: &[usize]) -> Draft {
     let mut printer = Printer {
         newline: if random.once_in(4) { "\r\n" } else { "\n" },
         keeps_newline: !random.once_in(4),
         mess: *random.pick(&[0, 1, 1, 2, 4]),
-        fuel: *random.pick(&[5, 20, 60, 150]),
+        fuel: *random.pick(fuels),
         levels: 0,
         out: String::new(),
         comments: Vec::new(),
         random,
     };
-    let tree = printer.file();
+    let tree = printer.file(least);
     Draft {
         source: printer.out,
         comments: printer.comments,
@@ -85,10 +95,10 @@ struct Printer<'r> {
 }
 
 impl Printer<'_> {
-    fn file(&mut self) -> Tree {
+    fn file(&mut self, least: usize) -> Tree {
         let shebang = self.random.once_in(4).then(|| self.shebang());
         let mut children = vec![shebang];
-        for _ in 0..self.random.below(6) {
+        for _ in 0..least + self.random.below(6 - least) {
             self.lines();
             children.push(Some(self.declaration()));
         }

@@ -1,0 +1,48 @@
+//! The fixed sets of frames and lists that a port's own tests keep.
+
+use super::calls;
+use crate::{
+    frame,
+    generate::{self, CallCase, Class},
+};
+
+/// Class, seed, frames tried, and the most bytes of a frame that is kept.
+pub const FRAMES: [(Class, u64, u64, usize); 8] = [
+    (Class::Realistic, 1, 1_800, 900),
+    (Class::Realistic, 2, 40, 8_000),
+    (Class::Wild, 1, 1_500, 900),
+    (Class::Wild, 2, 30, 8_000),
+    (Class::Edges, 1, 900, 700),
+    (Class::Damaged, 1, 1_600, 800),
+    (Class::Damaged, 2, 80, 4_000),
+    (Class::Sizes, 1, 32, frame::MOST_BYTES + 1),
+];
+
+/// A way to make lists, with the seed, lists tried, and the most bytes of a
+/// list with its answers that is kept.
+type Lists = (fn(u64, u64) -> CallCase, u64, u64, usize);
+
+pub const LISTS: [Lists; 4] = [
+    (generate::call_case, 1, 900, 4_000),
+    (generate::cut_case, 1, 120, 10_000),
+    (generate::unreadable_case, 1, 120, 4_000),
+    // Its only one is a source too long.
+    (generate::unreadable_case, LONG, 1, 70_000),
+];
+
+/// A seed under which the first source is one byte too long.
+const LONG: u64 = 121;
+
+pub fn frames() -> impl Iterator<Item = Vec<u8>> {
+    FRAMES.into_iter().flat_map(|(class, seed, count, most)| {
+        let all = generate::frames(class, seed, count);
+        all.filter(move |frame| frame.len() <= most)
+    })
+}
+
+pub fn lists() -> impl Iterator<Item = CallCase> {
+    LISTS.into_iter().flat_map(|(case, seed, count, most)| {
+        let all = (0..count).map(move |index| case(seed, index));
+        all.filter(move |case| calls::answered(case).len() <= most)
+    })
+}

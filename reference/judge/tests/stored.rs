@@ -1,0 +1,72 @@
+//! The stored answers hold every case that they can.
+
+use std::collections::BTreeSet;
+
+use judge::{
+    answers::{calls, frames, stored},
+    calls::Call,
+    frame, program, reader, table,
+};
+
+#[test]
+fn they_take_less_than_three_megabytes() {
+    let frames: usize =
+        stored::frames().map(|f| frames::answered(&f).len()).sum();
+    let lists: usize = stored::lists()
+        .map(|case| calls::answered(&case).len())
+        .sum();
+    assert!(frames + lists < 3_000_000, "{frames} and {lists}");
+    assert!(stored::frames().count() > 2_500);
+    assert!(stored::lists().count() > 300);
+}
+
+/// Each line of the table has a count, but for refusals that the program
+/// never gives.
+#[test]
+fn the_table_has_no_gaps() {
+    let table = table::stored();
+    for line in table.lines().filter(|line| line.contains("| 0 |")) {
+        assert!(line.contains("unreachable"), "{line}");
+    }
+}
+
+#[test]
+fn a_source_too_long_is_among_the_lists() {
+    let long = reader::MOST_SOURCE + 1;
+    assert!(stored::lists().any(|case| case.source.len() == long));
+    let largest = stored::frames().map(|frame| frame.len()).max();
+    assert_eq!(largest, Some(frame::MOST_BYTES + 1));
+}
+
+/// Many lists stop at each of several declarations, and make refused calls
+/// between.
+#[test]
+fn lists_stop_at_every_declaration() {
+    let stops = |case: &judge::generate::CallCase| {
+        let stops = case.calls.iter().filter_map(|call| match call {
+            Call::Layout { stop, close: false } => Some(*stop),
+            _ => None,
+        });
+        stops.collect::<BTreeSet<_>>()
+    };
+    let through = stored::lists().filter(|case| {
+        let read = reader::read(&case.source, &case.image);
+        let declarations =
+            read.map_or(0, |read| read.tree.children.len() - 1);
+        let all = (0..=declarations).collect();
+        declarations >= 3 && stops(case).is_superset(&all)
+    });
+    let count = through.count();
+    assert!(count >= 30, "{count}");
+}
+
+#[test]
+fn the_program_reaches_its_limits_among_the_frames() {
+    let widths = program::Widths::Supplied;
+    let runs = stored::frames();
+    let runs: Vec<_> = runs
+        .filter_map(|f| program::answer(&f, widths).ok())
+        .collect();
+    assert!(runs.iter().any(|run| run.rows.len() == program::ROWS));
+    assert!(runs.iter().any(|run| run.text.len() == program::OUTPUT));
+}

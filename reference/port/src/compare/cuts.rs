@@ -1,0 +1,303 @@
+//! A file laid out with a stop before each declaration, then rendered with a
+//! stop at the same rows; and the whole run with the program's sizes.
+
+use judge::{
+    calls::{Answer, Given, LayoutState, RenderState},
+    driver::{Run, Shown},
+    frame::Frame,
+    program::{self, MARKS, OUTPUT, ROWS, Widths},
+    refusal::{Refusal, refusal},
+    rows::{self, Row},
+};
+
+use super::{
+    Tally,
+    buffers::{first_difference, junk_bytes, junk_cells},
+};
+use crate::Formatted;
+
+/// Compares layout and rendering in pieces, and the whole run.
+pub fn compare(tally: &mut Tally, class: &str, frame: Frame) {
+    let given = Given {
+        source: frame.source,
+        image: frame.image,
+    };
+    let run = program::format(frame, Widths::Supplied);
+    let due = run.as_ref().map_err(|refusal| *refusal).and_then(|run| {
+        program::fits(run).map(|()| Formatted {
+            bytes: run.text.len() as u64,
+            comments_left: run.comments_left as u64,
+            rows: run.rows.len() as u64,
+            numbers: run.closed.next_number as u64,
+        })
+    });
+    let number = due.err().map_or(0, |refusal| refusal.number);
+    tally.count(&format!("whole run, {class}"), number);
+    compare_whole(tally, given, run.as_ref().ok(), due);
+    match run {
+        Err(refusal) => compare_refused(tally, given, refusal),
+        Ok(run) => {
+            let mut cut = Cut {
+                tally,
+                given,
+                run: &run,
+                store: junk_cells((run.rows.len() + 2) * Row::CELLS + 4),
+                marks: junk_bytes(run.marks.len() + 3),
+            };
+            let _ = cut.layout().is_some() && cut.rendering().is_some();
+        }
+    }
+}
+
+/// The whole run. Its layout call writes the rows before rendering refuses;
+/// else a refusal leaves all as it was.
+fn compare_whole(
+    tally: &mut Tally,
+    given: Given,
+    run: Option<&Run>,
+    due: Result<Formatted, Refusal>,
+) {
+    let mut store = junk_cells(ROWS * Row::CELLS);
+    let mut marks = junk_bytes(MARKS as usize);
+    let mut output = junk_bytes(OUTPUT);
+    let mut due_store = store.clone();
+    let mut due_marks = marks.clone();
+    let mut due_output = output.clone();
+    let got = crate::format(given, &mut store, &mut marks, &mut output);
+    if let Some(run) = run.filter(|run| run.rows.len() <= ROWS) {
+        put_rows(&mut due_store, 0, &run.rows);
+    }
+    if let Some(run) = run.filter(|_| due.is_ok()) {
+        due_marks[..run.marks.len()].copy_from_slice(&run.marks);
+        due_output[..run.text.len()].copy_from_slice(run.text.as_bytes());
+    }
+    let _ = tally.expect("the whole run's answer", &due, &got)
+        && expect_store(tally, "the whole run's store", &due_store, &store)
+        && tally.expect_bytes("the whole run's marks", &due_marks, &marks)
+        && tally.expect_bytes("the whole run's output", &due_output, &output);
+}
+
+/// A layout call that the reader refuses.
+fn compare_refused(tally: &mut Tally, given: Given, refusal: Refusal) {
+    let mut store = junk_cells(20);
+    let due_store = store.clone();
+    let fresh = LayoutState::default();
+    let got = crate::layout(given, &mut store, &fresh, 0, false);
+    let _ = tally.expect("a refused layout", &Err(refusal), &got)
+        && expect_store(tally, "a refused layout", &due_store, &store);
+}
+
+struct Cut<'c> {
+    tally: &'c mut Tally,
+    given: Given<'c>,
+    run: &'c Run,
+    store: Vec<u32>,
+    marks: Vec<u8>,
+}
+
+impl Cut<'_> {
+    /// Lays out to each declaration in turn, then closes; `None` when it
+    /// went wrong.
+    fn layout(&mut self) -> Option<()> {
+        let mut state = LayoutState::default();
+        let mut due_store = self.store.clone();
+        for (place, stop) in self.run.stops.iter().enumerate() {
+            let from = state.at.next_row;
+            let due = LayoutState {
+                begun: true,
+                closed: false,
+                next_declaration: place,
+                at: *stop,
+            };
+            let rows = &self.run.rows[from..stop.next_row];
+            put_rows(&mut due_store, from, rows);
+            self.lay_out(&mut state, due, &due_store)?;
+        }
+        self.one_row_short(&state)?;
+        let last = self.run.rows.len() - 1;
+        put_rows(&mut due_store, last, &self.run.rows[last..]);
+        let due = LayoutState {
+            closed: true,
+            at: self.run.closed,
+            ..state
+        };
+        self.lay_out(&mut state, due, &due_store)
+    }
+
+    fn lay_out(
+        &mut self,
+        state: &mut LayoutState,
+        due: LayoutState,
+        due_store: &[u32],
+    ) -> Option<()> {
+        let placed = self.run.closed.comments_placed;
+        let comments = self.run.comments_left + placed;
+        let answer = Answer::LaidOut {
+            state: due,
+            comments_left: comments - due.at.comments_placed,
+        };
+        let what = format!("layout from {state:?}");
+        let got = crate::layout(
+            self.given,
+            &mut self.store,
+            state,
+            due.next_declaration,
+            due.closed,
+        );
+        *state = due;
+        let right = self.tally.expect(&what, &Ok(answer), &got)
+            && expect_store(self.tally, &what, due_store, &self.store);
+        right.then_some(())
+    }
+
+    /// Closing with room for one row too few: 8, and no cell is changed.
+    fn one_row_short(&mut self, state: &LayoutState) -> Option<()> {
+        let rows = self.run.rows.len();
+        let before = self.store.clone();
+        let room = &mut self.store[..rows * Row::CELLS - 1];
+        let stop = state.next_declaration;
+        let got = crate::layout(self.given, room, state, stop, true);
+        let what = "layout one row short";
+        let due = Err(refusal(8, rows));
+        let right = self.tally.expect(what, &due, &got)
+            && expect_store(self.tally, what, &before, &self.store);
+        right.then_some(())
+    }
+
+    /// Renders to the row of each stop in turn, then to the end.
+    fn rendering(&mut self) -> Option<()> {
+        let mut state = RenderState::default();
+        let mut written = 0;
+        self.one_mark_short()?;
+        let end = Shown {
+            pen: self.run.pen,
+            bytes: self.run.text.len(),
+            marks: self.run.marks.clone(),
+        };
+        let stops = self.run.stops.iter().map(|stop| stop.next_row);
+        let stops = stops.chain([self.run.rows.len()]);
+        for (stop, shown) in stops.zip(self.run.shown.iter().chain([&end])) {
+            let text = &self.run.text.as_bytes()[written..shown.bytes];
+            self.one_byte_short(&state, stop, text)?;
+            self.render(&mut state, stop, shown, text)?;
+            written = shown.bytes;
+        }
+        Some(())
+    }
+
+    fn render(
+        &mut self,
+        state: &mut RenderState,
+        stop: usize,
+        shown: &Shown,
+        text: &[u8],
+    ) -> Option<()> {
+        // Exactly full, or with bytes to spare.
+        let mut output = junk_bytes(text.len() + 3 * (stop % 2));
+        let mut due_output = output.clone();
+        due_output[..text.len()].copy_from_slice(text);
+        let mut due_marks = self.marks.clone();
+        due_marks[..shown.marks.len()].copy_from_slice(&shown.marks);
+        let due = RenderState {
+            pen: shown.pen,
+            marks_in_use: shown.marks.len(),
+            next_row: stop,
+        };
+        let answer = Answer::Written {
+            state: due,
+            bytes: text.len(),
+        };
+        let what = format!("rendering from {state:?}");
+        let got = self.call(state, stop, &mut output);
+        *state = due;
+        let right = self.tally.expect(&what, &Ok(answer), &got)
+            && self.tally.expect_bytes(&what, &due_marks, &self.marks)
+            && self.tally.expect_bytes(&what, &due_output, &output);
+        right.then_some(())
+    }
+
+    /// Output for one byte too few: 10, and nothing is changed.
+    fn one_byte_short(
+        &mut self,
+        state: &RenderState,
+        stop: usize,
+        text: &[u8],
+    ) -> Option<()> {
+        if text.is_empty() {
+            return Some(());
+        }
+        let mut output = junk_bytes(text.len() - 1);
+        let [due_output, due_marks] = [output.clone(), self.marks.clone()];
+        let got = self.call(state, stop, &mut output);
+        let what = "rendering one byte short";
+        let due = Err(refusal(10, text.len()));
+        let right = self.tally.expect(what, &due, &got)
+            && self.tally.expect_bytes(what, &due_marks, &self.marks)
+            && self.tally.expect_bytes(what, &due_output, &output);
+        right.then_some(())
+    }
+
+    /// Marks for one number too few: 9, and nothing is changed.
+    fn one_mark_short(&mut self) -> Option<()> {
+        let needed = rows::marks_needed(&self.run.rows) as usize;
+        if needed == 0 {
+            return Some(());
+        }
+        let before = self.marks.clone();
+        let rows = self.run.rows.len();
+        let got = crate::render(
+            self.given,
+            &mut self.store,
+            &mut self.marks[..needed - 1],
+            &mut [],
+            &RenderState::default(),
+            rows,
+        );
+        let what = "rendering one mark short";
+        let due = Err(refusal(9, needed));
+        let right = self.tally.expect(what, &due, &got)
+            && self.tally.expect_bytes(what, &before, &self.marks);
+        right.then_some(())
+    }
+
+    /// A rendering call, which must leave the store alone.
+    fn call(
+        &mut self,
+        state: &RenderState,
+        stop: usize,
+        output: &mut [u8],
+    ) -> Result<Answer, Refusal> {
+        let before = self.store.clone();
+        let answer = crate::render(
+            self.given,
+            &mut self.store,
+            &mut self.marks,
+            output,
+            state,
+            stop,
+        );
+        let what = "the store after rendering";
+        expect_store(self.tally, what, &before, &self.store);
+        answer
+    }
+}
+
+fn put_rows(store: &mut [u32], at: usize, rows: &[Row]) {
+    let cells = store[at * Row::CELLS..].chunks_exact_mut(Row::CELLS);
+    for (cells, row) in cells.zip(rows) {
+        cells.copy_from_slice(&row.cells());
+    }
+}
+
+fn expect_store(
+    tally: &mut Tally,
+    what: &str,
+    due: &[u32],
+    got: &[u32],
+) -> bool {
+    let difference = first_difference(due, got);
+    if let Some(where_) = &difference {
+        tally.differ(format!("{what}: {where_}"));
+    }
+    difference.is_none()
+}

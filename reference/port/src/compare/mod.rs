@@ -1,0 +1,18 @@
+//! Holds the port against the judge on generated inputs.
+
+#[cfg(feature = "calls")]
+mod buffers;
+#[cfg(feature = "calls")]
+mod cuts;
+mod frames;
+#[cfg(feature = "calls")]
+mod large;
+#[cfg(feature = "calls")]
+mod lists;
+mod tally;
+mod work;
+
+#[cfg(feature = "calls")]
+pub use buffers::PORT_WORDS;
+pub use tally::Tally;
+pub use work::{Item, Plan, one};

@@ -1,0 +1,220 @@
+//! What there is to compare, and its sharing among threads.
+
+#[cfg(feature = "calls")]
+use std::sync::LazyLock;
+use std::{
+    panic::{AssertUnwindSafe, catch_unwind},
+    sync::atomic::{AtomicUsize, Ordering},
+    thread,
+};
+
+#[cfg(feature = "calls")]
+use judge::generate::CallCase;
+use judge::{
+    frame::Frame,
+    generate::{self, Class},
+};
+
+use super::{Tally, frames};
+
+/// One thing to compare; its seed is the plan's.
+#[derive(Clone, Copy, Debug, PartialEq, Eq)]
+pub enum Item {
+    Frame(Class, u64),
+    /// A size of document 01, without the frame's limit.
+    Size(usize),
+    #[cfg(feature = "calls")]
+    List(u64),
+    /// A list with a number far out.
+    #[cfg(feature = "calls")]
+    Stretched(u64),
+    #[cfg(feature = "calls")]
+    Large(usize),
+    /// A size of document 01 as calls.
+    #[cfg(feature = "calls")]
+    SizeCalls(usize),
+    /// A case of the fixed list of rendering calls.
+    #[cfg(feature = "calls")]
+    Rendering(usize),
+}
+
+/// All items of a run: so many frames of each class but `sizes`, all sizes
+/// and rendering answers once, and so many lists. With lists come the largest
+/// stores.
+#[derive(Clone, Copy, Debug)]
+pub struct Plan {
+    pub seed: u64,
+    pub frames: u64,
+    pub lists: u64,
+}
+
+const CLASSES: [Class; 4] =
+    [Class::Realistic, Class::Wild, Class::Edges, Class::Damaged];
+
+/// Items that a thread takes at once.
+const CHUNK: usize = 32;
+const STACK: usize = 64 << 20;
+
+impl Plan {
+    pub fn items(&self) -> Vec<Item> {
+        // Those that take longest come first.
+        let mut items = Vec::new();
+        #[cfg(feature = "calls")]
+        if self.lists > 0 {
+            items.extend((0..super::large::COUNT).map(Item::Large));
+        }
+        let sizes = generate::size_cases().len();
+        items.extend((0..sizes).map(Item::Size));
+        #[cfg(feature = "calls")]
+        {
+            items.extend((0..sizes).map(Item::SizeCalls));
+            let rendering = rendering_cases().len();
+            items.extend((0..rendering).map(Item::Rendering));
+        }
+        for class in CLASSES {
+            items.extend((0..self.frames).map(|i| Item::Frame(class, i)));
+        }
+        #[cfg(feature = "calls")]
+        for index in 0..self.lists {
+            items.extend([Item::List(index), Item::Stretched(index)]);
+        }
+        items
+    }
+
+    /// Compares all items, on as many threads as the machine has cores.
+    pub fn run(&self) -> Tally {
+        let items = self.items();
+        let next = AtomicUsize::new(0);
+        let threads = thread::available_parallelism().map_or(1, usize::from);
+        let mut tally = Tally::default();
+        thread::scope(|scope| {
+            let work = || self.share(&items, &next);
+            let spawn = |_| {
+                let builder = thread::Builder::new().stack_size(STACK);
+                builder.spawn_scoped(scope, work).expect("a thread")
+            };
+            let running: Vec<_> = (0..threads).map(spawn).collect();
+            for one in running {
+                tally.join(one.join().expect("a tally"));
+            }
+        });
+        tally
+    }
+
+    fn share(&self, items: &[Item], next: &AtomicUsize) -> Tally {
+        let mut tally = Tally::default();
+        loop {
+            let from = next.fetch_add(CHUNK, Ordering::Relaxed);
+            let to = (from + CHUNK).min(items.len());
+            if from >= to {
+                return tally;
+            }
+            for (place, item) in (from..).zip(&items[from..to]) {
+                tally.begin(place, name(*item, self.seed));
+                one(&mut tally, *item, self.seed);
+            }
+        }
+    }
+}
+
+/// Compares one item. A panic of the judge counts as a difference.
+pub fn one(tally: &mut Tally, item: Item, seed: u64) {
+    let compare = AssertUnwindSafe(|| compare(tally, item, seed));
+    if catch_unwind(compare).is_err() {
+        tally.differ("panic".into());
+    }
+}
+
+fn compare(tally: &mut Tally, item: Item, seed: u64) {
+    match item {
+        Item::Frame(class, index) => {
+            let bytes = generate::frame(class, seed, index);
+            frames::compare(tally, class_name(class), &bytes);
+        }
+        Item::Size(place) => {
+            let case = &generate::size_cases()[place];
+            let frame = Frame {
+                source: &case.source,
+                image: &case.image,
+            };
+            frames::compare_parts(tally, "sizes", frame);
+        }
+        #[cfg(feature = "calls")]
+        Item::List(index) => {
+            let case = generate::call_case(seed, index);
+            super::lists::compare(tally, "lists", &case);
+        }
+        #[cfg(feature = "calls")]
+        Item::Stretched(index) => {
+            let case = generate::call_case(seed, index);
+            let case = super::lists::stretched(&case, seed, index);
+            super::lists::compare(tally, "lists, stretched", &case);
+        }
+        #[cfg(feature = "calls")]
+        Item::Large(place) => {
+            let case = super::large::numbered(place);
+            super::lists::compare(tally, "largest stores", &case);
+        }
+        #[cfg(feature = "calls")]
+        Item::SizeCalls(place) => {
+            let case = generate::size_cases()[place].as_calls();
+            super::lists::compare(tally, "sizes as calls", &case);
+        }
+        #[cfg(feature = "calls")]
+        Item::Rendering(place) => {
+            let case = &rendering_cases()[place];
+            super::lists::compare(tally, "rendering answers", case);
+        }
+    }
+}
+
+#[cfg(feature = "calls")]
+fn rendering_cases() -> &'static [CallCase] {
+    static CASES: LazyLock<Vec<CallCase>> =
+        LazyLock::new(generate::rendering_cases);
+    &CASES
+}
+
+fn class_name(class: Class) -> &'static str {
+    let known = Class::ALL.into_iter().find(|(known, _)| *known == class);
+    known.expect("all classes are listed").1
+}
+
+/// The words after `compare` that repeat an item.
+fn name(item: Item, seed: u64) -> String {
+    let (kind, index) = match item {
+        Item::Frame(class, index) => (class_name(class), index),
+        Item::Size(place) => ("sizes", place as u64),
+        #[cfg(feature = "calls")]
+        Item::List(index) => ("list", index),
+        #[cfg(feature = "calls")]
+        Item::Stretched(index) => ("stretched", index),
+        #[cfg(feature = "calls")]
+        Item::Large(place) => ("large", place as u64),
+        #[cfg(feature = "calls")]
+        Item::SizeCalls(place) => ("size-calls", place as u64),
+        #[cfg(feature = "calls")]
+        Item::Rendering(place) => ("rendering", place as u64),
+    };
+    format!("{kind} {seed} {index}")
+}
+
+impl Item {
+    /// The item that [`name`] named.
+    pub fn from_words(kind: &str, index: u64) -> Option<Item> {
+        match kind {
+            "sizes" => Some(Item::Size(index as usize)),
+            #[cfg(feature = "calls")]
+            "list" => Some(Item::List(index)),
+            #[cfg(feature = "calls")]
+            "stretched" => Some(Item::Stretched(index)),
+            #[cfg(feature = "calls")]
+            "large" => Some(Item::Large(index as usize)),
+            #[cfg(feature = "calls")]
+            "size-calls" => Some(Item::SizeCalls(index as usize)),
+            #[cfg(feature = "calls")]
+            "rendering" => Some(Item::Rendering(index as usize)),
+            _ => Class::from_name(kind).map(|c| Item::Frame(c, index)),
+        }
+    }
+}

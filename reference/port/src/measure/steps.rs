@@ -1,0 +1,290 @@
+//! Layout, rendering and the whole run, timed on both sides.
+
+use std::{fmt::Write, hint::black_box};
+
+use judge::{
+    calls::{Given, LayoutState, RenderState},
+    driver::{self, Held, Run},
+    frame::Frame,
+    generate::{self, SizeCase},
+    program::{self, Widths},
+    reader,
+    rows::{self, Row},
+    tree,
+};
+
+use super::{
+    Line, both,
+    documents::{self, Document, Empty},
+    inputs::{File, Input},
+    stack,
+};
+
+/// A file of the port: what it is given, and buffers as large as it needs.
+struct Ported<'f> {
+    given: Given<'f>,
+    declarations: usize,
+    rows: usize,
+    store: Vec<u32>,
+    marks: Vec<u8>,
+    output: Vec<u8>,
+}
+
+impl Ported<'_> {
+    fn layout(&mut self) {
+        let fresh = LayoutState::default();
+        let Ported {
+            given,
+            declarations,
+            ..
+        } = *self;
+        let answer =
+            crate::layout(given, &mut self.store, &fresh, declarations, true);
+        assert!(answer.is_ok(), "{answer:?}");
+    }
+
+    fn render(&mut self) {
+        let answer = crate::render(
+            self.given,
+            &mut self.store,
+            &mut self.marks,
+            &mut self.output,
+            &RenderState::default(),
+            self.rows,
+        );
+        assert!(answer.is_ok(), "{answer:?}");
+    }
+
+    /// The text of the whole run.
+    fn format(&mut self) -> &[u8] {
+        let answer = crate::format(
+            self.given,
+            &mut self.store,
+            &mut self.marks,
+            &mut self.output,
+        );
+        &self.output[..answer.expect("room for all").bytes as usize]
+    }
+}
+
+/// Bytes of output to spare: where supplied widths are not the true ones,
+/// which the original computes here, the texts are not the same.
+const SPARE: usize = 1 << 16;
+
+/// The three steps on all files of an input.
+pub fn of_files(input: &Input) -> [Line; 3] {
+    let files = input.files.iter();
+    let accepted: Vec<_> = files
+        .map(|file| reader::read(&file.source, &file.image))
+        .map(|read| read.expect("a legal file"))
+        .collect();
+    let trees: Vec<tree::Input> = accepted
+        .iter()
+        .zip(&input.files)
+        .map(|(accepted, file)| tree::Input::new(accepted, &file.image))
+        .collect();
+    let mut ported = Vec::new();
+    let [mut rows, mut bytes] = [0, 0];
+    for (tree, file) in trees.iter().zip(&input.files) {
+        let run = driver::run(tree);
+        rows += run.rows.len();
+        bytes += run.text.len();
+        ported.push(of_file(file, &run));
+    }
+    let line =
+        |step, size, unit, [port_seconds, rust_seconds]: [f64; 2]| Line {
+            step,
+            input: input.name.clone(),
+            size,
+            unit,
+            port_seconds,
+            rust_seconds,
+        };
+    [
+        line("layout", rows, "row", layout(&mut ported, &trees)),
+        line("rendering", rows, "row", rendered(&mut ported, &trees)),
+        line("whole", bytes, "byte", whole(&mut ported, &trees)),
+    ]
+}
+
+fn of_file<'f>(file: &'f File, run: &Run) -> Ported<'f> {
+    Ported {
+        given: Given {
+            source: &file.source,
+            image: &file.image,
+        },
+        declarations: run.stops.len() - 1,
+        rows: run.rows.len(),
+        store: vec![0; run.rows.len() * Row::CELLS],
+        marks: vec![0; run.marks.len()],
+        output: vec![0; run.text.len() + SPARE],
+    }
+}
+
+fn layout(ported: &mut [Ported], trees: &[tree::Input]) -> [f64; 2] {
+    both(
+        || ported.iter_mut().for_each(Ported::layout),
+        || {
+            for tree in trees {
+                black_box(Held::lay_out(tree));
+            }
+        },
+    )
+}
+
+/// Rendering of what layout left.
+fn rendered(ported: &mut [Ported], trees: &[tree::Input]) -> [f64; 2] {
+    let held: Vec<Held> = trees.iter().map(Held::lay_out).collect();
+    both(
+        || ported.iter_mut().for_each(Ported::render),
+        || {
+            for one in &held {
+                black_box(one.render());
+            }
+        },
+    )
+}
+
+/// The whole run from the image, and `fmt_parsed` from the decoded tree.
+fn whole(ported: &mut [Ported], trees: &[tree::Input]) -> [f64; 2] {
+    both(
+        || {
+            for one in ported.iter_mut() {
+                black_box(one.format());
+            }
+        },
+        || {
+            for tree in trees {
+                black_box(driver::format(tree));
+            }
+        },
+    )
+}
+
+/// Rendering of a document, whose texts must come out the same.
+pub fn rendering(document: Document) -> Line {
+    let texts = documents::texts();
+    let held = Held::of_rows(&texts, &document.rows);
+    let empty = Empty::new();
+    let due = held.render();
+    let mut ported = of_document(&empty, &document, due.len());
+    ported.render();
+    assert!(ported.output == due.as_bytes(), "the texts differ");
+    let [port_seconds, rust_seconds] =
+        both(|| ported.render(), || held.render());
+    Line {
+        step: "rendering",
+        input: document.name,
+        size: document.rows.len(),
+        unit: "row",
+        port_seconds,
+        rust_seconds,
+    }
+}
+
+fn of_document<'e>(
+    empty: &'e Empty,
+    document: &Document,
+    output: usize,
+) -> Ported<'e> {
+    let marks = rows::marks_needed(&document.rows) as usize;
+    let cells = document.rows.iter().flat_map(|row| row.cells());
+    Ported {
+        given: empty.given(),
+        declarations: 0,
+        rows: document.rows.len(),
+        store: cells.collect(),
+        marks: vec![0; marks],
+        output: vec![0; output],
+    }
+}
+
+/// The stack that a call took.
+pub struct StackLine {
+    pub step: &'static str,
+    pub input: String,
+    pub rows: usize,
+    pub bytes: usize,
+}
+
+/// What any call may take.
+pub const MOST_STACK: usize = 256 << 10;
+
+/// The stack that rendering takes on large and on deep documents, and the
+/// whole run on trees as deep as trees get.
+pub fn stack() -> Vec<StackLine> {
+    let largest = documents::growing().into_iter().rev().take(3);
+    let documents = largest.chain([documents::deepest()]);
+    let sizes = generate::size_cases().iter();
+    let deep =
+        sizes.filter(|case| case.refusal == 0 && case.name.contains("deep"));
+    documents
+        .map(stack_of_rendering)
+        .chain(deep.map(stack_of_run))
+        .collect()
+}
+
+fn stack_of_rendering(document: Document) -> StackLine {
+    let texts = documents::texts();
+    let empty = Empty::new();
+    let bytes = Held::of_rows(&texts, &document.rows).render().len();
+    let mut ported = of_document(&empty, &document, bytes);
+    StackLine {
+        step: "rendering",
+        bytes: stack::used(|| ported.render()),
+        input: document.name,
+        rows: document.rows.len(),
+    }
+}
+
+fn stack_of_run(case: &SizeCase) -> StackLine {
+    let file = File {
+        source: case.source.clone(),
+        image: case.image.clone(),
+    };
+    let frame = Frame {
+        source: &file.source,
+        image: &file.image,
+    };
+    let run = program::format(frame, Widths::Supplied).expect("accepted");
+    let mut ported = of_file(&file, &run);
+    StackLine {
+        step: "whole",
+        input: case.name.replace(',', ""),
+        rows: run.rows.len(),
+        bytes: stack::used(|| {
+            black_box(ported.format());
+        }),
+    }
+}
+
+/// The lines as Markdown.
+pub fn stack_table(lines: &[StackLine]) -> String {
+    let mut out = String::from("| Stack of | Input | Rows | Bytes |\n");
+    out += "|---|---|---:|---:|\n";
+    for StackLine {
+        step,
+        input,
+        rows,
+        bytes,
+    } in lines
+    {
+        writeln!(out, "| {step} | {input} | {rows} | {bytes} |").unwrap();
+    }
+    out
+}
+
+/// The lines as comma-separated values.
+pub fn stack_csv(lines: &[StackLine]) -> String {
+    let mut out = String::from("step,input,rows,stack_bytes\n");
+    for StackLine {
+        step,
+        input,
+        rows,
+        bytes,
+    } in lines
+    {
+        writeln!(out, "{step},{input},{rows},{bytes}").unwrap();
+    }
+    out
+}

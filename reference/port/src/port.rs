@@ -1,0 +1,184 @@
+//! The exported functions of the port as safe Rust: slices and numbers in,
+//! numbers out. With the feature `stand-in` the judge answers in their place.
+
+#[cfg(feature = "stand-in")]
+pub use crate::stand_in::{check, format, layout, render};
+
+#[cfg(not(feature = "stand-in"))]
+pub use linked::*;
+
+#[cfg(not(feature = "stand-in"))]
+mod linked {
+    unsafe extern "C" {
+        fn rrufthim_check(
+            source: *const u8,
+            source_len: usize,
+            image: *const u8,
+            image_len: usize,
+            out: *mut u64,
+            out_len: usize,
+        );
+    }
+
+    #[cfg(feature = "calls")]
+    unsafe extern "C" {
+        fn rrufthim_layout(
+            source: *const u8,
+            source_len: usize,
+            image: *const u8,
+            image_len: usize,
+            store: *mut u32,
+            store_len: usize,
+            state: *const u64,
+            state_len: usize,
+            stop: u64,
+            close: u64,
+            out: *mut u64,
+            out_len: usize,
+        );
+        fn rrufthim_render(
+            source: *const u8,
+            source_len: usize,
+            image: *const u8,
+            image_len: usize,
+            store: *mut u32,
+            store_len: usize,
+            marks: *mut u8,
+            marks_len: usize,
+            output: *mut u8,
+            output_len: usize,
+            state: *const u64,
+            state_len: usize,
+            stop: u64,
+            out: *mut u64,
+            out_len: usize,
+        );
+        fn rrufthim_format(
+            source: *const u8,
+            source_len: usize,
+            image: *const u8,
+            image_len: usize,
+            store: *mut u32,
+            store_len: usize,
+            marks: *mut u8,
+            marks_len: usize,
+            output: *mut u8,
+            output_len: usize,
+            out: *mut u64,
+            out_len: usize,
+        );
+    }
+
+    /// `out`: 0, comments, the tree's offset; or number, place.
+    pub fn check(source: &[u8], image: &[u8], out: &mut [u64]) {
+        // Safety: each slice with its own length; nothing is kept.
+        unsafe {
+            rrufthim_check(
+                source.as_ptr(),
+                source.len(),
+                image.as_ptr(),
+                image.len(),
+                out.as_mut_ptr(),
+                out.len(),
+            );
+        }
+    }
+
+    /// `state`: begun, closed, next declaration, next row, next number,
+    /// comments placed, position. `out`: 0, comments left, the new state; or
+    /// number, place.
+    #[cfg(feature = "calls")]
+    pub fn layout(
+        source: &[u8],
+        image: &[u8],
+        store: &mut [u32],
+        state: &[u64],
+        stop: u64,
+        close: u64,
+        out: &mut [u64],
+    ) {
+        // Safety: as in `check`.
+        unsafe {
+            rrufthim_layout(
+                source.as_ptr(),
+                source.len(),
+                image.as_ptr(),
+                image.len(),
+                store.as_mut_ptr(),
+                store.len(),
+                state.as_ptr(),
+                state.len(),
+                stop,
+                close,
+                out.as_mut_ptr(),
+                out.len(),
+            );
+        }
+    }
+
+    /// `state`: indent, next_indent, column, marks in use, next row. `out`:
+    /// 0, bytes written, the new state; or number, place.
+    #[cfg(feature = "calls")]
+    #[allow(clippy::too_many_arguments)]
+    pub fn render(
+        source: &[u8],
+        image: &[u8],
+        store: &mut [u32],
+        marks: &mut [u8],
+        output: &mut [u8],
+        state: &[u64],
+        stop: u64,
+        out: &mut [u64],
+    ) {
+        // Safety: as in `check`.
+        unsafe {
+            rrufthim_render(
+                source.as_ptr(),
+                source.len(),
+                image.as_ptr(),
+                image.len(),
+                store.as_mut_ptr(),
+                store.len(),
+                marks.as_mut_ptr(),
+                marks.len(),
+                output.as_mut_ptr(),
+                output.len(),
+                state.as_ptr(),
+                state.len(),
+                stop,
+                out.as_mut_ptr(),
+                out.len(),
+            );
+        }
+    }
+
+    /// `out`: 0, bytes written, comments left, rows, numbers; or number,
+    /// place.
+    #[cfg(feature = "calls")]
+    pub fn format(
+        source: &[u8],
+        image: &[u8],
+        store: &mut [u32],
+        marks: &mut [u8],
+        output: &mut [u8],
+        out: &mut [u64],
+    ) {
+        // Safety: as in `check`.
+        unsafe {
+            rrufthim_format(
+                source.as_ptr(),
+                source.len(),
+                image.as_ptr(),
+                image.len(),
+                store.as_mut_ptr(),
+                store.len(),
+                marks.as_mut_ptr(),
+                marks.len(),
+                output.as_mut_ptr(),
+                output.len(),
+                out.as_mut_ptr(),
+                out.len(),
+            );
+        }
+    }
+}

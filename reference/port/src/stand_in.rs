@@ -1,0 +1,346 @@
+//! The judge in the port's place, with faults to plant: shows that the
+//! comparison runs and finds them.
+
+use std::sync::atomic::{AtomicU8, Ordering};
+
+use judge::{
+    calls::{
+        Answer, Given, LayoutState, RenderState, World, layout_call,
+        render_call,
+    },
+    driver::{Pen, Stop},
+    reader,
+    refusal::Refusal,
+    rows::Row,
+};
+
+/// What goes wrong.
+#[derive(Clone, Copy, Debug, PartialEq, Eq)]
+#[repr(u8)]
+pub enum Fault {
+    None,
+    /// The reader's place is one too high.
+    CheckPlace,
+    /// Comments left one too many.
+    CommentsLeft,
+    /// The position is one too high at the fourth declaration.
+    Position,
+    /// A row's last number is changed.
+    RowCell,
+    /// A word has the right length and the wrong bytes.
+    Word,
+    /// A cell past the rows is written.
+    PastRows,
+    /// Rows are written before 8.
+    RowsBeforeRefusal,
+    /// The place of 8.
+    RowsNeeded,
+    /// A group's mark is cleared.
+    Mark,
+    /// A mark past those in use is cleared.
+    PastMarks,
+    /// The column of the new state.
+    Column,
+    /// A byte of text.
+    TextByte,
+    /// A byte past the text is written.
+    PastText,
+    /// Marks are written before 10.
+    MarksBeforeRefusal,
+    /// 11 names the row after.
+    FaultyRow,
+    /// 12 comes before 11.
+    Order,
+    /// A number past the answer is written.
+    PastAnswer,
+    /// The whole run's bytes written.
+    WholeBytes,
+}
+
+impl Fault {
+    pub const ALL: [Fault; 18] = [
+        Fault::CheckPlace,
+        Fault::CommentsLeft,
+        Fault::Position,
+        Fault::RowCell,
+        Fault::Word,
+        Fault::PastRows,
+        Fault::RowsBeforeRefusal,
+        Fault::RowsNeeded,
+        Fault::Mark,
+        Fault::PastMarks,
+        Fault::Column,
+        Fault::TextByte,
+        Fault::PastText,
+        Fault::MarksBeforeRefusal,
+        Fault::FaultyRow,
+        Fault::Order,
+        Fault::PastAnswer,
+        Fault::WholeBytes,
+    ];
+}
+
+static PLANTED: AtomicU8 = AtomicU8::new(0);
+
+/// Plants a fault in all calls from now on.
+pub fn plant(fault: Fault) {
+    PLANTED.store(fault as u8, Ordering::SeqCst);
+}
+
+fn planted(fault: Fault) -> bool {
+    PLANTED.load(Ordering::Relaxed) == fault as u8
+}
+
+fn put(out: &mut [u64], numbers: &[u64]) {
+    for (place, number) in out.iter_mut().zip(numbers) {
+        *place = *number;
+    }
+}
+
+fn put_refusal(out: &mut [u64], refusal: Refusal) {
+    put(out, &[refusal.number.into(), refusal.place]);
+}
+
+/// Numbers that are missing count as 0.
+fn at(state: &[u64], place: usize) -> usize {
+    state.get(place).copied().unwrap_or(0) as usize
+}
+
+fn layout_state(state: &[u64]) -> LayoutState {
+    LayoutState {
+        begun: at(state, 0) != 0,
+        closed: at(state, 1) != 0,
+        next_declaration: at(state, 2),
+        at: Stop {
+            next_row: at(state, 3),
+            next_number: at(state, 4),
+            comments_placed: at(state, 5),
+            position: at(state, 6),
+        },
+    }
+}
+
+fn render_state(state: &[u64]) -> RenderState {
+    RenderState {
+        pen: Pen {
+            indent: at(state, 0),
+            next_indent: at(state, 1),
+            column: at(state, 2),
+        },
+        marks_in_use: at(state, 3),
+        next_row: at(state, 4),
+    }
+}
+
+pub fn check(source: &[u8], image: &[u8], out: &mut [u64]) {
+    match reader::read(source, image) {
+        Ok(read) => {
+            put(out, &[0, read.comments.len() as u64, read.tree.at as u64]);
+        }
+        Err(mut refusal) => {
+            refusal.place += u64::from(planted(Fault::CheckPlace));
+            put_refusal(out, refusal);
+        }
+    }
+}
+
+pub fn layout(
+    source: &[u8],
+    image: &[u8],
+    store: &mut [u32],
+    state: &[u64],
+    stop: u64,
+    close: u64,
+    out: &mut [u64],
+) {
+    let mut world = World {
+        store: store.to_vec(),
+        laying: layout_state(state),
+        ..World::default()
+    };
+    let given = Given { source, image };
+    let before = world.laying.at.next_row;
+    match layout_call(given, &mut world, stop as usize, close != 0) {
+        Ok(Answer::LaidOut {
+            state,
+            comments_left,
+        }) => {
+            spoil_rows(&mut world, before, state.at.next_row);
+            store.copy_from_slice(&world.store);
+            let left =
+                comments_left + usize::from(planted(Fault::CommentsLeft));
+            put_laid(out, &state, left);
+        }
+        Err(mut refusal) => {
+            if refusal.number == 8 {
+                spoil_refused(store, &mut refusal);
+            }
+            put_refusal(out, refusal);
+        }
+        _ => unreachable!("a layout call"),
+    }
+}
+
+fn spoil_rows(world: &mut World, from: usize, to: usize) {
+    if planted(Fault::PastRows)
+        && let Some(cell) = world.store.get_mut(to * Row::CELLS)
+    {
+        *cell = 0;
+    }
+    for place in from..to {
+        let row = &mut world.store[place * Row::CELLS..][..Row::CELLS];
+        if planted(Fault::RowCell) && place % 50 == 49 {
+            row[8] ^= 1;
+        }
+        if planted(Fault::Word) && row[5] == 2 && row[7] == 1 {
+            row[6] += 1;
+        }
+    }
+}
+
+fn spoil_refused(store: &mut [u32], refusal: &mut Refusal) {
+    refusal.place += u64::from(planted(Fault::RowsNeeded));
+    if planted(Fault::RowsBeforeRefusal)
+        && let Some(cell) = store.first_mut()
+    {
+        *cell ^= 1;
+    }
+}
+
+fn put_laid(out: &mut [u64], state: &LayoutState, comments_left: usize) {
+    let shift = planted(Fault::Position) && state.next_declaration == 4;
+    let numbers = [
+        0,
+        comments_left,
+        usize::from(state.begun),
+        usize::from(state.closed),
+        state.next_declaration,
+        state.at.next_row,
+        state.at.next_number,
+        state.at.comments_placed,
+        state.at.position + usize::from(shift),
+    ];
+    put(out, &numbers.map(|number| number as u64));
+    if planted(Fault::PastAnswer) {
+        put(&mut out[numbers.len()..], &[0]);
+    }
+}
+
+#[allow(clippy::too_many_arguments)]
+pub fn render(
+    source: &[u8],
+    image: &[u8],
+    store: &mut [u32],
+    marks: &mut [u8],
+    output: &mut [u8],
+    state: &[u64],
+    stop: u64,
+    out: &mut [u64],
+) {
+    let mut world = World {
+        store: store.to_vec(),
+        marks: marks.to_vec(),
+        rendering: render_state(state),
+        ..World::default()
+    };
+    let indent = world.rendering.pen.indent;
+    let given = Given { source, image };
+    match render_call(given, &mut world, stop as usize, output.len()) {
+        Ok(Answer::Written { state, bytes }) => {
+            spoil_marks(&mut world, state.marks_in_use);
+            marks.copy_from_slice(&world.marks);
+            output[..bytes].copy_from_slice(&world.text);
+            spoil_text(output, bytes);
+            put_written(out, &state, bytes);
+        }
+        Err(mut refusal) => {
+            spoil_rendering(marks, indent, &mut refusal);
+            put_refusal(out, refusal);
+        }
+        _ => unreachable!("a rendering call"),
+    }
+}
+
+fn spoil_rendering(marks: &mut [u8], indent: usize, refusal: &mut Refusal) {
+    if refusal.number == 10 && planted(Fault::MarksBeforeRefusal) {
+        marks.iter_mut().for_each(|mark| *mark = 0);
+    }
+    if refusal.number == 11 && planted(Fault::FaultyRow) {
+        refusal.place += 1;
+    }
+    if refusal.number == 11 && planted(Fault::Order) && indent > 64 {
+        *refusal = Refusal {
+            number: 12,
+            place: 0,
+        };
+    }
+}
+
+fn spoil_marks(world: &mut World, in_use: usize) {
+    let (used, rest) = world.marks.split_at_mut(in_use);
+    if planted(Fault::Mark)
+        && let Some(mark) = used.last_mut()
+    {
+        *mark = 0;
+    }
+    if planted(Fault::PastMarks)
+        && let Some(mark) = rest.first_mut()
+    {
+        *mark = 0;
+    }
+}
+
+fn spoil_text(output: &mut [u8], bytes: usize) {
+    let (text, rest) = output.split_at_mut(bytes);
+    if planted(Fault::TextByte)
+        && let Some(byte) = text.last_mut()
+    {
+        *byte ^= 1;
+    }
+    if planted(Fault::PastText)
+        && let Some(byte) = rest.first_mut()
+    {
+        *byte = 0;
+    }
+}
+
+fn put_written(out: &mut [u64], state: &RenderState, bytes: usize) {
+    let shift = planted(Fault::Column) && state.pen.column > 60;
+    let numbers = [
+        0,
+        bytes,
+        state.pen.indent,
+        state.pen.next_indent,
+        state.pen.column + usize::from(shift),
+        state.marks_in_use,
+        state.next_row,
+    ];
+    put(out, &numbers.map(|number| number as u64));
+}
+
+pub fn format(
+    source: &[u8],
+    image: &[u8],
+    store: &mut [u32],
+    marks: &mut [u8],
+    output: &mut [u8],
+    out: &mut [u64],
+) {
+    let declarations = match reader::read(source, image) {
+        Ok(read) => read.tree.children.len() as u64 - 1,
+        Err(refusal) => return put_refusal(out, refusal),
+    };
+    let mut laid = [0; 9];
+    layout(source, image, store, &[], declarations, 1, &mut laid);
+    if laid[0] != 0 {
+        return put(out, &laid[..2]);
+    }
+    let [rows, numbers] = [laid[5], laid[6]];
+    let mut shown = [0; 7];
+    render(source, image, store, marks, output, &[], rows, &mut shown);
+    if shown[0] != 0 {
+        return put(out, &shown[..2]);
+    }
+    let bytes = shown[1] + u64::from(planted(Fault::WholeBytes));
+    put(out, &[0, bytes, laid[1], rows, numbers]);
+}

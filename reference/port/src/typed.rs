@@ -1,0 +1,138 @@
+//! Layout, rendering and the whole run, in the judge's types.
+
+use judge::{
+    calls::{Answer, Given, LayoutState, RenderState},
+    driver::{Pen, Stop},
+    refusal::Refusal,
+};
+
+use crate::{UNTOUCHED, accepted, port};
+
+/// What the whole run says of an accepted file.
+#[derive(Clone, Copy, Debug, PartialEq, Eq)]
+pub struct Formatted {
+    pub bytes: u64,
+    pub comments_left: u64,
+    pub rows: u64,
+    pub numbers: u64,
+}
+
+/// A layout call of the port.
+pub fn layout(
+    given: Given,
+    store: &mut [u32],
+    state: &LayoutState,
+    stop: usize,
+    close: bool,
+) -> Result<Answer, Refusal> {
+    let mut out = [UNTOUCHED; 10];
+    let numbers = [
+        truth(state.begun),
+        truth(state.closed),
+        state.next_declaration as u64,
+        state.at.next_row as u64,
+        state.at.next_number as u64,
+        state.at.comments_placed as u64,
+        state.at.position as u64,
+    ];
+    port::layout(
+        given.source,
+        given.image,
+        store,
+        without_zeros(&numbers),
+        stop as u64,
+        truth(close),
+        &mut out,
+    );
+    let [comments_left, begun, closed, next, at @ ..] = accepted::<8>(&out)?;
+    let [next_row, next_number, comments_placed, position] =
+        at.map(|number| number as usize);
+    Ok(Answer::LaidOut {
+        state: LayoutState {
+            begun: begun != 0,
+            closed: closed != 0,
+            next_declaration: next as usize,
+            at: Stop {
+                next_row,
+                next_number,
+                comments_placed,
+                position,
+            },
+        },
+        comments_left: comments_left as usize,
+    })
+}
+
+/// A rendering call of the port.
+pub fn render(
+    given: Given,
+    store: &mut [u32],
+    marks: &mut [u8],
+    output: &mut [u8],
+    state: &RenderState,
+    stop: usize,
+) -> Result<Answer, Refusal> {
+    let mut out = [UNTOUCHED; 8];
+    let numbers = [
+        state.pen.indent,
+        state.pen.next_indent,
+        state.pen.column,
+        state.marks_in_use,
+        state.next_row,
+    ]
+    .map(|number| number as u64);
+    port::render(
+        given.source,
+        given.image,
+        store,
+        marks,
+        output,
+        without_zeros(&numbers),
+        stop as u64,
+        &mut out,
+    );
+    let [bytes, indent, next_indent, column, marks_in_use, next_row] =
+        accepted::<6>(&out)?.map(|number| number as usize);
+    Ok(Answer::Written {
+        state: RenderState {
+            pen: Pen {
+                indent,
+                next_indent,
+                column,
+            },
+            marks_in_use,
+            next_row,
+        },
+        bytes,
+    })
+}
+
+/// The port's whole run.
+pub fn format(
+    given: Given,
+    store: &mut [u32],
+    marks: &mut [u8],
+    output: &mut [u8],
+) -> Result<Formatted, Refusal> {
+    let mut out = [UNTOUCHED; 6];
+    let Given { source, image } = given;
+    port::format(source, image, store, marks, output, &mut out);
+    let [bytes, comments_left, rows, numbers] = accepted(&out)?;
+    Ok(Formatted {
+        bytes,
+        comments_left,
+        rows,
+        numbers,
+    })
+}
+
+/// Any number but 0 is true.
+fn truth(value: bool) -> u64 {
+    if value { 1 << 40 } else { 0 }
+}
+
+/// Numbers that are missing count as 0, so zeros at the end are left out.
+fn without_zeros(numbers: &[u64]) -> &[u64] {
+    let last = numbers.iter().rposition(|number| *number != 0);
+    &numbers[..last.map_or(0, |place| place + 1)]
+}

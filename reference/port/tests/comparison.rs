@@ -1,0 +1,76 @@
+//! The comparison runs clean on the judge itself, and finds what is planted.
+
+#![cfg(feature = "stand-in")]
+
+use judge::rows;
+use port::{
+    compare::{Item, PORT_WORDS, Plan, Tally, one},
+    measure::inputs,
+    stand_in::{Fault, plant},
+};
+
+const PLAN: Plan = Plan {
+    seed: 5,
+    frames: 150,
+    lists: 300,
+};
+
+const SHORT: Plan = Plan {
+    seed: 5,
+    frames: 1,
+    lists: 0,
+};
+
+/// One test, since a planted fault holds for all threads.
+#[test]
+fn each_planted_fault_is_found() {
+    let tally = PLAN.run();
+    assert_eq!(tally.differences, 0, "{}", tally.report());
+    for fault in Fault::ALL {
+        plant(fault);
+        let mut tally = Tally::default();
+        for item in PLAN.items() {
+            if !matches!(item, Item::Large(_)) {
+                one(&mut tally, item, PLAN.seed);
+            }
+        }
+        if fault == Fault::TextByte {
+            let report = SHORT.run().report();
+            assert!(report.contains("difference, edges 5 0: "), "{report}");
+        }
+        plant(Fault::None);
+        assert!(tally.differences > 0, "{fault:?} isn't found");
+        println!("{fault:?}: {} differences", tally.differences);
+    }
+}
+
+/// Rows that no layout made name words by the judge's starts, so the tables
+/// must be the same, and the one here that of the port.
+#[test]
+fn the_words_are_those_of_the_port() {
+    assert_eq!(PORT_WORDS, rows::fixed_words());
+    let port = include_str!("../../../crates/rows/src/words.rt");
+    let literal = PORT_WORDS.replace('"', "\\\"");
+    assert!(port.contains(&format!("*b\"{literal}\"")));
+}
+
+#[test]
+fn items_are_repeated_by_their_names() {
+    let wild = Item::from_words("wild", 3);
+    assert!(matches!(wild, Some(Item::Frame(_, 3))));
+    assert_eq!(Item::from_words("list", 4), Some(Item::List(4)));
+    assert_eq!(Item::from_words("other", 4), None);
+}
+
+/// Reading the texts is part of making the inputs.
+#[test]
+fn files_to_time_have_their_sizes() {
+    let all = inputs::all();
+    let sizes: Vec<usize> = all
+        .iter()
+        .map(|input| input.files[0].source.len())
+        .collect();
+    assert!((1_900..2_200).contains(&sizes[0]), "{sizes:?}");
+    assert!((63_000..=65_536).contains(&sizes[1]), "{sizes:?}");
+    assert_eq!(all[3].files.len(), 100);
+}
