@@ -8,3 +8,4 @@ pub mod Whole
 pub mod Limits
 pub mod Demands
 pub mod Edges
+pub mod File

@@ -1,3 +1,4 @@
 pub mod Parts
 pub mod Demands
 pub mod Edges
+pub mod File

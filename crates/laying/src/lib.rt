@@ -1,6 +1,6 @@
 // Layout calls: state, answer, refusals, and the call.
 mod fits;
-mod steps;
+pub mod steps;
 
 ghost use mathlib.Core.Path.{_≡_};
 ghost use Prim.Native.Nat.{ℕ, _+_, _≤_};
@@ -109,7 +109,7 @@ fn laid(
 }
 
 // A call on a source and an image that are accepted, with n comments and the tree at `at`.
-fn accepted(
+pub fn accepted(
     source: &[u8],
     image: &[u8],
     store: &mut [u32],

@@ -1,0 +1,49 @@
+-- What the run of one file, or of one frame, answers and leaves.
+use mathlib.Core.Path.{_≡_}
+use mathlib.Core.Bool.{Bool, not, _&&_}
+use mathlib.Core.Option.{Option}
+use mathlib.Core.List.{List}
+use Prim.Native.Nat.{ℕ, _+_}
+use lib.Dec.{leb}
+use lib.ListN.{length, take, drop}
+use Rattle.image.specs.Bytes.{be32}
+use Rattle.cut.specs.Rules.{Refusal}
+use Rattle.cut.specs.Run.{unless}
+use Rattle.cut.specs.Parts.{when}
+use Rattle.format.specs.File.{fileStore, fileMarks, fileOutput, FileAnswer, refused, formatted, fileAnswerBy, fileAnswer}
+use Rattle.file.specs.declared.Formatted.{Formatted}
+use Rattle.file.specs.declared.Formatted.the-variants as answer
+
+-- An answer, case by case: the bytes written, the comments left, the rows and the group numbers; "Number and place are all that comes back."
+abbrev pub answerOf : Formatted → FileAnswer
+answerOf (answer.Text bytes left rows numbers) = formatted (bytes .0) left rows numbers
+answerOf (answer.Refused n p) = refused (record { number = n; place = p })
+
+-- the answer, and store, marks and output at exit, for one source and image
+pub record Formats (source image store marks out : List ℕ) (r : Formatted) (store2 marks2 out2 : List ℕ) : Type 0 where
+  pub answer : answerOf r ≡ fileAnswer source image store marks out
+  pub store-left : store2 ≡ fileStore source image store
+  pub marks-left : marks2 ≡ fileMarks source image store marks out
+  pub output-left : out2 ≡ fileOutput source image store marks out
+
+-- a frame: "four bytes source length, source, image"
+abbrev pub sourceOf : List ℕ → List ℕ
+sourceOf frame = take (be32 frame 0) (drop 4 frame)
+
+abbrev pub imageOf : List ℕ → List ℕ
+imageOf frame = drop (4 + be32 frame 0) frame
+
+-- 13: "the program's frame over 32,768 bytes, under 4, or shorter than its source length says"
+abbrev pub frameFits : List ℕ → Bool
+frameFits frame = leb (length frame) 32768 && leb 4 (length frame) && leb (4 + be32 frame 0) (length frame)
+
+-- "tested before all else"
+abbrev pub frameRefusal : List ℕ → Option Refusal
+frameRefusal frame = when (not (frameFits frame)) 13 0
+
+-- the answer, and store, marks and output at exit, for one frame
+pub record FormatsFrame (frame store marks out : List ℕ) (r : Formatted) (store2 marks2 out2 : List ℕ) : Type 0 where
+  pub answer : answerOf r ≡ fileAnswerBy (frameRefusal frame) (fileAnswer (sourceOf frame) (imageOf frame) store marks out)
+  pub store-left : store2 ≡ unless (frameRefusal frame) store (fileStore (sourceOf frame) (imageOf frame) store)
+  pub marks-left : marks2 ≡ unless (frameRefusal frame) marks (fileMarks (sourceOf frame) (imageOf frame) store marks out)
+  pub output-left : out2 ≡ unless (frameRefusal frame) out (fileOutput (sourceOf frame) (imageOf frame) store marks out)

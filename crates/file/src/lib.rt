@@ -1,0 +1,140 @@
+// Module 8: the whole run of one file, and of a frame that the program reads.
+ghost use mathlib.Core.Path.{_≡_};
+ghost use Rattle.cut.specs.Parts.{layoutFresh, renderFresh};
+ghost use Rattle.laying.specs.Calls.{toState as laidState};
+ghost use Rattle.laying.specs.Steps.{Accepts};
+ghost use Rattle.rendering.specs.Calls.{toState as renderedState};
+ghost use Rattle.file.specs.Whole.{Formats, FormatsFrame};
+use image::Answer;
+use image::bytes::num32;
+use image::check;
+use laying::Laying;
+use laying::LayoutState;
+use laying::accepted;
+use laying::steps::count_declarations;
+use rendering::RenderState;
+use rendering::Rendering;
+use rendering::render_call;
+use rows::store::Bytes;
+use rows::store::Columns;
+
+pub enum Formatted {
+    // the bytes written, the comments left, the rows and the group numbers
+    Text {
+        bytes: Bytes,
+        left: usize,
+        rows: usize,
+        numbers: usize,
+    },
+    // the number and the place
+    Refused(u8, usize),
+}
+
+// Nothing is laid out yet.
+fn layout_fresh() -> LayoutState
+    ensures { λ r. ⌜ laidState r ≡ layoutFresh ⌝ }
+{
+    LayoutState {
+        begun: false,
+        closed: false,
+        declaration: 0,
+        row: 0,
+        number: 0,
+        placed: 0,
+        position: 0,
+    }
+}
+
+// Nothing is rendered yet.
+fn render_fresh() -> RenderState
+    ensures { λ r. ⌜ renderedState r ≡ renderFresh ⌝ }
+{
+    RenderState {
+        indent: 0,
+        next_indent: 0,
+        column: Columns(0),
+        in_use: 0,
+        row: 0,
+    }
+}
+
+// A file that is accepted, with n comments and the tree at `at`: all declarations in one layout call, all rows in one rendering call.
+fn format_accepted(
+    source: &[u8],
+    image: &[u8],
+    store: &mut [u32],
+    marks: &mut [u8],
+    out: &mut [u8],
+    n: usize,
+    at: usize,
+) -> Formatted
+    requires { ⌜ Accepts (now source) (now image) n at ⌝ }
+    ensures { λ r. ⌜ Formats (now (source .entry)) (now (image .entry)) (now (store .entry)) (now (marks .entry)) (now (out .entry)) r (now (store .exit)) (now (marks .exit)) (now (out .exit)) ⌝ }
+{
+    let declarations = count_declarations(source, image, n, at);
+    match accepted(
+        source,
+        image,
+        store,
+        n,
+        at,
+        layout_fresh(),
+        declarations,
+        true,
+    ) {
+        Laying::Refused(number, place) => Formatted::Refused(number, place),
+        Laying::Laid(state, left) => {
+            match render_call(source, image, store, marks, out, render_fresh(), state.row) {
+                Rendering::Refused(number, place) => Formatted::Refused(number, place),
+                Rendering::Written(end, bytes) => Formatted::Text {
+                    bytes: bytes,
+                    left: left,
+                    rows: state.row,
+                    numbers: state.number,
+                },
+            }
+        }
+    }
+}
+
+// Formats a file, or refuses to.
+pub fn format_file(
+    source: &[u8],
+    image: &[u8],
+    store: &mut [u32],
+    marks: &mut [u8],
+    out: &mut [u8],
+) -> Formatted
+    ensures { λ r. ⌜ Formats (now (source .entry)) (now (image .entry)) (now (store .entry)) (now (marks .entry)) (now (out .entry)) r (now (store .exit)) (now (marks .exit)) (now (out .exit)) ⌝ }
+{
+    match check(source, image) {
+        Answer::Refused(number, place) => Formatted::Refused(number, place),
+        Answer::Accepted { comments, tree } => format_accepted(
+            source,
+            image,
+            store,
+            marks,
+            out,
+            comments,
+            tree,
+        ),
+    }
+}
+
+// Formats the file of a frame: four bytes source length, source, image.
+pub fn format_frame(frame: &[u8], store: &mut [u32], marks: &mut [u8], out: &mut [u8]) -> Formatted
+    ensures { λ r. ⌜ FormatsFrame (now (frame .entry)) (now (store .entry)) (now (marks .entry)) (now (out .entry)) r (now (store .exit)) (now (marks .exit)) (now (out .exit)) ⌝ }
+{
+    if 32768 < frame.len() {
+        return Formatted::Refused(13, 0);
+    }
+    if frame.len() < 4 {
+        return Formatted::Refused(13, 0);
+    }
+    let size = num32(frame, 0);
+    if frame.len() - 4 < size {
+        return Formatted::Refused(13, 0);
+    }
+    let end = 4 + size;
+    format_file(&frame[4..end], &frame[end..], store, marks, out)
+}

@@ -1,0 +1,74 @@
+-- The whole run of one file: one layout call from fresh up to the last declaration, closing; then one rendering call from fresh up to the last
+-- row. What it answers and leaves is told here by `fmt_parsed` and `Renderer` alone; proofs/File.antt has that the two calls give it.
+use mathlib.Core.Bool.{true}
+use mathlib.Core.Option.{Option, none, some}
+use mathlib.Core.List.{List, [], _∷_}
+use Prim.Native.Nat.{ℕ, _-_}
+use lib.Dec.{ltb}
+use lib.ListN.{length, replicate}
+use Rattle.image.specs.Read.{readAll}
+use Rattle.rows.specs.Rows.{sizes, rows}
+use Rattle.marks.specs.Marks.{marksNeeded}
+use Rattle.state.specs.Act.{Out}
+use Rattle.comments.specs.Listed.{commentsOf, given}
+use Rattle.layout.specs.Layout.{fmtParsed}
+use Rattle.facts.specs.Accepted.{fresh}
+use Rattle.renderer.specs.Renderer.{renders}
+use Rattle.cut.specs.Rules.{Refusal}
+use Rattle.cut.specs.Run.{onto, unless}
+use Rattle.cut.specs.Parts.{Drawn, renderFresh, first, when, rowsIn}
+use Rattle.format.specs.Parts.{refusalOf, treeOf, rendererOf, drawnBy, page}
+
+module _ (s b : List ℕ) where
+  -- what `fmt_parsed` builds
+  abbrev pub built : Out
+  built = fmtParsed (given s b) (treeOf b (readAll s b)) fresh
+
+  -- "rows needed in all"
+  abbrev pub rowsDue : ℕ
+  rowsDue = sizes (built .nodes)
+
+  -- "largest number in the rows plus 1"
+  abbrev pub marksDue : ℕ
+  marksDue = marksNeeded rowsDue (rows (built .nodes) 0) 0
+
+  -- what `Renderer` makes of it, with that many marks, all cleared
+  abbrev pub drawnDue : Drawn
+  drawnDue = drawnBy (renders (page s b) (built .nodes) true (rendererOf (renderFresh .pen) (replicate marksDue 0)))
+
+  -- 1 to 7, then 8
+  abbrev pub laidRefusal : List ℕ → Option Refusal
+  laidRefusal store = first (refusalOf (readAll s b) ∷ when (ltb (rowsIn store) rowsDue) 8 rowsDue ∷ [])
+
+  -- then 9, then 10: no other cause refuses a whole file
+  abbrev pub fileRefusal : List ℕ → List ℕ → List ℕ → Option Refusal
+  fileRefusal store marks out =
+      first
+      (laidRefusal store
+      ∷ when (ltb (length marks) marksDue) 9 marksDue
+      ∷ when (ltb (length out) (length (drawnDue .text))) 10 (length (drawnDue .text))
+      ∷ [])
+
+  -- what is left of store, marks and output
+  abbrev pub fileStore : List ℕ → List ℕ
+  fileStore store = unless (laidRefusal store) store (onto (rows (built .nodes) 0) store)
+
+  abbrev pub fileMarks : List ℕ → List ℕ → List ℕ → List ℕ
+  fileMarks store marks out = unless (fileRefusal store marks out) marks (onto (drawnDue .marks) marks)
+
+  abbrev pub fileOutput : List ℕ → List ℕ → List ℕ → List ℕ
+  fileOutput store marks out = unless (fileRefusal store marks out) out (onto (drawnDue .text) out)
+
+-- What a file's run answers: number and place; or the bytes written, the comments left, the rows and the group numbers.
+pub data FileAnswer : Type 0 where
+  refused : Refusal → FileAnswer
+  formatted : ℕ → ℕ → ℕ → ℕ → FileAnswer
+
+abbrev pub fileAnswerBy : Option Refusal → FileAnswer → FileAnswer
+fileAnswerBy (some r) a = refused r
+fileAnswerBy none a = a
+
+abbrev pub fileAnswer : List ℕ → List ℕ → List ℕ → List ℕ → List ℕ → FileAnswer
+fileAnswer s b store marks out =
+    fileAnswerBy (fileRefusal s b store marks out)
+    (formatted (length (drawnDue s b .text)) (length (commentsOf b) - built s b .placed) (rowsDue s b) (built s b .taken))
