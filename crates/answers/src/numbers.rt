@@ -52,6 +52,17 @@ pub fn eight(d: &[u8], at: usize) -> usize
     long(d, at) * 4294967296 + long(d, past(at, 4))
 }
 
+// Where to go on from `at`: at `next`, or past the answers if that is no step forward.
+pub fn forward(at: usize, next: usize) -> usize
+    requires { ⌜ at < 18446744073709551615 ⌝ }
+    ensures { λ r. ⌜ at < r ⌝ }
+{
+    if at < next {
+        return next;
+    }
+    LAST
+}
+
 // Where the bytes start that a length of four bytes at `at` leads.
 pub fn start(d: &[u8], at: usize) -> usize
     ensures { λ r. ⌜ r ≤ length (now (d .entry)) ⌝ }

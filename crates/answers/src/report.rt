@@ -1,4 +1,5 @@
 // What differs, and how often each answer was given.
+ghost use Prim.Native.Nat.{_≤_};
 use crate::numbers::past;
 use libc::STDOUT_FILENO;
 
@@ -26,6 +27,13 @@ pub enum Found {
     Room,
 }
 
+// How many cases there are, how many differ, and whether the answers end before the last case does.
+pub struct Compared {
+    pub cases: usize,
+    pub differ: usize,
+    pub cut: bool,
+}
+
 // The first of two.
 pub fn first(a: Found, b: Found) -> Found {
     match a {
@@ -42,7 +50,7 @@ pub fn unless(same: bool, what: Found) -> Found {
     what
 }
 
-pub fn is_same(f: Found) -> bool {
+fn is_same(f: Found) -> bool {
     match f {
         Found::Same => true,
         _ => false,
@@ -70,12 +78,23 @@ fn write_found(f: Found) {
 }
 
 // A line for a case that differs.
-pub fn show(case: usize, f: Found) {
+fn show(case: usize, f: Found) {
     write(b"case ");
     io::print_decimal(STDOUT_FILENO, case as u64);
     write(b" differs: ");
     write_found(f);
     write(b"\n");
+}
+
+// Shows a case if it differs, and how many that are, 0 or 1.
+pub fn told(case: usize, f: Found) -> usize
+    ensures { λ r. ⌜ r ≤ 1 ⌝ }
+{
+    if is_same(f) {
+        return 0;
+    }
+    show(case, f);
+    1
 }
 
 // A line with a number.
@@ -106,6 +125,14 @@ pub fn show_counts(what: &[u8], counts: &[usize]) {
     while i < counts.len() {
         show_count(what, i, counts[i]);
         i += 1;
+    }
+}
+
+// How many cases differ, and whether the answers end too early.
+pub fn show_end(c: Compared) {
+    show_number(b"differ", c.differ);
+    if c.cut {
+        write(b"the answers are cut off\n");
     }
 }
 

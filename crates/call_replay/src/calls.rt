@@ -6,8 +6,8 @@ use crate::states::render_state;
 use crate::states::same_layout;
 use crate::states::same_render;
 use answers::compare::copy;
+use answers::compare::refusal_found;
 use answers::numbers::byte;
-use answers::numbers::eight;
 use answers::numbers::long;
 use answers::numbers::past;
 use answers::report::Found;
@@ -34,8 +34,11 @@ pub struct Run {
 const STOP: usize = 1;
 const ARGUMENT: usize = 5;
 const NUMBER: usize = 9;
-const PLACE: usize = 10;
 const STATE: usize = 18;
+
+fn wide(x: u8) -> usize {
+    x as usize
+}
 
 // Where the call at `at` ends, with a state of `size` bytes if it is accepted.
 fn call_end(d: &[u8], at: usize, size: usize) -> usize {
@@ -46,18 +49,10 @@ fn call_end(d: &[u8], at: usize, size: usize) -> usize {
     state
 }
 
-// A refusal against the call stored at `at`.
-fn refusal_found(d: &[u8], at: usize, number: usize, place: usize) -> Found {
-    first(
-        unless(byte(d, past(at, NUMBER)) == number, Found::Number),
-        unless(eight(d, past(at, PLACE)) == place, Found::Place),
-    )
-}
-
 // What layout answers against the call stored at `at`.
 fn laid_found(d: &[u8], at: usize, s: LayoutState, left: usize) -> Found {
     let state = past(at, STATE);
-    let refusal = refusal_found(d, at, 0, 0);
+    let refusal = refusal_found(d, past(at, NUMBER), 0, 0);
     let differs = first(
         unless(same_layout(s, layout_state(d, state)), Found::State),
         unless(long(d, past(state, LAYOUT)) == left, Found::Count),
@@ -68,7 +63,7 @@ fn laid_found(d: &[u8], at: usize, s: LayoutState, left: usize) -> Found {
 // What rendering answers against the call stored at `at`.
 fn written_found(d: &[u8], at: usize, s: RenderState, bytes: usize) -> Found {
     let state = past(at, STATE);
-    let refusal = refusal_found(d, at, 0, 0);
+    let refusal = refusal_found(d, past(at, NUMBER), 0, 0);
     let differs = first(
         unless(same_render(s, render_state(d, state)), Found::State),
         unless(long(d, past(state, RENDER)) == bytes, Found::Count),
@@ -114,6 +109,23 @@ fn with_render(run: Run, s: RenderState, bytes: usize) -> Run {
     }
 }
 
+// The run after a layout call with this answer.
+fn after_layout(d: &[u8], counts: &mut [usize], run: Run, answer: Laying) -> Run {
+    let at = run.at;
+    let end = call_end(d, at, LAYOUT);
+    match answer {
+        Laying::Refused(number, place) => {
+            let n = wide(number);
+            count(counts, n);
+            after(run, end, refusal_found(d, past(at, NUMBER), n, place))
+        }
+        Laying::Laid(s, left) => {
+            count(counts, 0);
+            after(with_layout(run, s), end, laid_found(d, at, s, left))
+        }
+    }
+}
+
 // Runs a layout call.
 fn lay(
     d: &[u8],
@@ -125,19 +137,10 @@ fn lay(
 ) -> Run {
     let at = run.at;
     let state = run.layout;
-    let end = call_end(d, at, LAYOUT);
     let stop = long(d, past(at, STOP));
     let close = long(d, past(at, ARGUMENT)) != 0;
-    match layout_call(source, image, store, state, stop, close) {
-        Laying::Refused(number, place) => {
-            count(counts, number as usize);
-            after(run, end, refusal_found(d, at, number as usize, place))
-        }
-        Laying::Laid(s, left) => {
-            count(counts, 0);
-            after(with_layout(run, s), end, laid_found(d, at, s, left))
-        }
-    }
+    let answer = layout_call(source, image, store, state, stop, close);
+    after_layout(d, counts, run, answer)
 }
 
 // Puts the first bytes of a call's output behind the texts written so far.
@@ -153,7 +156,33 @@ fn join(text: &mut [u8], written: usize, out: &[u8], bytes: usize) -> Found {
     Found::Same
 }
 
-// Runs a rendering call with `room` bytes of output.
+// The run after a rendering call with this answer and this output.
+fn after_rendering(
+    d: &[u8],
+    out: &[u8],
+    text: &mut [u8],
+    counts: &mut [usize],
+    run: Run,
+    answer: Rendering,
+) -> Run {
+    let at = run.at;
+    let end = call_end(d, at, RENDER);
+    match answer {
+        Rendering::Refused(number, place) => {
+            let n = wide(number);
+            count(counts, n);
+            after(run, end, refusal_found(d, past(at, NUMBER), n, place))
+        }
+        Rendering::Written(s, bytes) => {
+            count(counts, 0);
+            let room = join(text, run.written, out, bytes.0);
+            let found = written_found(d, at, s, bytes.0);
+            after(with_render(run, s, bytes.0), end, first(room, found))
+        }
+    }
+}
+
+// Runs a rendering call that may fill all of `out`.
 fn render(
     d: &[u8],
     source: &[u8],
@@ -165,24 +194,10 @@ fn render(
     counts: &mut [usize],
     run: Run,
 ) -> Run {
-    let at = run.at;
     let state = run.render;
-    let end = call_end(d, at, RENDER);
-    let stop = long(d, past(at, STOP));
-    match render_call(source, image, store, marks, out, state, stop) {
-        Rendering::Refused(number, place) => {
-            count(counts, number as usize);
-            after(run, end, refusal_found(d, at, number as usize, place))
-        }
-        Rendering::Written(s, bytes) => {
-            count(counts, 0);
-            let found = first(
-                join(text, run.written, out, bytes.0),
-                written_found(d, at, s, bytes.0),
-            );
-            after(with_render(run, s, bytes.0), end, found)
-        }
-    }
+    let stop = long(d, past(run.at, STOP));
+    let answer = render_call(source, image, store, marks, out, state, stop);
+    after_rendering(d, out, text, counts, run, answer)
 }
 
 // Runs the call stored at the run's place.
@@ -233,8 +248,8 @@ pub fn replay_calls(
     start: Run,
 ) -> Run {
     let mut run = start;
-    let mut i: usize = 0;
-    while i < n {
+    let mut left = n;
+    while left > 0 {
         run = call(
             d,
             source,
@@ -247,7 +262,7 @@ pub fn replay_calls(
             rendered,
             run,
         );
-        i += 1;
+        left -= 1;
     }
     run
 }

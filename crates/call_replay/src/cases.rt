@@ -1,5 +1,4 @@
 // The stored lists of calls, each with the world before it and after it.
-ghost use Prim.Native.Nat.{_≤_};
 use crate::calls::Run;
 use crate::calls::replay_calls;
 use crate::states::LAYOUT;
@@ -8,27 +7,21 @@ use crate::states::layout_state;
 use crate::states::render_state;
 use crate::states::same_layout;
 use crate::states::same_render;
+use answers::compare::bytes_found;
 use answers::compare::copy;
 use answers::compare::fill;
-use answers::compare::same_bytes;
 use answers::compare::same_numbers;
 use answers::numbers::end;
+use answers::numbers::forward;
 use answers::numbers::long;
 use answers::numbers::past;
 use answers::numbers::short;
 use answers::numbers::start;
+use answers::report::Compared;
 use answers::report::Found;
 use answers::report::first;
-use answers::report::is_same;
-use answers::report::show;
+use answers::report::told;
 use answers::report::unless;
-
-// How many cases there are, how many differ, and whether the answers end before the last case does.
-pub struct Compared {
-    pub cases: usize,
-    pub differ: usize,
-    pub cut: bool,
-}
 
 // Where a case ends, and its first difference.
 struct Case {
@@ -44,19 +37,14 @@ fn store_found(store: &[u32], d: &[u8], at: usize) -> Found {
     )
 }
 
-// Some bytes against those stored at `at` with their number before them.
-fn bytes_found(b: &[u8], d: &[u8], at: usize, what: Found) -> Found {
-    first(
-        unless(long(d, at) == b.len(), what),
-        unless(same_bytes(b, d, past(at, 4)), what),
-    )
+// Where the numbers end that a length at `at` leads.
+fn numbers_end(d: &[u8], at: usize) -> usize {
+    past(past(at, 4), 4 * long(d, at))
 }
 
-// Where what a length at `at` leads ends, `size` bytes each.
-fn led_end(d: &[u8], at: usize, size: usize) -> usize
-    requires { ⌜ size ≤ 4 ⌝ }
-{
-    past(past(at, 4), long(d, at) * size)
+// Where the bytes end that a length at `at` leads.
+fn bytes_end(d: &[u8], at: usize) -> usize {
+    past(past(at, 4), long(d, at))
 }
 
 // The joined texts, stored at `at`.
@@ -70,8 +58,8 @@ fn text_found(text: &[u8], written: usize, d: &[u8], at: usize) -> Found {
 // The world after the calls, which is stored where they end, and the texts behind it.
 fn world_found(d: &[u8], store: &[u32], marks: &[u8], text: &[u8], run: Run) -> Case {
     let at = run.at;
-    let marks_at = led_end(d, at, 4);
-    let layout_at = led_end(d, marks_at, 1);
+    let marks_at = numbers_end(d, at);
+    let layout_at = bytes_end(d, marks_at);
     let render_at = past(layout_at, LAYOUT);
     let text_at = past(render_at, RENDER);
     let layout = run.layout;
@@ -87,7 +75,7 @@ fn world_found(d: &[u8], store: &[u32], marks: &[u8], text: &[u8], run: Run) -> 
     );
     let texts = text_found(text, run.written, d, text_at);
     Case {
-        next: led_end(d, text_at, 1),
+        next: bytes_end(d, text_at),
         found: first(first(calls, buffers), first(states, texts)),
     }
 }
@@ -131,6 +119,37 @@ fn from_states(
     world_found(d, store, marks, text, run)
 }
 
+// A case whose world before the calls is stored at `at`, with a store and marks of its size.
+fn in_world(
+    d: &[u8],
+    at: usize,
+    source: &[u8],
+    image: &[u8],
+    store: &mut [u32],
+    marks: &mut [u8],
+    out: &mut [u8],
+    text: &mut [u8],
+    laid: &mut [usize],
+    rendered: &mut [usize],
+) -> Case {
+    let marks_at = numbers_end(d, at);
+    let states_at = bytes_end(d, marks_at);
+    fill(store, d, past(at, 4));
+    copy(marks, d, past(marks_at, 4));
+    from_states(
+        d,
+        states_at,
+        source,
+        image,
+        store,
+        marks,
+        out,
+        text,
+        laid,
+        rendered,
+    )
+}
+
 // A case whose world before the calls is stored at `at`.
 fn from_world(
     d: &[u8],
@@ -144,10 +163,8 @@ fn from_world(
     laid: &mut [usize],
     rendered: &mut [usize],
 ) -> Case {
-    let marks_at = led_end(d, at, 4);
-    let states_at = led_end(d, marks_at, 1);
     let numbers = long(d, at);
-    let count = long(d, marks_at);
+    let count = long(d, numbers_end(d, at));
     if store.len() < numbers {
         return Case {
             next: 0,
@@ -160,11 +177,9 @@ fn from_world(
             found: Found::Room,
         };
     }
-    fill(&mut store[..numbers], d, past(at, 4));
-    copy(&mut marks[..count], d, past(marks_at, 4));
-    from_states(
+    in_world(
         d,
-        states_at,
+        at,
         source,
         image,
         &mut store[..numbers],
@@ -221,20 +236,9 @@ pub fn replay_cases(
     while at < d.len() {
         let c = replay_case(d, at, store, marks, out, text, laid, rendered);
         let found = c.found;
-        let next = c.next;
         cases += 1;
-        if !is_same(found) {
-            show(cases, found);
-            differ += 1;
-        }
-        if next <= at {
-            return Compared {
-                cases: cases,
-                differ: differ,
-                cut: true,
-            };
-        }
-        at = next;
+        differ += told(cases, found);
+        at = forward(at, c.next);
     }
     Compared {
         cases: cases,

@@ -6,10 +6,11 @@ mod states;
 
 ghost use mathlib.Core.Path.{_≡_};
 ghost use lib.ListN.{length};
+use answers::report::Compared;
 use answers::report::show_counts;
+use answers::report::show_end;
 use answers::report::show_number;
 use answers::report::sum;
-use cases::Compared;
 use cases::replay_cases;
 use libc::STDIN_FILENO;
 use libc::STDOUT_FILENO;
@@ -51,15 +52,12 @@ fn text_room() -> [u8; 65536]
 
 // Says how the replay went.
 fn show(c: Compared, laid: &[usize], rendered: &[usize]) {
-    if c.cut {
-        io::write_all(STDOUT_FILENO, b"the answers are cut off\n");
-    }
     show_number(b"cases", c.cases);
     show_number(b"layout calls", sum(laid));
     show_counts(b"layout", laid);
     show_number(b"rendering calls", sum(rendered));
     show_counts(b"rendering", rendered);
-    show_number(b"cases that differ", c.differ);
+    show_end(c);
 }
 
 fn replay(d: &[u8]) {
