@@ -32,10 +32,10 @@ module _ (f : ℕ → ℕ) (w : ℕ) where
   pub filling-more : (n at : ℕ) (b : List ℕ) (i here v next : ℕ) → Filling f w n at b i here → i < n → v ≡ f here → next ≡ onward here w → Filling f w n at (set b i v) (i + 1) next
   filling-more n at b i here v next F h e k =
       let inb : i < length b = omega (arith, F .size) in
-      record
-      { size = simp length-set (F .size)
-      ; inside = omega arith
-      ; done = rw (add-one, take-suc-set b i v inb, append-assoc, e, k) (rw (listed-more n i here h) at (F .done))
+      record {
+        size = simp length-set (F .size);
+        inside = omega arith;
+        done = rw (add-one, take-suc-set b i v inb, append-assoc, e, k) (rw (listed-more n i here h) at (F .done));
       }
 
   pub filling-end : (n at : ℕ) (b : List ℕ) (i here : ℕ) → Filling f w n at b i here → n ≤ i → b ≡ listed f w n at
@@ -53,9 +53,9 @@ module _ (f : ℕ → ℕ) (w : ℕ) (b : List ℕ) (at i here : ℕ) (F : Agree
 
   pub agreeing-more : (next : ℕ) → i < length b → getD b i 0 ≡ f here → next ≡ onward here w → Agreeing f w b at (i + 1) next
   agreeing-more next h e k =
-      record
-      { inside = omega arith
-      ; rest = sym (here-more h ∙ rw (eq-eqb (getD b i 0) (f here) e, k))
+      record {
+        inside = omega arith;
+        rest = sym (here-more h ∙ rw (eq-eqb (getD b i 0) (f here) e, k));
       }
 
   pub agreeing-not : i < length b → (getD b i 0 ≡ f here → ⊥) → false ≡ agree f w b at

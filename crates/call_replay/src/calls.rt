@@ -32,8 +32,11 @@ pub struct Run {
 
 // Offsets in a stored call.
 const STOP: usize = 1;
+
 const ARGUMENT: usize = 5;
+
 const NUMBER: usize = 9;
+
 const STATE: usize = 18;
 
 fn wide(x: u8) -> usize {

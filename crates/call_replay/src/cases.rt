@@ -70,8 +70,14 @@ fn world_found(d: &[u8], store: &[u32], marks: &[u8], text: &[u8], run: Run) -> 
         bytes_found(marks, d, marks_at, Found::Marks),
     );
     let states = first(
-        unless(same_layout(layout, layout_state(d, layout_at)), Found::Layout),
-        unless(same_render(render, render_state(d, render_at)), Found::Rendering),
+        unless(
+            same_layout(layout, layout_state(d, layout_at)),
+            Found::Layout,
+        ),
+        unless(
+            same_render(render, render_state(d, render_at)),
+            Found::Rendering,
+        ),
     );
     let texts = text_found(text, run.written, d, text_at);
     Case {

@@ -26,8 +26,21 @@ fn clear(store: &mut [u32], marks: &mut [u8], out: &mut [u8]) {
     clear_bytes(out);
 }
 
-// A frame, by declarations and whole; the answer is stored at `at`.
-fn both(
+// A frame by declarations, in fresh buffers.
+fn fresh_pieces(
+    d: &[u8],
+    at: usize,
+    frame: &[u8],
+    store: &mut [u32],
+    marks: &mut [u8],
+    out: &mut [u8],
+) -> Found {
+    clear(store, marks, out);
+    pieces(d, at, frame, store, marks, out)
+}
+
+// A frame by the whole run, in fresh buffers.
+fn fresh_whole(
     d: &[u8],
     at: usize,
     frame: &[u8],
@@ -37,9 +50,21 @@ fn both(
     counts: &mut [usize],
 ) -> Found {
     clear(store, marks, out);
-    let one = pieces(d, at, frame, store, marks, out);
-    clear(store, marks, out);
-    let two = whole(d, at, frame, store, marks, out, counts);
+    whole(d, at, frame, store, marks, out, counts)
+}
+
+// A frame, both ways; the answer is stored at `at`.
+fn both(
+    d: &[u8],
+    at: usize,
+    frame: &[u8],
+    store: &mut [u32],
+    marks: &mut [u8],
+    out: &mut [u8],
+    counts: &mut [usize],
+) -> Found {
+    let one = fresh_pieces(d, at, frame, store, marks, out);
+    let two = fresh_whole(d, at, frame, store, marks, out, counts);
     first(one, two)
 }
 

@@ -76,7 +76,7 @@ fn is_at(s: LayoutState, stop: usize, closed: bool) -> bool {
 }
 
 // What a call answers, after what the calls before it left.
-fn laid(before: Laid, answer: Laying) -> Laid {
+fn answered(before: Laid, answer: Laying) -> Laid {
     let state = before.state;
     let found = before.found;
     match answer {
@@ -115,7 +115,10 @@ fn to_stop(
     before: Laid,
 ) -> Laid {
     let state = before.state;
-    let l = laid(before, layout_call(source, image, store, state, stop, false));
+    let l = answered(
+        before,
+        layout_call(source, image, store, state, stop, false),
+    );
     let s = l.state;
     let place = unless(is_at(s, stop, false), Found::State);
     noted(l, first(place, unless(is_stop(d, at, s), Found::State)))
@@ -142,9 +145,15 @@ fn to_stops(d: &[u8], at: usize, source: &[u8], image: &[u8], store: &mut [u32])
 // The closing call.
 fn close(source: &[u8], image: &[u8], store: &mut [u32], stop: usize, before: Laid) -> Laid {
     let state = before.state;
-    let l = laid(before, layout_call(source, image, store, state, stop, true));
+    let l = answered(before, layout_call(source, image, store, state, stop, true));
     let s = l.state;
     noted(l, unless(is_at(s, stop, true), Found::State))
+}
+
+// All layout calls.
+fn lay_out(d: &[u8], at: usize, source: &[u8], image: &[u8], store: &mut [u32]) -> Laid {
+    let stopped = to_stops(d, at, source, image, store);
+    close(source, image, store, declarations(d, at), stopped)
 }
 
 // What rendering answers, with the buffers, against the answer at `at`.
@@ -183,8 +192,7 @@ fn by_declarations(
     marks: &mut [u8],
     out: &mut [u8],
 ) -> Found {
-    let stopped = to_stops(d, at, source, image, store);
-    let l = close(source, image, store, declarations(d, at), stopped);
+    let l = lay_out(d, at, source, image, store);
     let s = l.state;
     let answer = render_call(source, image, store, marks, out, render_fresh(), s.row);
     rendered_found(d, at, store, marks, out, l, answer)

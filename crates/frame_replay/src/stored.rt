@@ -13,11 +13,17 @@ use answers::report::unless;
 
 // Offsets in an answer.
 const ROWS: usize = 9;
+
 const ROWS_HASH: usize = 13;
+
 const NUMBERS: usize = 17;
+
 const MARKS_HASH: usize = 21;
+
 const LEFT: usize = 25;
+
 const DECLARATIONS: usize = 29;
+
 pub const STOPS: usize = 31;
 // How many bytes a stop has.
 pub const STOP: usize = 16;
