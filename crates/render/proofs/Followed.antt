@@ -31,10 +31,9 @@ use Rattle.renderer.specs.Renderer.{
 use Rattle.renderer.proofs.Meaning.{frameAt, partEnd, closing, wrapAt}
 use Rattle.renderer.proofs.Machine.{Machine, frame, opened, second, enter, enterGroup, enterIndent, enterNext, enterLeaf, enterIf, enterCall, leave, turn, enter-0, enter-1, enter-2, enter-leaf, enter-10, enter-11, turn-leave}
 use Rattle.render.specs.declared.pen.Pen.{Pen}
-use Rattle.render.specs.declared.machine.Run.{Run}
 use Rattle.render.specs.Output.{over}
 use Rattle.render.specs.Pen.{shown, penAfter, withMargin, Drawn}
-use Rattle.render.specs.Run.{stateOf, machineOf, Wrote, Shows, Follows, openedRun, inserted, GroupOpened, CallOpened, ArgumentsOpened}
+use Rattle.render.specs.Run.{Running, stateOf, machineOf, Wrote, Shows, Follows, openedRun, inserted, GroupOpened, CallOpened, ArgumentsOpened}
 use Rattle.render.proofs.Written.{over-join}
 use Rattle.render.proofs.Framed.{under, shown-under, leaf-under}
 
@@ -52,7 +51,7 @@ wrote-more limit o out at b t out2 at2 w e f =
     none-before : (n : ℕ) → n ≡ 0 + n
     none-before n = omega arith
 
-pub shows-as : (limit : ℕ) (o marks out : List ℕ) (r : Run) (m m2 : Machine) → m ≡ m2 → Shows limit o marks out r m2 → Shows limit o marks out r m
+pub shows-as : (limit : ℕ) (o marks out : List ℕ) (r : Running) (m m2 : Machine) → m ≡ m2 → Shows limit o marks out r m2 → Shows limit o marks out r m
 shows-as limit o marks out r m m2 e s = subst (λ (x : Machine). Shows limit o marks out r x) (sym e) s
 
 -- what groups and calls decide by is the pen and the marks
@@ -92,7 +91,7 @@ unfolding withMargin
 margin-at p s = refl
 
 -- a row is opened
-opened-shows : (limit : ℕ) (o out b : List ℕ) (n : ℕ) (r : Run) (marks marks2 : List ℕ) (q : Run) (f : Frame) (k k2 : ℕ) (p : Pen) (t : Renderer)
+opened-shows : (limit : ℕ) (o out b : List ℕ) (n : ℕ) (r : Running) (marks marks2 : List ℕ) (q : Running) (f : Frame) (k k2 : ℕ) (p : Pen) (t : Renderer)
     → Wrote limit o out (r .pen .at .0) b
     → q ≡ openedRun r f k2 p
     → k ≡ k2
@@ -153,7 +152,7 @@ unfolding viewOf
 kind-cell s i = refl
 
 -- The ways to enter a row.
-module _ (store source image : List ℕ) (max limit stop : ℕ) (marks out : List ℕ) (r : Run) where
+module _ (store source image : List ℕ) (max limit stop : ℕ) (marks out : List ℕ) (r : Running) where
   abbrev v : View
   v = viewOf store
 
@@ -163,7 +162,7 @@ module _ (store source image : List ℕ) (max limit stop : ℕ) (marks out : Lis
   abbrev wrap : Bool
   wrap = wrapAt v pg stop (r .frames) (r .depth)
 
-  group-goes : (marks2 : List ℕ) (q : Run) → GroupOpened store max marks r marks2 q
+  group-goes : (marks2 : List ℕ) (q : Running) → GroupOpened store max marks r marks2 q
       → (o b : List ℕ) (n : ℕ) → Wrote limit o out (r .pen .at .0) b → Shows limit o marks2 out q (enterGroup v pg stop (machineOf r marks b n))
   unfolding enterGroup machineOf viewOf
   group-goes marks2 q g o b n w =
@@ -176,13 +175,13 @@ module _ (store source image : List ℕ) (max limit stop : ℕ) (marks out : Lis
       (insert-same (g .wraps) (v .number (r .next)) (r .pen) marks b ∙ ap (λ (m : List ℕ). stateOf (r .pen) m b) (sym (g .marked)))
       refl)
 
-  pub group-follows : (marks2 : List ℕ) (q : Run) → cell store (r .next) 0 ≡ 0 → GroupOpened store max marks r marks2 q
+  pub group-follows : (marks2 : List ℕ) (q : Running) → cell store (r .next) 0 ≡ 0 → GroupOpened store max marks r marks2 q
       → Follows limit (enter v pg stop) marks out r marks2 out q
   unfolding machineOf viewOf
   group-follows marks2 q k g =
       record { goes = λ o b n w. shows-as limit o marks2 out q _ _ (enter-0 v pg stop (machineOf r marks b n) k) (group-goes marks2 q g o b n w) }
 
-  indent-goes : (q : Run) (x : Bool) → x ≡ wrap
+  indent-goes : (q : Running) (x : Bool) → x ≡ wrap
       → q ≡ openedRun r (frame (r .next) x false false) (r .next + 1) (withMargin (r .pen) (indented x (shown (r .pen) [])))
       → (o b : List ℕ) (n : ℕ) → Wrote limit o out (r .pen .at .0) b → Shows limit o marks out q (enterIndent v pg stop (machineOf r marks b n))
   unfolding enterIndent machineOf
@@ -193,14 +192,14 @@ module _ (store source image : List ℕ) (max limit stop : ℕ) (marks out : Lis
       (indented-same x (r .pen) marks b)
       (margin-at (r .pen) (indented x (shown (r .pen) []))))
 
-  pub indent-follows : (q : Run) (x : Bool) → cell store (r .next) 0 ≡ 1 → x ≡ wrap
+  pub indent-follows : (q : Running) (x : Bool) → cell store (r .next) 0 ≡ 1 → x ≡ wrap
       → q ≡ openedRun r (frame (r .next) x false false) (r .next + 1) (withMargin (r .pen) (indented x (shown (r .pen) [])))
       → Follows limit (enter v pg stop) marks out r marks out q
   unfolding machineOf viewOf
   indent-follows q x k e g =
       record { goes = λ o b n w. shows-as limit o marks out q _ _ (enter-1 v pg stop (machineOf r marks b n) k) (indent-goes q x e g o b n w) }
 
-  next-goes : (q : Run) (x : Bool) → x ≡ wrap
+  next-goes : (q : Running) (x : Bool) → x ≡ wrap
       → q ≡ openedRun r (frame (r .next) x false false) (r .next + 1) (withMargin (r .pen) (nextIndented x (shown (r .pen) [])))
       → (o b : List ℕ) (n : ℕ) → Wrote limit o out (r .pen .at .0) b → Shows limit o marks out q (enterNext v pg stop (machineOf r marks b n))
   unfolding enterNext machineOf
@@ -211,14 +210,14 @@ module _ (store source image : List ℕ) (max limit stop : ℕ) (marks out : Lis
       (next-same x (r .pen) marks b)
       (margin-at (r .pen) (nextIndented x (shown (r .pen) []))))
 
-  pub next-follows : (q : Run) (x : Bool) → cell store (r .next) 0 ≡ 2 → x ≡ wrap
+  pub next-follows : (q : Running) (x : Bool) → cell store (r .next) 0 ≡ 2 → x ≡ wrap
       → q ≡ openedRun r (frame (r .next) x false false) (r .next + 1) (withMargin (r .pen) (nextIndented x (shown (r .pen) [])))
       → Follows limit (enter v pg stop) marks out r marks out q
   unfolding machineOf viewOf
   next-follows q x k e g =
       record { goes = λ o b n w. shows-as limit o marks out q _ _ (enter-2 v pg stop (machineOf r marks b n) k) (next-goes q x e g o b n w) }
 
-  if-goes : (q : Run) (x : Bool) → x ≡ wrap
+  if-goes : (q : Running) (x : Bool) → x ≡ wrap
       → q
       ≡ cond (wrapped marks (cell store (r .next) 1))
       (openedRun r (frame (r .next) x true false) (r .next + 1) (r .pen))
@@ -241,7 +240,7 @@ module _ (store source image : List ℕ) (max limit stop : ℕ) (marks out : Lis
       go false h =
           opened-shows limit o out b n r marks marks q (frame (r .next) x false false) (cell store (r .next) 3) (cell store (r .next) 3) (r .pen) _ w h refl refl refl
 
-  pub if-follows : (q : Run) (x : Bool) → cell store (r .next) 0 ≡ 10 → x ≡ wrap
+  pub if-follows : (q : Running) (x : Bool) → cell store (r .next) 0 ≡ 10 → x ≡ wrap
       → q
       ≡ cond (wrapped marks (cell store (r .next) 1))
       (openedRun r (frame (r .next) x true false) (r .next + 1) (r .pen))
@@ -251,7 +250,7 @@ module _ (store source image : List ℕ) (max limit stop : ℕ) (marks out : Lis
   if-follows q x k e g =
       record { goes = λ o b n w. shows-as limit o marks out q _ _ (enter-10 v pg stop (machineOf r marks b n) k) (if-goes q x e g o b n w) }
 
-  call-goes : (marks2 : List ℕ) (q : Run) → CallOpened store max marks r marks2 q
+  call-goes : (marks2 : List ℕ) (q : Running) → CallOpened store max marks r marks2 q
       → (o b : List ℕ) (n : ℕ) → Wrote limit o out (r .pen .at .0) b → Shows limit o marks2 out q (enterCall v pg stop (machineOf r marks b n))
   unfolding enterCall machineOf viewOf
   call-goes marks2 q g o b n w =
@@ -274,7 +273,7 @@ module _ (store source image : List ℕ) (max limit stop : ℕ) (marks out : Lis
       ∙ next-same (not (g .trails) && g .wraps) (r .pen) marks2 b)
       (margin-at (r .pen) (nextIndented (not (g .trails) && g .wraps) (shown (r .pen) []))))
 
-  pub call-follows : (marks2 : List ℕ) (q : Run) → cell store (r .next) 0 ≡ 11 → CallOpened store max marks r marks2 q
+  pub call-follows : (marks2 : List ℕ) (q : Running) → cell store (r .next) 0 ≡ 11 → CallOpened store max marks r marks2 q
       → Follows limit (enter v pg stop) marks out r marks2 out q
   unfolding machineOf viewOf
   call-follows marks2 q k g =
@@ -328,7 +327,7 @@ module _ (store source image : List ℕ) (max limit stop : ℕ) (marks out : Lis
     unfolding machineOf
     turned b n = turn-leave v pg stop (machineOf r marks b n) (r .depth - 1) deep (z ∙ ap (partEnd v) i)
 
-    on-goes : (marks2 : List ℕ) (q : Run) → cell store (f .row) 0 ≡ 11 → f .early ≡ true → ArgumentsOpened store max marks r f marks2 q
+    on-goes : (marks2 : List ℕ) (q : Running) → cell store (f .row) 0 ≡ 11 → f .early ≡ true → ArgumentsOpened store max marks r f marks2 q
         → (o b : List ℕ) (n : ℕ) → Wrote limit o out (r .pen .at .0) b
         → Shows limit o marks2 out q (leave v pg stop (machineOf r marks b n) (r .depth - 1))
     unfolding leave machineOf viewOf insert
@@ -351,12 +350,12 @@ module _ (store source image : List ℕ) (max limit stop : ℕ) (marks out : Lis
           wrote = w;
         })
 
-    pub arguments-follows : (marks2 : List ℕ) (q : Run) → cell store (f .row) 0 ≡ 11 → f .early ≡ true → ArgumentsOpened store max marks r f marks2 q
+    pub arguments-follows : (marks2 : List ℕ) (q : Running) → cell store (f .row) 0 ≡ 11 → f .early ≡ true → ArgumentsOpened store max marks r f marks2 q
         → Follows limit (turn v pg stop) marks out r marks2 out q
     arguments-follows marks2 q k y g = record { goes = λ o b n w. shows-as limit o marks2 out q _ _ (turned b n) (on-goes marks2 q k y g o b n w) }
 
     -- the row is closed, its last step being s
-    off-goes : (s : Renderer → Renderer) (p : Pen) (q : Run) → (eqb (v .kind (f .row)) 11 && f .early) ≡ false
+    off-goes : (s : Renderer → Renderer) (p : Pen) (q : Running) → (eqb (v .kind (f .row)) 11 && f .early) ≡ false
         → ((t : Renderer) → closing v pg f t ≡ s t)
         → ((b : List ℕ) → s (stateOf (r .pen) marks b) ≡ stateOf p marks b)
         → p .at .0 ≡ r .pen .at .0
@@ -366,7 +365,7 @@ module _ (store source image : List ℕ) (max limit stop : ℕ) (marks out : Lis
     unfolding leave machineOf
     off-goes s p q e c u a g o b n w = rw (← i, e, c (stateOf (r .pen) marks b), u b, g) (record { same = refl; wrote = rw a w })
 
-    pub closed-follows : (s : Renderer → Renderer) (p : Pen) (q : Run) → (eqb (v .kind (f .row)) 11 && f .early) ≡ false
+    pub closed-follows : (s : Renderer → Renderer) (p : Pen) (q : Running) → (eqb (v .kind (f .row)) 11 && f .early) ≡ false
         → ((t : Renderer) → closing v pg f t ≡ s t)
         → ((b : List ℕ) → s (stateOf (r .pen) marks b) ≡ stateOf p marks b)
         → p .at .0 ≡ r .pen .at .0

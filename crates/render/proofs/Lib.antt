@@ -6,6 +6,7 @@ pub mod Leaves
 pub mod Loan
 pub mod Opening
 pub mod Outcome
+pub mod Packed
 pub mod Running
 pub mod Stepped
 pub mod Written

@@ -13,9 +13,8 @@ use Rattle.renderer.specs.Page.{pageOf}
 use Rattle.renderer.specs.Renderer.{groupWraps, trailing, calleeWraps, nextIndented}
 use Rattle.renderer.proofs.Machine.{frame}
 use Rattle.render.specs.declared.pen.Pen.{Pen}
-use Rattle.render.specs.declared.machine.Run.{Run}
 use Rattle.render.specs.Pen.{shown, withMargin}
-use Rattle.render.specs.Run.{openedRun, inserted, GroupOpened, CallOpened, ArgumentsOpened}
+use Rattle.render.specs.Run.{Running, openedRun, inserted, GroupOpened, CallOpened, ArgumentsOpened}
 
 pub nested-to : (store : List ℕ) (from to to2 : ℕ) → to ≡ to2 → Nested store from to2 → Nested store from to
 nested-to store from to to2 e n = rw e n
@@ -23,7 +22,7 @@ nested-to store from to to2 e n = rw e n
 pub nested-at : (store : List ℕ) (from to from2 to2 : ℕ) → from ≡ from2 → to ≡ to2 → Nested store from2 to2 → Nested store from to
 nested-at store from to from2 to2 e f n = rw (e, f) n
 
-module _ (store : List ℕ) (max : ℕ) (marks : List ℕ) (r : Run) (marks2 : List ℕ) (q : Run) where
+module _ (store : List ℕ) (max : ℕ) (marks : List ℕ) (r : Running) (marks2 : List ℕ) (q : Running) where
   pub group-opened : (end number : ℕ) (w : Bool) → end ≡ cell store (r .next) 4 → number ≡ cell store (r .next) 1
       → w ≡ groupWraps (pageOf max [] []) (nodesAt (viewOf store) (r .next + 1) end) (shown (r .pen) marks)
       → marks2 ≡ inserted w number marks
@@ -79,8 +78,8 @@ module _ (store : List ℕ) (max : ℕ) (marks : List ℕ) (r : Run) (marks2 : L
       }
 
 -- An `IfWrap` at either part.
-module _ (store marks : List ℕ) (r : Run) (wrap : Bool) (number : ℕ) (b : Bool) (q : Run) (n : number ≡ cell store (r .next) 1) (e : b ≡ wrapped marks number) where
-  abbrev chosen : Run
+module _ (store marks : List ℕ) (r : Running) (wrap : Bool) (number : ℕ) (b : Bool) (q : Running) (n : number ≡ cell store (r .next) 1) (e : b ≡ wrapped marks number) where
+  abbrev chosen : Running
   chosen =
       cond (wrapped marks (cell store (r .next) 1))
       (openedRun r (frame (r .next) wrap true false) (r .next + 1) (r .pen))

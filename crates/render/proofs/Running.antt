@@ -19,9 +19,8 @@ use Rattle.renderer.proofs.Opened.{Under, limit-zero}
 use Rattle.renderer.proofs.Machine.{Machine, Fine, left, weight, means, turn, isDone, turned, done-means}
 use Rattle.renderer.proofs.Safe.{Safe, Small, steps, ins, turn-safe}
 use Rattle.render.specs.declared.pen.Pen.{Pen}
-use Rattle.render.specs.declared.machine.Run.{Run}
 use Rattle.render.specs.Output.{over}
-use Rattle.render.specs.Run.{stateOf, machineOf, Wrote, Shows, Follows, Ready, Starting, Rendered}
+use Rattle.render.specs.Run.{Running, stateOf, machineOf, Wrote, Shows, Follows, Ready, Starting, Rendered}
 use Rattle.render.proofs.Written.{over-length, text-fits}
 
 -- numbers of 32 bits
@@ -45,7 +44,7 @@ module _ (store source image : List ℕ) (max limit stop : ℕ) where
   abbrev pg : Page
   pg = pageOf max source image
 
-  pub record Going (final : Renderer) (out0 marks out : List ℕ) (r : Run) : Type 0 where
+  pub record Going (final : Renderer) (out0 marks out : List ℕ) (r : Running) : Type 0 where
     pub room : stop * 9 ≤ length store
     pub few : stop ≤ 2097152
     pub fits : limit ≤ length out0
@@ -82,7 +81,7 @@ module _ (store source image : List ℕ) (max limit stop : ℕ) where
       plus-none : (n : ℕ) → n ≡ n + 0
       plus-none n = omega arith
 
-  module _ (final : Renderer) (out0 marks out : List ℕ) (r : Run) (g : Going final out0 marks out r) where
+  module _ (final : Renderer) (out0 marks out : List ℕ) (r : Running) (g : Going final out0 marks out r) where
     pub same-size : length out ≡ length out0
     same-size = ap length (g .wrote .written) ∙ over-length limit out0 0 (g .text)
 
@@ -115,7 +114,7 @@ module _ (store source image : List ℕ) (max limit stop : ℕ) where
         go true e = e
         go false e = refl
 
-    module _ (marks2 out2 : List ℕ) (q : Run) (f : Follows limit (turn v pg stop) marks out r marks2 out2 q) (n : (0 < r .depth) ⊎ (r .next < stop)) where
+    module _ (marks2 out2 : List ℕ) (q : Running) (f : Follows limit (turn v pg stop) marks out r marks2 out2 q) (n : (0 < r .depth) ⊎ (r .next < stop)) where
       m : Machine
       m = turn v pg stop (machineOf r marks (g .text) (g .entered))
 

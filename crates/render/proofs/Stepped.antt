@@ -20,9 +20,9 @@ use Rattle.renderer.proofs.Opened.{Open, at-top, limit-zero, limit-pos, wrapAt-
 use Rattle.renderer.proofs.Machine.{frame, enter, turn, turn-enter}
 use Rattle.renderer.proofs.Safe.{steps, ins, stepOf, insOf, steps-le, closing-plain, closing-indent, closing-next, closing-call, indent-steps, next-steps, call-steps}
 use Rattle.render.specs.declared.pen.Pen.{Pen}
-use Rattle.render.specs.declared.machine.Run.{Run}
 use Rattle.render.specs.Pen.{shown, withMargin, Room}
-use Rattle.render.specs.Run.{stateOf, machineOf, Follows, Ready, Enters, Entering, Leaves, Backs, Left, goesOn, ends, openedRun, closedRun, closes}
+use Rattle.render.specs.declared.machine.Run.{Run}
+use Rattle.render.specs.Run.{Running, bare, stateOf, machineOf, Follows, Ready, Enters, Entering, Leaves, Backs, Left, goesOn, ends, openedRun, closedRun, closes}
 use Rattle.render.proofs.Followed.{
   shows-as,
   indent-follows,
@@ -51,7 +51,7 @@ closes-none kind f p a b c = rw (ne-eqb kind 1 a, ne-eqb kind 2 b, ne-eqb kind 1
 
 pub finished : (store : List ℕ) (r : Run) (f : Frame) (row kind next : ℕ) (p : Pen) (q : Run) → row ≡ f .row → kind ≡ cell store row 0 → next ≡ cell store row 4
     → p ≡ withMargin (r .pen) (closes kind f (shown (r .pen) []))
-    → q ≡ record { frames = r .frames; depth = r .depth - 1; next = next; pen = p }
+    → q ≡ record { depth = r .depth - 1; next = next; pen = p }
     → q ≡ closedRun store r f
 finished store r f row kind next p q e k n a b = b ∙ rw (a, n, k, e)
 
@@ -69,21 +69,21 @@ pub part-late : (store : List ℕ) (f : Frame) (row e : ℕ) → row ≡ f .row 
 unfolding partEnd viewOf
 part-late store f row e i y h = h ∙ rw (y, i)
 
-pub indent-kind : (kind : ℕ) (r : Run) (w : Bool) (q : Run) (p : Pen) → kind ≡ 1 → p ≡ withMargin (r .pen) (indented w (shown (r .pen) []))
+pub indent-kind : (kind : ℕ) (r : Running) (w : Bool) (q : Running) (p : Pen) → kind ≡ 1 → p ≡ withMargin (r .pen) (indented w (shown (r .pen) []))
     → q ≡ openedRun r (frame (r .next) w false false) (r .next + 1) p
     → q
     ≡ openedRun r (frame (r .next) w false false) (r .next + 1)
     (withMargin (r .pen) (cond (eqb kind 1) (indented w (shown (r .pen) [])) (nextIndented w (shown (r .pen) []))))
 indent-kind kind r w q p k e o = o ∙ rw (e, k)
 
-pub next-kind : (kind : ℕ) (r : Run) (w : Bool) (q : Run) (p : Pen) → (kind ≡ 1 → ⊥) → p ≡ withMargin (r .pen) (nextIndented w (shown (r .pen) []))
+pub next-kind : (kind : ℕ) (r : Running) (w : Bool) (q : Running) (p : Pen) → (kind ≡ 1 → ⊥) → p ≡ withMargin (r .pen) (nextIndented w (shown (r .pen) []))
     → q ≡ openedRun r (frame (r .next) w false false) (r .next + 1) p
     → q
     ≡ openedRun r (frame (r .next) w false false) (r .next + 1)
     (withMargin (r .pen) (cond (eqb kind 1) (indented w (shown (r .pen) [])) (nextIndented w (shown (r .pen) []))))
 next-kind kind r w q p k e o = o ∙ rw (e, ne-eqb kind 1 k)
 
-module _ (store source image : List ℕ) (max limit stop : ℕ) (marks out : List ℕ) (r : Run) where
+module _ (store source image : List ℕ) (max limit stop : ℕ) (marks out : List ℕ) (r : Running) where
   abbrev v : View
   v = viewOf store
 
@@ -128,6 +128,12 @@ module _ (store source image : List ℕ) (max limit stop : ℕ) (marks out : Lis
         let b = y .room in
         rw e (omega arith)
 
+    top-few : (f : Frame) → 0 < r .depth → f ≡ frameAt (r .frames) (r .depth - 1) → f .row < 2097152
+    top-few f h e =
+        let a = at-top v pg stop (r .frames) (r .depth) (r .next) h (y .at) .row in
+        let b = y .few in
+        rw e (omega arith)
+
     pub shallow : r .depth ≤ 256
     shallow = y .at .deep
 
@@ -141,7 +147,7 @@ module _ (store source image : List ℕ) (max limit stop : ℕ) (marks out : Lis
     row-in : r .next < stop
     row-in = let a = n .inside in let b = n .ready .at .low in omega arith
 
-    pub enters : Enters store r
+    pub enters : Enters store (bare r)
     enters =
         let a = row-in in
         let b = n .ready .room in
@@ -184,7 +190,7 @@ module _ (store source image : List ℕ) (max limit stop : ℕ) (marks out : Lis
     kind-low = nests-kind (n .ready .at .good) (n .inside)
 
   -- an `Indent` or an `IndentNext`
-  pub indents-follow : (kind : ℕ) (q : Run) (w : Bool) → kind ≡ cell store (r .next) 0 → (kind ≡ 0 → ⊥) → kind < 3
+  pub indents-follow : (kind : ℕ) (q : Running) (w : Bool) → kind ≡ cell store (r .next) 0 → (kind ≡ 0 → ⊥) → kind < 3
       → w ≡ wrapAt v pg stop (r .frames) (r .depth)
       → q
       ≡ openedRun r (frame (r .next) w false false) (r .next + 1)
@@ -196,7 +202,7 @@ module _ (store source image : List ℕ) (max limit stop : ℕ) (marks out : Lis
   indents-follow (suc (suc (suc n))) q w k a b e o = absurd (omega arith)
 
   -- A turn that enters a row.
-  pub turns : (marks2 out2 : List ℕ) (q : Run) → Entering store source image max limit stop marks out r
+  pub turns : (marks2 out2 : List ℕ) (q : Running) → Entering store source image max limit stop marks out r
       → Follows limit (enter v pg stop) marks out r marks2 out2 q
       → Follows limit (turn v pg stop) marks out r marks2 out2 q
   unfolding machineOf
@@ -249,13 +255,14 @@ module _ (store source image : List ℕ) (max limit stop : ℕ) (marks out : Lis
             call = λ k w. let a = call-steps v f true k w .0 in let b = x .1 in omega arith;
           }
 
-      pub leaves : r .next ≡ partEnd v f → Leaves store r f
+      pub leaves : r .next ≡ partEnd v f → Leaves store (bare r) f
       unfolding viewOf
       leaves z =
           record {
             pos = h;
             depth = y .at .deep;
             row = top-row y f h i;
+            few = top-few y f h i;
             indent = let m = margin y in omega arith;
             column = column y;
             backs = backs;
@@ -307,7 +314,7 @@ module _ (store source image : List ℕ) (max limit stop : ℕ) (marks out : Lis
           go false q = refl
 
       -- A turn that leaves the innermost row.
-      pub left-follows : (marks2 : List ℕ) (q : Run) → r .next ≡ partEnd v f → Left store max marks r f marks2 q
+      pub left-follows : (marks2 : List ℕ) (q : Running) → r .next ≡ partEnd v f → Left store max marks r f marks2 q
           → Follows limit (turn v pg stop) marks out r marks2 out q
       unfolding viewOf
       left-follows marks2 q z (goesOn k e a) = arguments-follows store source image max limit stop marks out r h f i z marks2 q k e a

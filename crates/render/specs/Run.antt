@@ -1,8 +1,8 @@
 -- The run of the code as the machine, and what each step is to do.
-use Prim.Native.Nat.{ℕ, _+_, _*_, _-_, _≤_, _<_}
+use Prim.Native.Nat.{ℕ, _+_, _*_, _-_, _/_, _%_, _≤_, _<_}
 use mathlib.Core.Path.{_≡_}
 use mathlib.Core.Bool.{Bool, true, false, cond, not, _&&_}
-use mathlib.Core.List.{List, []}
+use mathlib.Core.List.{List, [], map}
 use lib.ListN.{length, set}
 use lib.Dec.{eqb}
 use Rattle.rows.specs.View.{viewOf, cell, nodesAt}
@@ -19,13 +19,35 @@ use Rattle.render.specs.declared.machine.Run.{Run}
 use Rattle.render.specs.Output.{over}
 use Rattle.render.specs.Pen.{shown, withMargin}
 
+-- an open row from its number: the row times 8, and a bit for each flag
+unfoldable pub unpacked : ℕ → Frame
+unpacked n = record { row = n / 8; wrap = eqb (n / 4 % 2) 1; early = eqb (n / 2 % 2) 1; deep = eqb (n % 2) 1 }
+
+-- a run with its open rows
+pub record Running : Type 0 where
+  pub frames : List Frame
+  pub depth : ℕ
+  pub next : ℕ
+  pub pen : Pen
+
+abbrev pub framed : List Frame → Run → Running
+framed fs r = record { frames = fs; depth = r .depth; next = r .next; pen = r .pen }
+
+-- a run whose open rows are these numbers
+abbrev pub whole : List ℕ → Run → Running
+whole ns r = framed (map unpacked ns) r
+
+-- a run without its open rows
+abbrev pub bare : Running → Run
+bare r = record { depth = r .depth; next = r .next; pen = r .pen }
+
 -- the renderer that has a pen's numbers, and has written b
 abbrev pub stateOf : Pen → List ℕ → List ℕ → Renderer
 stateOf p marks b =
     record { buf = b; indent = p .indent; nextIndent = p .«next_indent»; column = p .column .0; marks = marks }
 
 -- the machine of a run that has written b and entered n rows
-unfoldable pub machineOf : Run → List ℕ → List ℕ → ℕ → Machine
+unfoldable pub machineOf : Running → List ℕ → List ℕ → ℕ → Machine
 machineOf r marks b n =
     record { frames = r .frames; depth = r .depth; next = r .next; state = stateOf (r .pen) marks b; entered = n }
 
@@ -35,16 +57,16 @@ pub record Wrote (limit : ℕ) (o out : List ℕ) (at : ℕ) (b : List ℕ) : Ty
   pub written : out ≡ over limit o 0 b
 
 -- the run has become machine m
-pub record Shows (limit : ℕ) (o marks out : List ℕ) (r : Run) (m : Machine) : Type 0 where
+pub record Shows (limit : ℕ) (o marks out : List ℕ) (r : Running) (m : Machine) : Type 0 where
   pub same : m ≡ machineOf r marks (m .state .buf) (m .entered)
   pub wrote : Wrote limit o out (r .pen .at .0) (m .state .buf)
 
 -- from a run to the next as f turns the machine
-pub record Follows (limit : ℕ) (f : Machine → Machine) (marks out : List ℕ) (r : Run) (marks2 out2 : List ℕ) (q : Run) : Type 0 where
+pub record Follows (limit : ℕ) (f : Machine → Machine) (marks out : List ℕ) (r : Running) (marks2 out2 : List ℕ) (q : Running) : Type 0 where
   pub goes : (o b : List ℕ) (n : ℕ) → Wrote limit o out (r .pen .at .0) b → Shows limit o marks2 out2 q (f (machineOf r marks b n))
 
 -- the rows that are left nest, and the numbers are in range
-pub record Ready (store source image : List ℕ) (max limit stop : ℕ) (marks out : List ℕ) (r : Run) : Type 0 where
+pub record Ready (store source image : List ℕ) (max limit stop : ℕ) (marks out : List ℕ) (r : Running) : Type 0 where
   pub room : stop * 9 ≤ length store
   pub few : stop ≤ 2097152
   pub fits : limit ≤ length out
@@ -58,7 +80,7 @@ pub record Ready (store source image : List ℕ) (max limit stop : ℕ) (marks o
   pub safe : Safe (viewOf store) (pageOf max source image) stop base (machineOf r marks text 0)
 
 -- a run with one more row open, at row k
-abbrev pub openedRun : Run → Frame → ℕ → Pen → Run
+abbrev pub openedRun : Running → Frame → ℕ → Pen → Running
 openedRun r f k p = record { frames = set (r .frames) (r .depth) f; depth = r .depth + 1; next = k; pen = p }
 
 -- the numbers of a run that enters a row
@@ -70,7 +92,7 @@ pub record Enters (store : List ℕ) (r : Run) : Type 0 where
   pub column : r .pen .column .0 < 1152921504606846976
 
 -- a row is ahead in the open part
-pub record Entering (store source image : List ℕ) (max limit stop : ℕ) (marks out : List ℕ) (r : Run) : Type 0 where
+pub record Entering (store source image : List ℕ) (max limit stop : ℕ) (marks out : List ℕ) (r : Running) : Type 0 where
   pub ready : Ready store source image max limit stop marks out r
   pub inside : r .next < partLimit (viewOf store) (pageOf max source image) stop (r .frames) (r .depth)
 
@@ -79,7 +101,7 @@ abbrev pub inserted : Bool → ℕ → List ℕ → List ℕ
 inserted wraps number marks = cond wraps (set marks number 1) marks
 
 -- A `Group` is opened: whether it wraps, the run and the marks.
-pub record GroupOpened (store : List ℕ) (max : ℕ) (marks : List ℕ) (r : Run) (marks2 : List ℕ) (q : Run) : Type 0 where
+pub record GroupOpened (store : List ℕ) (max : ℕ) (marks : List ℕ) (r : Running) (marks2 : List ℕ) (q : Running) : Type 0 where
   pub wraps : Bool
   pub isWraps :
       wraps ≡ groupWraps (pageOf max [] []) (nodesAt (viewOf store) (r .next + 1) (cell store (r .next) 4)) (shown (r .pen) marks)
@@ -87,7 +109,7 @@ pub record GroupOpened (store : List ℕ) (max : ℕ) (marks : List ℕ) (r : Ru
   pub marked : marks2 ≡ inserted wraps (cell store (r .next) 1) marks
 
 -- A `Call` is opened: which way it goes, whether its callee wraps, the run and the marks.
-pub record CallOpened (store : List ℕ) (max : ℕ) (marks : List ℕ) (r : Run) (marks2 : List ℕ) (q : Run) : Type 0 where
+pub record CallOpened (store : List ℕ) (max : ℕ) (marks : List ℕ) (r : Running) (marks2 : List ℕ) (q : Running) : Type 0 where
   pub trails : Bool
   pub wraps : Bool
   pub isTrails :
@@ -109,7 +131,7 @@ pub record CallOpened (store : List ℕ) (max : ℕ) (marks : List ℕ) (r : Run
   pub marked : marks2 ≡ inserted wraps (cell store (r .next) 1) marks
 
 -- The arguments of the `Call` of frame f are opened.
-pub record ArgumentsOpened (store : List ℕ) (max : ℕ) (marks : List ℕ) (r : Run) (f : Frame) (marks2 : List ℕ) (q : Run) : Type 0 where
+pub record ArgumentsOpened (store : List ℕ) (max : ℕ) (marks : List ℕ) (r : Running) (f : Frame) (marks2 : List ℕ) (q : Running) : Type 0 where
   pub wraps : Bool
   pub isWraps : wraps ≡ groupWraps (pageOf max [] []) (nodesAt (viewOf store) (r .next) (cell store (f .row) 4)) (shown (r .pen) marks)
   pub run :
@@ -140,6 +162,7 @@ pub record Leaves (store : List ℕ) (r : Run) (f : Frame) : Type 0 where
   pub pos : 0 < r .depth
   pub depth : r .depth ≤ 256
   pub row : f .row * 9 + 8 < length store
+  pub few : f .row < 2097152
   pub indent : r .pen .indent ≤ 384
   pub column : r .pen .column .0 < 1152921504606846976
   pub backs : Backs (cell store (f .row) 0) f (r .pen)
@@ -149,16 +172,15 @@ pub record Leaves (store : List ℕ) (r : Run) (f : Frame) : Type 0 where
 abbrev pub closedRun : List ℕ → Run → Frame → Run
 closedRun store r f =
     record {
-      frames = r .frames;
       depth = r .depth - 1;
       next = cell store (f .row) 4;
       pen = withMargin (r .pen) (closes (cell store (f .row) 0) f (shown (r .pen) []));
     }
 
 -- The innermost row is left: the arguments of a `Call` are opened, or the row is closed.
-pub data Left (store : List ℕ) (max : ℕ) (marks : List ℕ) (r : Run) (f : Frame) (marks2 : List ℕ) (q : Run) : Type 0 where
+pub data Left (store : List ℕ) (max : ℕ) (marks : List ℕ) (r : Running) (f : Frame) (marks2 : List ℕ) (q : Running) : Type 0 where
   goesOn : cell store (f .row) 0 ≡ 11 → f .early ≡ true → ArgumentsOpened store max marks r f marks2 q → Left store max marks r f marks2 q
-  ends : (cell store (f .row) 0 ≡ 11 → f .early ≡ false) → marks2 ≡ marks → q ≡ closedRun store r f → Left store max marks r f marks2 q
+  ends : (cell store (f .row) 0 ≡ 11 → f .early ≡ false) → marks2 ≡ marks → q ≡ framed (r .frames) (closedRun store (bare r) f) → Left store max marks r f marks2 q
 
 -- a rendering may start: the rows nest, and the state's numbers are in range
 pub record Starting (store : List ℕ) (limit from stop : ℕ) (out : List ℕ) (p : Pen) : Type 0 where

@@ -1,4 +1,5 @@
 // Rendering of rows.
+pub mod frames;
 pub mod lent;
 pub mod machine;
 pub mod output;

@@ -2,7 +2,7 @@
 ghost use mathlib.Core.Path.{_≡_};
 ghost use Prim.Native.Nat.{ℕ, _+_, _-_, _*_, _≤_, _<_};
 ghost use mathlib.Core.Bool.{Bool, true, false, cond, not, _&&_};
-ghost use mathlib.Core.List.{[], _∷_};
+ghost use mathlib.Core.List.{[], _∷_, map};
 ghost use lib.ListN.{length, set};
 ghost use lib.Dec.{eqb};
 ghost use Rattle.rows.specs.Node.{wrapped};
@@ -14,7 +14,9 @@ ghost use Rattle.renderer.specs.Renderer.{render, renders, groupWraps, trailing
 ghost use Rattle.renderer.proofs.Meaning.{frameAt, partEnd, wrapAt};
 ghost use Rattle.renderer.proofs.Machine.{frame, enter, turn};
 ghost use Rattle.render.specs.Pen.{shown, withMargin, Drawn, Room};
-ghost use Rattle.render.specs.Run.{openedRun, closedRun, closes, Backs, Enters, Leaves, Left, GroupOpened, CallOpened, ArgumentsOpened, Follows, Ready, Entering, Starting, Rendered, stateOf};
+ghost use Rattle.render.specs.Run.{unpacked, whole, openedRun, closedRun, closes, Backs, Enters, Leaves, Left, GroupOpened, CallOpened, ArgumentsOpened, Follows, Ready, Entering, Starting, Rendered, stateOf};
+use crate::frames::pack;
+use crate::frames::unpack;
 use crate::pen::Pen;
 use crate::pen::comment;
 use crate::pen::empty_line;
@@ -33,9 +35,8 @@ use rows::width::is_wrapped;
 use rows::width::must_wrap;
 use rows::width::width;
 
-// A rendering on its way: the open rows, how many, the next row, the pen.
+// A rendering on its way: how many rows are open, the next row, the pen. The open rows are numbers in an array beside it.
 pub struct Run {
-    pub frames: [Frame; 256],
     pub depth: usize,
     pub next: usize,
     pub pen: Pen,
@@ -179,15 +180,13 @@ fn outdent_next(p: Pen, wrap: bool) -> Pen
 }
 
 // A row is opened, at one of its parts.
-fn opened(r: Run, f: Frame, next: usize, pen: Pen) -> Run
-    requires { ⌜ r .depth < 256 ⌝ }
-    ensures { λ q. ⌜ q ≡ record { frames = set (r .frames) (r .depth) f; depth = r .depth + 1; next = next; pen = pen } ⌝ }
+fn opened(r: Run, frames: &mut [u32; 256], f: Frame, next: usize, pen: Pen) -> Run
+    requires { ⌜ (r .depth < 256) × (f .row < 2097152) ⌝ }
+    ensures { λ q. ⌜ whole (now (frames .exit)) q ≡ openedRun (whole (now (frames .entry)) r) f next pen ⌝ }
 {
     let d = r.depth;
-    let mut fs = r.frames;
-    fs[d] = f;
+    frames[d] = pack(f);
     Run {
-        frames: fs,
         depth: d + 1,
         next: next,
         pen: pen,
@@ -195,9 +194,9 @@ fn opened(r: Run, f: Frame, next: usize, pen: Pen) -> Run
 }
 
 // A `Group` is opened.
-fn enter_group(r: Run, store: &[u32], marks: &mut [u8], max: usize) -> Run
+fn enter_group(r: Run, frames: &mut [u32; 256], store: &[u32], marks: &mut [u8], max: usize) -> Run
     requires { ⌜ Enters (now store) r × Nested (now store) (r .next + 1) (cell (now store) (r .next) 4) ⌝ }
-    ensures { λ q. ⌜ GroupOpened (now (store .entry)) max (now (marks .entry)) r (now (marks .exit)) q ⌝ }
+    ensures { λ q. ⌜ GroupOpened (now (store .entry)) max (now (marks .entry)) (whole (now (frames .entry)) r) (now (marks .exit)) (whole (now (frames .exit)) q) ⌝ }
 {
     let i = r.next;
     let p = r.pen;
@@ -211,13 +210,13 @@ fn enter_group(r: Run, store: &[u32], marks: &mut [u8], max: usize) -> Run
         early: false,
         deep: false,
     };
-    opened(r, f, i + 1, p)
+    opened(r, frames, f, i + 1, p)
 }
 
 // An `IfWrap` is opened at the part that is chosen.
-fn enter_if(r: Run, wrap: bool, store: &[u32], marks: &[u8]) -> Run
+fn enter_if(r: Run, frames: &mut [u32; 256], wrap: bool, store: &[u32], marks: &[u8]) -> Run
     requires { ⌜ Enters (now store) r ⌝ }
-    ensures { λ q. ⌜ q ≡ cond (wrapped (now (marks .entry)) (cell (now (store .entry)) (r .next) 1)) (openedRun r (frame (r .next) wrap true false) (r .next + 1) (r .pen)) (openedRun r (frame (r .next) wrap false false) (cell (now (store .entry)) (r .next) 3) (r .pen)) ⌝ }
+    ensures { λ q. ⌜ whole (now (frames .exit)) q ≡ cond (wrapped (now (marks .entry)) (cell (now (store .entry)) (r .next) 1)) (openedRun (whole (now (frames .entry)) r) (frame (r .next) wrap true false) (r .next + 1) (r .pen)) (openedRun (whole (now (frames .entry)) r) (frame (r .next) wrap false false) (cell (now (store .entry)) (r .next) 3) (r .pen)) ⌝ }
 {
     let i = r.next;
     let p = r.pen;
@@ -229,15 +228,15 @@ fn enter_if(r: Run, wrap: bool, store: &[u32], marks: &[u8]) -> Run
         deep: false,
     };
     if first {
-        return opened(r, f, i + 1, p);
+        return opened(r, frames, f, i + 1, p);
     }
-    opened(r, f, place(store, i, 3), p)
+    opened(r, frames, f, place(store, i, 3), p)
 }
 
 // A `Call` is opened at its callee.
-fn enter_call(r: Run, store: &[u32], marks: &mut [u8], max: usize) -> Run
+fn enter_call(r: Run, frames: &mut [u32; 256], store: &[u32], marks: &mut [u8], max: usize) -> Run
     requires { ⌜ Enters (now store) r × (Nested (now store) (r .next + 1) (cell (now store) (r .next) 3) × Nested (now store) (cell (now store) (r .next) 3) (cell (now store) (r .next) 4)) ⌝ }
-    ensures { λ q. ⌜ CallOpened (now (store .entry)) max (now (marks .entry)) r (now (marks .exit)) q ⌝ }
+    ensures { λ q. ⌜ CallOpened (now (store .entry)) max (now (marks .entry)) (whole (now (frames .entry)) r) (now (marks .exit)) (whole (now (frames .exit)) q) ⌝ }
 {
     let i = r.next;
     let p = r.pen;
@@ -254,7 +253,7 @@ fn enter_call(r: Run, store: &[u32], marks: &mut [u8], max: usize) -> Run
         early: true,
         deep: deep,
     };
-    opened(r, f, i + 1, indent_next(p, deep))
+    opened(r, frames, f, i + 1, indent_next(p, deep))
 }
 
 // Whether the group that the second branch of `Call` makes up wraps.
@@ -268,9 +267,16 @@ fn made_up(trailing: bool, wraps: bool) -> bool
 }
 
 // The callee of a `Call` is done: its arguments are opened.
-fn enter_arguments(r: Run, f: Frame, store: &[u32], marks: &mut [u8], max: usize) -> Run
-    requires { ⌜ (0 < r .depth) × ((r .depth ≤ 256) × ((f .row * 9 + 8 < length (now store)) × (Nested (now store) (r .next) (cell (now store) (f .row) 4) × ((r .pen .indent ≤ 384) × (r .pen .column .0 < 1152921504606846976))))) ⌝ }
-    ensures { λ q. ⌜ ArgumentsOpened (now (store .entry)) max (now (marks .entry)) r f (now (marks .exit)) q ⌝ }
+fn enter_arguments(
+    r: Run,
+    frames: &mut [u32; 256],
+    f: Frame,
+    store: &[u32],
+    marks: &mut [u8],
+    max: usize,
+) -> Run
+    requires { ⌜ (0 < r .depth) × ((r .depth ≤ 256) × ((f .row * 9 + 8 < length (now store)) × ((f .row < 2097152) × (Nested (now store) (r .next) (cell (now store) (f .row) 4) × ((r .pen .indent ≤ 384) × (r .pen .column .0 < 1152921504606846976)))))) ⌝ }
+    ensures { λ q. ⌜ ArgumentsOpened (now (store .entry)) max (now (marks .entry)) (whole (now (frames .entry)) r) f (now (marks .exit)) (whole (now (frames .exit)) q) ⌝ }
 {
     let d = r.depth - 1;
     let p = r.pen;
@@ -279,29 +285,22 @@ fn enter_arguments(r: Run, f: Frame, store: &[u32], marks: &mut [u8], max: usize
     let number = place(store, row, 2);
     let wraps = group_wraps(p, store, marks, r.next, end, max);
     insert(marks, number, wraps);
-    let mut fs = r.frames;
-    fs[d] = Frame {
+    let on = Frame {
         row: f.row,
         wrap: wraps,
         early: false,
         deep: f.deep,
     };
-    Run {
-        frames: fs,
-        depth: r.depth,
-        next: r.next,
-        pen: p,
-    }
+    frames[d] = pack(on);
+    r
 }
 
 // The innermost row is closed.
 fn closed(r: Run, next: usize, pen: Pen) -> Run
     requires { ⌜ 0 < r .depth ⌝ }
-    ensures { λ q. ⌜ q ≡ record { frames = r .frames; depth = r .depth - 1; next = next; pen = pen } ⌝ }
+    ensures { λ q. ⌜ q ≡ record { depth = r .depth - 1; next = next; pen = pen } ⌝ }
 {
-    let fs = r.frames;
     Run {
-        frames: fs,
         depth: r.depth - 1,
         next: next,
         pen: pen,
@@ -440,16 +439,23 @@ fn finish(r: Run, f: Frame, store: &[u32]) -> Run
 }
 
 // The open part of the innermost row is done.
-fn leave(r: Run, f: Frame, store: &[u32], marks: &mut [u8], max: usize) -> Run
+fn leave(
+    r: Run,
+    frames: &mut [u32; 256],
+    f: Frame,
+    store: &[u32],
+    marks: &mut [u8],
+    max: usize,
+) -> Run
     requires { ⌜ Leaves (now store) r f ⌝ }
-    ensures { λ q. ⌜ Left (now (store .entry)) max (now (marks .entry)) r f (now (marks .exit)) q ⌝ }
+    ensures { λ q. ⌜ Left (now (store .entry)) max (now (marks .entry)) (whole (now (frames .entry)) r) f (now (marks .exit)) (whole (now (frames .exit)) q) ⌝ }
 {
     let kind = place(store, wide(f.row), 0);
     if kind != 11 {
         return finish(r, f, store);
     }
     if f.early {
-        return enter_arguments(r, f, store, marks, max);
+        return enter_arguments(r, frames, f, store, marks, max);
     }
     finish(r, f, store)
 }
@@ -468,6 +474,7 @@ fn part_end(store: &[u32], f: Frame) -> usize
 // The next row is entered; `wrap` says whether the part that it is in wraps.
 fn enter(
     r: Run,
+    frames: &mut [u32; 256],
     wrap: bool,
     store: &[u32],
     source: &[u8],
@@ -478,28 +485,26 @@ fn enter(
     max: usize,
     stop: usize,
 ) -> Run
-    requires { ⌜ Entering (now store) (now source) (now image) max limit stop (now marks) (now out) r × (wrap ≡ wrapAt (viewOf (now store)) (pageOf max (now source) (now image)) stop (r .frames) (r .depth)) ⌝ }
-    ensures { λ q. ⌜ Follows limit (enter (viewOf (now (store .entry))) (pageOf max (now (source .entry)) (now (image .entry))) stop) (now (marks .entry)) (now (out .entry)) r (now (marks .exit)) (now (out .exit)) q ⌝ }
+    requires { ⌜ Entering (now store) (now source) (now image) max limit stop (now marks) (now out) (whole (now frames) r) × (wrap ≡ wrapAt (viewOf (now store)) (pageOf max (now source) (now image)) stop (map unpacked (now frames)) (r .depth)) ⌝ }
+    ensures { λ q. ⌜ Follows limit (enter (viewOf (now (store .entry))) (pageOf max (now (source .entry)) (now (image .entry))) stop) (now (marks .entry)) (now (out .entry)) (whole (now (frames .entry)) r) (now (marks .exit)) (now (out .exit)) (whole (now (frames .exit)) q) ⌝ }
 {
     let i = r.next;
     let p = r.pen;
     let kind = place(store, i, 0);
     if kind == 0 {
-        return enter_group(r, store, marks, max);
+        return enter_group(r, frames, store, marks, max);
     }
     if kind == 11 {
-        return enter_call(r, store, marks, max);
+        return enter_call(r, frames, store, marks, max);
     }
     if kind == 10 {
-        return enter_if(r, wrap, store, marks);
+        return enter_if(r, frames, wrap, store, marks);
     }
     if kind < 3 {
-        return enter_indent(r, wrap, kind);
+        return enter_indent(r, frames, wrap, kind);
     }
     let q = leaf(p, store, source, image, out, limit, i, kind, wrap, max);
-    let fs = r.frames;
     Run {
-        frames: fs,
         depth: r.depth,
         next: i + 1,
         pen: q,
@@ -507,9 +512,9 @@ fn enter(
 }
 
 // An `Indent` or an `IndentNext` is opened.
-fn enter_indent(r: Run, wrap: bool, kind: usize) -> Run
+fn enter_indent(r: Run, frames: &mut [u32; 256], wrap: bool, kind: usize) -> Run
     requires { ⌜ (r .depth < 256) × ((r .next < 2097152) × ((r .pen .indent + r .pen .«next_indent» ≤ 384) × ((0 < kind) × (kind < 3)))) ⌝ }
-    ensures { λ q. ⌜ q ≡ openedRun r (frame (r .next) wrap false false) (r .next + 1) (withMargin (r .pen) (cond (eqb kind 1) (indented wrap (shown (r .pen) [])) (nextIndented wrap (shown (r .pen) [])))) ⌝ }
+    ensures { λ q. ⌜ whole (now (frames .exit)) q ≡ openedRun (whole (now (frames .entry)) r) (frame (r .next) wrap false false) (r .next + 1) (withMargin (r .pen) (cond (eqb kind 1) (indented wrap (shown (r .pen) [])) (nextIndented wrap (shown (r .pen) [])))) ⌝ }
 {
     let i = r.next;
     let p = r.pen;
@@ -520,14 +525,15 @@ fn enter_indent(r: Run, wrap: bool, kind: usize) -> Run
         deep: false,
     };
     if kind == 1 {
-        return opened(r, f, i + 1, indent(p, wrap));
+        return opened(r, frames, f, i + 1, indent(p, wrap));
     }
-    opened(r, f, i + 1, indent_next(p, wrap))
+    opened(r, frames, f, i + 1, indent_next(p, wrap))
 }
 
 // One turn: the innermost row is left, or the next row entered.
 fn step(
     r: Run,
+    frames: &mut [u32; 256],
     store: &[u32],
     source: &[u8],
     image: &[u8],
@@ -537,20 +543,33 @@ fn step(
     max: usize,
     stop: usize,
 ) -> Run
-    requires { ⌜ Ready (now store) (now source) (now image) max limit stop (now marks) (now out) r × (r .depth ≡ 0 → r .next < stop) ⌝ }
-    ensures { λ q. ⌜ Follows limit (turn (viewOf (now (store .entry))) (pageOf max (now (source .entry)) (now (image .entry))) stop) (now (marks .entry)) (now (out .entry)) r (now (marks .exit)) (now (out .exit)) q ⌝ }
+    requires { ⌜ Ready (now store) (now source) (now image) max limit stop (now marks) (now out) (whole (now frames) r) × (r .depth ≡ 0 → r .next < stop) ⌝ }
+    ensures { λ q. ⌜ Follows limit (turn (viewOf (now (store .entry))) (pageOf max (now (source .entry)) (now (image .entry))) stop) (now (marks .entry)) (now (out .entry)) (whole (now (frames .entry)) r) (now (marks .exit)) (now (out .exit)) (whole (now (frames .exit)) q) ⌝ }
 {
     let d = r.depth;
     if d == 0 {
-        return enter(r, true, store, source, image, marks, out, limit, max, stop);
+        return enter(
+            r,
+            frames,
+            true,
+            store,
+            source,
+            image,
+            marks,
+            out,
+            limit,
+            max,
+            stop,
+        );
     }
-    let f = r.frames[d - 1];
+    let f = unpack(frames[d - 1]);
     let end = part_end(store, f);
     if r.next == end {
-        return leave(r, f, store, marks, max);
+        return leave(r, frames, f, store, marks, max);
     }
     enter(
         r,
+        frames,
         f.wrap,
         store,
         source,
@@ -579,21 +598,25 @@ pub fn run_rows(
     requires { ⌜ Starting (now store) limit from stop (now out) p ⌝ }
     ensures { λ q. ⌜ Rendered limit (renders (pageOf max (now (source .entry)) (now (image .entry))) (nodesAt (viewOf (now (store .entry))) from stop) true (stateOf p (now (marks .entry)) [])) (now (out .entry)) (now (marks .exit)) (now (out .exit)) q ⌝ }
 {
-    let blank = Frame {
-        row: 0,
-        wrap: false,
-        early: false,
-        deep: false,
-    };
-    let fs = [blank; 256];
+    let mut frames = [0u32; 256];
     let mut r = Run {
-        frames: fs,
         depth: 0,
         next: from,
         pen: p,
     };
     while 0 < r.depth || r.next < stop {
-        r = step(r, store, source, image, marks, out, limit, max, stop);
+        r = step(
+            r,
+            &mut frames,
+            store,
+            source,
+            image,
+            marks,
+            out,
+            limit,
+            max,
+            stop,
+        );
     }
     r.pen
 }

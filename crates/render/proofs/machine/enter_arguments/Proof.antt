@@ -1,7 +1,8 @@
 use Prim.Native.Nat.{ℕ}
-use mathlib.Core.Path.{refl, ap, _∙_}
+use mathlib.Core.Path.{ap, _∙_}
 use Rattle.rows.specs.View.{cell}
 use Rattle.render.proofs.Opening.{nested-to, arguments-opened}
+use Rattle.render.proofs.Packed.{stored-packed}
 use borrow.Author.Needs.{needs}
 use Rattle.render.proofs.machine.enter_arguments.Statement.{statement}
 use Rattle.render.proofs.machine.enter_arguments.Tie as tie
@@ -20,25 +21,28 @@ place-requires-2 c κs = search needs
 
 group-wraps-requires : tie.Need-group-wraps-requires
 group-wraps-requires c κs = (
-  nested-to _ _ _ _ (c .before .before .place .ensures .0 ∙ ap (λ (x : ℕ). cell (c .before .before .before .before .before .before .before .before .args .store .now) x 4) (c .before .before .before .wide .ensures)) (c .before .before .before .before .before .before .before .before .pre .1 .1 .1 .0),
-  (c .before .before .before .before .before .before .before .before .pre .1 .1 .1 .1 .0, c .before .before .before .before .before .before .before .before .pre .1 .1 .1 .1 .1),
+  nested-to _ _ _ _ (c .before .before .place .ensures .0 ∙ ap (λ (x : ℕ). cell (c .before .before .before .before .before .before .before .before .args .store .now) x 4) (c .before .before .before .wide .ensures)) (c .before .before .before .before .before .before .before .before .pre .1 .1 .1 .1 .0),
+  (c .before .before .before .before .before .before .before .before .pre .1 .1 .1 .1 .1 .0, c .before .before .before .before .before .before .before .before .pre .1 .1 .1 .1 .1 .1),
 )
 
 insert-requires : tie.Need-insert-requires
 insert-requires c κs = search needs
 
-mul-fs : tie.Need-mul-fs
-mul-fs c = search needs
+pack-requires : tie.Need-pack-requires
+pack-requires c κs = c .before .before .before .before .before .before .before .before .before .before .before .before .before .pre .1 .1 .1 .0
 
-array-set-from-fs : tie.Need-array-set-from-fs
-array-set-from-fs c = search needs
+mul-frames : tie.Need-mul-frames
+mul-frames c = search needs
+
+element-write-frames : tie.Need-element-write-frames
+element-write-frames c = search needs
 
 same-length : tie.Need-same-length
 same-length c = search needs
 
 returns : tie.Need-returns
 returns c =
-    arguments-opened _ _ _ _ _ _ (c .before .before .before .before .before .before .before .before .before .before .before .before .before .before .args .f) (c .before .before .before .before .before .before .before .before .before .wide .result) (c .before .before .before .before .before .before .before .before .place .result) (c .before .before .before .before .before .before .before .place2 .result) (c .before .before .before .before .before .group-wraps .result) (c .before .before .before .before .before .before .before .before .before .wide .ensures) (c .before .before .before .before .before .before .before .before .place .ensures .0) (c .before .before .before .before .before .before .before .place2 .ensures .0) (c .before .before .before .before .before .group-wraps .ensures) (c .before .before .before .insert .ensures) refl
+    arguments-opened _ _ _ _ _ _ (c .before .before .before .before .before .before .before .before .before .before .before .before .before .before .args .f) (c .before .before .before .before .before .before .before .before .before .wide .result) (c .before .before .before .before .before .before .before .before .place .result) (c .before .before .before .before .before .before .before .place2 .result) (c .before .before .before .before .before .group-wraps .result) (c .before .before .before .before .before .before .before .before .before .wide .ensures) (c .before .before .before .before .before .before .before .before .place .ensures .0) (c .before .before .before .before .before .before .before .place2 .ensures .0) (c .before .before .before .before .before .group-wraps .ensures) (c .before .before .before .insert .ensures) (stored-packed (c .before .before .before .before .before .before .before .before .before .before .before .before .before .before .args .frames .now) (c .before .before .before .before .before .before .before .before .before .before .before .before .before .before .args .r) _ (c .pack .result) _ (c .pack .ensures))
 
 pub enter-arguments-spec : {M : Type 1} → statement M
 enter-arguments-spec =
@@ -50,7 +54,8 @@ enter-arguments-spec =
     place-requires-2
     group-wraps-requires
     insert-requires
-    mul-fs
-    array-set-from-fs
+    pack-requires
+    mul-frames
+    element-write-frames
     same-length
     returns)

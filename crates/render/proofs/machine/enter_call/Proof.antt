@@ -37,8 +37,8 @@ insert-requires c κs = search needs
 made-up-requires : tie.Need-made-up-requires
 made-up-requires c κs = search needs
 
-cast-t22 : tie.Need-cast-t22
-cast-t22 c = search needs
+cast-t23 : tie.Need-cast-t23
+cast-t23 c = search needs
 
 add-opened : tie.Need-add-opened
 add-opened c = search needs
@@ -47,14 +47,14 @@ indent-next-requires : tie.Need-indent-next-requires
 indent-next-requires c κs = search needs
 
 opened-requires : tie.Need-opened-requires
-opened-requires c κs = c .before .before .before .before .before .before .before .before .before .before .before .before .before .before .before .before .pre .0 .depth
+opened-requires c κs = (c .before .before .before .before .before .before .before .before .before .before .before .before .before .before .before .before .before .pre .0 .depth, c .before .before .before .before .before .before .before .before .before .before .before .before .before .before .before .before .before .pre .0 .few)
 
 same-length : tie.Need-same-length
 same-length c = search needs
 
 returns : tie.Need-returns
 returns c =
-    call-opened _ _ _ _ _ _ (c .before .before .before .before .before .before .before .before .before .before .before .before .before .place .result) (c .before .before .before .before .before .before .before .before .before .before .before .before .place2 .result) (c .before .before .before .before .before .before .before .before .before .before .before .place3 .result) (c .before .before .before .before .before .before .before .before .before .trails .result) (c .before .before .before .before .before .before .before .callee-wraps .result) (c .before .before .made-up .result) (c .before .indent-next .result) (c .before .before .before .before .before .before .before .before .before .before .before .before .before .place .ensures .0) (c .before .before .before .before .before .before .before .before .before .before .before .before .place2 .ensures .0) (c .before .before .before .before .before .before .before .before .before .before .before .place3 .ensures .0) (c .before .before .before .before .before .before .before .before .before .trails .ensures) (c .before .before .before .before .before .before .before .callee-wraps .ensures) (c .before .before .made-up .ensures) (c .before .indent-next .ensures) (c .before .before .before .before .before .insert .ensures) (c .opened .ensures)
+    call-opened _ _ _ _ _ _ (c .before .before .before .before .before .before .before .before .before .before .before .before .before .before .place .result) (c .before .before .before .before .before .before .before .before .before .before .before .before .before .place2 .result) (c .before .before .before .before .before .before .before .before .before .before .before .before .place3 .result) (c .before .before .before .before .before .before .before .before .before .before .trails .result) (c .before .before .before .before .before .before .before .before .callee-wraps .result) (c .before .before .before .made-up .result) (c .before .indent-next .result) (c .before .before .before .before .before .before .before .before .before .before .before .before .before .before .place .ensures .0) (c .before .before .before .before .before .before .before .before .before .before .before .before .before .place2 .ensures .0) (c .before .before .before .before .before .before .before .before .before .before .before .before .place3 .ensures .0) (c .before .before .before .before .before .before .before .before .before .before .trails .ensures) (c .before .before .before .before .before .before .before .before .callee-wraps .ensures) (c .before .before .before .made-up .ensures) (c .before .indent-next .ensures) (c .before .before .before .before .before .before .insert .ensures) (c .opened .ensures)
 
 pub enter-call-spec : {M : Type 1} → statement M
 enter-call-spec =
@@ -69,7 +69,7 @@ enter-call-spec =
     callee-wraps-requires
     insert-requires
     made-up-requires
-    cast-t22
+    cast-t23
     add-opened
     indent-next-requires
     opened-requires

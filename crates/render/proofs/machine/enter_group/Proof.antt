@@ -20,21 +20,21 @@ group-wraps-requires c κs =
 insert-requires : tie.Need-insert-requires
 insert-requires c κs = search needs
 
-cast-t17 : tie.Need-cast-t17
-cast-t17 c = search needs
+cast-t18 : tie.Need-cast-t18
+cast-t18 c = search needs
 
 add-opened : tie.Need-add-opened
 add-opened c = search needs
 
 opened-requires : tie.Need-opened-requires
-opened-requires c κs = search needs
+opened-requires c κs = (c .before .before .before .before .before .before .before .before .before .before .before .before .pre .0 .depth, c .before .before .before .before .before .before .before .before .before .before .before .before .pre .0 .few)
 
 same-length : tie.Need-same-length
 same-length c = search needs
 
 returns : tie.Need-returns
 returns c =
-    group-opened _ _ _ _ _ _ (c .before .before .before .before .before .before .before .before .place .result) (c .before .before .before .before .before .before .before .place2 .result) (c .before .before .before .before .before .group-wraps .result) (c .before .before .before .before .before .before .before .before .place .ensures .0) (c .before .before .before .before .before .before .before .place2 .ensures .0) (c .before .before .before .before .before .group-wraps .ensures) (c .before .before .before .insert .ensures) (c .opened .ensures)
+    group-opened _ _ _ _ _ _ (c .before .before .before .before .before .before .before .before .before .place .result) (c .before .before .before .before .before .before .before .before .place2 .result) (c .before .before .before .before .before .before .group-wraps .result) (c .before .before .before .before .before .before .before .before .before .place .ensures .0) (c .before .before .before .before .before .before .before .before .place2 .ensures .0) (c .before .before .before .before .before .before .group-wraps .ensures) (c .before .before .before .before .insert .ensures) (c .opened .ensures)
 
 pub enter-group-spec : {M : Type 1} → statement M
 enter-group-spec =
@@ -45,7 +45,7 @@ enter-group-spec =
     add-group-wraps
     group-wraps-requires
     insert-requires
-    cast-t17
+    cast-t18
     add-opened
     opened-requires
     same-length

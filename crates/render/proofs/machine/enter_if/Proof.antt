@@ -1,4 +1,5 @@
 use Rattle.render.proofs.Opening.{if-first, if-second}
+use Rattle.render.specs.Run.{whole}
 use borrow.Author.Needs.{needs}
 use Rattle.render.proofs.machine.enter_if.Statement.{statement}
 use Rattle.render.proofs.machine.enter_if.Tie as tie
@@ -9,28 +10,28 @@ place-requires c κs = search needs
 is-wrapped-requires : tie.Need-is-wrapped-requires
 is-wrapped-requires c κs = search needs
 
-cast-t10 : tie.Need-cast-t10
-cast-t10 c = search needs
+cast-t11 : tie.Need-cast-t11
+cast-t11 c = search needs
 
 add-opened : tie.Need-add-opened
 add-opened c = search needs
 
 opened-requires : tie.Need-opened-requires
-opened-requires c κs = search needs
+opened-requires c κs = (c .before .before .before .before .before .before .before .pre .depth, c .before .before .before .before .before .before .before .pre .few)
 
 returns : tie.Need-returns
 returns c =
-    if-first (c .before .before .before .before .before .before .before .args .store .now) (c .before .before .before .before .before .before .before .args .marks .now) (c .before .before .before .before .before .before .before .args .r) (c .before .before .before .before .before .before .before .args .wrap) (c .before .before .before .place .result) (c .before .before .is-wrapped .result) _ (c .before .before .before .place .ensures .0) (c .before .before .is-wrapped .ensures) (c .before .if1 .taken) (c .opened .ensures)
+    if-first (c .before .before .before .before .before .before .before .before .args .store .now) (c .before .before .before .before .before .before .before .before .args .marks .now) (whole (c .before .before .before .before .before .before .before .before .args .frames .now) (c .before .before .before .before .before .before .before .before .args .r)) (c .before .before .before .before .before .before .before .before .args .wrap) (c .before .before .before .before .place .result) (c .before .before .before .is-wrapped .result) _ (c .before .before .before .before .place .ensures .0) (c .before .before .before .is-wrapped .ensures) (c .before .before .if1 .taken) (c .opened .ensures)
 
 place-requires-2 : tie.Need-place-requires-2
 place-requires-2 c κs = search needs
 
 opened-requires-2 : tie.Need-opened-requires-2
-opened-requires-2 c κs = search needs
+opened-requires-2 c κs = (c .before .before .before .before .before .before .before .before .pre .depth, c .before .before .before .before .before .before .before .before .pre .few)
 
 returns-2 : tie.Need-returns-2
 returns-2 c =
-    if-second (c .before .before .before .before .before .before .before .before .args .store .now) (c .before .before .before .before .before .before .before .before .args .marks .now) (c .before .before .before .before .before .before .before .before .args .r) (c .before .before .before .before .before .before .before .before .args .wrap) (c .before .before .before .before .place .result) (c .before .before .before .is-wrapped .result) _ (c .before .before .before .before .place .ensures .0) (c .before .before .before .is-wrapped .ensures) (c .before .place2 .result) (c .before .place2 .ensures .0) (c .before .before .if1 .left) (c .opened2 .ensures)
+    if-second (c .before .before .before .before .before .before .before .before .before .args .store .now) (c .before .before .before .before .before .before .before .before .before .args .marks .now) (whole (c .before .before .before .before .before .before .before .before .before .args .frames .now) (c .before .before .before .before .before .before .before .before .before .args .r)) (c .before .before .before .before .before .before .before .before .before .args .wrap) (c .before .before .before .before .before .place .result) (c .before .before .before .before .is-wrapped .result) _ (c .before .before .before .before .before .place .ensures .0) (c .before .before .before .before .is-wrapped .ensures) (c .before .place2 .result) (c .before .place2 .ensures .0) (c .before .before .before .if1 .left) (c .opened2 .ensures)
 
 pub enter-if-spec : {M : Type 1} → statement M
 enter-if-spec =
@@ -38,7 +39,7 @@ enter-if-spec =
     (tie.spec
     place-requires
     is-wrapped-requires
-    cast-t10
+    cast-t11
     add-opened
     opened-requires
     returns

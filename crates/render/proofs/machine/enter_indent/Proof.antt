@@ -1,10 +1,11 @@
 use Rattle.render.proofs.Stepped.{indent-kind, next-kind}
+use Rattle.render.specs.Run.{whole}
 use borrow.Author.Needs.{needs}
 use Rattle.render.proofs.machine.enter_indent.Statement.{statement}
 use Rattle.render.proofs.machine.enter_indent.Tie as tie
 
-cast-t7 : tie.Need-cast-t7
-cast-t7 c = search needs
+cast-t8 : tie.Need-cast-t8
+cast-t8 c = search needs
 
 add-opened : tie.Need-add-opened
 add-opened c = search needs
@@ -13,10 +14,10 @@ indent-requires : tie.Need-indent-requires
 indent-requires c κs = search needs
 
 opened-requires : tie.Need-opened-requires
-opened-requires c κs = search needs
+opened-requires c κs = (c .before .before .before .before .pre .0, c .before .before .before .before .pre .1 .0)
 
 returns : tie.Need-returns
-returns c = indent-kind _ (c .before .before .before .before .args .r) _ _ _ (c .before .before .if1 .taken) (c .before .indent .ensures) (c .opened .ensures)
+returns c = indent-kind _ (whole (c .before .before .before .before .before .args .frames .now) (c .before .before .before .before .before .args .r)) _ _ _ (c .before .before .before .if1 .taken) (c .before .indent .ensures) (c .opened .ensures)
 
 add-opened-2 : tie.Need-add-opened-2
 add-opened-2 c = search needs
@@ -25,16 +26,16 @@ indent-next-requires : tie.Need-indent-next-requires
 indent-next-requires c κs = search needs
 
 opened-requires-2 : tie.Need-opened-requires-2
-opened-requires-2 c κs = search needs
+opened-requires-2 c κs = (c .before .before .before .before .pre .0, c .before .before .before .before .pre .1 .0)
 
 returns-2 : tie.Need-returns-2
-returns-2 c = next-kind _ (c .before .before .before .before .args .r) _ _ _ (c .before .before .if1 .left) (c .before .indent-next .ensures) (c .opened2 .ensures)
+returns-2 c = next-kind _ (whole (c .before .before .before .before .before .args .frames .now) (c .before .before .before .before .before .args .r)) _ _ _ (c .before .before .before .if1 .left) (c .before .indent-next .ensures) (c .opened2 .ensures)
 
 pub enter-indent-spec : {M : Type 1} → statement M
 enter-indent-spec =
     tie.close
     (tie.spec
-    cast-t7
+    cast-t8
     add-opened
     indent-requires
     opened-requires
