@@ -10,17 +10,8 @@ ghost use lib.Dec.{eqb};
 ghost use Rattle.rows.specs.Node.{line, emptyLine};
 ghost use Rattle.state.specs.Act.{skip, push, told};
 ghost use Rattle.state.specs.Laid.{cursor, st, Laid, LaidAsking};
-ghost use Rattle.comments.specs.Comments.{
-  nth,
-  remark,
-  newlines,
-  ignoreNewlines,
-  popComment,
-  waits,
-  popComments,
-  popWhitespace,
-  popTrailingComment,
-};
+ghost use Rattle.comments.specs.Comments.{nth, remark, newlines, ignoreNewlines, popComment, waits, popComments, popWhitespace};
+ghost use Rattle.comments.specs.Comments.{popTrailingComment};
 ghost use Rattle.comments.specs.Listed.{span, commentsOf, given, ListFits, Listed, pendingOf};
 
 mod reading;

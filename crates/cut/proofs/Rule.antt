@@ -10,20 +10,8 @@ use lib.ListN.{length, drop}
 use Rattle.cut.specs.Rules.{Refusal, LayoutArgs, Rules}
 use Rattle.cut.specs.Run.{unless, Call, layoutCall, renderCall, Carried, start, refusal, rendered, accepted, call, run}
 use Rattle.cut.specs.Run.{Answer, answer, answers}
-use Rattle.cut.specs.Plain.{
-  RenderedTo,
-  Progress,
-  atFirst,
-  layoutDue,
-  leftDue,
-  due,
-  plainCall,
-  plain,
-  answersDue,
-  Accepted,
-  AllReadLaid,
-  AllReadDue,
-}
+use Rattle.cut.specs.Plain.{RenderedTo, Progress, atFirst, layoutDue, leftDue, due, plainCall, plain, answersDue, Accepted, AllReadLaid}
+use Rattle.cut.specs.Plain.{AllReadDue}
 use Rattle.cut.specs.CutRule.{Text, CommentsKept, SameRoom}
 use Rattle.cut.specs.Laws.{LayoutLaws, RenderLaws, CommentLaws, RoomLaws}
 use Rattle.cut.proofs.Memory.{length-onto, length-over}

@@ -10,20 +10,8 @@ use native.Mathlib.Decide.{decLt}
 use lib.ListN.{length, take, drop, length-append}
 use Rattle.cut.specs.Rules.{Refusal, LayoutArgs, RenderArgs, Laid, Rendered, Rules}
 use Rattle.cut.specs.Run.{onto, unless, Call, layoutCall, renderCall, Carried, refusal, rendered, accepted, call}
-use Rattle.cut.specs.Plain.{
-  RenderedTo,
-  Progress,
-  layoutDue,
-  renderDue,
-  leftDue,
-  laidDue,
-  renderedDue,
-  due,
-  onward,
-  plainCall,
-  Accepted,
-  ReadsLaid,
-}
+use Rattle.cut.specs.Plain.{RenderedTo, Progress, layoutDue, renderDue, leftDue, laidDue, renderedDue, due, onward, plainCall, Accepted}
+use Rattle.cut.specs.Plain.{ReadsLaid}
 use Rattle.cut.specs.Laws.{thenLaid, LayoutLaws, SameBefore, thenRendered, RenderLaws}
 use Rattle.cut.proofs.Memory.{over-onto, onto-onto, take-onto, same-before}
 

@@ -8,69 +8,21 @@ use mathlib.Core.Option.{Option, none as nothing, some}
 use native.Mathlib.Omega.{arith}
 use lib.ListN.{length}
 use Rattle.image.specs.Bytes.{be32}
-use Rattle.tree.specs.Syntax.{
-  Span,
-  Ident,
-  Idents,
-  noTypes,
-  _∷ᵗ_,
-  Fields,
-  Variants,
-  noVariants,
-  variant,
-  Declaration,
-  filterMap,
-  const,
-  recordDecl,
-  enumDecl,
-  function,
-  test,
-  importDecl,
-  SyntaxTree,
-}
+use Rattle.tree.specs.Syntax.{Span, Ident, Idents, noTypes, _∷ᵗ_, Fields, Variants, noVariants, variant, Declaration, filterMap, const, recordDecl}
+use Rattle.tree.specs.Syntax.{enumDecl, function, test, importDecl, SyntaxTree}
 use Rattle.tree.specs.At.{Head, past, IdentAt, ListAt, Maybe, TypesAt, FieldsAt, VariantsAt, DeclarationAt, DeclarationsAt, TreeAt}
 use Rattle.rows.specs.Words.{placeIn}
 use Rattle.state.specs.Act.{Given, Act}
 use Rattle.comments.specs.Comments.{popWhitespace}
 use Rattle.layout.specs.declared.kinds.WrapStyle.the-variants.{Tight, Wrap}
-use Rattle.layout.specs.Layout.{
-  someTypeParams,
-  Bottom,
-  params,
-  recordTypeRule,
-  typeParams,
-  opening,
-  variantElems,
-  declaration,
-  declares,
-  shebangRule,
-  declarationsRule,
-  fmtParsed,
-  importSpan,
-  unlessEmpty,
-}
+use Rattle.layout.specs.Layout.{someTypeParams, Bottom, params, recordTypeRule, typeParams, opening, variantElems, declaration, declares, shebangRule}
+use Rattle.layout.specs.Layout.{declarationsRule, fmtParsed, importSpan, unlessEmpty}
 use Rattle.facts.specs.Sound.{Ranged, Commented, Sounds}
 use Rattle.facts.specs.Height.{fieldsHeight, variantsHeight, declarationHeight, declarationsHeight, treeHeight}
 use Rattle.facts.proofs.Steps.{_⨾_, fewer, sound-skip, sound-line, sound-emptyLine, sound-str, sound-when, sound-asks}
 use Rattle.facts.proofs.Gaps.{trimEnd-le, sound-gap}
-use Rattle.facts.proofs.Parts.{
-  sound-says,
-  ranged,
-  from-start,
-  sound-ident,
-  All,
-  none,
-  also,
-  sound-separated,
-  sound-idents,
-  sound-type,
-  all-types,
-  all-fields,
-  last-ranged,
-  import-ranged,
-  import-long,
-  sound-import,
-}
+use Rattle.facts.proofs.Parts.{sound-says, ranged, from-start, sound-ident, All, none, also, sound-separated, sound-idents, sound-type}
+use Rattle.facts.proofs.Parts.{all-types, all-fields, last-ranged, import-ranged, import-long, sound-import}
 use Rattle.facts.proofs.Exprs.{sound-expr, sound-block}
 
 module _ {g : Given} (commented : Commented g) where

@@ -11,176 +11,29 @@ use lib.ListN.{length, getD}
 use lib.Dec.{ltb, leb, eqb}
 use Rattle.text.proofs.Tests.{and-left, and-right}
 use Rattle.image.specs.Bytes.{be32}
-use Rattle.tree.specs.Syntax.{
-  Span,
-  Expr,
-  expr,
-  Form,
-  return′,
-  literal,
-  block,
-  match′,
-  functionCall,
-  access,
-  path,
-  record′,
-  typedRecord,
-  list,
-  not′,
-  assign,
-  compoundAssign,
-  binOp,
-  negate,
-  ifElse,
-  while,
-  for,
-  questionMark,
-  fString,
-  parentheses,
-  Exprs,
-  noExprs,
-  _∷ᵉ_,
-  MaybeExpr,
-  noExpr,
-  someExpr,
-  Entries,
-  noEntries,
-  entry,
-  Arms,
-  noArms,
-  arm,
-  Parts,
-  noParts,
-  string,
-  value,
-  Block,
-  braces,
-  MaybeBlock,
-  noBlock,
-  someBlock,
-  Stmts,
-  noStmts,
-  _∷ˢ_,
-  Stmt,
-  stmt,
-  StmtForm,
-  let′,
-  importStmt,
-  does,
-}
-use Rattle.tree.specs.At.{
-  past,
-  Maybe,
-  ExprAt,
-  FormAt,
-  ExprsAt,
-  MaybeExprAt,
-  EntriesAt,
-  ArmsAt,
-  PartsAt,
-  BlockAt,
-  MaybeBlockAt,
-  StmtsAt,
-  StmtAt,
-  StmtFormAt,
-}
+use Rattle.tree.specs.Syntax.{Span, Expr, expr, Form, return′, literal, block, match′, functionCall, access, path, record′, typedRecord, list, not′}
+use Rattle.tree.specs.Syntax.{assign, compoundAssign, binOp, negate, ifElse, while, for, questionMark, fString, parentheses, Exprs, noExprs, _∷ᵉ_}
+use Rattle.tree.specs.Syntax.{MaybeExpr, noExpr, someExpr, Entries, noEntries, entry, Arms, noArms, arm, Parts, noParts, string, value, Block, braces}
+use Rattle.tree.specs.Syntax.{MaybeBlock, noBlock, someBlock, Stmts, noStmts, _∷ˢ_, Stmt, stmt, StmtForm, let′, importStmt, does}
+use Rattle.tree.specs.At.{past, Maybe, ExprAt, FormAt, ExprsAt, MaybeExprAt, EntriesAt, ArmsAt, PartsAt, BlockAt, MaybeBlockAt, StmtsAt, StmtAt}
+use Rattle.tree.specs.At.{StmtFormAt}
 use Rattle.rows.specs.Node.{ascii}
 use Rattle.rows.specs.Words.{table, placeIn}
 use Rattle.state.specs.Act.{Given, Act, _⨟_, push, grouped, content, indentedNext, called}
 use Rattle.comments.specs.Comments.{popWhitespace, popTrailingComment}
 use Rattle.layout.specs.declared.kinds.WrapStyle.the-variants.{Tight, Spaced, Wrap}
-use Rattle.layout.specs.Layout.{
-  operator,
-  whole,
-  maybeExpr,
-  placeholder,
-  clause,
-  blockStart,
-  beforeStmt,
-  afterStmt,
-  lone,
-  pickSpine,
-  plain,
-  extend,
-  Spine,
-  Look,
-  Bottom,
-  Chain,
-  Unit′,
-  binopPrecedence,
-  symbol,
-  assignSymbol,
-  returnWord,
-  chained,
-  literalRule,
-  look,
-  lookForm,
-  otherwise,
-  exprElems,
-  groupedElems,
-  entryElems,
-  armElems,
-  partsRule,
-  blockRule,
-  stmtsRule,
-  lastRule,
-  stmtRule,
-  stmtForm,
-  exprSpan,
-  stmtSpan,
-  noneOf,
-  isEmpty,
-  isBlock,
-  isBraced,
-}
+use Rattle.layout.specs.Layout.{operator, whole, maybeExpr, placeholder, clause, blockStart, beforeStmt, afterStmt, lone, pickSpine, plain, extend}
+use Rattle.layout.specs.Layout.{Spine, Look, Bottom, Chain, Unit′, binopPrecedence, symbol, assignSymbol, returnWord, chained, literalRule, look}
+use Rattle.layout.specs.Layout.{lookForm, otherwise, exprElems, groupedElems, entryElems, armElems, partsRule, blockRule, stmtsRule, lastRule}
+use Rattle.layout.specs.Layout.{stmtRule, stmtForm, exprSpan, stmtSpan, noneOf, isEmpty, isBlock, isBraced}
 use Rattle.facts.specs.Sound.{Ranged, Commented, Sounds}
-use Rattle.facts.specs.Height.{
-  exprHeight,
-  formHeight,
-  exprsHeight,
-  maybeHeight,
-  entriesHeight,
-  armsHeight,
-  partsHeight,
-  blockHeight,
-  maybeBlockHeight,
-  stmtsHeight,
-  stmtHeight,
-  stmtFormHeight,
-}
-use Rattle.facts.proofs.Steps.{
-  _⨾_,
-  deeper,
-  fewer,
-  sound-skip,
-  sound-line,
-  sound-lineOrSpace,
-  sound-wrapParent,
-  sound-ascii,
-  sound-when,
-  sound-cond,
-  sound-grouped,
-  sound-indented,
-  sound-indentedNext,
-  sound-called,
-  sound-asks,
-}
+use Rattle.facts.specs.Height.{exprHeight, formHeight, exprsHeight, maybeHeight, entriesHeight, armsHeight, partsHeight, blockHeight}
+use Rattle.facts.specs.Height.{maybeBlockHeight, stmtsHeight, stmtHeight, stmtFormHeight}
+use Rattle.facts.proofs.Steps.{_⨾_, deeper, fewer, sound-skip, sound-line, sound-lineOrSpace, sound-wrapParent, sound-ascii, sound-when}
+use Rattle.facts.proofs.Steps.{sound-cond, sound-grouped, sound-indented, sound-indentedNext, sound-called, sound-asks}
 use Rattle.facts.proofs.Gaps.{sound-gap, sound-trailing}
-use Rattle.facts.proofs.Parts.{
-  Fits,
-  sound-says,
-  ranged,
-  from-start,
-  sound-ident,
-  All,
-  none,
-  also,
-  sound-separated,
-  sound-path,
-  sound-type,
-  sound-import,
-  sound-pattern,
-}
+use Rattle.facts.proofs.Parts.{Fits, sound-says, ranged, from-start, sound-ident, All, none, also, sound-separated, sound-path, sound-type}
+use Rattle.facts.proofs.Parts.{sound-import, sound-pattern}
 
 -- ---- the words chosen by a number: each of a list fits, and so does the one that stands for none
 abbrev allFit : List String → Bool

@@ -18,30 +18,10 @@ use Rattle.text.specs.declared.space.Found.the-variants.{At, Nowhere}
 use Rattle.tree.specs.Syntax.{Span}
 use Rattle.rows.specs.Node.{line, emptyLine, none}
 use Rattle.state.specs.Act.{Given, St, Act, next, join, _⨟_, _⨟!_, skip, push, moveTo, pop, told, answering}
-use Rattle.comments.specs.Comments.{
-  front,
-  remark,
-  newlines,
-  ignoreNewlines,
-  popComment,
-  waits,
-  popComments,
-  popWhitespace,
-  popTrailingComment,
-}
+use Rattle.comments.specs.Comments.{front, remark, newlines, ignoreNewlines, popComment, waits, popComments, popWhitespace, popTrailingComment}
 use Rattle.facts.specs.Placing.{trimmed}
 use Rattle.facts.specs.Sound.{Inside, Ranged, Commented, Sound, Sounds}
-use Rattle.facts.proofs.Steps.{
-  sound-then,
-  _⨾_,
-  fewer,
-  sound-skip,
-  sound-moveTo,
-  sound-line,
-  sound-emptyLine,
-  sound-comment,
-  sound-cond,
-}
+use Rattle.facts.proofs.Steps.{sound-then, _⨾_, fewer, sound-skip, sound-moveTo, sound-line, sound-emptyLine, sound-comment, sound-cond}
 
 -- trimming doesn't move the end forward
 trim-le : (n : ℕ) (s : List ℕ) (from to : ℕ) → trim n s from to ≤ to

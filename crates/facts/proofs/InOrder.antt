@@ -10,106 +10,14 @@ use native.Mathlib.Omega.{arith}
 use lib.ListN.{take}
 use lib.Dec.{ltb, eqb}
 use lib.Text.{eqt}
-use Rattle.tree.specs.Syntax.{
-  Span,
-  Ident,
-  Path,
-  Idents,
-  TypeExpr,
-  type,
-  TypeForm,
-  option,
-  typePath,
-  never,
-  unit,
-  recordType,
-  TypeArgs,
-  noArgs,
-  args,
-  Types,
-  noTypes,
-  _∷ᵗ_,
-  Fields,
-  noFields,
-  field,
-  Import,
-  import,
-  ImportGroup,
-  noGroup,
-  group,
-  Imports,
-  noImports,
-  _∷ⁱ_,
-  Pattern,
-  underscore,
-  enumVariant,
-  Expr,
-  expr,
-  Form,
-  return′,
-  literal,
-  block,
-  match′,
-  functionCall,
-  access,
-  path,
-  record′,
-  typedRecord,
-  list,
-  not′,
-  assign,
-  compoundAssign,
-  binOp,
-  negate,
-  ifElse,
-  while,
-  for,
-  questionMark,
-  fString,
-  parentheses,
-  Exprs,
-  noExprs,
-  _∷ᵉ_,
-  MaybeExpr,
-  noExpr,
-  someExpr,
-  Entries,
-  noEntries,
-  entry,
-  Arms,
-  noArms,
-  arm,
-  Parts,
-  noParts,
-  string,
-  value,
-  Block,
-  braces,
-  MaybeBlock,
-  noBlock,
-  someBlock,
-  Stmts,
-  noStmts,
-  _∷ˢ_,
-  Stmt,
-  stmt,
-  StmtForm,
-  let′,
-  importStmt,
-  does,
-  Variants,
-  noVariants,
-  variant,
-  Declaration,
-  filterMap,
-  const,
-  recordDecl,
-  enumDecl,
-  function,
-  test,
-  importDecl,
-  SyntaxTree,
-}
+use Rattle.tree.specs.Syntax.{Span, Ident, Path, Idents, TypeExpr, type, TypeForm, option, typePath, never, unit, recordType, TypeArgs, noArgs, args}
+use Rattle.tree.specs.Syntax.{Types, noTypes, _∷ᵗ_, Fields, noFields, field, Import, import, ImportGroup, noGroup, group, Imports, noImports, _∷ⁱ_}
+use Rattle.tree.specs.Syntax.{Pattern, underscore, enumVariant, Expr, expr, Form, return′, literal, block, match′, functionCall, access, path, record′}
+use Rattle.tree.specs.Syntax.{typedRecord, list, not′, assign, compoundAssign, binOp, negate, ifElse, while, for, questionMark, fString, parentheses}
+use Rattle.tree.specs.Syntax.{Exprs, noExprs, _∷ᵉ_, MaybeExpr, noExpr, someExpr, Entries, noEntries, entry, Arms, noArms, arm, Parts, noParts, string}
+use Rattle.tree.specs.Syntax.{value, Block, braces, MaybeBlock, noBlock, someBlock, Stmts, noStmts, _∷ˢ_, Stmt, stmt, StmtForm, let′, importStmt, does}
+use Rattle.tree.specs.Syntax.{Variants, noVariants, variant, Declaration, filterMap, const, recordDecl, enumDecl, function, test, importDecl}
+use Rattle.tree.specs.Syntax.{SyntaxTree}
 use Rattle.rows.specs.Node.{Text, ascii, str, line, lineOrSpace, wrapParent, ifWrap}
 use Rattle.state.specs.Act.{Given, Act, push}
 use Rattle.layout.specs.declared.kinds.WrapStyle.{WrapStyle}
@@ -118,20 +26,8 @@ use Rattle.layout.specs.Layout.{edge, isWrap, opens, ends, inside, beforeElem, 
 use Rattle.comments.specs.Comments.{popWhitespace}
 use Rattle.facts.specs.Placing.{commentsOf, commentsIn, trimmed, Places}
 use Rattle.facts.specs.Accepted.{fresh, callRule}
-use Rattle.facts.proofs.Placing.{
-  _⨾_,
-  places-skip,
-  places-push,
-  places-when,
-  places-cond,
-  places-grouped,
-  places-indented,
-  places-indentedNext,
-  places-called,
-  places-asks,
-  places-gap,
-  places-trailing,
-}
+use Rattle.facts.proofs.Placing.{_⨾_, places-skip, places-push, places-when, places-cond, places-grouped, places-indented, places-indentedNext}
+use Rattle.facts.proofs.Placing.{places-called, places-asks, places-gap, places-trailing}
 
 module _ {g : Given} where
   said : {t : Text} → Places g (push (ascii t))

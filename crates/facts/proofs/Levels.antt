@@ -16,35 +16,10 @@ use Rattle.image.proofs.Inside.{inside, none-deep}
 use Rattle.tree.specs.Syntax.{Span, TypeExpr, Types, Fields, Imports, Expr, Entries, Arms, Parts, Block, Variants}
 use Rattle.tree.specs.Records as records
 use Rattle.tree.specs.Records.{Views, Forms, else, _⇒_∣_, form, nothing, viewsOf, views, each, syntaxTree}
-use Rattle.facts.specs.Height.{
-  levels,
-  levelsIn,
-  typeHeight,
-  typeFormHeight,
-  argsHeight,
-  typesHeight,
-  fieldsHeight,
-  importHeight,
-  groupHeight,
-  importsHeight,
-  maybeTypeHeight,
-  exprHeight,
-  formHeight,
-  exprsHeight,
-  maybeHeight,
-  entriesHeight,
-  armsHeight,
-  partsHeight,
-  blockHeight,
-  maybeBlockHeight,
-  stmtsHeight,
-  stmtHeight,
-  stmtFormHeight,
-  variantsHeight,
-  declarationHeight,
-  declarationsHeight,
-  treeHeight,
-}
+use Rattle.facts.specs.Height.{levels, levelsIn, typeHeight, typeFormHeight, argsHeight, typesHeight, fieldsHeight, importHeight, groupHeight}
+use Rattle.facts.specs.Height.{importsHeight, maybeTypeHeight, exprHeight, formHeight, exprsHeight, maybeHeight, entriesHeight, armsHeight}
+use Rattle.facts.specs.Height.{partsHeight, blockHeight, maybeBlockHeight, stmtsHeight, stmtHeight, stmtFormHeight, variantsHeight}
+use Rattle.facts.specs.Height.{declarationHeight, declarationsHeight, treeHeight}
 
 -- ---- the reader's levels
 children-few : (one : ℕ → ℕ → ℕ → Read Tree) (l : ℕ) → ((p at stop : ℕ) (t : Tree) (q : ℕ) → one p at stop ≡ got t q → levels t ≤ l)

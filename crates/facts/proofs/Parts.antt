@@ -13,119 +13,23 @@ use lib.Text.{eqt}
 use borrow.Author.Tests.{leb-true}
 use Rattle.text.proofs.Counts.{range-inside}
 use Rattle.image.specs.Bytes.{be32}
-use Rattle.tree.specs.Syntax.{
-  Span,
-  Ident,
-  Path,
-  Idents,
-  TypeExpr,
-  type,
-  TypeForm,
-  option,
-  typePath,
-  never,
-  unit,
-  recordType,
-  TypeArgs,
-  noArgs,
-  args,
-  Types,
-  noTypes,
-  _∷ᵗ_,
-  Fields,
-  noFields,
-  field,
-  Import,
-  import,
-  ImportGroup,
-  noGroup,
-  group,
-  Imports,
-  noImports,
-  _∷ⁱ_,
-  Pattern,
-  underscore,
-  enumVariant,
-}
-use Rattle.tree.specs.At.{
-  Head,
-  past,
-  IdentAt,
-  IdentsAt,
-  PathAt,
-  ListAt,
-  Maybe,
-  TypeAt,
-  TypeFormAt,
-  TypeArgsAt,
-  TypesAt,
-  FieldsAt,
-  ImportAt,
-  ImportGroupAt,
-  ImportsAt,
-  PatternAt,
-}
+use Rattle.tree.specs.Syntax.{Span, Ident, Path, Idents, TypeExpr, type, TypeForm, option, typePath, never, unit, recordType, TypeArgs, noArgs, args}
+use Rattle.tree.specs.Syntax.{Types, noTypes, _∷ᵗ_, Fields, noFields, field, Import, import, ImportGroup, noGroup, group, Imports, noImports, _∷ⁱ_}
+use Rattle.tree.specs.Syntax.{Pattern, underscore, enumVariant}
+use Rattle.tree.specs.At.{Head, past, IdentAt, IdentsAt, PathAt, ListAt, Maybe, TypeAt, TypeFormAt, TypeArgsAt, TypesAt, FieldsAt, ImportAt}
+use Rattle.tree.specs.At.{ImportGroupAt, ImportsAt, PatternAt}
 use Rattle.rows.specs.Ascii.{bytes}
 use Rattle.rows.specs.Words.{table, words, joined, placeIn, word}
 use Rattle.state.specs.Act.{Given, Act, says}
 use Rattle.layout.specs.declared.kinds.WrapStyle.{WrapStyle}
 use Rattle.layout.specs.declared.kinds.WrapStyle.the-variants.{Tight, Spaced, Wrap}
-use Rattle.layout.specs.Layout.{
-  edge,
-  isWrap,
-  opens,
-  ends,
-  inside,
-  beforeElem,
-  pathNext,
-  Elem,
-  elements,
-  separated,
-  pathMore,
-  pathRule,
-  ident,
-  identElems,
-  typeExpr,
-  typeForm,
-  typeArgs,
-  typeElems,
-  fieldElems,
-  lastSpan,
-  importPath,
-  importGroup,
-  importItems,
-  importElems,
-  pattern,
-  typeSpan,
-  importSpan,
-  isGroup,
-  oneOr,
-}
+use Rattle.layout.specs.Layout.{edge, isWrap, opens, ends, inside, beforeElem, pathNext, Elem, elements, separated, pathMore, pathRule, ident}
+use Rattle.layout.specs.Layout.{identElems, typeExpr, typeForm, typeArgs, typeElems, fieldElems, lastSpan, importPath, importGroup, importItems}
+use Rattle.layout.specs.Layout.{importElems, pattern, typeSpan, importSpan, isGroup, oneOr}
 use Rattle.facts.specs.Sound.{Inside, Ranged, Commented, Sounds}
-use Rattle.facts.specs.Height.{
-  typeHeight,
-  typeFormHeight,
-  argsHeight,
-  typesHeight,
-  fieldsHeight,
-  importHeight,
-  groupHeight,
-  importsHeight,
-}
-use Rattle.facts.proofs.Steps.{
-  _⨾_,
-  fewer,
-  sound-skip,
-  sound-line,
-  sound-lineOrSpace,
-  sound-wrapParent,
-  sound-ascii,
-  sound-str,
-  sound-ifWrap,
-  sound-when,
-  sound-grouped,
-  sound-indented,
-}
+use Rattle.facts.specs.Height.{typeHeight, typeFormHeight, argsHeight, typesHeight, fieldsHeight, importHeight, groupHeight, importsHeight}
+use Rattle.facts.proofs.Steps.{_⨾_, fewer, sound-skip, sound-line, sound-lineOrSpace, sound-wrapParent, sound-ascii, sound-str, sound-ifWrap}
+use Rattle.facts.proofs.Steps.{sound-when, sound-grouped, sound-indented}
 use Rattle.facts.proofs.Gaps.{sound-gap, sound-trailing}
 
 -- ---- the fixed words

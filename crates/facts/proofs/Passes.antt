@@ -21,24 +21,8 @@ use Rattle.renderer.specs.Check.{usesNumber, usesNumber2, usesSecond, usesText,
 use Rattle.renderer.proofs.Checked.{nested-accepted}
 use Rattle.state.specs.Act.{Given}
 use Rattle.facts.specs.Sound.{Inside, TextsIn}
-use Rattle.facts.specs.Right.{
-  RightRow,
-  group,
-  indent,
-  indentNext,
-  wrapParent,
-  comment,
-  str,
-  ascii,
-  line,
-  emptyLine,
-  lineOrSpace,
-  ifWrap,
-  call,
-  RightRows,
-  none,
-  more,
-}
+use Rattle.facts.specs.Right.{RightRow, group, indent, indentNext, wrapParent, comment, str, ascii, line, emptyLine, lineOrSpace, ifWrap, call}
+use Rattle.facts.specs.Right.{RightRows, none, more}
 use Rattle.facts.proofs.Rights.{right-long, right-rows}
 
 -- ---- one row

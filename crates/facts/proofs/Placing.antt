@@ -16,41 +16,9 @@ use Rattle.text.specs.declared.space.Found.{Found}
 use Rattle.text.specs.declared.space.Found.the-variants.{At, Nowhere}
 use Rattle.tree.specs.Syntax.{Span}
 use Rattle.rows.specs.Node.{Text, Node, Nodes, group, indent, indentNext, comment, line, emptyLine, none, _then_}
-use Rattle.state.specs.Act.{
-  Given,
-  St,
-  Out,
-  Act,
-  Asking,
-  next,
-  join,
-  _⨟_,
-  _⨟?_,
-  _⨟!_,
-  skip,
-  when,
-  push,
-  moveTo,
-  pop,
-  told,
-  answering,
-  grouped,
-  indented,
-  indentedNext,
-  called,
-}
-use Rattle.comments.specs.Comments.{
-  nth,
-  front,
-  remark,
-  newlines,
-  ignoreNewlines,
-  popComment,
-  waits,
-  popComments,
-  popWhitespace,
-  popTrailingComment,
-}
+use Rattle.state.specs.Act.{Given, St, Out, Act, Asking, next, join, _⨟_, _⨟?_, _⨟!_, skip, when, push, moveTo, pop, told, answering, grouped}
+use Rattle.state.specs.Act.{indented, indentedNext, called}
+use Rattle.comments.specs.Comments.{nth, front, remark, newlines, ignoreNewlines, popComment, waits, popComments, popWhitespace, popTrailingComment}
 use Rattle.facts.specs.Placing.{commentsOf, commentsIn, trimmed, between, Placed, Places}
 
 commentsIn-join : (ns ms : Nodes) → commentsIn (join ns ms) ≡ commentsIn ns ++ commentsIn ms

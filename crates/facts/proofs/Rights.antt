@@ -11,24 +11,8 @@ use Rattle.rows.specs.Node.{Node, Nodes}
 use Rattle.rows.specs.Rows.{size, sizes, rowsOf, rows}
 use Rattle.state.specs.Act.{Given}
 use Rattle.facts.specs.Sound.{TextsOf, TextsIn}
-use Rattle.facts.specs.Right.{
-  RightRow,
-  group,
-  indent,
-  indentNext,
-  wrapParent,
-  comment,
-  str,
-  ascii,
-  line,
-  emptyLine,
-  lineOrSpace,
-  ifWrap,
-  call,
-  RightRows,
-  none,
-  more,
-}
+use Rattle.facts.specs.Right.{RightRow, group, indent, indentNext, wrapParent, comment, str, ascii, line, emptyLine, lineOrSpace, ifWrap, call}
+use Rattle.facts.specs.Right.{RightRows, none, more}
 
 right-append : {g : Given} {xs ys : List ℕ} → RightRows g xs → RightRows g ys → RightRows g (xs ++ ys)
 right-append none q = q

@@ -7,26 +7,8 @@ use native.Mathlib.Omega.{arith}
 use lib.ListN.{length}
 use Rattle.rows.specs.Node.{Text, Node, Nodes, wrapParent, comment, str, ascii, line, emptyLine, lineOrSpace, ifWrap, none, _then_}
 use Rattle.rows.specs.Rows.{size, sizes, depth, depths}
-use Rattle.state.specs.Act.{
-  Given,
-  St,
-  Out,
-  Act,
-  Asking,
-  next,
-  join,
-  _⨟_,
-  _⨟?_,
-  skip,
-  when,
-  push,
-  moveTo,
-  told,
-  grouped,
-  indented,
-  indentedNext,
-  called,
-}
+use Rattle.state.specs.Act.{Given, St, Out, Act, Asking, next, join, _⨟_, _⨟?_, skip, when, push, moveTo, told, grouped, indented, indentedNext}
+use Rattle.state.specs.Act.{called}
 use Rattle.state.proofs.Joins.{sizes-join}
 use Rattle.facts.specs.Sound.{Inside, TextsOf, TextsIn, Sound, Sounds}
 

@@ -2,22 +2,8 @@
 -- Assumes nothing.
 use mathlib.Core.Path.{refl}
 use Rattle.text.specs.Newlines.{isRange}
-use Rattle.image.specs.Read.{
-  header,
-  commentFits,
-  commentsFrom,
-  comments as commentList,
-  shape,
-  opens,
-  childrenAt,
-  skips,
-  recordAt,
-  treeAt,
-  readTree,
-  readImage,
-  sourceFits,
-  readAll,
-}
+use Rattle.image.specs.Read.{header, commentFits, commentsFrom, comments as commentList, shape, opens, childrenAt, skips, recordAt, treeAt, readTree}
+use Rattle.image.specs.Read.{readImage, sourceFits, readAll}
 use Rattle.image.specs.Bytes.{be16, be32}
 use Rattle.image.specs.Grammar.{rowOf, rowUnder, kindFits, payloadFits, firstChild}
 use Rattle.image.specs.Write.{written}
@@ -34,40 +20,10 @@ use Rattle.text.specs.Newlines.{countNewlines, newlines}
 use Rattle.text.specs.Utf8.{charAt, decoded, scalar, charBefore, ending, ends}
 use Rattle.text.specs.Space.{something, seek, oneOf, trimEnd, trim}
 use Rattle.comments.specs.Comments as comments
-use Rattle.layout.specs.Layout.{
-  shebangRule,
-  declaration,
-  declares,
-  opening,
-  typeExpr,
-  typeForm,
-  typeArgs,
-  pathRule,
-  pathMore,
-  look,
-  lookForm,
-  literalRule,
-}
-use Rattle.renderer.specs.Renderer.{
-  push,
-  atColumn,
-  newLine,
-  margin,
-  remark,
-  text,
-  virtualColumn,
-  insert,
-  indented,
-  outdented,
-  nextIndented,
-  nextOutdented,
-  wraps,
-  groupWraps,
-  trailing,
-  calleeWraps,
-  render,
-  renders,
-}
+use Rattle.layout.specs.Layout.{shebangRule, declaration, declares, opening, typeExpr, typeForm, typeArgs, pathRule, pathMore, look, lookForm}
+use Rattle.layout.specs.Layout.{literalRule}
+use Rattle.renderer.specs.Renderer.{push, atColumn, newLine, margin, remark, text, virtualColumn, insert, indented, outdented, nextIndented}
+use Rattle.renderer.specs.Renderer.{nextOutdented, wraps, groupWraps, trailing, calleeWraps, render, renders}
 use Rattle.renderer.specs.Page.{originText, textBytes}
 use Rattle.renderer.specs.Check.{reaches, partsFit, rowFits, firstWrong, wrongRow, placesFit, wrongPlace}
 use Rattle.marks.specs.Marks.{marksNeeded}

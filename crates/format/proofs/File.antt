@@ -24,22 +24,8 @@ use Rattle.cut.specs.Rules.{Refusal, LayoutArgs, RenderArgs, Laid, Rendered}
 use Rattle.cut.specs.Laws.{SameBefore}
 use Rattle.cut.specs.Run.{onto, unless, answerBy, laidOut, written}
 use Rattle.cut.specs.Entries.{layoutAnswer, layoutStore, renderGives, renderAnswer, renderMarks, renderOutput}
-use Rattle.cut.specs.Parts.{
-  LayoutState,
-  RenderState,
-  layoutFresh,
-  renderFresh,
-  first,
-  when,
-  whenFound,
-  any,
-  rowsIn,
-  layoutTests,
-  rowsNeeded,
-  drawnOf,
-  renderTests,
-  renderTable,
-}
+use Rattle.cut.specs.Parts.{LayoutState, RenderState, layoutFresh, renderFresh, first, when, whenFound, any, rowsIn, layoutTests, rowsNeeded, drawnOf}
+use Rattle.cut.specs.Parts.{renderTests, renderTable}
 use Rattle.format.specs.Parts.{refusalOf, renderImage, treeOf, drawn, parts}
 use Rattle.format.specs.Demands.{rulesOf, laidTo}
 use Rattle.format.specs.File.{built, rowsDue, marksDue, drawnDue, laidRefusal, fileRefusal, fileStore, fileMarks, fileOutput}

@@ -11,25 +11,8 @@ use lib.Dec.{eqb}
 use lib.ListN.{length, take, drop, length-map}
 use Rattle.image.specs.Read.{readAll}
 use Rattle.tree.specs.Syntax.{Declaration}
-use Rattle.rows.specs.Node.{
-  Text as NodeText,
-  Node,
-  Nodes,
-  group,
-  indent,
-  indentNext,
-  wrapParent,
-  comment,
-  str,
-  ascii,
-  line,
-  emptyLine,
-  lineOrSpace,
-  ifWrap,
-  call,
-  none,
-  _then_,
-}
+use Rattle.rows.specs.Node.{Text as NodeText, Node, Nodes, group, indent, indentNext, wrapParent, comment, str, ascii, line, emptyLine, lineOrSpace}
+use Rattle.rows.specs.Node.{ifWrap, call, none, _then_}
 use Rattle.rows.specs.Rows.{row, noText, size, sizes, rowsOf, rows}
 use Rattle.rows.proofs.Sizes.{length-rowsOf, length-rows}
 use Rattle.state.specs.Act.{Given, St, Act, push}

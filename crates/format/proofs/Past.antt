@@ -8,51 +8,10 @@ use Prim.Native.Nat.{ℕ, _+_, _-_, _*_, _<_}
 use lib.Dec.{ltb, eqb}
 use lib.ListN.{length, replicate, length-set, List·getD-append}
 use lib.Seq.{set-append-left}
-use Rattle.rows.specs.Node.{
-  Text,
-  Node,
-  Nodes,
-  group,
-  indent,
-  indentNext,
-  wrapParent,
-  comment,
-  str,
-  ascii,
-  line,
-  emptyLine,
-  lineOrSpace,
-  ifWrap,
-  call,
-  none,
-  _then_,
-  wrapped,
-  width,
-  widths,
-  mustWraps,
-}
-use Rattle.renderer.specs.Renderer.{
-  Page,
-  Renderer,
-  push,
-  atColumn,
-  newLine,
-  margin,
-  remark,
-  text,
-  virtualColumn,
-  insert,
-  indented,
-  outdented,
-  nextIndented,
-  nextOutdented,
-  wraps,
-  groupWraps,
-  trailing,
-  calleeWraps,
-  render,
-  renders,
-}
+use Rattle.rows.specs.Node.{Text, Node, Nodes, group, indent, indentNext, wrapParent, comment, str, ascii, line, emptyLine, lineOrSpace, ifWrap, call}
+use Rattle.rows.specs.Node.{none, _then_, wrapped, width, widths, mustWraps}
+use Rattle.renderer.specs.Renderer.{Page, Renderer, push, atColumn, newLine, margin, remark, text, virtualColumn, insert, indented, outdented}
+use Rattle.renderer.specs.Renderer.{nextIndented, nextOutdented, wraps, groupWraps, trailing, calleeWraps, render, renders}
 
 -- the numbers of a node and of nodes are under b
 abbrev mutual

@@ -9,20 +9,8 @@ ghost use Rattle.state.specs.Laid.{Laid};
 ghost use Rattle.comments.specs.Listed.{given};
 ghost use Rattle.layout.specs.Layout.{opening, someTypeParams, returnType, shebangRule, fmtParsed};
 ghost use Rattle.layout.specs.Contracts.{Accepted, Has, LaidAs, HasAll, LaidAll};
-ghost use Rattle.layout.specs.Forms.{
-  two,
-  three,
-  four,
-  five,
-  OfDeclaration,
-  declarationRule,
-  anyDeclaration,
-  declaresAt,
-  MaybeListAt,
-  MaybeTypeAt,
-  MaybeIdentAt,
-  declarationsFrom,
-};
+ghost use Rattle.layout.specs.Forms.{two, three, four, five, OfDeclaration, declarationRule, anyDeclaration, declaresAt, MaybeListAt};
+ghost use Rattle.layout.specs.Forms.{MaybeTypeAt, MaybeIdentAt, declarationsFrom};
 use crate::block;
 use crate::expr;
 use crate::import;

@@ -14,82 +14,14 @@ ghost use mathlib.Core.Path.{_≡_};
 ghost use mathlib.Core.Bool.{true};
 ghost use Prim.Native.Nat.{_+_};
 ghost use Rattle.image.specs.Bytes.{be32};
-ghost use Rattle.tree.specs.Syntax.{
-  typePath,
-  return′,
-  match′,
-  functionCall,
-  access,
-  typedRecord,
-  binOp,
-  ifElse,
-  for,
-  fString,
-  parentheses,
-};
-ghost use Rattle.tree.specs.At.{
-  TypeAt,
-  ImportAt,
-  ImportGroupAt,
-  PatternAt,
-  ExprAt,
-  MaybeExprAt,
-  PartsAt,
-  BlockAt,
-  StmtsAt,
-  StmtAt,
-};
-ghost use Rattle.layout.specs.Layout.{
-  typeExpr,
-  importPath,
-  importGroup,
-  pattern,
-  partsRule,
-  blockRule,
-  stmtRule,
-  letType,
-};
+ghost use Rattle.tree.specs.Syntax.{typePath, return′, match′, functionCall, access, typedRecord, binOp, ifElse, for, fString, parentheses};
+ghost use Rattle.tree.specs.At.{TypeAt, ImportAt, ImportGroupAt, PatternAt, ExprAt, MaybeExprAt, PartsAt, BlockAt, StmtsAt, StmtAt};
+ghost use Rattle.layout.specs.Layout.{typeExpr, importPath, importGroup, pattern, partsRule, blockRule, stmtRule, letType};
 ghost use Rattle.layout.specs.Contracts.{Has, LaidAs, HasAll, LaidAll};
-ghost use Rattle.layout.specs.Elems.{
-  FieldAt,
-  fieldRule,
-  VariantAt,
-  variantRule,
-  EntryAt,
-  entryRule,
-  ArmAt,
-  armRule,
-  ItemAt,
-  itemRule,
-  ElemsAt,
-  elementsRule,
-  ListOf,
-  LaidList,
-  LaidInside,
-};
-ghost use Rattle.layout.specs.Forms.{
-  two,
-  three,
-  four,
-  OfType,
-  typeRule,
-  exprWith,
-  formWith,
-  Of,
-  formRule,
-  afterWord,
-  maybeAfter,
-  ClauseAt,
-  clauseRule,
-  PartAt,
-  partRule,
-  bodyRule,
-  stmtsFrom,
-  lastFrom,
-  LetAt,
-  letRule,
-  MaybeTypeAt,
-};
+ghost use Rattle.layout.specs.Elems.{FieldAt, fieldRule, VariantAt, variantRule, EntryAt, entryRule, ArmAt, armRule, ItemAt, itemRule, ElemsAt};
+ghost use Rattle.layout.specs.Elems.{elementsRule, ListOf, LaidList, LaidInside};
+ghost use Rattle.layout.specs.Forms.{two, three, four, OfType, typeRule, exprWith, formWith, Of, formRule, afterWord, maybeAfter, ClauseAt};
+ghost use Rattle.layout.specs.Forms.{clauseRule, PartAt, partRule, bodyRule, stmtsFrom, lastFrom, LetAt, letRule, MaybeTypeAt};
 ghost use Rattle.layout.specs.Chains.{HasTail, LaidTail};
 use crate::blocks::after_stmt;
 use crate::blocks::arm_comma;

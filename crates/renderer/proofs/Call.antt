@@ -7,19 +7,8 @@ use mathlib.Core.Bool.{Bool, true, false, cond, not, _&&_}
 use mathlib.Core.List.{List}
 use Rattle.rows.specs.Node.{Text, Node, Nodes, group, indentNext, call, none, _then_, join, widths, mustWraps}
 use Rattle.rows.proofs.Widths.{widths-join}
-use Rattle.renderer.specs.Renderer.{
-  Page,
-  Renderer,
-  render,
-  renders,
-  trailing,
-  calleeWraps,
-  groupWraps,
-  wraps,
-  insert,
-  nextIndented,
-  nextOutdented,
-}
+use Rattle.renderer.specs.Renderer.{Page, Renderer, render, renders, trailing, calleeWraps, groupWraps, wraps, insert, nextIndented}
+use Rattle.renderer.specs.Renderer.{nextOutdented}
 
 -- nodes and one more: `nodes.push`
 renders-last : (p : Page) (ns : Nodes) (x : Node) (w : Bool) (s : Renderer) → renders p (join ns (x then none)) w s ≡ render p x w (renders p ns w s)

@@ -16,51 +16,10 @@ use Rattle.rows.specs.Nesting.{Nests}
 use Rattle.rows.proofs.Decode.{nodeAt, nodes-none}
 use Rattle.rows.proofs.Nested.{nests-le, nests-two, nests-pair, nests-kind, nests-after, nests-deep}
 use Rattle.renderer.specs.declared.Frame.{Frame}
-use Rattle.renderer.specs.Renderer.{
-  Page,
-  Renderer,
-  render,
-  renders,
-  groupWraps,
-  insert,
-  indented,
-  nextIndented,
-  trailing,
-  calleeWraps,
-}
-use Rattle.renderer.proofs.Meaning.{
-  frameAt,
-  partEnd,
-  closing,
-  limit,
-  wrapAt,
-  rest,
-  meaning,
-  pop,
-  frame-other,
-  frame-same,
-  open-group,
-  open-indent,
-  open-next,
-  open-if-first,
-  open-if-second,
-  open-call,
-  call-on,
-}
-use Rattle.renderer.proofs.Opened.{
-  bit,
-  At,
-  Under,
-  at-leaf,
-  at-block,
-  at-pop-suc,
-  at-top-suc,
-  advance-leaf,
-  at-first,
-  at-second,
-  at-call,
-  at-on,
-}
+use Rattle.renderer.specs.Renderer.{Page, Renderer, render, renders, groupWraps, insert, indented, nextIndented, trailing, calleeWraps}
+use Rattle.renderer.proofs.Meaning.{frameAt, partEnd, closing, limit, wrapAt, rest, meaning, pop, frame-other, frame-same, open-group}
+use Rattle.renderer.proofs.Meaning.{open-indent, open-next, open-if-first, open-if-second, open-call, call-on}
+use Rattle.renderer.proofs.Opened.{bit, At, Under, at-leaf, at-block, at-pop-suc, at-top-suc, advance-leaf, at-first, at-second, at-call, at-on}
 
 -- open rows, how many, the next row, the state, the rows entered
 pub record Machine : Type 0 where

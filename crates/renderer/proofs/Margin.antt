@@ -8,45 +8,10 @@ use mathlib.Core.List.{List, [], _∷_, _++_}
 use lib.ListN.{replicate}
 use lib.Dec.{ltb}
 use borrow.Author.Tests.{ltb-true, ltb-false}
-use Rattle.rows.specs.Node.{
-  Node,
-  Nodes,
-  group,
-  indent,
-  indentNext,
-  wrapParent,
-  comment,
-  str,
-  ascii,
-  line,
-  emptyLine,
-  lineOrSpace,
-  ifWrap,
-  call,
-  none,
-  _then_,
-  wrapped,
-}
-use Rattle.renderer.specs.Renderer.{
-  Page,
-  Renderer,
-  push,
-  atColumn,
-  newLine,
-  margin,
-  remark,
-  text,
-  insert,
-  indented,
-  outdented,
-  nextIndented,
-  nextOutdented,
-  groupWraps,
-  trailing,
-  calleeWraps,
-  render,
-  renders,
-}
+use Rattle.rows.specs.Node.{Node, Nodes, group, indent, indentNext, wrapParent, comment, str, ascii, line, emptyLine, lineOrSpace, ifWrap, call, none}
+use Rattle.rows.specs.Node.{_then_, wrapped}
+use Rattle.renderer.specs.Renderer.{Page, Renderer, push, atColumn, newLine, margin, remark, text, insert, indented, outdented, nextIndented}
+use Rattle.renderer.specs.Renderer.{nextOutdented, groupWraps, trailing, calleeWraps, render, renders}
 
 -- the sum is the same, and `indent` is no smaller
 pub record Kept (s t : Renderer) : Type 0 where

@@ -13,20 +13,8 @@ use Rattle.rows.specs.View.{View, nodesAt, firstOf}
 use Rattle.rows.specs.Nesting.{Within, Split, TwoParts}
 use Rattle.rows.proofs.Decode.{nodeAt, nodes-some, nodes-none, node-group, node-indent, node-next, node-if, node-call}
 use Rattle.renderer.specs.declared.Frame.{Frame}
-use Rattle.renderer.specs.Renderer.{
-  Page,
-  Renderer,
-  render,
-  renders,
-  trailing,
-  calleeWraps,
-  groupWraps,
-  insert,
-  indented,
-  outdented,
-  nextIndented,
-  nextOutdented,
-}
+use Rattle.renderer.specs.Renderer.{Page, Renderer, render, renders, trailing, calleeWraps, groupWraps, insert, indented, outdented}
+use Rattle.renderer.specs.Renderer.{nextIndented, nextOutdented}
 
 abbrev pub noFrame : Frame
 noFrame = record { row = 0; wrap = false; early = false; deep = false }

@@ -9,45 +9,10 @@ use lib.ListN.{length, getD, length-set}
 use lib.Seq.{getD-set-other}
 use lib.Dec.{ltb, eqb}
 use borrow.Author.Tests.{eqb-false}
-use Rattle.rows.specs.Node.{
-  Node,
-  Nodes,
-  group,
-  indent,
-  indentNext,
-  wrapParent,
-  comment,
-  str,
-  ascii,
-  line,
-  emptyLine,
-  lineOrSpace,
-  ifWrap,
-  call,
-  none,
-  _then_,
-  wrapped,
-}
-use Rattle.renderer.specs.Renderer.{
-  Page,
-  Renderer,
-  push,
-  atColumn,
-  newLine,
-  margin,
-  remark,
-  text,
-  insert,
-  indented,
-  outdented,
-  nextIndented,
-  nextOutdented,
-  groupWraps,
-  trailing,
-  calleeWraps,
-  render,
-  renders,
-}
+use Rattle.rows.specs.Node.{Node, Nodes, group, indent, indentNext, wrapParent, comment, str, ascii, line, emptyLine, lineOrSpace, ifWrap, call, none}
+use Rattle.rows.specs.Node.{_then_, wrapped}
+use Rattle.renderer.specs.Renderer.{Page, Renderer, push, atColumn, newLine, margin, remark, text, insert, indented, outdented, nextIndented}
+use Rattle.renderer.specs.Renderer.{nextOutdented, groupWraps, trailing, calleeWraps, render, renders}
 
 -- x is a number of the node, or of one in it
 unfoldable mutual

@@ -13,20 +13,8 @@ use Rattle.rows.proofs.Decode.{nodeAt}
 use Rattle.rows.proofs.Nested.{nests-le, nests-leaf, nests-block, nests-two, nests-pair, nests-after, nests-rest, nests-deep}
 use Rattle.renderer.specs.declared.Frame.{Frame}
 use Rattle.renderer.specs.Renderer.{Page, Renderer, render}
-use Rattle.renderer.proofs.Meaning.{
-  frameAt,
-  partEnd,
-  closing,
-  limit,
-  wrapAt,
-  meaning,
-  advance,
-  pop,
-  limit-set,
-  limit-same,
-  frame-same,
-  frame-other,
-}
+use Rattle.renderer.proofs.Meaning.{frameAt, partEnd, closing, limit, wrapAt, meaning, advance, pop, limit-set, limit-same, frame-same}
+use Rattle.renderer.proofs.Meaning.{frame-other}
 
 abbrev pub bit : Bool → ℕ
 bit true = 1

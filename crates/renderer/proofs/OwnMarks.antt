@@ -11,51 +11,10 @@ use lib.ListN.{length, getD, set, length-set, List·getD-eq-default}
 use lib.Seq.{getD-set-same, getD-set-other}
 use lib.Dec.{ltb, eqb}
 use borrow.Author.Tests.{eqb-true, eqb-false}
-use Rattle.rows.specs.Node.{
-  Text,
-  Node,
-  Nodes,
-  group,
-  indent,
-  indentNext,
-  wrapParent,
-  comment,
-  str,
-  ascii,
-  line,
-  emptyLine,
-  lineOrSpace,
-  ifWrap,
-  call,
-  none,
-  _then_,
-  wrapped,
-  width,
-  widths,
-  mustWraps,
-}
-use Rattle.renderer.specs.Renderer.{
-  Page,
-  Renderer,
-  push,
-  atColumn,
-  newLine,
-  margin,
-  remark,
-  text,
-  virtualColumn,
-  insert,
-  indented,
-  outdented,
-  nextIndented,
-  nextOutdented,
-  wraps,
-  groupWraps,
-  trailing,
-  calleeWraps,
-  render,
-  renders,
-}
+use Rattle.rows.specs.Node.{Text, Node, Nodes, group, indent, indentNext, wrapParent, comment, str, ascii, line, emptyLine, lineOrSpace, ifWrap, call}
+use Rattle.rows.specs.Node.{none, _then_, wrapped, width, widths, mustWraps}
+use Rattle.renderer.specs.Renderer.{Page, Renderer, push, atColumn, newLine, margin, remark, text, virtualColumn, insert, indented, outdented}
+use Rattle.renderer.specs.Renderer.{nextIndented, nextOutdented, wraps, groupWraps, trailing, calleeWraps, render, renders}
 use Rattle.renderer.proofs.Names.{names, namesIn, neither}
 
 -- s with other marks

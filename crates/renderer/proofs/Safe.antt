@@ -14,50 +14,13 @@ use Rattle.rows.specs.View.{View, nodesAt}
 use Rattle.rows.proofs.Decode.{nodeAt, node-parent, node-comment, node-str, node-ascii, node-line, node-empty, node-space}
 use Rattle.rows.proofs.Nested.{nests-le, nests-two, nests-kind, nests-deep}
 use Rattle.renderer.specs.declared.Frame.{Frame}
-use Rattle.renderer.specs.Renderer.{
-  Page,
-  Renderer,
-  push,
-  atColumn,
-  newLine,
-  margin,
-  remark,
-  text,
-  insert,
-  indented,
-  outdented,
-  nextIndented,
-  nextOutdented,
-  groupWraps,
-  trailing,
-  calleeWraps,
-  render,
-}
+use Rattle.renderer.specs.Renderer.{Page, Renderer, push, atColumn, newLine, margin, remark, text, insert, indented, outdented, nextIndented}
+use Rattle.renderer.specs.Renderer.{nextOutdented, groupWraps, trailing, calleeWraps, render}
 use Rattle.renderer.proofs.Margin.{render-kept}
 use Rattle.renderer.proofs.Meaning.{frameAt, partEnd, closing, limit, wrapAt, frame-other, frame-same}
 use Rattle.renderer.proofs.Opened.{bit, At, at-top-suc}
-use Rattle.renderer.proofs.Machine.{
-  Machine,
-  Fine,
-  frame,
-  opened,
-  first,
-  second,
-  enter,
-  enterGroup,
-  enterIndent,
-  enterNext,
-  enterLeaf,
-  enterIf,
-  enterCall,
-  leave,
-  turn,
-  turnAt,
-  isDone,
-  and-two,
-  not-done,
-  in-part,
-}
+use Rattle.renderer.proofs.Machine.{Machine, Fine, frame, opened, first, second, enter, enterGroup, enterIndent, enterNext, enterLeaf, enterIf}
+use Rattle.renderer.proofs.Machine.{enterCall, leave, turn, turnAt, isDone, and-two, not-done, in-part}
 
 pub bit-le : (b : Bool) → bit b ≤ 1
 bit-le true = omega arith

@@ -14,18 +14,8 @@ use Rattle.rows.specs.Node.{Text, Node, Nodes, none, _then_, join, wrapp
 use Rattle.rows.specs.View.{View, nodesAt, nodeOf, firstOf}
 use Rattle.rows.specs.Nesting.{Within, Split, TwoParts, Nests}
 use Rattle.rows.proofs.Decode.{nodeAt, nodes-some, nodes-none, node-group, node-indent, node-next, node-if, node-call}
-use Rattle.rows.proofs.Nested.{
-  leaf-within,
-  nodes-join,
-  nests-leaf,
-  nests-block,
-  nests-two,
-  nests-pair,
-  nests-kind,
-  nests-deep,
-  nests-join,
-  nests-weaken,
-}
+use Rattle.rows.proofs.Nested.{leaf-within, nodes-join, nests-leaf, nests-block, nests-two, nests-pair, nests-kind, nests-deep, nests-join}
+use Rattle.rows.proofs.Nested.{nests-weaken}
 
 pub widths-join : (a b : Nodes) (columns : Text → ℕ) (m : List ℕ) → widths columns m (join a b) ≡ widths columns m a + widths columns m b
 unfolding join widths

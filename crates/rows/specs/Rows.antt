@@ -1,25 +1,8 @@
 -- A document as rows: nine numbers a row, in preorder (document 01, "Rows, marks and carried state").
 use Prim.Native.Nat.{ℕ, _+_, max}
 use mathlib.Core.List.{List, [], _∷_, _++_}
-use Rattle.rows.specs.Node.{
-  Text,
-  Node,
-  Nodes,
-  group,
-  indent,
-  indentNext,
-  wrapParent,
-  comment,
-  str,
-  ascii,
-  line,
-  emptyLine,
-  lineOrSpace,
-  ifWrap,
-  call,
-  none,
-  _then_,
-}
+use Rattle.rows.specs.Node.{Text, Node, Nodes, group, indent, indentNext, wrapParent, comment, str, ascii, line, emptyLine, lineOrSpace, ifWrap}
+use Rattle.rows.specs.Node.{call, none, _then_}
 
 -- how many rows a node and nodes take
 unfoldable mutual

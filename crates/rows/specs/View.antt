@@ -4,25 +4,8 @@ use mathlib.Core.Bool.{cond}
 use mathlib.Core.List.{List, [], _∷_}
 use lib.ListN.{getD}
 use lib.Dec.{ltb, eqb}
-use Rattle.rows.specs.Node.{
-  Text,
-  Node,
-  Nodes,
-  group,
-  indent,
-  indentNext,
-  wrapParent,
-  comment,
-  str,
-  ascii,
-  line,
-  emptyLine,
-  lineOrSpace,
-  ifWrap,
-  call,
-  none,
-  _then_,
-}
+use Rattle.rows.specs.Node.{Text, Node, Nodes, group, indent, indentNext, wrapParent, comment, str, ascii, line, emptyLine, lineOrSpace, ifWrap}
+use Rattle.rows.specs.Node.{call, none, _then_}
 
 -- The places of each row by its number.
 pub record View : Type 0 where

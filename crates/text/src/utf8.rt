@@ -2,19 +2,7 @@
 ghost use mathlib.Core.Path.{_≡_};
 ghost use Prim.Native.Nat.{_+_, _≤_, _<_};
 ghost use lib.ListN.{length, getD};
-ghost use Rattle.text.specs.Utf8.{
-  rowOf,
-  leadOf,
-  continues,
-  sequence,
-  checked,
-  boundary,
-  scalar,
-  charAt,
-  ends,
-  ending,
-  charBefore,
-};
+ghost use Rattle.text.specs.Utf8.{rowOf, leadOf, continues, sequence, checked, boundary, scalar, charAt, ends, ending, charBefore};
 
 pub enum Checked {
     WellFormed,

@@ -5,14 +5,8 @@ ghost use mathlib.Core.Bool.{cond};
 ghost use lib.ListN.{length};
 ghost use Rattle.text.specs.Space.{trimEnd};
 ghost use Rattle.text.specs.Newlines.{isRange};
-ghost use Rattle.text_replay.specs.Sections.{
-  place as Sections·place,
-  point as Sections·point,
-  answer as Sections·answer,
-  answers as Sections·answers,
-  width as Sections·width,
-  differing as Sections·differing,
-};
+ghost use Rattle.text_replay.specs.Sections.{place as Sections·place, point as Sections·point, answer as Sections·answer};
+ghost use Rattle.text_replay.specs.Sections.{answers as Sections·answers, width as Sections·width, differing as Sections·differing};
 use crate::numbers::number;
 use crate::outcome::differs;
 use text::newlines::count_newlines;

@@ -2,15 +2,8 @@
 ghost use mathlib.Core.Path.{_≡_};
 ghost use Prim.Native.Nat.{_+_, _*_, _≤_, _<_};
 ghost use lib.ListN.{length};
-ghost use Rattle.text_replay.specs.Sections.{
-  answerBytes,
-  allDiffering,
-  withAnswers,
-  checkedSample,
-  sample as Sections·sample,
-  samplesFrom,
-  samples as Sections·samples,
-};
+ghost use Rattle.text_replay.specs.Sections.{answerBytes, allDiffering, withAnswers, checkedSample, sample as Sections·sample, samplesFrom};
+ghost use Rattle.text_replay.specs.Sections.{samples as Sections·samples};
 use crate::numbers::short;
 use crate::numbers::wide;
 use crate::outcome::Outcome;

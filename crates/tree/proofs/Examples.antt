@@ -8,26 +8,8 @@ use Rattle.text.specs.Utf8.{within, rowIn, followed, sequence, run, prefix, wel
 use Rattle.text.specs.Newlines.{isRange}
 use Rattle.image.specs.Bytes.{be16, be32}
 use Rattle.image.specs.Grammar.{rowOf, rowUnder, kindFits, payloadFits, firstChild}
-use Rattle.image.specs.Read.{
-  Read,
-  got,
-  bad,
-  Image,
-  header,
-  commentFits,
-  commentsFrom,
-  comments,
-  shape,
-  opens,
-  childrenAt,
-  skips,
-  recordAt,
-  treeAt,
-  readTree,
-  readImage,
-  sourceFits,
-  readAll,
-}
+use Rattle.image.specs.Read.{Read, got, bad, Image, header, commentFits, commentsFrom, comments, shape, opens, childrenAt, skips, recordAt, treeAt}
+use Rattle.image.specs.Read.{readTree, readImage, sourceFits, readAll}
 use Rattle.tree.specs.Syntax.{Span, Ident, TypeExpr, type, typePath, noArgs, Expr, expr, literal, const, SyntaxTree}
 use Rattle.tree.specs.Records.{views, syntaxTree}
 

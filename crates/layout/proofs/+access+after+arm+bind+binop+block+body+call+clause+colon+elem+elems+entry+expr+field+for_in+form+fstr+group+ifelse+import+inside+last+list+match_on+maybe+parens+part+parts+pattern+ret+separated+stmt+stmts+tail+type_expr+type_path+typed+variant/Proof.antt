@@ -197,12 +197,8 @@ use Rattle.state.proofs.parts.open_indent.Reads as open-indent-reads
 use Rattle.state.proofs.parts.open_indent_next.Reads as open-indent-next-reads
 use Rattle.state.proofs.parts.set_second.Reads as set-second-reads
 use Rattle.state.proofs.words.word.Reads as word-reads
-use Rattle.layout.proofs.+access+after+arm+bind+binop+block+body+call+clause+colon+elem+elems+entry+expr+field+for_in+form+fstr+group+ifelse+import+inside+last+list+match_on+maybe+parens+part+parts+pattern+ret+separated+stmt+stmts+tail+type_expr+type_path+typed+variant.{
-  statement,
-}
-use Rattle.layout.proofs.+access+after+arm+bind+binop+block+body+call+clause+colon+elem+elems+entry+expr+field+for_in+form+fstr+group+ifelse+import+inside+last+list+match_on+maybe+parens+part+parts+pattern+ret+separated+stmt+stmts+tail+type_expr+type_path+typed+variant.Tie.{
-  close,
-}
+use Rattle.layout.proofs.+access+after+arm+bind+binop+block+body+call+clause+colon+elem+elems+entry+expr+field+for_in+form+fstr+group+ifelse+import+inside+last+list+match_on+maybe+parens+part+parts+pattern+ret+separated+stmt+stmts+tail+type_expr+type_path+typed+variant.{statement}
+use Rattle.layout.proofs.+access+after+arm+bind+binop+block+body+call+clause+colon+elem+elems+entry+expr+field+for_in+form+fstr+group+ifelse+import+inside+last+list+match_on+maybe+parens+part+parts+pattern+ret+separated+stmt+stmts+tail+type_expr+type_path+typed+variant.Tie.{close}
 
 abbrev μ-access : Measures 3 access-kinds.ps ℕ
 μ-access κs a = 16 * be32 (a .1 .1 .1 .0 .now) (a .1 .1 .1 .1 .0) + 7

@@ -7,25 +7,8 @@ use borrow.Author.Tests.{ltb-true, ltb-false}
 use lib.ListN.{getD}
 use Rattle.rows.specs.Node.{widths, byteColumns}
 use Rattle.rows.specs.View.{cell, viewOf, nodesAt}
-use Rattle.rows.proofs.Sums.{
-  SumAt,
-  sumLeft,
-  started,
-  done,
-  capped,
-  enters,
-  in-store,
-  shallow,
-  pops,
-  popped-row,
-  under-row,
-  left-later,
-  left,
-  passed,
-  first-part,
-  second-later,
-  second-part,
-}
+use Rattle.rows.proofs.Sums.{SumAt, sumLeft, started, done, capped, enters, in-store, shallow, pops, popped-row, under-row, left-later, left}
+use Rattle.rows.proofs.Sums.{passed, first-part, second-later, second-part}
 use Rattle.rows.proofs.width.width.Statement.{statement}
 use Rattle.rows.proofs.width.width.Tie as tie
 
