@@ -136,7 +136,7 @@ fn trees_that_do_not_fit_their_source_are_refused() {
     let error = error.expect_err("a span off a boundary");
     assert!(error.to_string().contains("span"), "{error}");
 
-    let error = fmt_parsed(&tree, "const A: u32 = 1;", &extras(&[3..2]));
+    let error = fmt_parsed(&tree, "const A: u32 = 1;", &extras(&[3..3]));
     assert!(matches!(
         error,
         Err(FormatError::Encode(EncodeError::BadComment { .. }))
