@@ -2,8 +2,10 @@
 
 use std::{env, path::PathBuf, process::exit};
 
-/// Where the archive lies, if not in the repository's target folder.
+/// Names the archive or its folder, if it isn't in the repository's target
+/// folder.
 const VARIABLE: &str = "RRUFTHIM_ARCHIVE";
+const NAME: &str = "libexports.a";
 
 fn main() {
     println!("cargo::rerun-if-env-changed={VARIABLE}");
@@ -13,7 +15,7 @@ fn main() {
         println!(
             "cargo::error=the static library {} is missing: build it by \
              `rt staticlib exports` in the repository's top folder, or set \
-             {VARIABLE} to the path of libexports.a",
+             {VARIABLE} to the path of {NAME}",
             archive.display()
         );
         exit(1);
@@ -22,10 +24,12 @@ fn main() {
     println!("cargo::rustc-link-lib=static=exports");
 }
 
+/// Where the archive should be, as a path from this package's folder.
 fn archive() -> PathBuf {
+    let here = PathBuf::from(env!("CARGO_MANIFEST_DIR"));
     match env::var_os(VARIABLE) {
-        Some(path) => PathBuf::from(path),
-        None => PathBuf::from(env!("CARGO_MANIFEST_DIR"))
-            .join("../target/staticlib/libexports.a"),
+        Some(path) if PathBuf::from(&path).ends_with(NAME) => here.join(path),
+        Some(folder) => here.join(folder).join(NAME),
+        None => here.join("../target/staticlib").join(NAME),
     }
 }

@@ -122,6 +122,25 @@ fn a_text_over_the_bound_is_refused() {
     assert_eq!(refusal, Err(Refusal::MoreOutput { needed }));
 }
 
+/// Each literal of a list spans the whole source: over a gigabyte of text.
+#[test]
+fn a_text_of_gigabytes_is_refused() {
+    let source = " ".repeat(65_536);
+    let literal = Meta::new(Literal::Integer(0, None), 0..source.len());
+    let literal = Meta::new(Expr::Literal(literal), 0..0);
+    let mut tree = constants("const A: u32 = 1;");
+    let [Declaration::Const(constant)] = &mut tree.declarations[..] else {
+        panic!("one constant");
+    };
+    constant.expr = Meta::new(Expr::List(vec![literal; 20_000]), 0..0);
+    let error = fmt_parsed(&tree, &source, &Extras::default());
+    let Err(FormatError::Refused(Refusal::MoreOutput { needed })) = error
+    else {
+        panic!("it is refused");
+    };
+    assert!(needed > 20_000 * 65_536);
+}
+
 #[test]
 fn trees_that_do_not_fit_their_source_are_refused() {
     let tree = constants("const A: u32 = 1;");

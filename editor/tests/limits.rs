@@ -3,11 +3,13 @@
 
 mod support;
 
+use std::thread;
+
 use rrufthim::{
     EncodeError, MOST_BODY, MOST_COMMENTS, MOST_DEPTH, MOST_SOURCE,
     MOST_WIDTH, Refusal, ast::*, check, encode, encode_with_widths,
 };
-use support::{constants, path};
+use support::{Buffers, constants, path};
 
 const SOURCE: &str = "const A: u32 = 1;";
 
@@ -91,6 +93,18 @@ fn depth() {
         let error = encode(&nested(parentheses), &[]);
         assert_eq!(error, Err(EncodeError::TooDeep { span: 6..7 }));
     }
+}
+
+/// The deepest trees need a quarter of a megabyte of stack at most.
+#[test]
+fn a_small_stack() {
+    let image = encode(&nested(MOST_DEPTH - 5), &[]).expect("an image");
+    let run = move || {
+        let mut buffers = Buffers::ample();
+        buffers.format(SOURCE.as_bytes(), &image).is_ok()
+    };
+    let thread = thread::Builder::new().stack_size(256 << 10).spawn(run);
+    assert!(thread.expect("a thread").join().expect("no panic"));
 }
 
 /// A tree with nothing but a shebang: its image's body is 30 bytes longer.
