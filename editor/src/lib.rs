@@ -33,3 +33,8 @@ pub use fmt::{
 pub use formatter::{FileText, Formatter, MOST_OUTPUT};
 pub use refusal::Refusal;
 pub use states::{LayoutState, RenderState};
+
+/// The example of README.md, run as a test.
+#[cfg(doctest)]
+#[doc = include_str!("../README.md")]
+struct Readme;

@@ -102,60 +102,48 @@ impl Refusal {
     }
 }
 
+impl Refusal {
+    /// What people are told, with # for the place.
+    fn sentence(&self) -> &'static str {
+        match self {
+            SourceTooLong => "the source is over 65,536 bytes",
+            SourceNotUtf8 { .. } => "the source isn't UTF-8 from byte # on",
+            NoImage => {
+                "the tree image has a wrong version or length, or a body \
+                 over 1,048,576 bytes"
+            }
+            BadRecord { .. } => "the image is malformed at byte #",
+            TooDeep { .. } => "the image's record at byte # is over 64 deep",
+            BadSpan { .. } => {
+                "the image's record at byte # has a span that is no range \
+                 of characters in the source"
+            }
+            BadComment { .. } => {
+                "the image's comment list is wrong at byte #: cut off, over \
+                 8,192, or a comment that is empty or no range of \
+                 characters in the source"
+            }
+            MoreRows { .. } => "# rows are needed",
+            MoreMarks { .. } => "# marks are needed",
+            MoreOutput { .. } => "# bytes of output are needed",
+            BadRow { .. } => {
+                "row # of the store can't be rendered, or the stop lies \
+                 past the store"
+            }
+            BadState => "the state or the stop doesn't fit file and buffers",
+            BadFrame => "the frame is over 32,768 bytes or cut off",
+            Unknown { .. } => {
+                "the static library refuses for a cause that this crate \
+                 doesn't know: it isn't the one for this crate"
+            }
+        }
+    }
+}
+
 impl fmt::Display for Refusal {
     fn fmt(&self, f: &mut fmt::Formatter<'_>) -> fmt::Result {
-        match *self {
-            SourceTooLong => write!(f, "the source is over 65,536 bytes"),
-            SourceNotUtf8 { at } => {
-                write!(f, "the source isn't UTF-8 from byte {at} on")
-            }
-            NoImage => write!(
-                f,
-                "the tree image has another version or length, or a body \
-                 over 1,048,576 bytes"
-            ),
-            BadRecord { at } => {
-                write!(f, "the image's record at {at} is malformed")
-            }
-            TooDeep { at } => {
-                write!(f, "the image's record at {at} is over 64 deep")
-            }
-            BadSpan { at } => write!(
-                f,
-                "the image's record at {at} has a span that is no range of \
-                 characters in the source"
-            ),
-            BadComment { at } => write!(
-                f,
-                "the image's comment list is wrong at {at}: cut off, over \
-                 8,192, or a comment that is no range of characters in the \
-                 source"
-            ),
-            MoreRows { needed } => write!(f, "{needed} rows are needed"),
-            MoreMarks { needed } => write!(f, "{needed} marks are needed"),
-            MoreOutput { needed } => {
-                write!(f, "{needed} bytes of output are needed")
-            }
-            BadRow { row } => write!(
-                f,
-                "row {row} of the store can't be rendered, or the stop lies \
-                 past the store"
-            ),
-            BadState => write!(
-                f,
-                "the state or the stop doesn't fit the file and the buffers"
-            ),
-            BadFrame => write!(
-                f,
-                "the frame is over 32,768 bytes, or shorter than its source \
-                 length says"
-            ),
-            Unknown { number, place } => write!(
-                f,
-                "the static library refused by the unknown number {number} \
-                 at {place}: it isn't the one for this crate"
-            ),
-        }
+        let place = self.place().to_string();
+        f.write_str(&self.sentence().replace('#', &place))
     }
 }
 

@@ -13,6 +13,14 @@ use support::{Buffers, constants, path};
 
 const SOURCE: &str = "const A: u32 = 1;";
 
+/// The sizes of docs/01-scope.md.
+#[test]
+fn the_limits_are_those_of_the_document() {
+    assert_eq!((MOST_SOURCE, MOST_BODY), (65_536, 1_048_576));
+    assert_eq!((MOST_COMMENTS, MOST_DEPTH), (8_192, 64));
+    assert_eq!(MOST_WIDTH, 65_535);
+}
+
 fn accepted(source: &str, image: &[u8]) -> bool {
     check(source.as_bytes(), image).is_ok()
 }

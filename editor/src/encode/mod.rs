@@ -15,7 +15,7 @@ pub const MOST_SOURCE: usize = 65_536;
 pub const MOST_BODY: usize = 1_048_576;
 pub const MOST_COMMENTS: usize = 8_192;
 /// The most columns that a text can be wide.
-pub const MOST_WIDTH: usize = 65_535;
+pub const MOST_WIDTH: usize = u16::MAX as usize;
 /// How deep records may lie in each other, the tree being 1.
 pub const MOST_DEPTH: usize = 64;
 

@@ -1,9 +1,6 @@
 //! Records: length, kind, span, payload, children.
 
-use super::{
-    EncodeError, MOST_BODY, MOST_COMMENTS, MOST_DEPTH, MOST_SOURCE,
-    MOST_WIDTH,
-};
+use super::{EncodeError, MOST_BODY, MOST_COMMENTS, MOST_DEPTH, MOST_SOURCE};
 use crate::ast::Span;
 
 /// Version and length of the body.
@@ -100,13 +97,13 @@ impl<'w> Writer<'w> {
     /// A text record. What is measured may be a part of the text.
     pub fn text(&mut self, span: &Span, text: &str, measured: &str) -> Done {
         let width = (self.width)(measured);
-        if width > MOST_WIDTH {
+        let Ok(columns) = u16::try_from(width) else {
             let text = text.to_owned();
             return Err(EncodeError::TooWide { text, width });
-        }
+        };
         self.record(2, span, |w| {
             w.room_for(text.len())?;
-            w.out.extend((width as u16).to_be_bytes());
+            w.out.extend(columns.to_be_bytes());
             w.out.extend(text.as_bytes());
             Ok(())
         })

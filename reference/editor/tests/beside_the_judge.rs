@@ -5,6 +5,8 @@
 #[path = "../../../editor/examples/format.rs"]
 mod example;
 
+use std::thread;
+
 use editor::{as_written, decode};
 use judge::{
     examples,
@@ -13,7 +15,9 @@ use judge::{
     program::{self, Widths},
     reader, script,
 };
-use rrufthim::{encode, encode_with_widths, fmt_parsed_with_widths};
+use rrufthim::{
+    Formatter, encode, encode_with_widths, fmt_parsed_with_widths,
+};
 use unicode_width::true_width;
 
 const SEED: u64 = 11;
@@ -89,6 +93,24 @@ fn sizes() {
     let frames = generate::frames(Class::Sizes, SEED, count);
     let accepted = frames.filter(|bytes| compare(bytes)).count();
     assert!(accepted > 10, "{accepted}");
+}
+
+/// The deepest records, and trees of all shapes, on 256 KB of stack.
+#[test]
+fn a_small_stack() {
+    let count = generate::size_cases().len() as u64;
+    let sizes = generate::frames(Class::Sizes, SEED, count);
+    let wild = generate::frames(Class::Wild, SEED, FRAMES);
+    let frames: Vec<_> = sizes.chain(wild).collect();
+    let run = move || {
+        let mut formatter = Formatter::new();
+        for bytes in frames {
+            let frame = frame::split_any_size(&bytes).expect("a frame");
+            let _ = formatter.format(frame.source, frame.image);
+        }
+    };
+    let thread = thread::Builder::new().stack_size(256 << 10).spawn(run);
+    thread.expect("a thread").join().expect("no panic");
 }
 
 #[test]
