@@ -1,0 +1,195 @@
+//! The calls of the static library over slices that the caller lends.
+
+use crate::{
+    linked::{
+        rrufthim_check, rrufthim_format, rrufthim_layout, rrufthim_render,
+    },
+    refusal::Refusal,
+    states::{LayoutState, RenderState},
+};
+
+/// How many numbers of the store a row takes. A store has its length / 9
+/// rows, rounded down.
+pub const ROW: usize = 9;
+
+/// What [`check`] says of an image that it accepts.
+#[derive(Clone, Copy, Debug, PartialEq, Eq)]
+pub struct Accepted {
+    pub comments: u64,
+    /// The offset of the tree's record in the image.
+    pub tree: u64,
+}
+
+/// What [`layout`] answers.
+#[derive(Clone, Copy, Debug, PartialEq, Eq)]
+pub struct Laid {
+    pub state: LayoutState,
+    /// Comments that no row holds yet; after closing, none ever will.
+    pub comments_left: u64,
+}
+
+/// What [`render`] answers.
+#[derive(Clone, Copy, Debug, PartialEq, Eq)]
+pub struct Written {
+    pub state: RenderState,
+    /// How many bytes of the output were written, from its start on.
+    pub bytes: usize,
+}
+
+/// What [`format_file`] answers.
+#[derive(Clone, Copy, Debug, PartialEq, Eq)]
+pub struct FileWritten {
+    /// How many bytes of the output were written, from its start on.
+    pub bytes: usize,
+    /// Comments that the text doesn't hold: the last so many of the list.
+    pub comments_left: u64,
+    /// Rows of the store in use.
+    pub rows: u64,
+    /// Marks in use.
+    pub numbers: u64,
+}
+
+/// Whether a source and its tree image are accepted: refusals 1 to 7.
+pub fn check(source: &[u8], image: &[u8]) -> Result<Accepted, Refusal> {
+    let mut out = [0; 3];
+    // Safety: each pointer comes from a slice and goes with its length; the
+    // function is proved to stay within, and nothing is kept.
+    unsafe {
+        rrufthim_check(
+            source.as_ptr(),
+            source.len(),
+            image.as_ptr(),
+            image.len(),
+            out.as_mut_ptr(),
+            out.len(),
+        );
+    }
+    let [number, comments, tree] = out;
+    refused(number, comments)?;
+    Ok(Accepted { comments, tree })
+}
+
+/// Lays out the declarations up to the one to stop before, and the final
+/// line if it closes: refusals 1 to 7, 12, 8. A refused call leaves the store
+/// as it was.
+pub fn layout(
+    source: &[u8],
+    image: &[u8],
+    store: &mut [u32],
+    state: &LayoutState,
+    stop: u64,
+    close: bool,
+) -> Result<Laid, Refusal> {
+    let from = state.numbers();
+    let mut out = [0; 9];
+    // Safety: as in `check`.
+    unsafe {
+        rrufthim_layout(
+            source.as_ptr(),
+            source.len(),
+            image.as_ptr(),
+            image.len(),
+            store.as_mut_ptr(),
+            store.len(),
+            from.as_ptr(),
+            from.len(),
+            stop,
+            close.into(),
+            out.as_mut_ptr(),
+            out.len(),
+        );
+    }
+    let [number, comments_left, state @ ..] = out;
+    refused(number, comments_left)?;
+    Ok(Laid {
+        state: LayoutState::from_numbers(state),
+        comments_left,
+    })
+}
+
+/// Renders the rows up to the one to stop before: refusals 1, 3, 11, 12, 9,
+/// 10. The store is lent for the time of the call and is the same after it; a
+/// refused call leaves marks and output as they were too.
+pub fn render(
+    source: &[u8],
+    image: &[u8],
+    store: &mut [u32],
+    marks: &mut [u8],
+    output: &mut [u8],
+    state: &RenderState,
+    stop: u64,
+) -> Result<Written, Refusal> {
+    let from = state.numbers();
+    let mut out = [0; 7];
+    // Safety: as in `check`.
+    unsafe {
+        rrufthim_render(
+            source.as_ptr(),
+            source.len(),
+            image.as_ptr(),
+            image.len(),
+            store.as_mut_ptr(),
+            store.len(),
+            marks.as_mut_ptr(),
+            marks.len(),
+            output.as_mut_ptr(),
+            output.len(),
+            from.as_ptr(),
+            from.len(),
+            stop,
+            out.as_mut_ptr(),
+            out.len(),
+        );
+    }
+    let [number, bytes, state @ ..] = out;
+    refused(number, bytes)?;
+    Ok(Written {
+        state: RenderState::from_numbers(state),
+        bytes: bytes as usize,
+    })
+}
+
+/// Lays out and renders a whole file: refusals 1 to 10. After 9 and 10 the
+/// store holds the rows; a refusal changes nothing else.
+pub fn format_file(
+    source: &[u8],
+    image: &[u8],
+    store: &mut [u32],
+    marks: &mut [u8],
+    output: &mut [u8],
+) -> Result<FileWritten, Refusal> {
+    let mut out = [0; 5];
+    // Safety: as in `check`.
+    unsafe {
+        rrufthim_format(
+            source.as_ptr(),
+            source.len(),
+            image.as_ptr(),
+            image.len(),
+            store.as_mut_ptr(),
+            store.len(),
+            marks.as_mut_ptr(),
+            marks.len(),
+            output.as_mut_ptr(),
+            output.len(),
+            out.as_mut_ptr(),
+            out.len(),
+        );
+    }
+    let [number, bytes, comments_left, rows, numbers] = out;
+    refused(number, bytes)?;
+    Ok(FileWritten {
+        bytes: bytes as usize,
+        comments_left,
+        rows,
+        numbers,
+    })
+}
+
+/// An answer starts with 0, or with a refusal's number and place.
+fn refused(number: u64, place: u64) -> Result<(), Refusal> {
+    match number {
+        0 => Ok(()),
+        _ => Err(Refusal::from_numbers(number, place)),
+    }
+}

@@ -1,0 +1,112 @@
+//! From a syntax tree to the tree image of docs/01-scope.md.
+
+mod declarations;
+mod expressions;
+mod writer;
+
+use std::{error::Error, fmt};
+
+use crate::ast::{Span, SyntaxTree};
+use writer::Writer;
+
+/// The longest source, and so the furthest end of a span.
+pub const MOST_SOURCE: usize = 65_536;
+/// The longest body of an image, which is all but its first five bytes.
+pub const MOST_BODY: usize = 1_048_576;
+pub const MOST_COMMENTS: usize = 8_192;
+/// The most columns that a text can be wide.
+pub const MOST_WIDTH: usize = u16::MAX as usize;
+/// How deep records may lie in each other, the tree being 1.
+pub const MOST_DEPTH: usize = 64;
+
+/// Why a tree has no image.
+#[derive(Clone, Debug, PartialEq, Eq)]
+#[non_exhaustive]
+pub enum EncodeError {
+    /// More than 8,192 comments.
+    TooManyComments { count: usize },
+    /// A comment that is empty, reversed or past 65,536.
+    BadComment { index: usize, span: Span },
+    /// A span that is reversed or past 65,536.
+    BadSpan { span: Span },
+    /// A text over 65,535 columns.
+    TooWide { text: String, width: usize },
+    /// Something more than 64 records deep.
+    TooDeep { span: Span },
+    /// A path without a name.
+    EmptyPath { span: Span },
+    /// An image with a body over 1,048,576 bytes.
+    TooLong,
+}
+
+impl fmt::Display for EncodeError {
+    fn fmt(&self, f: &mut fmt::Formatter<'_>) -> fmt::Result {
+        match self {
+            Self::TooManyComments { count } => {
+                write!(f, "{count} comments are over {MOST_COMMENTS}")
+            }
+            Self::BadComment { index, span } => write!(
+                f,
+                "comment {index} at {span:?} is empty, reversed or past \
+                 {MOST_SOURCE}"
+            ),
+            Self::BadSpan { span } => {
+                write!(f, "span {span:?} is reversed or past {MOST_SOURCE}")
+            }
+            Self::TooWide { text, width } => write!(
+                f,
+                "the text {text:.20?} is {width} columns wide, over \
+                 {MOST_WIDTH}"
+            ),
+            Self::TooDeep { span } => write!(
+                f,
+                "what stands at {span:?} is more than {MOST_DEPTH} deep in \
+                 the tree"
+            ),
+            Self::EmptyPath { span } => {
+                write!(f, "the path at {span:?} has no name")
+            }
+            Self::TooLong => {
+                write!(f, "the image's body is over {MOST_BODY} bytes")
+            }
+        }
+    }
+}
+
+impl Error for EncodeError {}
+
+/// The image of a tree and its comments, with [`simple_width`] for widths.
+///
+/// It doesn't see the source: whether spans lie in it, and on boundaries of
+/// characters, is for [`check`](crate::check) to say (refusals 6 and 7).
+pub fn encode(
+    tree: &SyntaxTree,
+    comments: &[Span],
+) -> Result<Vec<u8>, EncodeError> {
+    encode_with_widths(tree, comments, simple_width)
+}
+
+/// As [`encode`], with widths of the caller's own.
+///
+/// The function is asked once for each text in the image's order: the
+/// shebang, trimmed at its end, then names as they come. The text equals the
+/// original's if it gives what the crate `unicode_width` does.
+pub fn encode_with_widths(
+    tree: &SyntaxTree,
+    comments: &[Span],
+    mut width: impl FnMut(&str) -> usize,
+) -> Result<Vec<u8>, EncodeError> {
+    let mut writer = Writer::new(&mut width);
+    writer.comments(comments)?;
+    writer.tree(tree)?;
+    Ok(writer.image())
+}
+
+/// A column for each character that isn't a control character.
+///
+/// This is what `unicode_width` 0.1 gives for texts without wide characters
+/// (as in East Asian scripts, which take two columns) and without characters
+/// of no width (such as combining accents).
+pub fn simple_width(text: &str) -> usize {
+    text.chars().filter(|c| !c.is_control()).count()
+}

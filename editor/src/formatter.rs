@@ -1,0 +1,115 @@
+//! Formatting with buffers that grow as refusals 8, 9 and 10 ask.
+
+use crate::{
+    calls::{FileWritten, ROW, format_file},
+    refusal::Refusal,
+};
+
+/// The longest text that [`Formatter::new`] allows: 64 MiB.
+///
+/// A tree whose literals all span the whole source gives a text of
+/// gigabytes; no script comes near this bound.
+pub const MOST_OUTPUT: u64 = 64 << 20;
+
+/// Owns the buffers of [`format_file`] and keeps them from file to file.
+#[derive(Clone, Debug)]
+pub struct Formatter {
+    store: Vec<u32>,
+    marks: Vec<u8>,
+    output: Vec<u8>,
+    most_output: u64,
+}
+
+/// A formatted file, in the formatter's own buffer.
+#[derive(Clone, Copy, Debug, PartialEq, Eq)]
+#[must_use = "comments may be left that the text doesn't hold"]
+pub struct FileText<'f> {
+    pub text: &'f [u8],
+    /// Comments that the text doesn't hold: the last so many of the list.
+    pub comments_left: u64,
+}
+
+impl Default for Formatter {
+    fn default() -> Self {
+        Formatter::new()
+    }
+}
+
+impl Formatter {
+    pub fn new() -> Self {
+        Formatter::with_most_output(MOST_OUTPUT)
+    }
+
+    /// A formatter for texts of at most so many bytes.
+    pub fn with_most_output(most_output: u64) -> Self {
+        Formatter {
+            store: Vec::new(),
+            marks: Vec::new(),
+            output: Vec::new(),
+            most_output,
+        }
+    }
+
+    /// Formats a file: refusals 1 to 7; 10 if the text is longer than
+    /// allowed; and 8, 9 or 10 if there is no memory for what they ask.
+    pub fn format(
+        &mut self,
+        source: &[u8],
+        image: &[u8],
+    ) -> Result<FileText<'_>, Refusal> {
+        let written = self.run(source, image)?;
+        Ok(FileText {
+            text: &self.output[..written.bytes],
+            comments_left: written.comments_left,
+        })
+    }
+
+    /// Each buffer grows at most once, to what the file needs: four rounds
+    /// at most.
+    fn run(
+        &mut self,
+        source: &[u8],
+        image: &[u8],
+    ) -> Result<FileWritten, Refusal> {
+        loop {
+            let (store, marks) = (&mut self.store, &mut self.marks);
+            let output = &mut self.output;
+            match format_file(source, image, store, marks, output) {
+                Ok(written) => return Ok(written),
+                Err(refusal) => self.grow(refusal)?,
+            }
+        }
+    }
+
+    /// Makes the room that a refusal asks for, or hands the refusal on.
+    fn grow(&mut self, refusal: Refusal) -> Result<(), Refusal> {
+        let grown = match refusal {
+            Refusal::MoreRows { needed } => {
+                let numbers = needed.saturating_mul(ROW as u64);
+                lengthen(&mut self.store, numbers)
+            }
+            Refusal::MoreMarks { needed } => {
+                lengthen(&mut self.marks, needed)
+            }
+            Refusal::MoreOutput { needed } => {
+                needed <= self.most_output
+                    && lengthen(&mut self.output, needed)
+            }
+            _ => false,
+        };
+        if grown { Ok(()) } else { Err(refusal) }
+    }
+}
+
+/// Lengthens a buffer. False if it is that long already, so that no loop
+/// goes on for ever, or if there is no memory.
+fn lengthen<T: Clone + Default>(buffer: &mut Vec<T>, length: u64) -> bool {
+    let length = length as usize;
+    if length <= buffer.len()
+        || buffer.try_reserve_exact(length - buffer.len()).is_err()
+    {
+        return false;
+    }
+    buffer.resize(length, T::default());
+    true
+}

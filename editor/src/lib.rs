@@ -1,0 +1,40 @@
+//! The proved formatter for Roto scripts, as a Rust library.
+//!
+//! [`fmt_parsed`] takes the place of Roto's own: a syntax tree with its
+//! source and comments in, text out. Below it stand [`encode`], which writes
+//! a tree as the bytes that the formatter reads, and [`Formatter`], which
+//! owns the buffers. Below that are the calls themselves, [`check`],
+//! [`layout`], [`render`] and [`format_file`], over slices that the caller
+//! lends; what they promise is proved, and any arguments that safe Rust can
+//! give them end in an answer or a [`Refusal`].
+//!
+//! docs/01-scope.md of the repository has the rules.
+
+pub mod ast;
+mod calls;
+mod encode;
+mod fmt;
+mod formatter;
+mod linked;
+mod refusal;
+mod states;
+
+pub use calls::{
+    Accepted, FileWritten, Laid, ROW, Written, check, format_file, layout,
+    render,
+};
+pub use encode::{
+    EncodeError, MOST_BODY, MOST_COMMENTS, MOST_DEPTH, MOST_SOURCE,
+    MOST_WIDTH, encode, encode_with_widths, simple_width,
+};
+pub use fmt::{
+    CommentsLeft, FormatError, Formatted, fmt_parsed, fmt_parsed_with_widths,
+};
+pub use formatter::{FileText, Formatter, MOST_OUTPUT};
+pub use refusal::Refusal;
+pub use states::{LayoutState, RenderState};
+
+/// The example of README.md, run as a test.
+#[cfg(doctest)]
+#[doc = include_str!("../README.md")]
+struct Readme;

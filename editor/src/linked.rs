@@ -1,0 +1,65 @@
+//! The functions of the static library, as crates/exports/src/lib.rt has
+//! them: a slice is a pointer and a length, answers are numbers in `out`.
+
+// The library's numbers are u64, and its lengths too.
+#[cfg(not(target_pointer_width = "64"))]
+compile_error!("the static library is for 64-bit machines");
+
+unsafe extern "C" {
+    pub fn rrufthim_check(
+        source: *const u8,
+        source_len: usize,
+        image: *const u8,
+        image_len: usize,
+        out: *mut u64,
+        out_len: usize,
+    );
+
+    pub fn rrufthim_layout(
+        source: *const u8,
+        source_len: usize,
+        image: *const u8,
+        image_len: usize,
+        store: *mut u32,
+        store_len: usize,
+        state: *const u64,
+        state_len: usize,
+        stop: u64,
+        close: u64,
+        out: *mut u64,
+        out_len: usize,
+    );
+
+    pub fn rrufthim_render(
+        source: *const u8,
+        source_len: usize,
+        image: *const u8,
+        image_len: usize,
+        store: *mut u32,
+        store_len: usize,
+        marks: *mut u8,
+        marks_len: usize,
+        output: *mut u8,
+        output_len: usize,
+        state: *const u64,
+        state_len: usize,
+        stop: u64,
+        out: *mut u64,
+        out_len: usize,
+    );
+
+    pub fn rrufthim_format(
+        source: *const u8,
+        source_len: usize,
+        image: *const u8,
+        image_len: usize,
+        store: *mut u32,
+        store_len: usize,
+        marks: *mut u8,
+        marks_len: usize,
+        output: *mut u8,
+        output_len: usize,
+        out: *mut u64,
+        out_len: usize,
+    );
+}

@@ -1,0 +1,150 @@
+//! Why a call is turned down: the table of docs/01-scope.md.
+
+use std::{error::Error, fmt};
+
+/// A refused call. The number and the place are all that comes back; each
+/// case names what its place is.
+#[derive(Clone, Copy, Debug, PartialEq, Eq, Hash)]
+#[non_exhaustive]
+pub enum Refusal {
+    /// 1: the source is over 65,536 bytes.
+    SourceTooLong,
+    /// 2: the source isn't well-formed UTF-8 from this byte on.
+    SourceNotUtf8 { at: u64 },
+    /// 3: the image's version or length is wrong, or its body too long.
+    NoImage,
+    /// 4: a record of the image is malformed, at this offset of the image.
+    BadRecord { at: u64 },
+    /// 5: the record at this offset of the image is 65 deep.
+    TooDeep { at: u64 },
+    /// 6: the record at this offset of the image has a span that isn't one
+    /// of the source.
+    BadSpan { at: u64 },
+    /// 7: the comment list is wrong at this offset of the image.
+    BadComment { at: u64 },
+    /// 8: so many rows are needed in all.
+    MoreRows { needed: u64 },
+    /// 9: so many marks are needed.
+    MoreMarks { needed: u64 },
+    /// 10: so many bytes of output are needed.
+    MoreOutput { needed: u64 },
+    /// 11: this row of the store can't be rendered, or the stop is out of
+    /// range (row 0).
+    BadRow { row: u64 },
+    /// 12: the state, the marks in use or the stop don't fit the file.
+    BadState,
+    /// 13: the program's frame is too long or cut off. No function of this
+    /// crate answers it; the program `rotofmt` does.
+    BadFrame,
+    /// A number that the table doesn't have: the static library isn't the
+    /// one this crate was written for.
+    Unknown { number: u64, place: u64 },
+}
+
+use Refusal::*;
+
+impl Refusal {
+    /// The refusal with this number and place.
+    pub fn from_numbers(number: u64, place: u64) -> Refusal {
+        match number {
+            1 => SourceTooLong,
+            2 => SourceNotUtf8 { at: place },
+            3 => NoImage,
+            4 => BadRecord { at: place },
+            5 => TooDeep { at: place },
+            6 => BadSpan { at: place },
+            7 => BadComment { at: place },
+            8 => MoreRows { needed: place },
+            9 => MoreMarks { needed: place },
+            10 => MoreOutput { needed: place },
+            11 => BadRow { row: place },
+            12 => BadState,
+            13 => BadFrame,
+            _ => Unknown { number, place },
+        }
+    }
+
+    /// The table's number.
+    pub fn number(&self) -> u64 {
+        match *self {
+            SourceTooLong => 1,
+            SourceNotUtf8 { .. } => 2,
+            NoImage => 3,
+            BadRecord { .. } => 4,
+            TooDeep { .. } => 5,
+            BadSpan { .. } => 6,
+            BadComment { .. } => 7,
+            MoreRows { .. } => 8,
+            MoreMarks { .. } => 9,
+            MoreOutput { .. } => 10,
+            BadRow { .. } => 11,
+            BadState => 12,
+            BadFrame => 13,
+            Unknown { number, .. } => number,
+        }
+    }
+
+    /// The table's place: 0 where the cause has none.
+    pub fn place(&self) -> u64 {
+        match *self {
+            SourceTooLong | NoImage | BadState | BadFrame => 0,
+            SourceNotUtf8 { at }
+            | BadRecord { at }
+            | TooDeep { at }
+            | BadSpan { at }
+            | BadComment { at } => at,
+            MoreRows { needed }
+            | MoreMarks { needed }
+            | MoreOutput { needed } => needed,
+            BadRow { row } => row,
+            Unknown { place, .. } => place,
+        }
+    }
+}
+
+impl Refusal {
+    /// What people are told, with # for the place.
+    fn sentence(&self) -> &'static str {
+        match self {
+            SourceTooLong => "the source is over 65,536 bytes",
+            SourceNotUtf8 { .. } => "the source isn't UTF-8 from byte # on",
+            NoImage => {
+                "the tree image has a wrong version or length, or a body \
+                 over 1,048,576 bytes"
+            }
+            BadRecord { .. } => "the image is malformed at byte #",
+            TooDeep { .. } => "the image's record at byte # is over 64 deep",
+            BadSpan { .. } => {
+                "the image's record at byte # has a span that is no range \
+                 of characters in the source"
+            }
+            BadComment { .. } => {
+                "the image's comment list is wrong at byte #: cut off, over \
+                 8,192, or a comment that is empty or no range of \
+                 characters in the source"
+            }
+            MoreRows { .. } => "# rows are needed",
+            MoreMarks { .. } => "# marks are needed",
+            MoreOutput { .. } => "# bytes of output are needed",
+            BadRow { .. } => {
+                "row # of the store can't be rendered, or the stop lies \
+                 past the store"
+            }
+            BadState => "the state or the stop doesn't fit file and buffers",
+            BadFrame => "the frame is over 32,768 bytes or cut off",
+            Unknown { .. } => {
+                "the static library refuses for a cause that this crate \
+                 doesn't know: it isn't the one for this crate"
+            }
+        }
+    }
+}
+
+impl fmt::Display for Refusal {
+    fn fmt(&self, f: &mut fmt::Formatter<'_>) -> fmt::Result {
+        let place = self.place().to_string();
+        f.write_str(&self.sentence().replace('#', &place))
+    }
+}
+
+impl Error for Refusal {}

@@ -1,0 +1,183 @@
+//! The encoder at its limits: at the value it writes an image that is
+//! accepted, one past it an error.
+
+mod support;
+
+use std::thread;
+
+use rrufthim::{
+    EncodeError, MOST_BODY, MOST_COMMENTS, MOST_DEPTH, MOST_SOURCE,
+    MOST_WIDTH, Refusal, ast::*, check, encode, encode_with_widths,
+};
+use support::{Buffers, constants, path};
+
+const SOURCE: &str = "const A: u32 = 1;";
+
+/// The sizes of docs/01-scope.md.
+#[test]
+fn the_limits_are_those_of_the_document() {
+    assert_eq!((MOST_SOURCE, MOST_BODY), (65_536, 1_048_576));
+    assert_eq!((MOST_COMMENTS, MOST_DEPTH), (8_192, 64));
+    assert_eq!(MOST_WIDTH, 65_535);
+}
+
+fn accepted(source: &str, image: &[u8]) -> bool {
+    check(source.as_bytes(), image).is_ok()
+}
+
+#[test]
+fn comments() {
+    let tree = constants(SOURCE);
+    let most = vec![0..1; MOST_COMMENTS];
+    let image = encode(&tree, &most).expect("as many as there may be");
+    assert!(accepted(SOURCE, &image));
+
+    let more = vec![0..1; MOST_COMMENTS + 1];
+    let count = more.len();
+    let error = EncodeError::TooManyComments { count };
+    assert_eq!(encode(&tree, &more), Err(error));
+}
+
+#[test]
+#[allow(clippy::reversed_empty_ranges)]
+fn spans_of_comments() {
+    let tree = SyntaxTree::default();
+    for span in [1..1, 2..1, 0..MOST_SOURCE + 1, usize::MAX - 1..usize::MAX] {
+        let comments = [0..1, span.clone()];
+        let error = EncodeError::BadComment { index: 1, span };
+        assert_eq!(encode(&tree, &comments), Err(error));
+    }
+    assert!(encode(&tree, &[0..MOST_SOURCE]).is_ok());
+}
+
+#[test]
+#[allow(clippy::reversed_empty_ranges)]
+fn spans_of_nodes() {
+    for span in [2..1, 0..MOST_SOURCE + 1, usize::MAX..usize::MAX] {
+        let mut tree = constants(SOURCE);
+        let [Declaration::Const(constant)] = &mut tree.declarations[..]
+        else {
+            panic!("one constant");
+        };
+        constant.expr.span = span.clone();
+        let error = EncodeError::BadSpan { span };
+        assert_eq!(encode(&tree, &[]), Err(error));
+    }
+}
+
+#[test]
+fn widths() {
+    let tree = constants(SOURCE);
+    let image = encode_with_widths(&tree, &[], |_| MOST_WIDTH);
+    assert!(accepted(SOURCE, &image.expect("as wide as may be")));
+    for width in [MOST_WIDTH + 1, usize::MAX] {
+        let error = encode_with_widths(&tree, &[], |_| width);
+        let text = "A".to_owned();
+        assert_eq!(error, Err(EncodeError::TooWide { text, width }));
+    }
+}
+
+/// A constant whose value is a path in so many parentheses.
+fn nested(parentheses: usize) -> SyntaxTree {
+    let mut expr = Meta::new(Expr::Path(path(SOURCE, &(6..7))), 6..7);
+    for _ in 0..parentheses {
+        expr = Meta::new(Expr::Parentheses(Box::new(expr)), 6..7);
+    }
+    let mut tree = constants(SOURCE);
+    let [Declaration::Const(constant)] = &mut tree.declarations[..] else {
+        panic!("one constant");
+    };
+    constant.expr = expr;
+    tree
+}
+
+#[test]
+fn depth() {
+    // Tree, constant, expression, path, name.
+    let most = MOST_DEPTH - 5;
+    let image = encode(&nested(most), &[]).expect("as deep as may be");
+    assert!(accepted(SOURCE, &image));
+    for parentheses in [most + 1, 10 * most, 5_000] {
+        let error = encode(&nested(parentheses), &[]);
+        assert_eq!(error, Err(EncodeError::TooDeep { span: 6..7 }));
+    }
+}
+
+/// The deepest trees need a quarter of a megabyte of stack at most.
+#[test]
+fn a_small_stack() {
+    let image = encode(&nested(MOST_DEPTH - 5), &[]).expect("an image");
+    let run = move || {
+        let mut buffers = Buffers::ample();
+        buffers.format(SOURCE.as_bytes(), &image).is_ok()
+    };
+    let thread = thread::Builder::new().stack_size(256 << 10).spawn(run);
+    assert!(thread.expect("a thread").join().expect("no panic"));
+}
+
+/// A tree with nothing but a shebang: its image's body is 30 bytes longer.
+fn shebang(length: usize) -> SyntaxTree {
+    SyntaxTree {
+        shebang: Some("x".repeat(length)),
+        declarations: vec![],
+    }
+}
+
+#[test]
+fn length() {
+    let most = MOST_BODY - 30;
+    let image = encode_with_widths(&shebang(most), &[], |_| 1);
+    let image = image.expect("as long as may be");
+    assert_eq!(image.len(), MOST_BODY + 5);
+    assert!(accepted("", &image));
+    for length in [most + 1, most + 3, most + 4, 4 * MOST_BODY] {
+        let error = encode_with_widths(&shebang(length), &[], |_| 1);
+        assert_eq!(error, Err(EncodeError::TooLong));
+    }
+}
+
+/// The last bytes of an image may be those of absent children.
+#[test]
+fn length_with_many_children() {
+    let import = Meta::new(
+        ImportPath {
+            path: None,
+            group: None,
+        },
+        0..0,
+    );
+    let tree = |count| SyntaxTree {
+        shebang: None,
+        declarations: vec![Declaration::Import(import.clone()); count],
+    };
+    let most = (MOST_BODY - 2 - 17) / 21;
+    let image = encode(&tree(most), &[]).expect("as many as may be");
+    assert!(accepted("", &image));
+    assert_eq!(encode(&tree(most + 1), &[]), Err(EncodeError::TooLong));
+    assert_eq!(encode(&tree(9 * most), &[]), Err(EncodeError::TooLong));
+}
+
+#[test]
+fn a_path_has_a_name() {
+    let path = Meta::new(Path { idents: vec![] }, 3..4);
+    let import = ImportPath {
+        path: Some(path),
+        group: None,
+    };
+    let declaration = Declaration::Import(Meta::new(import, 0..5));
+    let tree = SyntaxTree {
+        shebang: None,
+        declarations: vec![declaration],
+    };
+    let error = encode(&tree, &[]).expect_err("no name");
+    assert_eq!(error, EncodeError::EmptyPath { span: 3..4 });
+    assert_eq!(error.to_string(), "the path at 3..4 has no name");
+}
+
+/// The encoder doesn't see the source; the reader does.
+#[test]
+fn spans_past_the_source_are_for_the_reader() {
+    let image = encode(&constants(SOURCE), &[0..5]).expect("an image");
+    let refusal = check(b"cons", &image);
+    assert_eq!(refusal, Err(Refusal::BadComment { at: 7 }));
+}

@@ -1,0 +1,151 @@
+//! The encoder's images are the judge's, byte for byte, and the texts that
+//! the editor's crate gives for them are the original's.
+
+#[allow(dead_code)]
+#[path = "../../../editor/examples/format.rs"]
+mod example;
+
+use std::thread;
+
+use editor::{as_written, decode};
+use judge::{
+    examples,
+    frame::{self, Frame},
+    generate::{self, Class},
+    program::{self, Widths},
+    reader, script,
+};
+use rrufthim::{
+    Formatter, encode, encode_with_widths, fmt_parsed_with_widths,
+};
+use unicode_width::true_width;
+
+const SEED: u64 = 11;
+const FRAMES: u64 = 2_000;
+
+/// Holds the crate against the judge on one frame, with the widths that the
+/// image supplies. False if the reader refuses the frame.
+fn compare(bytes: &[u8]) -> bool {
+    let frame = frame::split_any_size(bytes).expect("a frame");
+    let Ok(accepted) = reader::read(frame.source, frame.image) else {
+        return false;
+    };
+    let file = decode(&accepted);
+    let supply = || {
+        let mut widths = file.widths.clone();
+        move |_: &str| widths.pop_front().expect("one for each text")
+    };
+    let comments = &file.extras.comments;
+    let image = encode_with_widths(&file.tree, comments, supply());
+    let due = as_written(frame.image, &accepted.tree);
+    assert!(image == Ok(due), "the image differs");
+
+    let run = program::format(frame, Widths::Supplied).expect("accepted");
+    let formatted = fmt_parsed_with_widths(
+        &file.tree,
+        file.source,
+        &file.extras,
+        supply(),
+    )
+    .expect("accepted");
+    assert_eq!(formatted.text, run.text);
+    let placed = comments.len() - run.comments_left;
+    assert_eq!(formatted.comments_left, comments[placed..]);
+    true
+}
+
+/// The image of a frame by true widths instead of the supplied ones.
+fn compare_true_widths(bytes: &[u8]) {
+    let Frame { source, image } =
+        frame::split_any_size(bytes).expect("a frame");
+    let accepted = reader::read(source, image).expect("accepted");
+    let file = decode(&accepted);
+    let comments = &file.extras.comments;
+    let encoded = encode_with_widths(&file.tree, comments, true_width);
+    assert!(encoded == Ok(as_written(image, &accepted.tree)));
+}
+
+#[test]
+fn generated_frames() {
+    for class in [Class::Realistic, Class::Wild, Class::Edges] {
+        for bytes in generate::frames(class, SEED, FRAMES) {
+            assert!(compare(&bytes), "{class:?} is refused");
+        }
+    }
+    for bytes in generate::frames(Class::Realistic, SEED, FRAMES) {
+        compare_true_widths(&bytes);
+    }
+}
+
+/// Damaged frames that the reader accepts after all.
+#[test]
+fn damaged_frames() {
+    let frames = generate::frames(Class::Damaged, SEED, FRAMES);
+    let whole = frames.filter(|bytes| frame::split_any_size(bytes).is_ok());
+    let accepted = whole.filter(|bytes| compare(bytes)).count();
+    assert!(accepted > 20, "{accepted}");
+}
+
+/// Frames at the document's sizes, those one past them left out.
+#[test]
+fn sizes() {
+    let count = generate::size_cases().len() as u64;
+    let frames = generate::frames(Class::Sizes, SEED, count);
+    let accepted = frames.filter(|bytes| compare(bytes)).count();
+    assert!(accepted > 10, "{accepted}");
+}
+
+/// The deepest records, and trees of all shapes, on 256 KB of stack.
+#[test]
+fn a_small_stack() {
+    let count = generate::size_cases().len() as u64;
+    let sizes = generate::frames(Class::Sizes, SEED, count);
+    let wild = generate::frames(Class::Wild, SEED, FRAMES);
+    let frames: Vec<_> = sizes.chain(wild).collect();
+    let run = move || {
+        let mut formatter = Formatter::new();
+        for bytes in frames {
+            let frame = frame::split_any_size(&bytes).expect("a frame");
+            let _ = formatter.format(frame.source, frame.image);
+        }
+    };
+    let thread = thread::Builder::new().stack_size(256 << 10).spawn(run);
+    thread.expect("a thread").join().expect("no panic");
+}
+
+#[test]
+fn document_01() {
+    for (name, _) in examples::NAMES {
+        let frame = examples::frame(name).expect("a known name");
+        assert_eq!(compare(&frame), name != "version-2");
+    }
+}
+
+/// The inputs and outputs of docs/DIFFERENCES.md, read by the judge's script.
+#[test]
+fn scripts() {
+    const PAGE: &str = include_str!("../../../docs/DIFFERENCES.md");
+    let mut read = 0;
+    for block in PAGE.split("```roto\n").skip(1) {
+        let body = block.split("```").next().expect("a block");
+        for stage in body.split("=>\n") {
+            if let Ok(frame) = script::frame(&stage.replace('·', " ")) {
+                assert!(compare(&frame));
+                compare_true_widths(&frame);
+                read += 1;
+            }
+        }
+    }
+    assert!(read > 50, "{read}");
+}
+
+/// The example's tree, built by hand, is what a parser gives.
+#[test]
+fn the_example() {
+    let frame = script::frame(example::SOURCE).expect("it can be read");
+    assert!(compare(&frame));
+    let (tree, extras) = example::tariff();
+    let image = encode(&tree, &extras.comments).expect("within limits");
+    let frame = frame::split_any_size(&frame).expect("a frame");
+    assert_eq!(image, frame.image);
+}
