@@ -7,13 +7,12 @@ use native.Mathlib.Numerals.{add-one}
 use mathlib.Core.List.{List, [], _∷_, _++_, append-assoc}
 use lib.ListN.{length, set, take, drop, length-set, take-append-drop}
 use lib.Seq.{take-suc-set, drop-set-lt}
-use borrow.Author.Tests.{lt-ltb, le-ltb}
+use borrow.Author.Tests.{lt-ltb}
 use Rattle.render.specs.Output.{over}
+use Rattle.render.proofs.Written.{over-past}
 
 pub over-dry : (out : List ℕ) (at : ℕ) (t : List ℕ) → over 0 out at t ≡ out
-unfolding over
-over-dry out at [] = refl
-over-dry out at (b ∷ t) = rw (le-ltb at 0 (omega arith)) (over-dry out (at + 1) t)
+over-dry out at t = over-past 0 out at t (omega arith)
 
 stepped : (out : List ℕ) (at b : ℕ) (t : List ℕ) → at < length out
     → take (at + 1) (set out at b) ++ (t ++ drop (at + 1 + length t) (set out at b)) ≡ take at out ++ (b ∷ (t ++ drop (at + suc (length t)) out))

@@ -1,13 +1,13 @@
 -- Laws of writing with a limit: a text written behind another is the joined text written at once.
 -- Assumes nothing.
-use mathlib.Core.Path.{_≡_, refl, ap, ap₂, sym, _∙_}
+use mathlib.Core.Path.{_≡_, refl, ap, ap₂, sym, _∙_, subst}
 use Prim.Native.Nat.{ℕ, zero, suc, _+_, _-_, _≤_, _<_, min}
 use native.Mathlib.Omega.{arith}
 use native.Mathlib.Numerals.{add-one}
 use mathlib.Core.Bool.{Bool, true, false, cond}
 use mathlib.Core.List.{List, [], _∷_, _++_}
-use lib.ListN.{length, getD, set, drop, replicate, length-set, length-take, length-drop, drop-of-length-le}
-use lib.Seq.{drop-cons, getD-take, getD-drop}
+use lib.ListN.{length, getD, set, take, drop, replicate, length-set, length-take, length-drop, length-replicate, drop-of-length-le}
+use lib.Seq.{drop-cons, getD-take, getD-drop, take-take}
 use lib.Dec.{ltb}
 use borrow.Author.Tests.{lt-ltb, le-ltb}
 use Rattle.rows.specs.Ascii.{bytes}
@@ -45,57 +45,33 @@ pub emit-past : (limit : ℕ) (out : List ℕ) (at b : ℕ) → limit ≤ at →
 unfolding over
 emit-past limit out at b h = sym (rw (le-ltb at limit h))
 
+-- past the limit nothing is written
+pub over-past : (limit : ℕ) (out : List ℕ) (at : ℕ) (t : List ℕ) → limit ≤ at → over limit out at t ≡ out
+unfolding over
+over-past limit out at [] h = refl
+over-past limit out at (b ∷ t) h = rw (le-ltb at limit h) (over-past limit out (at + 1) t (omega arith))
+
+over-in : (limit : ℕ) (out : List ℕ) (at b : ℕ) (t : List ℕ) → at < limit → over limit out at (b ∷ t) ≡ over limit (set out at b) (at + 1) t
+unfolding over
+over-in limit out at b t h = rw (lt-ltb at limit h)
+
+-- what is written is the part below the limit
+over-below : (limit room : ℕ) (out : List ℕ) (at : ℕ) (t : List ℕ) (k : ℕ) → limit ≤ room → k ≡ min (length t) (limit - at)
+    → over room out at (take k t) ≡ over limit out at t
+unfolding over
+over-below limit room out at [] zero r e = refl
+over-below limit room out at [] (suc k) r e = refl
+over-below limit room out at (b ∷ t) zero r e = sym (over-past limit out at (b ∷ t) (omega arith))
+over-below limit room out at (b ∷ t) (suc k) r e =
+    over-in room out at b (take k t) (omega arith)
+    ∙ over-below limit room (set out at b) (at + 1) t k r (omega arith)
+    ∙ sym (over-in limit out at b t (omega arith))
+
 -- one byte more
 pub over-one : (limit : ℕ) (out : List ℕ) (at b : ℕ) (t : List ℕ) → over limit (over limit out at (b ∷ [])) (at + 1) t ≡ over limit out at (b ∷ t)
 over-one limit out at b t = over-join limit out at (b ∷ []) t
 
 -- What the loops keep: going on from here gives the whole.
-pub record Spaces (limit : ℕ) (out0 : List ℕ) (at n : ℕ) (out : List ℕ) (k : ℕ) : Type 0 where
-  pub high : k ≤ n
-  pub size : length out ≡ length out0
-  pub whole : over limit out (at + k) (replicate (n - k) 0x20) ≡ over limit out0 at (replicate n 0x20)
-
-pub spaces-start : (limit : ℕ) (out : List ℕ) (at n : ℕ) → Spaces limit out at n out 0
-spaces-start limit out at n =
-    record { high = omega arith; size = refl; whole = ap₂ (λ (a : ℕ) (m : ℕ). over limit out a (replicate m 0x20)) (zero-off at) (all n) }
-  where
-    zero-off : (at : ℕ) → at + 0 ≡ at
-    zero-off at = omega arith
-
-    all : (n : ℕ) → n - 0 ≡ n
-    all n = omega arith
-
-pub spaces-more : (limit : ℕ) (out0 : List ℕ) (at n : ℕ) (out : List ℕ) (k : ℕ) (out2 : List ℕ) → Spaces limit out0 at n out k → k < n
-    → out2 ≡ over limit out (at + k) (0x20 ∷ [])
-    → Spaces limit out0 at n out2 (k + 1)
-spaces-more limit out0 at n out k out2 s h e =
-    record {
-      high = omega arith;
-      size = ap length e ∙ over-length limit out (at + k) (0x20 ∷ []) ∙ s .size;
-      whole =
-          ap₂ (λ (o : List ℕ) (a : ℕ). over limit o a (replicate (n - (k + 1)) 0x20)) e (along at k)
-          ∙ over-one limit out (at + k) 0x20 (replicate (n - (k + 1)) 0x20)
-          ∙ ap (over limit out (at + k)) (one-more (n - (k + 1)) ∙ ap (λ (m : ℕ). replicate m 0x20) (rest n k h))
-          ∙ s .whole;
-    }
-  where
-    along : (at k : ℕ) → at + (k + 1) ≡ at + k + 1
-    along at k = omega arith
-
-    one-more : (m : ℕ) → _≡_ {A = List ℕ} (0x20 ∷ replicate m 0x20) (replicate (suc m) 0x20)
-    one-more m = refl
-
-    rest : (n k : ℕ) → k < n → suc (n - (k + 1)) ≡ n - k
-    rest n k h = omega arith
-
-pub spaces-end : (limit : ℕ) (out0 : List ℕ) (at n : ℕ) (out : List ℕ) (k : ℕ) → Spaces limit out0 at n out k → n ≤ k → out ≡ over limit out0 at (replicate n 0x20)
-unfolding over
-spaces-end limit out0 at n out k s h =
-    ap (λ (m : ℕ). over limit out (at + k) (replicate m 0x20)) (none-left n k h) ∙ s .whole
-  where
-    none-left : (n k : ℕ) → n ≤ k → 0 ≡ n - k
-    none-left n k h = omega arith
-
 pub record Copied (limit : ℕ) (out0 : List ℕ) (at : ℕ) (t out : List ℕ) (j : ℕ) : Type 0 where
   pub high : j ≤ length t
   pub size : length out ≡ length out0
@@ -107,16 +83,15 @@ copied-start limit out at t = record { high = omega arith; size = refl; whole = 
     zero-off : (at : ℕ) → at + 0 ≡ at
     zero-off at = omega arith
 
-pub copied-more : (limit : ℕ) (out0 : List ℕ) (at : ℕ) (t out : List ℕ) (j : ℕ) (b : ℕ) (out2 : List ℕ) → Copied limit out0 at t out j → j < length t
+pub copied-more : (limit : ℕ) (out0 : List ℕ) (at : ℕ) (t out : List ℕ) (j b : ℕ) → Copied limit out0 at t out j → j < length t → at + j < limit
     → b ≡ getD t j 0
-    → out2 ≡ over limit out (at + j) (b ∷ [])
-    → Copied limit out0 at t out2 (j + 1)
-copied-more limit out0 at t out j b out2 s h q e =
+    → Copied limit out0 at t (set out (at + j) b) (j + 1)
+copied-more limit out0 at t out j b s h l q =
     record {
       high = omega arith;
-      size = ap length e ∙ over-length limit out (at + j) (b ∷ []) ∙ s .size;
+      size = length-set out (at + j) b ∙ s .size;
       whole =
-          ap₂ (λ (o : List ℕ) (a : ℕ). over limit o a (drop (j + 1) t)) e (along at j)
+          ap₂ (λ (o : List ℕ) (a : ℕ). over limit o a (drop (j + 1) t)) (emit-in limit out (at + j) b l) (along at j)
           ∙ over-one limit out (at + j) b (drop (j + 1) t)
           ∙ ap (over limit out (at + j)) (rw (q, add-one j) (sym (drop-cons t j 0 h)))
           ∙ s .whole;
@@ -129,17 +104,63 @@ pub copied-end : (limit : ℕ) (out0 : List ℕ) (at : ℕ) (t out : List ℕ) (
 unfolding over
 copied-end limit out0 at t out j s h = ap (over limit out (at + j)) (sym (drop-of-length-le t h)) ∙ s .whole
 
+-- blanks up to the limit
+pub blanks-below : (limit : ℕ) (out : List ℕ) (at n k : ℕ) → limit ≤ length out → k ≡ min n (limit - at)
+    → over (length out) out at (replicate k 0x20) ≡ over limit out at (replicate n 0x20)
+blanks-below limit out at n k r e =
+    ap (over (length out) out at) (sym (take-blanks k n (omega arith)))
+    ∙ over-below limit (length out) out at (replicate n 0x20) k r (let l = length-replicate {A = ℕ} n 0x20 in omega arith)
+  where
+    take-blanks : (k n : ℕ) → k ≤ n → take {A = ℕ} k (replicate n 0x20) ≡ replicate k 0x20
+    take-blanks zero n h = refl
+    take-blanks (suc k) zero h = absurd (omega arith)
+    take-blanks (suc k) (suc n) h = ap (λ (t : List ℕ). 0x20 ∷ t) (take-blanks k n (omega arith))
+
+pub blanks-size : (n k : ℕ) → n ≤ k → length {A = ℕ} (replicate n 0x20) ≤ k
+blanks-size n k h = let e = length-replicate {A = ℕ} n 0x20 in omega arith
+
+pub blanks-in : (n k : ℕ) → k < n → k < length {A = ℕ} (replicate n 0x20)
+blanks-in n k h = let e = length-replicate {A = ℕ} n 0x20 in omega arith
+
+-- a part of a text, by its bytes
+pub part-size : (t : List ℕ) (start n : ℕ) → n ≤ length t - start → length (take n (drop start t)) ≡ n
+part-size t start n h = let a = length-take n (drop start t) in let b = length-drop start t in omega arith
+
+pub part-at : (t : List ℕ) (start n j : ℕ) → j < n → getD t (start + j) 0 ≡ getD (take n (drop start t)) j 0
+part-at t start n j h = sym (getD-take n (drop start t) j 0 h ∙ getD-drop start t j 0)
+
+pub part-none : (limit : ℕ) (out : List ℕ) (at : ℕ) (t : List ℕ) (n : ℕ) → n ≡ 0 → out ≡ over limit out at (take n t)
+unfolding over
+part-none limit out at t n e = rw e
+
+-- a part of a text that is t
+pub room-of : (t u : List ℕ) (start n : ℕ) → u ≡ t → n ≤ length u - start → n ≤ length t - start
+room-of t u start n e h = subst (λ (x : List ℕ). n ≤ length x - start) e h
+
+pub part-of : (limit : ℕ) (out : List ℕ) (at : ℕ) (t u : List ℕ) (start n : ℕ) (out2 : List ℕ) → u ≡ t → out2 ≡ over limit out at (take n (drop start t))
+    → out2 ≡ over limit out at (take n (drop start u))
+part-of limit out at t u start n out2 e h = h ∙ ap (λ (x : List ℕ). over limit out at (take n (drop start x))) (sym e)
+
 -- The text of a row.
 pub text-size : (source image : List ℕ) (origin start size : ℕ)
     → length (textBytes source image (textOf origin start size)) ≡ min size (length (originText source image origin) - start)
 unfolding textBytes
 text-size source image origin start size = simp (length-take, length-drop)
 
-pub text-at : (source image : List ℕ) (origin start size j : ℕ) → j < size
-    → getD (textBytes source image (textOf origin start size)) j 0 ≡ getD (originText source image origin) (start + j) 0
+pub text-count : (source image : List ℕ) (origin start size len n : ℕ) → len ≡ length (originText source image origin) → n ≡ min size (len - start)
+    → n ≡ length (textBytes source image (textOf origin start size))
+text-count source image origin start size len n e h = h ∙ ap (λ (m : ℕ). min size (m - start)) e ∙ sym (text-size source image origin start size)
+
+-- its part below the limit
+pub text-below : (limit : ℕ) (out : List ℕ) (at : ℕ) (source image : List ℕ) (origin start size n k : ℕ) → limit ≤ length out
+    → n ≡ length (textBytes source image (textOf origin start size))
+    → k ≡ min n (limit - at)
+    → over (length out) out at (take k (drop start (originText source image origin))) ≡ over limit out at (textBytes source image (textOf origin start size))
 unfolding textBytes
-text-at source image origin start size j h =
-    getD-take size (drop start (originText source image origin)) j 0 h ∙ getD-drop start (originText source image origin) j 0
+text-below limit out at source image origin start size n k r e h =
+    let l = length-take size (drop start (originText source image origin)) in
+    ap (over (length out) out at) (sym (take-take k size (drop start (originText source image origin)) (omega arith)))
+    ∙ over-below limit (length out) out at (take size (drop start (originText source image origin))) k r (omega arith)
 
 pub origin-source : (source image : List ℕ) (origin : ℕ) → origin ≡ 0 → originText source image origin ≡ source
 unfolding originText
@@ -159,6 +180,16 @@ origin-none source image zero a b c = absurd (a refl)
 origin-none source image (suc zero) a b c = absurd (b refl)
 origin-none source image (suc (suc zero)) a b c = absurd (c refl)
 origin-none source image (suc (suc (suc n))) a b c = refl
+
+-- an origin that has bytes, and is neither the source nor the image
+pub origin-rest : (source image : List ℕ) (origin start n : ℕ) → (n ≡ 0 → ⊥) → (origin ≡ 0 → ⊥) → (origin ≡ 1 → ⊥)
+    → n ≤ length (originText source image origin) - start
+    → originText source image origin ≡ words
+unfolding originText
+origin-rest source image zero start n m a b h = absurd (a refl)
+origin-rest source image (suc zero) start n m a b h = absurd (b refl)
+origin-rest source image (suc (suc zero)) start n m a b h = refl
+origin-rest source image (suc (suc (suc k))) start n m a b h = absurd (m (omega arith))
 
 pub words-size : length words ≡ 178
 unfolding words joined bytes

@@ -1,8 +1,9 @@
 // Writing to an output of which the first `limit` bytes may be written.
 ghost use mathlib.Core.Path.{_≡_};
-ghost use Prim.Native.Nat.{_+_, _-_, _≤_, _<_, min};
+ghost use Prim.Native.Nat.{_-_, _≤_, min};
 ghost use mathlib.Core.List.{[], _∷_};
-ghost use lib.ListN.{length, getD, take, drop, replicate};
+ghost use lib.ListN.{length, take, drop, replicate};
+ghost use Rattle.rows.specs.Words.{words};
 ghost use Rattle.renderer.specs.Page.{originText, textBytes, textOf};
 ghost use Rattle.render.specs.Output.{over};
 use rows::words::word_byte;
@@ -18,41 +19,24 @@ pub fn emit(out: &mut [u8], limit: usize, at: usize, b: u8)
     }
 }
 
-// Writes n blanks.
-pub fn spaces(out: &mut [u8], limit: usize, at: usize, n: usize)
-    requires { ⌜ (limit ≤ length (now out)) × ((at < 4611686018427387904) × (n < 4611686018427387904)) ⌝ }
-    ensures { λ r. ⌜ now (out .exit) ≡ over limit (now (out .entry)) at (replicate n 0x20) ⌝ }
+// Writes n blanks, all of which have room.
+fn put_blanks(out: &mut [u8], at: usize, n: usize)
+    requires { ⌜ n ≤ length (now out) - at ⌝ }
+    ensures { λ r. ⌜ now (out .exit) ≡ over (length (now (out .entry))) (now (out .entry)) at (replicate n 0x20) ⌝ }
 {
     let mut k: usize = 0;
     while k < n {
-        emit(out, limit, at + k, b' ');
+        out[at + k] = b' ';
         k += 1;
     }
 }
 
-fn byte(s: &[u8], at: usize) -> u8
-    ensures { λ r. ⌜ r ≡ getD (now (s .entry)) at 0 ⌝ }
+// Writes n blanks.
+pub fn spaces(out: &mut [u8], limit: usize, at: usize, n: usize)
+    requires { ⌜ limit ≤ length (now out) ⌝ }
+    ensures { λ r. ⌜ now (out .exit) ≡ over limit (now (out .entry)) at (replicate n 0x20) ⌝ }
 {
-    if at < s.len() {
-        return s[at];
-    }
-    0
-}
-
-// A byte of the text of an origin; 0 past its end.
-fn text_byte(source: &[u8], image: &[u8], origin: usize, at: usize) -> u8
-    ensures { λ r. ⌜ r ≡ getD (originText (now (source .entry)) (now (image .entry)) origin) at 0 ⌝ }
-{
-    if origin == 0 {
-        return byte(source, at);
-    }
-    if origin == 1 {
-        return byte(image, at);
-    }
-    if origin == 2 {
-        return word_byte(at);
-    }
-    0
+    put_blanks(out, at, clipped(limit, at, n));
 }
 
 // The length of the text of an origin.
@@ -84,7 +68,58 @@ fn clipped(len: usize, start: usize, size: usize) -> usize
     len - start
 }
 
-// Writes the text of a row; how many bytes that is.
+// Writes n bytes of a text, all of which have room.
+fn put_part(out: &mut [u8], at: usize, text: &[u8], start: usize, n: usize)
+    requires { ⌜ (n ≤ length (now out) - at) × (n ≤ length (now text) - start) ⌝ }
+    ensures { λ r. ⌜ now (out .exit) ≡ over (length (now (out .entry))) (now (out .entry)) at (take n (drop start (now (text .entry)))) ⌝ }
+{
+    let mut j: usize = 0;
+    while j < n {
+        out[at + j] = text[start + j];
+        j += 1;
+    }
+}
+
+// Writes n bytes of the fixed words, all of which have room.
+fn put_words(out: &mut [u8], at: usize, start: usize, n: usize)
+    requires { ⌜ (n ≤ length (now out) - at) × (n ≤ length words - start) ⌝ }
+    ensures { λ r. ⌜ now (out .exit) ≡ over (length (now (out .entry))) (now (out .entry)) at (take n (drop start words)) ⌝ }
+{
+    let mut j: usize = 0;
+    while j < n {
+        out[at + j] = word_byte(start + j);
+        j += 1;
+    }
+}
+
+// Writes n bytes of the text of an origin, all of which have room.
+fn put_origin(
+    out: &mut [u8],
+    at: usize,
+    source: &[u8],
+    image: &[u8],
+    origin: usize,
+    start: usize,
+    n: usize,
+)
+    requires { ⌜ (n ≤ length (now out) - at) × (n ≤ length (originText (now source) (now image) origin) - start) ⌝ }
+    ensures { λ r. ⌜ now (out .exit) ≡ over (length (now (out .entry))) (now (out .entry)) at (take n (drop start (originText (now (source .entry)) (now (image .entry)) origin))) ⌝ }
+{
+    if n == 0 {
+        return;
+    }
+    if origin == 0 {
+        put_part(out, at, source, start, n);
+        return;
+    }
+    if origin == 1 {
+        put_part(out, at, image, start, n);
+        return;
+    }
+    put_words(out, at, start, n);
+}
+
+// Writes the text of a row; how many bytes that is. What lies past the limit is only counted.
 pub fn copy(
     out: &mut [u8],
     limit: usize,
@@ -95,19 +130,10 @@ pub fn copy(
     start: usize,
     size: usize,
 ) -> usize
-    requires { ⌜ (limit ≤ length (now out)) × ((at < 4611686018427387904) × ((start < 4294967296) × (size < 4294967296))) ⌝ }
+    requires { ⌜ limit ≤ length (now out) ⌝ }
     ensures { λ r. ⌜ (now (out .exit) ≡ over limit (now (out .entry)) at (textBytes (now (source .entry)) (now (image .entry)) (textOf origin start size))) × (r ≡ length (textBytes (now (source .entry)) (now (image .entry)) (textOf origin start size))) ⌝ }
 {
     let n = clipped(origin_size(source, image, origin), start, size);
-    let mut j: usize = 0;
-    while j < n {
-        emit(
-            out,
-            limit,
-            at + j,
-            text_byte(source, image, origin, start + j),
-        );
-        j += 1;
-    }
+    put_origin(out, at, source, image, origin, start, clipped(limit, at, n));
     n
 }

@@ -1,50 +1,20 @@
-use native.Mathlib.Omega.{arith}
-use Prim.Native.Nat.{_-_}
-use Rattle.render.proofs.Written.{Spaces, spaces-start, spaces-more, spaces-end}
+use mathlib.Core.Path.{_∙_}
+use Rattle.render.proofs.Written.{blanks-below}
+use borrow.Author.Needs.{needs}
 use Rattle.render.proofs.output.spaces.Statement.{statement}
 use Rattle.render.proofs.output.spaces.Tie as tie
 
-abbrev Inv-loop : tie.InvT-loop
-Inv-loop out₀ limit at n k₀ out k = Spaces limit out₀ at n out k
+clipped-requires : tie.Need-clipped-requires
+clipped-requires c κs = search needs
 
-abbrev μ-loop : tie.MeasureT-loop
-μ-loop out₀ limit at n k₀ out k = n - k
+put-blanks-requires : tie.Need-put-blanks-requires
+put-blanks-requires c κs = search needs
 
-loop-holds : tie.Need-loop-holds Inv-loop μ-loop
-loop-holds c = spaces-start _ _ _ _
+same-length : tie.Need-same-length
+same-length c = search needs
 
-add-emit : tie.Need-add-emit Inv-loop μ-loop
-add-emit c = omega (arith, c .before .before .before .before .pre .1 .0, c .before .before .before .before .pre .1 .1)
-
-emit-requires : tie.Need-emit-requires Inv-loop μ-loop
-emit-requires c κs = omega (arith, c .before .before .loop .inv .size, c .before .before .before .before .pre .0)
-
-add-k : tie.Need-add-k Inv-loop μ-loop
-add-k c = omega arith
-
-loop-less : tie.Need-loop-less Inv-loop μ-loop
-loop-less c = omega arith
-
-loop-again : tie.Need-loop-again Inv-loop μ-loop
-loop-again c = spaces-more _ _ _ _ _ _ _ (c .before .before .before .before .before .loop .inv) (c .before .before .before .before .loop-test .taken) (c .before .before .emit .ensures)
-
-same-length : tie.Need-same-length Inv-loop μ-loop
-same-length c = c .before .loop .inv .size
-
-returns : tie.Need-returns Inv-loop μ-loop
-returns c = spaces-end _ _ _ _ _ _ (c .before .loop .inv) (c .loop-test .left)
+returns : tie.Need-returns
+returns c = c .before .before .put-blanks .ensures ∙ blanks-below (c .before .before .before .before .before .before .args .limit) (c .before .before .before .before .before .before .args .out .now) (c .before .before .before .before .before .before .args .at) (c .before .before .before .before .before .before .args .n) _ (c .before .before .before .before .before .before .pre) (c .before .before .before .clipped .ensures)
 
 pub spaces-spec : {M : Type 1} → statement M
-spaces-spec =
-    tie.close
-    (tie.spec
-    Inv-loop
-    μ-loop
-    loop-holds
-    add-emit
-    emit-requires
-    add-k
-    loop-less
-    loop-again
-    same-length
-    returns)
+spaces-spec = tie.close (tie.spec clipped-requires put-blanks-requires same-length returns)
