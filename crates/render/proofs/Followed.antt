@@ -13,21 +13,8 @@ use Rattle.rows.specs.View.{View, viewOf, cell, nodesAt}
 use Rattle.rows.proofs.Decode.{nodeAt}
 use Rattle.renderer.specs.declared.Frame.{Frame}
 use Rattle.renderer.specs.Page.{pageOf}
-use Rattle.renderer.specs.Renderer.{
-  Page,
-  Renderer,
-  render,
-  wraps,
-  virtualColumn,
-  groupWraps,
-  trailing,
-  calleeWraps,
-  insert,
-  indented,
-  outdented,
-  nextIndented,
-  nextOutdented,
-}
+use Rattle.renderer.specs.Renderer.{Page, Renderer, render, wraps, virtualColumn, groupWraps, trailing, calleeWraps, insert, indented, outdented}
+use Rattle.renderer.specs.Renderer.{nextIndented, nextOutdented}
 use Rattle.renderer.proofs.Meaning.{frameAt, partEnd, closing, wrapAt}
 use Rattle.renderer.proofs.Machine.{Machine, frame, opened, second, enter, enterGroup, enterIndent, enterNext, enterLeaf, enterIf, enterCall, leave, turn, enter-0, enter-1, enter-2, enter-leaf, enter-10, enter-11, turn-leave}
 use Rattle.render.specs.declared.pen.Pen.{Pen}
