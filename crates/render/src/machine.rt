@@ -17,6 +17,7 @@ ghost use Rattle.render.specs.Pen.{shown, withMargin, Drawn, Room};
 ghost use Rattle.render.specs.Run.{unpacked, whole, openedRun, closedRun, closes, Backs, Enters, Leaves, Left, GroupOpened, CallOpened, ArgumentsOpened, Follows, Ready, Entering, Starting, Rendered, stateOf};
 use crate::frames::pack;
 use crate::frames::unpack;
+use crate::measure::width_past;
 use crate::pen::Pen;
 use crate::pen::comment;
 use crate::pen::empty_line;
@@ -33,7 +34,6 @@ use rows::store::place;
 use rows::store::wide;
 use rows::width::is_wrapped;
 use rows::width::must_wrap;
-use rows::width::width;
 
 // A rendering on its way: how many rows are open, the next row, the pen. The open rows are numbers in an array beside it.
 pub struct Run {
@@ -61,7 +61,7 @@ fn group_wraps(p: Pen, store: &[u32], marks: &[u8], from: usize, to: usize, max:
     if must_wrap(store, from, to) {
         return true;
     }
-    let w = width(store, marks, from, to);
+    let w = width_past(store, marks, from, to, max);
     max < virtual_column(p).0 + w.0
 }
 
@@ -84,8 +84,8 @@ fn trails(
     if must_wrap(store, mid, to) {
         return false;
     }
-    let start = virtual_column(p).0 + width(store, marks, from, mid).0;
-    if max < start + width(store, marks, mid, to).0 {
+    let start = virtual_column(p).0 + width_past(store, marks, from, mid, max).0;
+    if max < start + width_past(store, marks, mid, to, max).0 {
         return start + 1 < max;
     }
     false
@@ -108,7 +108,7 @@ fn callee_wraps(
     if trailing {
         return group_wraps(p, store, marks, from, mid, max);
     }
-    let w = width(store, marks, from, mid).0 + width(store, marks, mid, to).0;
+    let w = width_past(store, marks, from, mid, max).0 + width_past(store, marks, mid, to, max).0;
     max < virtual_column(p).0 + w
 }
 
