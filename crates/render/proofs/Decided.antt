@@ -1,9 +1,9 @@
 -- Whether a group wraps and which way a call goes, from what the code measured.
 -- Assumes nothing.
-use mathlib.Core.Path.{_≡_, refl, ap, sym}
-use Prim.Native.Nat.{ℕ, zero, suc, _+_, _*_, _-_, _≤_, _<_}
+use mathlib.Core.Path.{_≡_, refl, ap, sym, _∙_}
+use Prim.Native.Nat.{ℕ, zero, suc, _+_, _*_, _-_, _≤_, _<_, min}
 use native.Mathlib.Omega.{arith}
-use mathlib.Core.Bool.{Bool, true, false, cond}
+use mathlib.Core.Bool.{Bool, true, false, cond, _&&_}
 use mathlib.Core.List.{List, [], _∷_}
 use lib.ListN.{length, set}
 use lib.Dec.{ltb}
@@ -13,6 +13,7 @@ use Rattle.renderer.specs.Page.{pageOf}
 use Rattle.renderer.specs.Renderer.{virtualColumn, wraps, groupWraps, trailing, calleeWraps, indented, outdented, nextIndented, nextOutdented}
 use Rattle.render.specs.declared.pen.Pen.{Pen}
 use Rattle.render.specs.Pen.{shown, withMargin}
+use Rattle.render.proofs.Capped.{ltb-same}
 
 pub virtual-on : (p : Pen) → 0 < p .column .0 → p .column .0 ≡ virtualColumn (shown p [])
 unfolding virtualColumn shown
@@ -36,10 +37,16 @@ module _ (max : ℕ) (p : Pen) (m : List ℕ) where
   unfolding groupWraps wraps
   group-must ns e = rw (← e)
 
-  pub group-wide : (ns : Nodes) (c w : ℕ) → false ≡ mustWraps ns → c ≡ virtualColumn (shown p []) → w ≡ widths byteColumns m ns
+  group-full : (ns : Nodes) (c w : ℕ) → false ≡ mustWraps ns → c ≡ virtualColumn (shown p []) → w ≡ widths byteColumns m ns
       → ltb max (c + w) ≡ groupWraps (pageOf max [] []) ns (shown p m)
   unfolding groupWraps wraps virtualColumn shown
-  group-wide ns c w e f g = rw (← e, f, g)
+  group-full ns c w e f g = rw (← e, f, g)
+
+  pub group-wide : (ns : Nodes) (c w : ℕ) → false ≡ mustWraps ns → c ≡ virtualColumn (shown p []) → w ≡ min (max + 1) (widths byteColumns m ns)
+      → ltb max (c + w) ≡ groupWraps (pageOf max [] []) ns (shown p m)
+  group-wide ns c w e f g =
+      ltb-same max (c + w) max (c + widths byteColumns m ns) (λ h. omega arith) (λ h. omega arith)
+      ∙ group-full ns c (widths byteColumns m ns) e f refl
 
   pub trail-callee : (e a : Nodes) → true ≡ mustWraps e → false ≡ trailing (pageOf max [] []) e a (shown p m)
   unfolding trailing
@@ -49,26 +56,39 @@ module _ (max : ℕ) (p : Pen) (m : List ℕ) where
   unfolding trailing
   trail-arguments e a h k = rw (← h, ← k)
 
-  module _ (e a : Nodes) (c x y : ℕ) (h : false ≡ mustWraps e) (k : false ≡ mustWraps a) (f : c ≡ virtualColumn (shown p [])) (i : x ≡ widths byteColumns m e)
-      (j : y ≡ widths byteColumns m a)
+  module _ (e a : Nodes) (c x y : ℕ) (h : false ≡ mustWraps e) (k : false ≡ mustWraps a) (f : c ≡ virtualColumn (shown p []))
+      (i : x ≡ min (max + 1) (widths byteColumns m e))
+      (j : y ≡ min (max + 1) (widths byteColumns m a))
     where
-      pub trail-long : max < c + x + y → ltb (c + x + 1) max ≡ trailing (pageOf max [] []) e a (shown p m)
+      trail-full : (t : Bool) → ltb max (c + widths byteColumns m e + widths byteColumns m a) ≡ t
+          → (t && ltb (c + widths byteColumns m e + 1) max) ≡ trailing (pageOf max [] []) e a (shown p m)
       unfolding trailing virtualColumn shown
-      trail-long l = sym (rw (← h, ← k, ← f, ← i, ← j, lt-ltb max (c + x + y) l))
+      trail-full t l = sym (rw (← h, ← k, ← f, l))
+
+      pub trail-long : max < c + x + y → ltb (c + x + 1) max ≡ trailing (pageOf max [] []) e a (shown p m)
+      trail-long l =
+          ltb-same (c + x + 1) max (c + widths byteColumns m e + 1) max (λ q. omega arith) (λ q. omega arith)
+          ∙ trail-full true (lt-ltb max (c + widths byteColumns m e + widths byteColumns m a) (omega arith))
 
       pub trail-short : c + x + y ≤ max → false ≡ trailing (pageOf max [] []) e a (shown p m)
-      unfolding trailing virtualColumn shown
-      trail-short l = sym (rw (← h, ← k, ← f, ← i, ← j, le-ltb max (c + x + y) l))
+      trail-short l = trail-full false (le-ltb max (c + widths byteColumns m e + widths byteColumns m a) (omega arith))
 
   pub callee-own : (t : Bool) (e a : Nodes) → t ≡ true → groupWraps (pageOf max [] []) e (shown p m) ≡ calleeWraps (pageOf max [] []) t e a (shown p m)
   unfolding calleeWraps
   callee-own t e a q = rw q
 
-  pub callee-both : (t : Bool) (e a : Nodes) (c x y : ℕ) → t ≡ false → c ≡ virtualColumn (shown p []) → x ≡ widths byteColumns m e
+  callee-full : (t : Bool) (e a : Nodes) (c x y : ℕ) → t ≡ false → c ≡ virtualColumn (shown p []) → x ≡ widths byteColumns m e
       → y ≡ widths byteColumns m a
       → ltb max (c + (x + y)) ≡ calleeWraps (pageOf max [] []) t e a (shown p m)
   unfolding calleeWraps wraps virtualColumn shown
-  callee-both t e a c x y q f i j = rw (q, f, i, j)
+  callee-full t e a c x y q f i j = rw (q, f, i, j)
+
+  pub callee-both : (t : Bool) (e a : Nodes) (c x y : ℕ) → t ≡ false → c ≡ virtualColumn (shown p []) → x ≡ min (max + 1) (widths byteColumns m e)
+      → y ≡ min (max + 1) (widths byteColumns m a)
+      → ltb max (c + (x + y)) ≡ calleeWraps (pageOf max [] []) t e a (shown p m)
+  callee-both t e a c x y q f i j =
+      ltb-same max (c + (x + y)) max (c + (widths byteColumns m e + widths byteColumns m a)) (λ h. omega arith) (λ h. omega arith)
+      ∙ callee-full t e a c (widths byteColumns m e) (widths byteColumns m a) q f refl refl
 
 -- a mark past the end is none
 set-past : (m : List ℕ) (n x : ℕ) → length m ≤ n → set m n x ≡ m
@@ -131,14 +151,14 @@ virtual-small p c e a b = rw e (virtual-low p a b)
 pub wider : (a b c : ℕ) → c ≡ a → a < b → c < b
 wider a b c e h = omega arith
 
-pub lower : (a : ℕ) → a < 18014398509481984 → a < 2305843009213693952
+pub lower : (a : ℕ) → a < 36028797018963968 → a < 2305843009213693952
 lower a h = omega arith
 
 pub lower-column : (a : ℕ) → a < 1152921504606846976 → a < 2305843009213693952
 lower-column a h = omega arith
 
-pub lower-sum : (a b : ℕ) → a < 1152921504606846976 → b < 18014398509481984 → a + b < 2305843009213693952
+pub lower-sum : (a b : ℕ) → a < 1152921504606846976 → b < 36028797018963968 → a + b < 2305843009213693952
 lower-sum a b h k = omega arith
 
-pub lower-widths : (a b : ℕ) → a < 18014398509481984 → b < 18014398509481984 → a + b < 2305843009213693952
+pub lower-widths : (a b : ℕ) → a < 36028797018963968 → b < 36028797018963968 → a + b < 2305843009213693952
 lower-widths a b h k = omega arith

@@ -1,3 +1,4 @@
+pub mod Capped
 pub mod Decided
 pub mod Drawn
 pub mod Followed

@@ -7,8 +7,8 @@ use native.Mathlib.Numerals.{add-one}
 use mathlib.Core.Bool.{Bool, true, false, cond, _&&_}
 use mathlib.Core.List.{List, []}
 use lib.ListN.{length}
-use lib.Dec.{eqb}
-use borrow.Author.Tests.{ne-eqb, eqb-true, eqb-false}
+use lib.Dec.{ltb, eqb}
+use borrow.Author.Tests.{ne-eqb, eqb-true, eqb-false, lt-ltb, le-ltb, ltb-true}
 use Rattle.rows.specs.View.{View, viewOf, cell}
 use Rattle.rows.specs.Nesting.{Nests, Nested}
 use Rattle.rows.proofs.Nested.{nests-le, nests-deep, nests-block, nests-pair, nests-kind, nests-weaken}
@@ -17,7 +17,7 @@ use Rattle.renderer.specs.Page.{pageOf}
 use Rattle.renderer.specs.Renderer.{Page, Renderer, indented, outdented, nextIndented, nextOutdented}
 use Rattle.renderer.proofs.Meaning.{frameAt, partEnd, closing, limit as partLimit, wrapAt}
 use Rattle.renderer.proofs.Opened.{Open, at-top, limit-zero, limit-pos, wrapAt-zero, wrapAt-pos}
-use Rattle.renderer.proofs.Machine.{frame, enter, turn, turn-enter}
+use Rattle.renderer.proofs.Machine.{frame, enter, turn, turn-enter, and-two}
 use Rattle.renderer.proofs.Safe.{steps, ins, stepOf, insOf, steps-le, closing-plain, closing-indent, closing-next, closing-call, indent-steps, next-steps, call-steps}
 use Rattle.render.specs.declared.pen.Pen.{Pen}
 use Rattle.render.specs.Pen.{shown, withMargin, Room}
@@ -59,6 +59,19 @@ part-early store f row e i y h = h ∙ rw (y, i)
 pub part-late : (store : List ℕ) (f : Frame) (row e : ℕ) → row ≡ f .row → f .early ≡ false → e ≡ cell store row 4 → e ≡ partEnd (viewOf store) f
 unfolding partEnd viewOf
 part-late store f row e i y h = h ∙ rw (y, i)
+
+-- what is read of the innermost row, by whether there is one
+pub some-open : (d : ℕ) (f g h : Frame) → 0 < d → f ≡ g → f ≡ cond (ltb 0 d) g h
+some-open d f g h p e = e ∙ sym (rw (lt-ltb 0 d p))
+
+pub none-open : (d : ℕ) (g h : Frame) → d ≤ 0 → h ≡ cond (ltb 0 d) g h
+none-open d g h p = sym (rw (le-ltb 0 d p))
+
+pub some-part : (d n e e2 : ℕ) → 0 < d → e ≡ e2 → eqb n e ≡ (ltb 0 d && eqb n e2)
+some-part d n e e2 p h = ap (eqb n) h ∙ sym (rw (lt-ltb 0 d p))
+
+pub none-part : (d : ℕ) (b : Bool) → d ≤ 0 → false ≡ (ltb 0 d && b)
+none-part d b p = sym (rw (le-ltb 0 d p))
 
 pub indent-kind : (kind : ℕ) (r : Running) (w : Bool) (q : Running) (p : Pen) → kind ≡ 1 → p ≡ withMargin (r .pen) (indented w (shown (r .pen) []))
     → q ≡ openedRun r (frame (r .next) w false false) (r .next + 1) p
@@ -320,3 +333,26 @@ module _ (store source image : List ℕ) (max limit stop : ℕ) (marks out : Lis
           (λ b. closes-same (cell store (f .row) 0) b)
           (margin-at (r .pen) (closes (cell store (f .row) 0) f (shown (r .pen) [])))
           o)
+
+  -- A turn, by the innermost row as the code has it.
+  module _ (y : Ready store source image max limit stop marks out r) (n : r .depth ≡ 0 → r .next < stop) (f : Frame)
+      (i : f ≡ cond (ltb 0 (r .depth)) (frameAt (r .frames) (r .depth - 1)) (frame 0 true false false))
+    where
+      pub innermost-is : 0 < r .depth → f ≡ frameAt (r .frames) (r .depth - 1)
+      innermost-is h = i ∙ rw (lt-ltb 0 (r .depth) h)
+
+      pub turn-leaves : (ltb 0 (r .depth) && eqb (r .next) (partEnd v f)) ≡ true → (0 < r .depth) × (r .next ≡ partEnd v f)
+      turn-leaves e = let b = and-two _ _ e in (ltb-true _ _ (b .0), eqb-true _ _ (b .1))
+
+      pub turn-enters : (ltb 0 (r .depth) && eqb (r .next) (partEnd v f)) ≡ false
+          → Entering store source image max limit stop marks out r × (f .wrap ≡ wrapAt v pg stop (r .frames) (r .depth))
+      turn-enters e = go (r .depth) refl
+        where
+          go : (d : ℕ) → r .depth ≡ d → Entering store source image max limit stop marks out r × (f .wrap ≡ wrapAt v pg stop (r .frames) (r .depth))
+          go zero q =
+              let a : f ≡ frame 0 true false false = i ∙ rw q in
+              (top-entering y q (n q), ap (λ (x : Frame). x .wrap) a ∙ top-wrap y q)
+          go (suc d) q =
+              let h : 0 < r .depth = omega arith in
+              let k : eqb (r .next) (partEnd v f) ≡ false = sym (rw (lt-ltb 0 (r .depth) h)) ∙ e in
+              (in-entering y f h (innermost-is h) (partEnd v f) refl (eqb-false _ _ k), in-wrap y f h (innermost-is h))

@@ -4,7 +4,7 @@ ghost use Prim.Native.Nat.{ℕ, _+_, _-_, _*_, _≤_, _<_};
 ghost use mathlib.Core.Bool.{Bool, true, false, cond, not, _&&_};
 ghost use mathlib.Core.List.{[], _∷_, map};
 ghost use lib.ListN.{length, set};
-ghost use lib.Dec.{eqb};
+ghost use lib.Dec.{ltb, eqb};
 ghost use Rattle.rows.specs.Node.{wrapped};
 ghost use Rattle.rows.specs.View.{cell, viewOf, nodesAt};
 ghost use Rattle.rows.specs.Nesting.{Nested};
@@ -17,6 +17,7 @@ ghost use Rattle.render.specs.Pen.{shown, withMargin, Drawn, Room};
 ghost use Rattle.render.specs.Run.{unpacked, whole, openedRun, closedRun, closes, Backs, Enters, Leaves, Left, GroupOpened, CallOpened, ArgumentsOpened, Follows, Ready, Entering, Starting, Rendered, stateOf};
 use crate::frames::pack;
 use crate::frames::unpack;
+use crate::measure::width_past;
 use crate::pen::Pen;
 use crate::pen::comment;
 use crate::pen::empty_line;
@@ -33,7 +34,6 @@ use rows::store::place;
 use rows::store::wide;
 use rows::width::is_wrapped;
 use rows::width::must_wrap;
-use rows::width::width;
 
 // A rendering on its way: how many rows are open, the next row, the pen. The open rows are numbers in an array beside it.
 pub struct Run {
@@ -61,7 +61,7 @@ fn group_wraps(p: Pen, store: &[u32], marks: &[u8], from: usize, to: usize, max:
     if must_wrap(store, from, to) {
         return true;
     }
-    let w = width(store, marks, from, to);
+    let w = width_past(store, marks, from, to, max);
     max < virtual_column(p).0 + w.0
 }
 
@@ -84,8 +84,8 @@ fn trails(
     if must_wrap(store, mid, to) {
         return false;
     }
-    let start = virtual_column(p).0 + width(store, marks, from, mid).0;
-    if max < start + width(store, marks, mid, to).0 {
+    let start = virtual_column(p).0 + width_past(store, marks, from, mid, max).0;
+    if max < start + width_past(store, marks, mid, to, max).0 {
         return start + 1 < max;
     }
     false
@@ -108,7 +108,7 @@ fn callee_wraps(
     if trailing {
         return group_wraps(p, store, marks, from, mid, max);
     }
-    let w = width(store, marks, from, mid).0 + width(store, marks, mid, to).0;
+    let w = width_past(store, marks, from, mid, max).0 + width_past(store, marks, mid, to, max).0;
     max < virtual_column(p).0 + w
 }
 
@@ -530,6 +530,33 @@ fn enter_indent(r: Run, frames: &mut [u32; 256], wrap: bool, kind: usize) -> Run
     opened(r, frames, f, i + 1, indent_next(p, wrap))
 }
 
+// The innermost open row. Where none is open, what is rendered wraps.
+fn innermost(frames: &[u32; 256], depth: usize) -> Frame
+    requires { ⌜ depth ≤ 256 ⌝ }
+    ensures { λ r. ⌜ r ≡ cond (ltb 0 depth) (frameAt (map unpacked (now (frames .entry))) (depth - 1)) (frame 0 true false false) ⌝ }
+{
+    if 0 < depth {
+        return unpack(frames[depth - 1]);
+    }
+    Frame {
+        row: 0,
+        wrap: true,
+        early: false,
+        deep: false,
+    }
+}
+
+// Whether the open part of row f is done.
+fn is_done(store: &[u32], f: Frame, depth: usize, next: usize) -> bool
+    requires { ⌜ (0 < depth → f .row * 9 + 8 < length (now store)) ⌝ }
+    ensures { λ r. ⌜ r ≡ (ltb 0 depth && eqb next (partEnd (viewOf (now (store .entry))) f)) ⌝ }
+{
+    if 0 < depth {
+        return next == part_end(store, f);
+    }
+    false
+}
+
 // One turn: the innermost row is left, or the next row entered.
 fn step(
     r: Run,
@@ -546,25 +573,8 @@ fn step(
     requires { ⌜ Ready (now store) (now source) (now image) max limit stop (now marks) (now out) (whole (now frames) r) × (r .depth ≡ 0 → r .next < stop) ⌝ }
     ensures { λ q. ⌜ Follows limit (turn (viewOf (now (store .entry))) (pageOf max (now (source .entry)) (now (image .entry))) stop) (now (marks .entry)) (now (out .entry)) (whole (now (frames .entry)) r) (now (marks .exit)) (now (out .exit)) (whole (now (frames .exit)) q) ⌝ }
 {
-    let d = r.depth;
-    if d == 0 {
-        return enter(
-            r,
-            frames,
-            true,
-            store,
-            source,
-            image,
-            marks,
-            out,
-            limit,
-            max,
-            stop,
-        );
-    }
-    let f = unpack(frames[d - 1]);
-    let end = part_end(store, f);
-    if r.next == end {
+    let f = innermost(frames, r.depth);
+    if is_done(store, f, r.depth, r.next) {
         return leave(r, frames, f, store, marks, max);
     }
     enter(

@@ -11,11 +11,11 @@ group-wraps-requires c κs = search needs
 returns : tie.Need-returns
 returns c = c .group-wraps .ensures ∙ callee-own _ _ _ _ _ _ (c .before .if1 .taken)
 
-width-requires : tie.Need-width-requires
-width-requires c κs = search needs
+width-past-requires : tie.Need-width-past-requires
+width-past-requires c κs = search needs
 
-width-requires-2 : tie.Need-width-requires-2
-width-requires-2 c κs = search needs
+width-past-requires-2 : tie.Need-width-past-requires-2
+width-past-requires-2 c κs = search needs
 
 add-w : tie.Need-add-w
 add-w c = search needs
@@ -28,11 +28,11 @@ add-result c =
     record {
       fits =
           sum-fits _ _ (lower-column _ (virtual-small _ _ (c .before .virtual-column .ensures) (c .before .before .before .before .before .before .before .before .before .pre .1 .1 .0) (c .before .before .before .before .before .before .before .before .before .pre .1 .1 .1)))
-          (lower-widths _ _ (c .before .before .before .before .before .width .ensures .1) (c .before .before .before .before .width2 .ensures .1));
+          (lower-widths _ _ (c .before .before .before .before .before .width-past .ensures .1) (c .before .before .before .before .width-past2 .ensures .1));
     }
 
 returns-2 : tie.Need-returns-2
-returns-2 c = callee-both _ _ _ _ _ _ _ _ _ (c .before .before .before .before .before .before .if1 .left) (c .before .virtual-column .ensures) (c .before .before .before .before .before .width .ensures .0) (c .before .before .before .before .width2 .ensures .0)
+returns-2 c = callee-both _ _ _ _ _ _ _ _ _ (c .before .before .before .before .before .before .if1 .left) (c .before .virtual-column .ensures) (c .before .before .before .before .before .width-past .ensures .0) (c .before .before .before .before .width-past2 .ensures .0)
 
 pub callee-wraps-spec : {M : Type 1} → statement M
 callee-wraps-spec =
@@ -40,8 +40,8 @@ callee-wraps-spec =
     (tie.spec
     group-wraps-requires
     returns
-    width-requires
-    width-requires-2
+    width-past-requires
+    width-past-requires-2
     add-w
     virtual-column-requires
     add-result

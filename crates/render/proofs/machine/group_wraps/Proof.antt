@@ -11,18 +11,18 @@ must-wrap-requires c κs = search needs
 returns : tie.Need-returns
 returns c = group-must _ _ _ _ (sym (c .if1 .taken) ∙ c .before .must-wrap .ensures)
 
-width-requires : tie.Need-width-requires
-width-requires c κs = search needs
+width-past-requires : tie.Need-width-past-requires
+width-past-requires c κs = search needs
 
 virtual-column-requires : tie.Need-virtual-column-requires
 virtual-column-requires c κs = search needs
 
 add-result : tie.Need-add-result
 add-result c =
-    record { fits = sum-fits _ _ (lower-column _ (virtual-small _ _ (c .before .before .virtual-column .ensures) (c .before .before .before .before .before .before .before .before .pre .1 .0) (c .before .before .before .before .before .before .before .before .pre .1 .1))) (lower _ (c .before .before .before .width .ensures .1)) }
+    record { fits = sum-fits _ _ (lower-column _ (virtual-small _ _ (c .before .before .virtual-column .ensures) (c .before .before .before .before .before .before .before .before .pre .1 .0) (c .before .before .before .before .before .before .before .before .pre .1 .1))) (lower _ (c .before .before .before .width-past .ensures .1)) }
 
 returns-2 : tie.Need-returns-2
-returns-2 c = group-wide _ _ _ _ _ _ (sym (c .before .before .before .before .if1 .left) ∙ c .before .before .before .before .before .must-wrap .ensures) (c .before .before .virtual-column .ensures) (c .before .before .before .width .ensures .0)
+returns-2 c = group-wide _ _ _ _ _ _ (sym (c .before .before .before .before .if1 .left) ∙ c .before .before .before .before .before .must-wrap .ensures) (c .before .before .virtual-column .ensures) (c .before .before .before .width-past .ensures .0)
 
 pub group-wraps-spec : {M : Type 1} → statement M
 group-wraps-spec =
@@ -30,7 +30,7 @@ group-wraps-spec =
     (tie.spec
     must-wrap-requires
     returns
-    width-requires
+    width-past-requires
     virtual-column-requires
     add-result
     returns-2)

@@ -21,39 +21,39 @@ returns-2 c = trail-arguments _ _ _ _ _ (sym (c .before .before .if1 .left) ∙ 
 virtual-column-requires : tie.Need-virtual-column-requires
 virtual-column-requires c κs = search needs
 
-width-requires : tie.Need-width-requires
-width-requires c κs = search needs
+width-past-requires : tie.Need-width-past-requires
+width-past-requires c κs = search needs
 
 add-start : tie.Need-add-start
 add-start c =
-    record { fits = sum-fits _ _ (lower-column _ (virtual-small _ _ (c .before .before .before .virtual-column .ensures) (c .before .before .before .before .before .before .before .before .before .before .pre .1 .1 .0) (c .before .before .before .before .before .before .before .before .before .before .pre .1 .1 .1))) (lower _ (c .before .before .width .ensures .1)) }
+    record { fits = sum-fits _ _ (lower-column _ (virtual-small _ _ (c .before .before .before .virtual-column .ensures) (c .before .before .before .before .before .before .before .before .before .before .pre .1 .1 .0) (c .before .before .before .before .before .before .before .before .before .before .pre .1 .1 .1))) (lower _ (c .before .before .width-past .ensures .1)) }
 
-width-requires-2 : tie.Need-width-requires-2
-width-requires-2 c κs = search needs
+width-past-requires-2 : tie.Need-width-past-requires-2
+width-past-requires-2 c κs = search needs
 
 add-if3 : tie.Need-add-if3
 add-if3 c =
     record {
       fits =
-          sum-fits _ _ (lower-sum _ _ (virtual-small _ _ (c .before .before .before .before .before .virtual-column .ensures) (c .before .before .before .before .before .before .before .before .before .before .before .before .pre .1 .1 .0) (c .before .before .before .before .before .before .before .before .before .before .before .before .pre .1 .1 .1)) (c .before .before .before .before .width .ensures .1))
-          (lower _ (c .before .width2 .ensures .1));
+          sum-fits _ _ (lower-sum _ _ (virtual-small _ _ (c .before .before .before .before .before .virtual-column .ensures) (c .before .before .before .before .before .before .before .before .before .before .before .before .pre .1 .1 .0) (c .before .before .before .before .before .before .before .before .before .before .before .before .pre .1 .1 .1)) (c .before .before .before .before .width-past .ensures .1))
+          (lower _ (c .before .width-past2 .ensures .1));
     }
 
 add-result : tie.Need-add-result
 add-result c =
     record {
       fits =
-          sum-fits _ _ (lower-sum _ _ (virtual-small _ _ (c .before .before .before .before .before .before .virtual-column .ensures) (c .before .before .before .before .before .before .before .before .before .before .before .before .before .pre .1 .1 .0) (c .before .before .before .before .before .before .before .before .before .before .before .before .before .pre .1 .1 .1)) (c .before .before .before .before .before .width .ensures .1))
+          sum-fits _ _ (lower-sum _ _ (virtual-small _ _ (c .before .before .before .before .before .before .virtual-column .ensures) (c .before .before .before .before .before .before .before .before .before .before .before .before .before .pre .1 .1 .0) (c .before .before .before .before .before .before .before .before .before .before .before .before .before .pre .1 .1 .1)) (c .before .before .before .before .before .width-past .ensures .1))
           (omega arith);
     }
 
 returns-3 : tie.Need-returns-3
 returns-3 c =
-    trail-long _ _ _ _ _ _ _ _ (sym (c .before .before .before .before .before .before .before .before .before .if1 .left) ∙ c .before .before .before .before .before .before .before .before .before .before .must-wrap .ensures) (sym (c .before .before .before .before .before .before .before .if2 .left) ∙ c .before .before .before .before .before .before .before .before .must-wrap2 .ensures) (c .before .before .before .before .before .before .virtual-column .ensures) (c .before .before .before .before .before .width .ensures .0) (c .before .before .width2 .ensures .0) (c .if3 .taken)
+    trail-long _ _ _ _ _ _ _ _ (sym (c .before .before .before .before .before .before .before .before .before .if1 .left) ∙ c .before .before .before .before .before .before .before .before .before .before .must-wrap .ensures) (sym (c .before .before .before .before .before .before .before .if2 .left) ∙ c .before .before .before .before .before .before .before .before .must-wrap2 .ensures) (c .before .before .before .before .before .before .virtual-column .ensures) (c .before .before .before .before .before .width-past .ensures .0) (c .before .before .width-past2 .ensures .0) (c .if3 .taken)
 
 returns-4 : tie.Need-returns-4
 returns-4 c =
-    trail-short _ _ _ _ _ _ _ _ (sym (c .before .before .before .before .before .before .before .before .before .if1 .left) ∙ c .before .before .before .before .before .before .before .before .before .before .must-wrap .ensures) (sym (c .before .before .before .before .before .before .before .if2 .left) ∙ c .before .before .before .before .before .before .before .before .must-wrap2 .ensures) (c .before .before .before .before .before .before .virtual-column .ensures) (c .before .before .before .before .before .width .ensures .0) (c .before .before .width2 .ensures .0) (c .if3 .left)
+    trail-short _ _ _ _ _ _ _ _ (sym (c .before .before .before .before .before .before .before .before .before .if1 .left) ∙ c .before .before .before .before .before .before .before .before .before .before .must-wrap .ensures) (sym (c .before .before .before .before .before .before .before .if2 .left) ∙ c .before .before .before .before .before .before .before .before .must-wrap2 .ensures) (c .before .before .before .before .before .before .virtual-column .ensures) (c .before .before .before .before .before .width-past .ensures .0) (c .before .before .width-past2 .ensures .0) (c .if3 .left)
 
 pub trails-spec : {M : Type 1} → statement M
 trails-spec =
@@ -64,9 +64,9 @@ trails-spec =
     must-wrap-requires-2
     returns-2
     virtual-column-requires
-    width-requires
+    width-past-requires
     add-start
-    width-requires-2
+    width-past-requires-2
     add-if3
     add-result
     returns-3

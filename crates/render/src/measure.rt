@@ -1,0 +1,65 @@
+// The width of rows, as far as a line has room for them.
+ghost use mathlib.Core.Path.{_≡_};
+ghost use Prim.Native.Nat.{_+_, _*_, _<_, min};
+ghost use lib.ListN.{length};
+ghost use Rattle.rows.specs.Node.{widths, byteColumns};
+ghost use Rattle.rows.specs.View.{viewOf, ownWidth, nodesAt};
+ghost use Rattle.rows.specs.Nesting.{Nested};
+use rows::store::Bytes;
+use rows::store::Columns;
+use rows::store::ascii_columns;
+use rows::store::place;
+use rows::width::is_wrapped;
+use rows::width::width;
+
+// What a row measures by itself, as in rows::width, whose function is private.
+fn own_width(store: &[u32], row: usize, kind: usize) -> Columns
+    requires { ⌜ row * 9 + 8 < length (now store) ⌝ }
+    ensures { λ r. ⌜ (r .0 ≡ ownWidth (now (store .entry)) row kind) × (r .0 < 4294967296) ⌝ }
+{
+    if kind == 5 {
+        return Columns(place(store, row, 8));
+    }
+    if kind == 6 {
+        return ascii_columns(Bytes(place(store, row, 7)));
+    }
+    if kind == 9 {
+        return Columns(1);
+    }
+    Columns(0)
+}
+
+// A width that is past the room is one column past it.
+fn clip(w: usize, room: usize) -> Columns
+    ensures { λ r. ⌜ r .0 ≡ min (room + 1) w ⌝ }
+{
+    if room < w {
+        return Columns(room + 1);
+    }
+    Columns(w)
+}
+
+// The width of the rows from `from` up to `to`, or one column more than there is room for. No row is read once that is passed.
+pub fn width_past(store: &[u32], marks: &[u8], from: usize, to: usize, room: usize) -> Columns
+    requires { ⌜ Nested (now store) from to ⌝ }
+    ensures { λ r. ⌜ (r .0 ≡ min (room + 1) (widths byteColumns (now (marks .entry)) (nodesAt (viewOf (now (store .entry))) from to))) × (r .0 < 36028797018963968) ⌝ }
+{
+    let mut row = from;
+    let mut sum: usize = 0;
+    while row < to {
+        if room < sum {
+            return clip(sum, room);
+        }
+        let kind = place(store, row, 0);
+        if kind != 10 {
+            sum += own_width(store, row, kind).0;
+            row += 1;
+        } else {
+            if is_wrapped(marks, place(store, row, 1)) {
+                return clip(sum + width(store, marks, row, to).0, room);
+            }
+            row = place(store, row, 3);
+        }
+    }
+    clip(sum, room)
+}
