@@ -4,7 +4,7 @@
 use std::{env, fmt::Write, fs, process::ExitCode};
 
 const WIDTH: f64 = 900.0;
-const LEFT: f64 = 330.0;
+const LEFT: f64 = 380.0;
 const ROW: f64 = 22.0;
 
 /// A line of the table: what was measured, and both times, in ns a unit.
