@@ -86,43 +86,22 @@ fn world_found(d: &[u8], store: &[u32], marks: &[u8], text: &[u8], run: Run) -> 
     }
 }
 
-// A case whose store and marks are as before the calls; the states are stored at `at`.
-fn from_states(
-    d: &[u8],
-    at: usize,
-    source: &[u8],
-    image: &[u8],
-    store: &mut [u32],
-    marks: &mut [u8],
-    out: &mut [u8],
-    text: &mut [u8],
-    laid: &mut [usize],
-    rendered: &mut [usize],
-) -> Case {
+// The run before the first call; the states are stored at `at`, and behind them the number of calls and the calls.
+fn beginning(d: &[u8], at: usize) -> Run {
     let render_at = past(at, LAYOUT);
-    let calls_at = past(render_at, RENDER);
-    let begin = Run {
-        at: past(calls_at, 2),
+    let count_at = past(render_at, RENDER);
+    Run {
+        at: past(count_at, 2),
         layout: layout_state(d, at),
         render: render_state(d, render_at),
         written: 0,
         found: Found::Same,
-    };
-    let n = short(d, calls_at);
-    let run = replay_calls(
-        d,
-        n,
-        source,
-        image,
-        store,
-        marks,
-        out,
-        text,
-        laid,
-        rendered,
-        begin,
-    );
-    world_found(d, store, marks, text, run)
+    }
+}
+
+// How many calls there are, behind the states stored at `at`.
+fn calls_count(d: &[u8], at: usize) -> usize {
+    short(d, past(past(at, LAYOUT), RENDER))
 }
 
 // A case whose world before the calls is stored at `at`, with a store and marks of its size.
@@ -142,9 +121,9 @@ fn in_world(
     let states_at = bytes_end(d, marks_at);
     fill(store, d, past(at, 4));
     copy(marks, d, past(marks_at, 4));
-    from_states(
+    let run = replay_calls(
         d,
-        states_at,
+        calls_count(d, states_at),
         source,
         image,
         store,
@@ -153,48 +132,17 @@ fn in_world(
         text,
         laid,
         rendered,
-    )
+        beginning(d, states_at),
+    );
+    world_found(d, store, marks, text, run)
 }
 
-// A case whose world before the calls is stored at `at`.
-fn from_world(
-    d: &[u8],
-    at: usize,
-    source: &[u8],
-    image: &[u8],
-    store: &mut [u32],
-    marks: &mut [u8],
-    out: &mut [u8],
-    text: &mut [u8],
-    laid: &mut [usize],
-    rendered: &mut [usize],
-) -> Case {
-    let numbers = long(d, at);
-    let count = long(d, numbers_end(d, at));
-    if store.len() < numbers {
-        return Case {
-            next: 0,
-            found: Found::Room,
-        };
+// A case for which the replay has no room; no later one is run.
+fn no_room() -> Case {
+    Case {
+        next: 0,
+        found: Found::Room,
     }
-    if marks.len() < count {
-        return Case {
-            next: 0,
-            found: Found::Room,
-        };
-    }
-    in_world(
-        d,
-        at,
-        source,
-        image,
-        &mut store[..numbers],
-        &mut marks[..count],
-        out,
-        text,
-        laid,
-        rendered,
-    )
 }
 
 // The case stored at `at`.
@@ -211,14 +159,22 @@ fn replay_case(
     let source_from = start(d, at);
     let source_to = end(d, source_from, long(d, at));
     let image_from = start(d, source_to);
-    let image_to = end(d, image_from, long(d, source_to));
-    from_world(
+    let world = end(d, image_from, long(d, source_to));
+    let numbers = long(d, world);
+    let count = long(d, numbers_end(d, world));
+    if store.len() < numbers {
+        return no_room();
+    }
+    if marks.len() < count {
+        return no_room();
+    }
+    in_world(
         d,
-        image_to,
+        world,
         &d[source_from..source_to],
-        &d[image_from..image_to],
-        store,
-        marks,
+        &d[image_from..world],
+        &mut store[..numbers],
+        &mut marks[..count],
         out,
         text,
         laid,
