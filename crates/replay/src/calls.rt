@@ -1,10 +1,4 @@
 // The calls of a list, one after the other.
-use crate::states::LAYOUT;
-use crate::states::RENDER;
-use crate::states::layout_state;
-use crate::states::render_state;
-use crate::states::same_layout;
-use crate::states::same_render;
 use crate::compare::copy;
 use crate::compare::refusal_found;
 use crate::numbers::byte;
@@ -14,6 +8,12 @@ use crate::report::Found;
 use crate::report::count;
 use crate::report::first;
 use crate::report::unless;
+use crate::states::LAYOUT;
+use crate::states::RENDER;
+use crate::states::layout_state;
+use crate::states::render_state;
+use crate::states::same_layout;
+use crate::states::same_render;
 use laying::Laying;
 use laying::LayoutState;
 use laying::layout_call;

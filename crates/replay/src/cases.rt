@@ -1,12 +1,6 @@
 // The stored lists of calls, each with the world before it and after it.
 use crate::calls::Run;
 use crate::calls::replay_calls;
-use crate::states::LAYOUT;
-use crate::states::RENDER;
-use crate::states::layout_state;
-use crate::states::render_state;
-use crate::states::same_layout;
-use crate::states::same_render;
 use crate::compare::bytes_found;
 use crate::compare::copy;
 use crate::compare::fill;
@@ -22,6 +16,12 @@ use crate::report::Found;
 use crate::report::first;
 use crate::report::told;
 use crate::report::unless;
+use crate::states::LAYOUT;
+use crate::states::RENDER;
+use crate::states::layout_state;
+use crate::states::render_state;
+use crate::states::same_layout;
+use crate::states::same_render;
 
 // Where a case ends, and its first difference.
 struct Case {

@@ -1,17 +1,17 @@
 // The stored frames.
-use crate::pieces::pieces;
-use crate::stored::answer_end;
-use crate::whole::whole;
 use crate::compare::clear_bytes;
 use crate::compare::clear_numbers;
 use crate::numbers::end;
 use crate::numbers::forward;
 use crate::numbers::long;
 use crate::numbers::start;
+use crate::pieces::pieces;
 use crate::report::Compared;
 use crate::report::Found;
 use crate::report::first;
 use crate::report::told;
+use crate::stored::answer_end;
+use crate::whole::whole;
 
 // Where a frame's answer ends, and the first difference.
 struct Frame {

@@ -1,9 +1,4 @@
 // A frame by declarations: a layout call to each stop, a closing one, and a rendering call.
-use crate::stored::Output;
-use crate::stored::STOP;
-use crate::stored::STOPS;
-use crate::stored::declarations;
-use crate::stored::output_found;
 use crate::compare::refusal_found;
 use crate::numbers::byte;
 use crate::numbers::long;
@@ -11,6 +6,11 @@ use crate::numbers::past;
 use crate::report::Found;
 use crate::report::first;
 use crate::report::unless;
+use crate::stored::Output;
+use crate::stored::STOP;
+use crate::stored::STOPS;
+use crate::stored::declarations;
+use crate::stored::output_found;
 use laying::Laying;
 use laying::LayoutState;
 use laying::layout_call;

@@ -1,10 +1,10 @@
 // A frame by the whole run, in one layout call and one rendering call.
-use crate::stored::Output;
-use crate::stored::output_found;
 use crate::compare::refusal_found;
 use crate::report::Found;
 use crate::report::count;
 use crate::report::first;
+use crate::stored::Output;
+use crate::stored::output_found;
 use file::Formatted;
 use file::format_frame;
 
