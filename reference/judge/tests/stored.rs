@@ -3,7 +3,7 @@
 use std::collections::BTreeSet;
 
 use judge::{
-    answers::{calls, frames, stored},
+    answers::{calls, frames, replay, stored},
     calls::Call,
     frame, program, reader, table,
 };
@@ -69,4 +69,22 @@ fn the_program_reaches_its_limits_among_the_frames() {
         .collect();
     assert!(runs.iter().any(|run| run.rows.len() == program::ROWS));
     assert!(runs.iter().any(|run| run.text.len() == program::OUTPUT));
+}
+
+#[test]
+fn the_worked_frames_come_first() {
+    let texts: Vec<_> = stored::frames()
+        .take(2)
+        .map(|f| program::output(&f, program::Widths::Supplied))
+        .collect();
+    assert_eq!(texts, ["#!/x\n\n", "refused 3 at 0\n"]);
+}
+
+/// `reference/replay-answers` was run after the last change.
+#[test]
+fn the_replay_has_these_answers() {
+    let at = concat!(env!("CARGO_MANIFEST_DIR"), "/../../crates/replay");
+    let read = |name| std::fs::read(format!("{at}/{name}")).expect("there");
+    assert!(read("stdin") == replay::input());
+    assert!(read("stdout") == replay::output().into_bytes());
 }

@@ -3,6 +3,7 @@
 
 pub mod calls;
 pub mod frames;
+pub mod replay;
 pub mod stored;
 pub mod text;
 

@@ -2,9 +2,12 @@
 
 use super::calls;
 use crate::{
-    frame,
+    examples, frame,
     generate::{self, CallCase, Class},
 };
+
+/// Document 01's worked frames, by their names in `examples`.
+pub const WORKED: [&str; 2] = ["shebang", "version-2"];
 
 /// Class, seed, frames tried, and the most bytes of a frame that is kept.
 pub const FRAMES: [(Class, u64, u64, usize); 8] = [
@@ -34,10 +37,12 @@ pub const LISTS: [Lists; 4] = [
 const LONG: u64 = 121;
 
 pub fn frames() -> impl Iterator<Item = Vec<u8>> {
-    FRAMES.into_iter().flat_map(|(class, seed, count, most)| {
+    let worked = WORKED.map(|name| examples::frame(name).expect("known"));
+    let made = FRAMES.into_iter().flat_map(|(class, seed, count, most)| {
         let all = generate::frames(class, seed, count);
         all.filter(move |frame| frame.len() <= most)
-    })
+    });
+    worked.into_iter().chain(made)
 }
 
 pub fn lists() -> impl Iterator<Item = CallCase> {
