@@ -148,9 +148,6 @@ sum-fits a b h k = omega arith
 pub virtual-small : (p : Pen) (c : ℕ) → c ≡ virtualColumn (shown p []) → p .indent ≤ 384 → p .column .0 < 1152921504606846976 → c < 1152921504606846976
 virtual-small p c e a b = rw e (virtual-low p a b)
 
-pub wider : (a b c : ℕ) → c ≡ a → a < b → c < b
-wider a b c e h = omega arith
-
 pub lower : (a : ℕ) → a < 36028797018963968 → a < 2305843009213693952
 lower a h = omega arith
 

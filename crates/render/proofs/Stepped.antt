@@ -138,9 +138,6 @@ module _ (store source image : List ℕ) (max limit stop : ℕ) (marks out : Lis
         let b = y .few in
         rw e (omega arith)
 
-    pub shallow : r .depth ≤ 256
-    shallow = y .at .deep
-
     range : (from to d : ℕ) → to ≤ stop → Nests v from to d → Nested store from to
     range from to d h g =
         let a = y .room in

@@ -1,33 +1,14 @@
 // The width of rows, as far as a line has room for them.
 ghost use mathlib.Core.Path.{_≡_};
-ghost use Prim.Native.Nat.{_+_, _*_, _<_, min};
-ghost use lib.ListN.{length};
+ghost use Prim.Native.Nat.{_+_, _<_, min};
 ghost use Rattle.rows.specs.Node.{widths, byteColumns};
-ghost use Rattle.rows.specs.View.{viewOf, ownWidth, nodesAt};
+ghost use Rattle.rows.specs.View.{viewOf, nodesAt};
 ghost use Rattle.rows.specs.Nesting.{Nested};
-use rows::store::Bytes;
 use rows::store::Columns;
-use rows::store::ascii_columns;
 use rows::store::place;
 use rows::width::is_wrapped;
+use rows::width::own_width;
 use rows::width::width;
-
-// What a row measures by itself, as in rows::width, whose function is private.
-fn own_width(store: &[u32], row: usize, kind: usize) -> Columns
-    requires { ⌜ row * 9 + 8 < length (now store) ⌝ }
-    ensures { λ r. ⌜ (r .0 ≡ ownWidth (now (store .entry)) row kind) × (r .0 < 4294967296) ⌝ }
-{
-    if kind == 5 {
-        return Columns(place(store, row, 8));
-    }
-    if kind == 6 {
-        return ascii_columns(Bytes(place(store, row, 7)));
-    }
-    if kind == 9 {
-        return Columns(1);
-    }
-    Columns(0)
-}
 
 // A width that is past the room is one column past it.
 fn clip(w: usize, room: usize) -> Columns

@@ -120,6 +120,18 @@ module _ (places : ℕ → Bool) (v : View) where
       (ap (λ (n : ℕ). ahead (set ends d end) d n (v .after i)) (getD-set-same ends d end 0 h) ∙ ahead-set ends d d end (v .after i) end (omega arith))
       ∙ ahead-first ends d end i (wrongRow places v (v .after i) (suc d) (suc i)) (wrongRow places v end d (v .after i)) (wrong-in end d i l e) (v .after i) refl
 
+  -- a row that is right and has no parts is passed
+  pub ahead-past : (ends : List ℕ) (d end i : ℕ) → i < end → rowFits places v end d i ≡ true → v .after i ≡ suc i
+      → ahead ends d end (suc i) ≡ ahead ends d end i
+  ahead-past ends d end i l e q =
+      ahead-first ends d end i none (wrongRow places v end d (suc i))
+      (wrong-in end d i l e
+      ∙ ap₂ orElse
+      (ap (λ (n : ℕ). wrongRow places v n (suc d) (suc i)) q ∙ wrong-none (suc i) (suc d) (suc i) (omega arith))
+      (ap (wrongRow places v end d) q))
+      (suc i)
+      refl
+
   -- the part is done
   pub ahead-out : (ends : List ℕ) (d end i : ℕ) → i ≡ end → ahead ends (suc d) end i ≡ ahead ends d (getD ends d 0) i
   unfolding ahead
@@ -233,6 +245,32 @@ module _ (places : ℕ → Bool) (s : List ℕ) (stop : ℕ) where
         linked j k m n l =
             let z = there j (omega arith) in
             at-most k (getD (set ends depth end) j 0) n l (let o = c .over j (omega arith) in omega arith) (λ p. let o = c .chain j k m p in omega arith)
+
+    pub check-past : (after : ℕ) → row < end → after ≡ cell s row 4 → rowFits places (viewOf s) end depth row ≡ true → after ≤ row + 1
+        → Checking places s stop answer ends depth end (row + 1)
+    unfolding viewOf
+    check-past after h e f l =
+        let w = fits-row places (viewOf s) end depth row f .within .up in
+        rw (add-one row)
+        (record {
+          same = ahead-past places (viewOf s) ends depth end row h f (omega arith) ∙ c .same;
+          low = c .low;
+          under = c .under;
+          size = c .size;
+          deep = c .deep;
+          inside = λ m. h;
+          over = c .over;
+          chain = c .chain;
+        })
+
+-- what the loop keeps, by other names
+pub check-as : (places : ℕ → Bool) (s : List ℕ) (stop : ℕ) (answer : Option ℕ) (ends : List ℕ) (depth end row : ℕ) (ends2 : List ℕ) (depth2 end2 : ℕ)
+    → ends2 ≡ ends
+    → depth2 ≡ depth
+    → end2 ≡ end
+    → Checking places s stop answer ends depth end row
+    → Checking places s stop answer ends2 depth2 end2 row
+check-as places s stop answer ends depth end row ends2 depth2 end2 p q r c = rw (p, q, r) c
 
 -- The stop, tested first.
 module _ (source image s : List ℕ) (from stop : ℕ) where

@@ -229,14 +229,16 @@ pub fn wrong_row(store: &[u32], source: &[u8], image: &[u8], from: usize, stop: 
             depth -= 1;
             end = wide(ends[depth]);
         } else {
-            if row_fits(store, source, image, end, depth, row) {
-                ends[depth] = end as u32;
-                depth += 1;
-                end = place(store, row, 4);
-                row += 1;
-            } else {
+            if !row_fits(store, source, image, end, depth, row) {
                 return Found::Wrong(row);
             }
+            let after = place(store, row, 4);
+            if row + 1 < after {
+                ends[depth] = end as u32;
+                depth += 1;
+                end = after;
+            }
+            row += 1;
         }
     }
     Found::Right

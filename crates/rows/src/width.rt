@@ -45,7 +45,7 @@ pub fn is_wrapped(marks: &[u8], number: usize) -> bool
 }
 
 // What a row measures by itself.
-fn own_width(store: &[u32], row: usize, kind: usize) -> Columns
+pub fn own_width(store: &[u32], row: usize, kind: usize) -> Columns
     requires { ⌜ row * 9 + 8 < length (now store) ⌝ }
     ensures { λ r. ⌜ (r .0 ≡ ownWidth (now (store .entry)) row kind) × (r .0 < 4294967296) ⌝ }
 {

@@ -3,14 +3,19 @@ use Prim.Native.Nat.{_<_, _≤_, _-_}
 use mathlib.Core.Path.{refl, sym, ap, _∙_}
 use mathlib.Core.Logic.{⊎-elim}
 use borrow.Author.Needs.{needs}
-use borrow.Author.Tests.{ltb-true, ltb-false}
+use borrow.Author.Tests.{ltb-true, ltb-false, not-true, not-false}
 use Rattle.rows.specs.View.{viewOf}
 use Rattle.renderer.specs.Check.{placesFit, wrongRow}
 use Rattle.renderer.proofs.Checked.{fits-row}
 use Rattle.rowcheck.specs.Found.{foundOf}
-use Rattle.rowcheck.proofs.Pending.{Checking, checkLeft, check-start, check-wrong, check-right, check-out-at, check-in}
+use Rattle.rowcheck.proofs.Pending.{Checking, checkLeft, check-start, check-wrong, check-right, check-out-at, check-in, check-past, check-as}
 use Rattle.rowcheck.proofs.wrong_row.Statement.{statement}
 use Rattle.rowcheck.proofs.wrong_row.Tie as tie
+use Rattle.rowcheck.proofs.wrong_row.Reads as reads
+use Rattle.rowcheck.proofs.wrong_row.Lts as lts
+use Rattle.rowcheck.proofs.row_fits.Reads as row-fits-reads
+use Rattle.rows.proofs.store.place.Reads as place-reads
+use Rattle.rows.proofs.store.wide.Reads as wide-reads
 
 abbrev Inv-loop : tie.InvT-loop
 Inv-loop store source image from stop ends₀ depth₀ end₀ row₀ ends depth end row =
@@ -47,32 +52,40 @@ loop-again c = check-out-at _ _ _ _ _ _ _ _ (c .before .before .before .loop .in
 row-fits-requires : tie.Need-row-fits-requires Inv-loop μ-loop
 row-fits-requires c κs = (c .if3 .left, (omega (arith, c .before .before .loop .inv .low, c .before .before .before .before .before .before .pre .0), omega (arith, c .before .before .loop .inv .low, c .before .before .before .before .before .before .pre .1)))
 
-cast-ends : tie.Need-cast-ends Inv-loop μ-loop
-cast-ends c = omega (arith, c .before .before .before .before .loop .inv .low, c .before .before .before .before .before .before .before .before .pre .1)
-
-mul-ends : tie.Need-mul-ends Inv-loop μ-loop
-mul-ends c = omega (arith, c .before .before .before .before .loop .inv .deep)
-
-array-write-ends : tie.Need-array-write-ends Inv-loop μ-loop
-array-write-ends c = fits-row _ _ _ _ _ (sym (c .before .row-fits .ensures) ∙ c .if4 .taken) .shallow
-
-add-depth : tie.Need-add-depth Inv-loop μ-loop
-add-depth c = omega (arith, c .before .before .before .before .loop .inv .deep)
+returns : tie.Need-returns Inv-loop μ-loop
+returns c = sym (ap foundOf (check-wrong _ _ _ _ _ _ _ _ (c .before .before .before .before .loop .inv) (c .before .before .if3 .left) (sym (c .before .row-fits .ensures) ∙ not-true _ (c .if4 .taken))))
 
 place-requires : tie.Need-place-requires Inv-loop μ-loop
 place-requires c κs = omega (arith, c .before .before .before .before .loop .inv .low, c .before .before .before .before .before .before .before .before .pre .0, c .before .before .if3 .left)
 
+add-if5 : tie.Need-add-if5 Inv-loop μ-loop
+add-if5 c = omega (arith, c .before .before .before .before .before .loop .inv .low, c .before .before .before .before .before .before .before .before .before .pre .1, c .before .before .before .if3 .left)
+
+cast-ends : tie.Need-cast-ends Inv-loop μ-loop
+cast-ends c = omega (arith, c .before .before .before .before .before .before .loop .inv .low, c .before .before .before .before .before .before .before .before .before .before .pre .1)
+
+mul-ends : tie.Need-mul-ends Inv-loop μ-loop
+mul-ends c = omega (arith, c .before .before .before .before .before .before .loop .inv .deep)
+
+array-write-ends : tie.Need-array-write-ends Inv-loop μ-loop
+array-write-ends c = fits-row _ _ _ _ _ (sym (c .before .before .before .row-fits .ensures) ∙ not-false _ (c .before .before .if4 .left)) .shallow
+
+add-depth : tie.Need-add-depth Inv-loop μ-loop
+add-depth c = omega (arith, c .before .before .before .before .before .before .loop .inv .deep)
+
 add-row : tie.Need-add-row Inv-loop μ-loop
-add-row c = omega (arith, c .before .before .before .before .before .loop .inv .low, c .before .before .before .before .before .before .before .before .before .pre .1, c .before .before .before .if3 .left)
+add-row c = omega (arith, c .before .before .before .before .before .before .loop .inv .low, c .before .before .before .before .before .before .before .before .before .before .pre .1, c .before .before .before .before .if3 .left)
 
 loop-less-2 : tie.Need-loop-less-2 Inv-loop μ-loop
-loop-less-2 c = omega (arith, c .before .before .before .before .before .loop .inv .low, c .before .before .before .if3 .left)
+loop-less-2 c = ⊎-elim (λ w. omega (arith, w .2, c .before .before .before .before .before .before .loop .inv .low, c .before .before .before .before .if3 .left)) (λ w. omega (arith, w .2, c .before .before .before .before .before .before .loop .inv .low, c .before .before .before .before .if3 .left)) (c .if5 .came)
 
 loop-again-2 : tie.Need-loop-again-2 Inv-loop μ-loop
-loop-again-2 c = check-in _ _ _ _ _ _ _ _ (c .before .before .before .before .before .loop .inv) (c .place .result) (c .before .before .before .if3 .left) (c .place .ensures .0) (sym (c .before .before .row-fits .ensures) ∙ c .before .if4 .taken)
-
-returns : tie.Need-returns Inv-loop μ-loop
-returns c = sym (ap foundOf (check-wrong _ _ _ _ _ _ _ _ (c .before .before .before .before .loop .inv) (c .before .before .if3 .left) (sym (c .before .row-fits .ensures) ∙ c .if4 .left)))
+loop-again-2 c =
+    let fits = sym (c .before .before .before .row-fits .ensures) ∙ not-false _ (c .before .before .if4 .left) in
+    ⊎-elim
+    (λ w. check-as _ _ _ _ _ _ _ _ _ _ _ (w .1) (w .2) (w .3) (check-in _ _ _ _ _ _ _ _ (c .before .before .before .before .before .before .loop .inv) (c .before .place .result) (c .before .before .before .before .if3 .left) (c .before .place .ensures .0) fits))
+    (λ w. check-as _ _ _ _ _ _ _ _ _ _ _ (w .1) (w .2) (w .3) (check-past _ _ _ _ _ _ _ _ (c .before .before .before .before .before .before .loop .inv) (c .before .place .result) (c .before .before .before .before .if3 .left) (c .before .place .ensures .0) fits (w .0 .left)))
+    (c .if5 .came)
 
 returns-2 : tie.Need-returns-2 Inv-loop μ-loop
 returns-2 c = sym (ap foundOf (check-right _ _ _ _ _ _ _ _ (c .before .before .loop .inv) (c .before .if1 .left) (ltb-false _ _ (c .if2 .left))))
@@ -91,13 +104,14 @@ wrong-row-spec =
     loop-less
     loop-again
     row-fits-requires
+    returns
+    place-requires
+    add-if5
     cast-ends
     mul-ends
     array-write-ends
     add-depth
-    place-requires
     add-row
     loop-less-2
     loop-again-2
-    returns
     returns-2)

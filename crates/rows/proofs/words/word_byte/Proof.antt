@@ -6,8 +6,8 @@ use borrow.Author.Needs.{needs}
 use Rattle.rows.proofs.words.word_byte.Statement.{statement}
 use Rattle.rows.proofs.words.word_byte.Tie as tie
 
-array-read-result : tie.Need-array-read-result
-array-read-result c = search needs
+element-copy-out-result : tie.Need-element-copy-out-result
+element-copy-out-result c = search needs
 
 returns : tie.Need-returns
 unfolding words joined bytes
@@ -18,4 +18,4 @@ unfolding words joined bytes
 returns-2 c = sym (List·getD-eq-default words 0 (c .if1 .left))
 
 pub word-byte-spec : {M : Type 1} → statement M
-word-byte-spec = tie.close (tie.spec array-read-result returns returns-2)
+word-byte-spec = tie.close (tie.spec element-copy-out-result returns returns-2)
