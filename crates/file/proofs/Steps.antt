@@ -7,7 +7,7 @@ use mathlib.Core.List.{List, [], _∷_}
 use Prim.Native.Nat.{ℕ, _-_}
 use native.Mathlib.Omega.{arith}
 use lib.Dec.{ltb}
-use lib.ListN.{length}
+use lib.ListN.{length, take}
 use Rattle.image.specs.Read.{Read, got, bad, Image, readAll, answerOf}
 use Rattle.image.specs.declared.Answer.the-variants as checked
 use Rattle.rows.specs.Rows.{rows}
@@ -17,11 +17,11 @@ use Rattle.cut.specs.Rules.{Refusal}
 use Rattle.cut.specs.Run.{Answer, refused, laidOut, written, answerBy, unless, onto}
 use Rattle.cut.specs.Entries.{layoutAnswer, layoutStore, renderAnswer, renderMarks, renderOutput}
 use Rattle.cut.specs.Parts as cut
-use Rattle.cut.specs.Parts.{first, when, layoutFresh, renderFresh}
-use Rattle.format.specs.Parts.{refusalOf}
+use Rattle.cut.specs.Parts.{first, when, layoutFresh, renderFresh, renderTable}
+use Rattle.format.specs.Parts.{parts, refusalOf}
 use Rattle.format.specs.Demands.{rulesOf}
 use Rattle.format.specs.File.{built, rowsDue, marksDue, drawnDue, laidRefusal, fileRefusal, fileStore, fileMarks, fileOutput, formatted, fileAnswerBy}
-use Rattle.format.proofs.File.{stateDue, renderedDue, layout-answer-due, layout-store-due, render-answer-due, render-marks-due, render-output-due}
+use Rattle.format.proofs.File.{stateDue, renderedDue, layout-answer-due, layout-store-due, render-early-due, render-answer-due, render-marks-due, render-output-due}
 use Rattle.laying.specs.Calls as layouts
 use Rattle.laying.specs.Steps.{declared}
 use Rattle.laying.specs.Whole.{Called as LayoutCalled}
@@ -29,7 +29,7 @@ use Rattle.laying.specs.declared.LayoutState.{LayoutState}
 use Rattle.laying.specs.declared.Laying.{Laying}
 use Rattle.laying.specs.declared.Laying.the-variants as laying
 use Rattle.rendering.specs.Calls as renders
-use Rattle.rendering.specs.Whole.{Called as RenderCalled}
+use Rattle.rendering.specs.Whole.{Checked, Called as RenderCalled}
 use Rattle.rendering.specs.declared.RenderState.{RenderState}
 use Rattle.rendering.specs.declared.Rendering.{Rendering}
 use Rattle.rendering.specs.declared.Rendering.the-variants as rendering
@@ -148,8 +148,7 @@ module _ (s b : List ℕ) where
           layout-left
 
       -- ---- the rendering call
-      module _ (t : LayoutState) (left : ℕ) (is : r ≡ laying.Laid t left) (pen : RenderState) (o : Rendering) (store3 marks2 out2 : List ℕ)
-          (blank : renders.toState pen ≡ renderFresh) (drew : RenderCalled s b pen (t .row) store2 marks out o store3 marks2 out2) where
+      module _ (t : LayoutState) (left : ℕ) (is : r ≡ laying.Laid t left) (pen : RenderState) (blank : renders.toState pen ≡ renderFresh) where
         told : LaidTold (laidRefusal s b store) (layouts.toState t) left (stateDue s b) leftDue
         told = laid-told (laidRefusal s b store) (layouts.toState t) left (stateDue s b) leftDue (ap (layouts.answerOf s b) (sym is) ∙ layout-answer)
 
@@ -160,51 +159,60 @@ module _ (s b : List ℕ) where
         same : {A : Type 0} (f : cut.RenderState → ℕ → List ℕ → A) → f (renders.toState pen) (t .row) store2 ≡ f renderFresh (rowsDue s b) (fileStore s b store)
         same f = λ i. f (blank i) (to-row i) (layout-left i)
 
-        drawn-answer : renders.answerOf s b o ≡ answerBy (rulesOf s b) (fileRefusal s b store marks out) (written (renderedDue s b) textDue)
-        drawn-answer =
-            drew .answer
-            ∙ same (λ x n rows. renderAnswer (rulesOf s b) (renders.args n (length out)) x rows marks)
-            ∙ render-answer-due s b store marks out (told .passes)
+        -- the rows that the layout call leaves are right
+        pub drawn-starts : Checked s b pen (t .row) store2 marks
+        drawn-starts = record {
+          passes =
+              same (λ x n rows. first (take 3 (renderTable (parts s b) (renders.args n 0) x rows marks)))
+              ∙ render-early-due s b store marks [] (told .passes);
+        }
 
-        store-same : store3 ≡ fileStore s b store
-        store-same = drew .store-left ∙ layout-left
+        module _ (o : Rendering) (store3 marks2 out2 : List ℕ) (drew : RenderCalled s b pen (t .row) store2 marks out o store3 marks2 out2) where
+          drawn-answer : renders.answerOf s b o ≡ answerBy (rulesOf s b) (fileRefusal s b store marks out) (written (renderedDue s b) textDue)
+          drawn-answer =
+              drew .answer
+              ∙ same (λ x n rows. renderAnswer (rulesOf s b) (renders.args n (length out)) x rows marks)
+              ∙ render-answer-due s b store marks out (told .passes)
 
-        marks-same : marks2 ≡ fileMarks s b store marks out
-        marks-same =
-            drew .marks-left
-            ∙ same (λ x n rows. renderMarks (rulesOf s b) (renders.args n (length out)) x rows marks)
-            ∙ render-marks-due s b store marks out (told .passes)
+          store-same : store3 ≡ fileStore s b store
+          store-same = drew .store-left ∙ layout-left
 
-        output-same : out2 ≡ fileOutput s b store marks out
-        output-same =
-            drew .output-left
-            ∙ same (λ x n rows. renderOutput (rulesOf s b) (renders.args n (length out)) x rows marks out)
-            ∙ render-output-due s b store marks out (told .passes)
+          marks-same : marks2 ≡ fileMarks s b store marks out
+          marks-same =
+              drew .marks-left
+              ∙ same (λ x n rows. renderMarks (rulesOf s b) (renders.args n (length out)) x rows marks)
+              ∙ render-marks-due s b store marks out (told .passes)
 
-        never-written : (x : Refusal) (u : cut.RenderState) (l : ℕ) → _≡_ {A = Answer (rulesOf s b)} (refused x) (written u l) → ⊥
-        never-written x u l e = let z : _≡_ {A = ℕ} 0 1 = cc in omega arith
+          output-same : out2 ≡ fileOutput s b store marks out
+          output-same =
+              drew .output-left
+              ∙ same (λ x n rows. renderOutput (rulesOf s b) (renders.args n (length out)) x rows marks out)
+              ∙ render-output-due s b store marks out (told .passes)
 
-        pub drawn-refused : (n p : ℕ) → o ≡ rendering.Refused n p → Formats s b store marks out (answer.Refused n p) store3 marks2 out2
-        drawn-refused n p e =
-            refused-formats n p store3 marks2 out2
-            (refused-told (fileRefusal s b store marks out) (written (renderedDue s b) textDue) (at n p) (ap (renders.answerOf s b) (sym e) ∙ drawn-answer)
-            (never-written (at n p) (renderedDue s b) textDue))
-            store-same
-            marks-same
-            output-same
+          never-written : (x : Refusal) (u : cut.RenderState) (l : ℕ) → _≡_ {A = Answer (rulesOf s b)} (refused x) (written u l) → ⊥
+          never-written x u l e = let z : _≡_ {A = ℕ} 0 1 = cc in omega arith
 
-        pub drawn-formats : (u : RenderState) (bytes : Bytes) → o ≡ rendering.Written u bytes
-            → Formats s b store marks out (answer.Text bytes left (t .row) (t .number)) store3 marks2 out2
-        drawn-formats u bytes e =
-            let w = drawn-told (fileRefusal s b store marks out) (renders.toState u) (bytes .0) (renderedDue s b) textDue
-            (ap (renders.answerOf s b) (sym e) ∙ drawn-answer)
-            in
-            let number : t .number ≡ built s b .taken = ap (λ (x : cut.LayoutState). x .cursor .number) (told .state) in
-            record {
-              answer =
-                  (λ i. formatted (w .bytes i) (told .left i) (to-row i) (number i))
-                  ∙ sym (ap (λ (x : Option Refusal). fileAnswerBy x (formatted textDue leftDue (rowsDue s b) (built s b .taken))) (w .passes));
-              store-left = store-same;
-              marks-left = marks-same;
-              output-left = output-same;
-            }
+          pub drawn-refused : (n p : ℕ) → o ≡ rendering.Refused n p → Formats s b store marks out (answer.Refused n p) store3 marks2 out2
+          drawn-refused n p e =
+              refused-formats n p store3 marks2 out2
+              (refused-told (fileRefusal s b store marks out) (written (renderedDue s b) textDue) (at n p) (ap (renders.answerOf s b) (sym e) ∙ drawn-answer)
+              (never-written (at n p) (renderedDue s b) textDue))
+              store-same
+              marks-same
+              output-same
+
+          pub drawn-formats : (u : RenderState) (bytes : Bytes) → o ≡ rendering.Written u bytes
+              → Formats s b store marks out (answer.Text bytes left (t .row) (t .number)) store3 marks2 out2
+          drawn-formats u bytes e =
+              let w = drawn-told (fileRefusal s b store marks out) (renders.toState u) (bytes .0) (renderedDue s b) textDue
+              (ap (renders.answerOf s b) (sym e) ∙ drawn-answer)
+              in
+              let number : t .number ≡ built s b .taken = ap (λ (x : cut.LayoutState). x .cursor .number) (told .state) in
+              record {
+                answer =
+                    (λ i. formatted (w .bytes i) (told .left i) (to-row i) (number i))
+                    ∙ sym (ap (λ (x : Option Refusal). fileAnswerBy x (formatted textDue leftDue (rowsDue s b) (built s b .taken))) (w .passes));
+                store-left = store-same;
+                marks-left = marks-same;
+                output-left = output-same;
+              }

@@ -14,7 +14,7 @@ use laying::accepted;
 use laying::steps::count_declarations;
 use rendering::RenderState;
 use rendering::Rendering;
-use rendering::render_call;
+use rendering::render_checked;
 use rows::store::Bytes;
 use rows::store::Columns;
 
@@ -84,7 +84,7 @@ fn format_accepted(
     ) {
         Laying::Refused(number, place) => Formatted::Refused(number, place),
         Laying::Laid(state, left) => {
-            match render_call(source, image, store, marks, out, render_fresh(), state.row) {
+            match render_checked(source, image, store, marks, out, render_fresh(), state.row) {
                 Rendering::Refused(number, place) => Formatted::Refused(number, place),
                 Rendering::Written(end, bytes) => Formatted::Text {
                     bytes: bytes,

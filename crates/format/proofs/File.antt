@@ -9,7 +9,7 @@ use Prim.Native.Nat.{ℕ, _+_, _*_, _-_, _≤_, max}
 use native.Mathlib.Omega.{arith}
 use native.Mathlib.Nat.{sub-zero}
 use lib.Dec.{ltb}
-use lib.ListN.{length, getD, drop, replicate}
+use lib.ListN.{length, getD, take, drop, replicate}
 use lib.Seq.{take-append-le}
 use borrow.Author.Tests.{le-ltb, le-leb, eq-eqb}
 use Rattle.image.specs.Bytes.{be32}
@@ -191,6 +191,11 @@ module _ (s b : List ℕ) where
         ∷ when (ltb (length out) (length (drawn-due t .text))) 10 (length (drawn-due t .text))
         ∷ [])
 
+    -- but for marks that are too few and too long a text, nothing refuses
+    early-due : (marks out : List ℕ) → first (take 3 (renderTable (parts s b) (renderArgs out) renderFresh rowed marks)) ≡ none
+    early-due marks out =
+        λ t. first (image-passes h t ∷ whenFound (rows-right t) 11 ∷ when (render-passes rowed marks out t) 12 0 ∷ [])
+
     rendered-due : (marks out : List ℕ)
         → renderGives (rulesOf s b) (renderArgs out) renderFresh rowed marks
         ≡ record {
@@ -229,6 +234,10 @@ module _ (s b : List ℕ) where
         ∷ when (ltb (length out) (length (drawnDue s b .text))) 10 (length (drawnDue s b .text))
         ∷ []))
         (sym h)
+
+    pub render-early-due : first (take 3 (renderTable (parts s b) (renderArgs out) renderFresh (fileStore s b store) marks)) ≡ none
+    render-early-due =
+        ap (λ (x : List ℕ). first (take 3 (renderTable (parts s b) (renderArgs out) renderFresh x marks))) left-store ∙ early-due store read marks out
 
     gives-due : renderGives (rulesOf s b) (renderArgs out) renderFresh (fileStore s b store) marks
         ≡ record { state = renderedDue; marks = drawnDue s b .marks; text = drawnDue s b .text }

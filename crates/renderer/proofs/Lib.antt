@@ -5,6 +5,7 @@ pub mod Joined
 pub mod Machine
 pub mod Margin
 pub mod Meaning
+pub mod Most
 pub mod Names
 pub mod Opened
 pub mod OwnMarks

@@ -1,3 +1,4 @@
 pub mod Check
+pub mod Most
 pub mod Page
 pub mod Renderer

@@ -26,12 +26,12 @@ true-false : {A : Type 0} → true ≡ false → A
 true-false e = let z : _≡_ {A = ℕ} 0 1 = ap (λ (t : Bool). cond t 0 1) e in absurd (omega arith)
 
 -- of four entries none refuses
-second-none : (a : Option Refusal) (b : Option ℕ) (c d : Option Refusal) → first (a ∷ whenFound b 11 ∷ c ∷ d ∷ []) ≡ none → b ≡ none
+pub second-none : (a : Option Refusal) (b : Option ℕ) (c d : Option Refusal) → first (a ∷ whenFound b 11 ∷ c ∷ d ∷ []) ≡ none → b ≡ none
 second-none (some r) b c d e = no-some e
 second-none none (some p) c d e = no-some e
 second-none none none c d e = refl
 
-third-none : (a b : Option Refusal) (t : Bool) (d : Option Refusal) → first (a ∷ b ∷ when t 12 0 ∷ d ∷ []) ≡ none → t ≡ false
+pub third-none : (a b : Option Refusal) (t : Bool) (d : Option Refusal) → first (a ∷ b ∷ when t 12 0 ∷ d ∷ []) ≡ none → t ≡ false
 third-none (some r) b t d e = no-some e
 third-none none (some r) t d e = no-some e
 third-none none none true d e = no-some e

@@ -2,9 +2,11 @@ pub mod Tests
 pub mod Table
 pub mod Whole
 pub mod Accepted
+pub mod Early
 pub mod Starts
 pub mod Ran
 pub mod Finish
 pub mod Owned
 pub mod Dry
+pub mod Summed
 pub mod Steps

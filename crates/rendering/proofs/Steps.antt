@@ -3,25 +3,29 @@
 use mathlib.Core.Path.{_≡_, refl, sym, ap, subst, _∙_}
 use mathlib.Core.Bool.{true}
 use mathlib.Core.List.{List, []}
-use Prim.Native.Nat.{ℕ, _*_, _-_, _≤_, _<_, max}
+use Prim.Native.Nat.{ℕ, _+_, _*_, _-_, _≤_, _<_, max}
 use native.Mathlib.Omega.{arith}
 use lib.ListN.{length, getD, drop}
 use Rattle.rows.specs.View.{viewOf, nodesAt}
 use Rattle.rows.specs.declared.store.Bytes.{Bytes}
 use Rattle.renderer.specs.Renderer.{renders}
 use Rattle.renderer.specs.Page.{pageOf}
+use Rattle.renderer.specs.Most.{rowsMost}
+use Rattle.renderer.proofs.Most.{text-most}
 use Rattle.render.specs.Run.{Starting, Rendered, stateOf}
 use Rattle.render.specs.declared.pen.Pen.{Pen}
 use Rattle.cut.specs.Parts as cut
 use Rattle.marks.specs.Marks.{marksNeeded, clearFrom, held, putAside, putBack}
-use Rattle.rendering.specs.Calls.{toState, refusalOf, beforeRun}
-use Rattle.rendering.specs.Whole.{Called, Counted, Passing, Fitting, Takes}
+use Rattle.format.specs.Parts.{rendererOf}
+use Rattle.rendering.specs.Calls.{toState, refusalOf, beforeMarks}
+use Rattle.rendering.specs.Whole.{Called, Checked, Counted, Passing, Fitting, Takes}
 use Rattle.rendering.specs.declared.RenderState.{RenderState}
 use Rattle.rendering.specs.declared.Rendering.{Rendering}
 use Rattle.rendering.specs.declared.Rendering.the-variants as rendering
 use Rattle.rendering.specs.declared.Verdict.{Verdict}
 use Rattle.rendering.specs.declared.Verdict.the-variants as verdict
 use Rattle.rendering.proofs.Accepted.{Accepted, accepted}
+use Rattle.rendering.proofs.Early.{refused-early}
 use Rattle.rendering.proofs.Starts.{nested, starts}
 use Rattle.rendering.proofs.Ran.{inUse}
 use Rattle.rendering.proofs.Dry as dry
@@ -35,8 +39,33 @@ module _ (source image : List ℕ) (state : RenderState) (stop : ℕ) (store mar
   pub rows-within : stop * 9 ≤ length store
   rows-within = may .within
 
-  pub rows-ahead : (state .row ≤ stop) × (stop * 9 ≤ length store)
-  rows-ahead = (may .ahead, may .within)
+  -- ---- a sum over the rows shows that the text has room
+  pub small-margin : (state .indent ≤ 64) × (state .«next_indent» ≤ 64)
+  small-margin = (may .indent, may .next)
+
+  pub sums-within : (margin : ℕ) → margin ≡ state .indent + state .«next_indent»
+      → (state .row ≤ stop) × ((stop * 9 ≤ length store) × ((stop ≤ 2097152) × (margin ≤ 128)))
+  sums-within margin e =
+      let i = may .indent in
+      let n = may .next in
+      (may .ahead, (may .within, (nested source image state stop store marks may .few, omega arith)))
+
+  pub fits-most : (out : List ℕ) (margin n : ℕ) → margin ≡ state .indent + state .«next_indent»
+      → n ≡ 4 * margin + rowsMost (stop - state .row) margin store (state .row) → n ≤ length out
+      → Fitting source image state stop store marks out
+  fits-most out margin n e f l =
+      let m =
+      text-most 80 source image store (state .row) stop 0 margin
+      (nested source image state stop store marks may .nests)
+      true
+      (rendererOf (toState state .pen) (inUse source image state stop store marks (may .ahead)))
+      refl
+      (sym e)
+      in
+      record { passing = h; room = below m f l }
+    where
+      below : {a b n : ℕ} → a ≤ b → n ≡ b → n ≤ length out → a ≤ length out
+      below p q r = omega arith
 
   -- ---- the dry run
   module _ (rows2 marks2 : List ℕ) (e : held rows2 marks2 ≡ putAside (stop - state .row) (state .«in_use») (held store marks) (state .row)) where
@@ -71,6 +100,9 @@ module _ (source image : List ℕ) (state : RenderState) (stop : ℕ) (store mar
     has-room l =
         rw (c .store-left, c .marks-left, c .output-left)
         (record { passing = h; room = let z = ap length (c .output-left) in let b = c .bytes in omega arith })
+
+    pub still-needed : (n : ℕ) → n ≡ marksNeeded (stop - state .row) store (state .row) → n ≡ marksNeeded (stop - state .row) store2 (state .row)
+    still-needed n e = rw (c .store-left) e
 
     pub then-run : (r : Rendering) (marks3 out3 : List ℕ) → Called source image state stop store2 marks2 out2 r store2 marks3 out3
         → Called source image state stop store marks out r store2 marks3 out3
@@ -116,11 +148,11 @@ module _ (source image : List ℕ) (state : RenderState) (stop : ℕ) (store mar
       finished source image state stop store marks (fine .ahead) out p k marks3 out3 q run _ (q .at) (h .passing .passes) sized (omega arith)
       (record { indent = refl; next = refl; column = refl; in-use = g ∙ ap (λ (z : ℕ). max (state .«in_use») z) e; row = refl })
 
--- ---- by what the tests before the run say
+-- ---- by what the first tests say
 module _ (source image : List ℕ) (state : RenderState) (stop : ℕ) (store marks : List ℕ) (v : Verdict)
-    (e : refusalOf v ≡ beforeRun source image stop (toState state) store marks) where
-  pub passes-by : v ≡ verdict.Accepted → Passing source image state stop store marks
-  passes-by f = record { passes = sym e ∙ ap refusalOf f }
+    (e : refusalOf v ≡ beforeMarks source image stop (toState state) store marks) where
+  pub checked-by : v ≡ verdict.Accepted → Checked source image state stop store marks
+  checked-by f = record { passes = sym e ∙ ap refusalOf f }
 
   pub refused-by : (out : List ℕ) (n p : ℕ) → v ≡ verdict.Refused n p → Called source image state stop store marks out (rendering.Refused n p) store marks out
-  refused-by out n p f = ends-early source image state stop store marks out n p (sym e ∙ ap refusalOf f)
+  refused-by out n p f = ends-early source image state stop store marks out n p (refused-early source image state stop store marks _ (sym e ∙ ap refusalOf f))

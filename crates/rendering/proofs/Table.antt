@@ -1,14 +1,13 @@
--- The entries 12 and 9 of the table, from what the code tests.
+-- The entry 12 of the table, from what the code tests.
 -- Assumes nothing.
-use mathlib.Core.Path.{_≡_, refl, sym, ap, _∙_}
+use mathlib.Core.Path.{_≡_, sym, ap, _∙_}
 use mathlib.Core.Bool.{Bool, true, false, not, _||_}
-use mathlib.Core.Option.{Option, none, some}
+use mathlib.Core.Option.{Option}
 use mathlib.Core.List.{List, [], _∷_}
-use Prim.Native.Nat.{ℕ, _-_, _/_, _≤_, _<_}
+use Prim.Native.Nat.{ℕ, _/_, _≤_, _<_}
 use lib.ListN.{length, take, drop}
 use lib.Dec.{ltb}
 use borrow.Author.Tests.{lt-ltb, le-ltb, not-true, not-false}
-use Rattle.marks.specs.Marks.{marksNeeded}
 use Rattle.cut.specs.Rules.{Refusal}
 use Rattle.cut.specs.Parts.{Parts, any, first, when, oddMark, renderTests, renderTable}
 use Rattle.format.specs.Parts.{parts}
@@ -59,29 +58,16 @@ module _ (P : Parts) (s : RenderState) (stop : ℕ) (store marks : List ℕ) whe
       (s .row)
       e
 
--- ---- 12 and 9
+-- ---- the entry of 12
 module _ (source image : List ℕ) (s : RenderState) (stop : ℕ) (store marks : List ℕ) where
   abbrev unfit : Bool
   unfit = any (renderTests (parts source image) (args stop 0) (toState s) store marks)
 
-  abbrev needed : ℕ
-  needed = marksNeeded (stop - s .row) store (s .row)
+  abbrev entry : Option Refusal
+  entry = first (drop 2 (take 3 (renderTable (parts source image) (args stop 0) (toState s) store marks)))
 
-  abbrev tail : Option Refusal
-  tail = first (drop 2 (take 4 (renderTable (parts source image) (args stop 0) (toState s) store marks)))
+  pub state-unfit : not unfit ≡ false → refusalOf (verdict.Refused 12 0) ≡ entry
+  state-unfit e = sym (ap (λ (x : Bool). first (when x 12 0 ∷ [])) (not-false unfit e))
 
-  by-two : (t u : Bool) (n : ℕ) → unfit ≡ t → needed ≡ n → ltb (length marks) n ≡ u → tail ≡ first (when t 12 0 ∷ when u 9 n ∷ [])
-  by-two t u n e f g =
-      ap (λ (x : Bool). first (when x 12 0 ∷ when (ltb (length marks) needed) 9 needed ∷ [])) e
-      ∙ ap (λ (x : ℕ). first (when t 12 0 ∷ when (ltb (length marks) x) 9 x ∷ [])) f
-      ∙ ap (λ (x : Bool). first (when t 12 0 ∷ when x 9 n ∷ [])) g
-
-  pub state-unfit : not unfit ≡ false → refusalOf (verdict.Refused 12 0) ≡ tail
-  state-unfit e = sym (by-two true (ltb (length marks) needed) needed (not-false unfit e) refl refl)
-
-  module _ (n : ℕ) (e : not unfit ≡ true) (f : n ≡ marksNeeded (stop - s .row) store (s .row)) where
-    pub marks-short : length marks < n → refusalOf (verdict.Refused 9 n) ≡ tail
-    marks-short h = sym (by-two false true n (not-true unfit e) (sym f) (lt-ltb (length marks) n h))
-
-    pub marks-enough : n ≤ length marks → refusalOf verdict.Accepted ≡ tail
-    marks-enough h = sym (by-two false false n (not-true unfit e) (sym f) (le-ltb (length marks) n h))
+  pub state-fit : not unfit ≡ true → refusalOf verdict.Accepted ≡ entry
+  state-fit e = sym (ap (λ (x : Bool). first (when x 12 0 ∷ [])) (not-true unfit e))

@@ -37,6 +37,10 @@ abbrev pub refusalOf : Verdict → Option Refusal
 refusalOf verdict.Accepted = none
 refusalOf (verdict.Refused n p) = some (record { number = n; place = p })
 
+-- "rendering 1, 3 by the same tests, then 11, 12": the first entries of the table
+abbrev pub beforeMarks : List ℕ → List ℕ → ℕ → cut.RenderState → List ℕ → List ℕ → Option Refusal
+beforeMarks s b stop state store marks = cut.first (take 3 (cut.renderTable (parts s b) (args stop 0) state store marks))
+
 -- "rendering 1, 3 by the same tests, then 11, 12, 9": the table but for its last entry, 10, which alone reads the room
 abbrev pub beforeRun : List ℕ → List ℕ → ℕ → cut.RenderState → List ℕ → List ℕ → Option Refusal
 beforeRun s b stop state store marks = cut.first (take 4 (cut.renderTable (parts s b) (args stop 0) state store marks))

@@ -10,7 +10,7 @@ use Rattle.cut.specs.Entries.{renderAnswer, renderMarks, renderOutput}
 use Rattle.cut.specs.Parts.{bytesNeeded}
 use Rattle.format.specs.Parts.{parts}
 use Rattle.format.specs.Demands.{rulesOf}
-use Rattle.rendering.specs.Calls.{toState, args, answerOf, beforeRun}
+use Rattle.rendering.specs.Calls.{toState, args, answerOf, beforeMarks, beforeRun}
 use Rattle.rendering.specs.declared.RenderState.{RenderState}
 use Rattle.rendering.specs.declared.Rendering.{Rendering}
 
@@ -27,6 +27,10 @@ pub record Counted (source image : List ℕ) (state : RenderState) (stop : ℕ) 
   pub store-left : store2 ≡ store
   pub marks-left : marks2 ≡ marks
   pub output-left : out2 ≡ out
+
+-- 1, 3, 11 and 12 do not refuse the call
+pub record Checked (source image : List ℕ) (state : RenderState) (stop : ℕ) (store marks : List ℕ) : Type 0 where
+  pub passes : beforeMarks source image stop (toState state) store marks ≡ none
 
 -- nothing refuses the call before its run
 pub record Passing (source image : List ℕ) (state : RenderState) (stop : ℕ) (store marks : List ℕ) : Type 0 where

@@ -1,14 +1,18 @@
 // Rendering calls: state, answer, refusals, and the call itself.
+mod room;
+
 ghost use mathlib.Core.Path.{_≡_};
 ghost use mathlib.Core.Bool.{not};
 ghost use mathlib.Core.List.{List, [], _∷_};
-ghost use Prim.Native.Nat.{ℕ, _*_, _≤_};
+ghost use Prim.Native.Nat.{ℕ, _-_, _≤_};
 ghost use lib.ListN.{length, take, drop};
 ghost use lib.Dec.{ltb};
 ghost use Rattle.cut.specs.Parts.{Parts, any, first, oddMark, renderTests, renderTable};
 ghost use Rattle.format.specs.Parts.{parts};
-ghost use Rattle.rendering.specs.Calls.{toState, args, refusalOf, beforeRun};
-ghost use Rattle.rendering.specs.Whole.{Called, Counted, Passing, Fitting, Takes};
+ghost use Rattle.marks.specs.Marks.{marksNeeded};
+ghost use Rattle.rendering.specs.Calls.{toState, args, refusalOf, beforeMarks};
+ghost use Rattle.rendering.specs.Whole.{Called, Checked, Counted, Passing, Fitting, Takes};
+use crate::room::most_bytes;
 use image::header_fits;
 use image::source_fits;
 use marks::clear_marks;
@@ -103,23 +107,17 @@ pub fn state_fits(state: RenderState, stop: usize, store: &[u32], marks: &[u8]) 
     marks_fit(marks, state.in_use)
 }
 
-// Refusals 12 and 9, for rows that are right.
+// Refusal 12.
 fn state_refusal(state: RenderState, stop: usize, store: &[u32], marks: &[u8]) -> Verdict
-    requires { ⌜ stop * 9 ≤ length (now store) ⌝ }
-    ensures { λ r. ⌜ ((s b : List ℕ) → refusalOf r ≡ first (drop 2 (take 4 (renderTable (parts s b) (args stop 0) (toState state) (now (store .entry)) (now (marks .entry)))))) ⌝ }
+    ensures { λ r. ⌜ ((s b : List ℕ) → refusalOf r ≡ first (drop 2 (take 3 (renderTable (parts s b) (args stop 0) (toState state) (now (store .entry)) (now (marks .entry)))))) ⌝ }
 {
-    let from = state.row;
     if !state_fits(state, stop, store, marks) {
         return Verdict::Refused(12, 0);
-    }
-    let needed = marks_needed(store, from, stop);
-    if marks.len() < needed {
-        return Verdict::Refused(9, needed);
     }
     Verdict::Accepted
 }
 
-// Refusals 1, 3, 11, 12 and 9, the first that holds.
+// Refusals 1, 3, 11 and 12, the first that holds.
 pub fn refusal(
     source: &[u8],
     image: &[u8],
@@ -128,7 +126,7 @@ pub fn refusal(
     state: RenderState,
     stop: usize,
 ) -> Verdict
-    ensures { λ r. ⌜ refusalOf r ≡ beforeRun (now (source .entry)) (now (image .entry)) stop (toState state) (now (store .entry)) (now (marks .entry)) ⌝ }
+    ensures { λ r. ⌜ refusalOf r ≡ beforeMarks (now (source .entry)) (now (image .entry)) stop (toState state) (now (store .entry)) (now (marks .entry)) ⌝ }
 {
     if !source_fits(source) {
         return Verdict::Refused(1, 0);
@@ -178,7 +176,7 @@ fn bytes_needed(
     bytes
 }
 
-// Renders rows whose text has room.
+// Renders rows whose text has room, and which need so many marks.
 fn write_rows(
     source: &[u8],
     image: &[u8],
@@ -187,14 +185,14 @@ fn write_rows(
     out: &mut [u8],
     state: RenderState,
     stop: usize,
+    needed: usize,
 ) -> Rendering
-    requires { ⌜ Fitting (now source) (now image) state stop (now store) (now marks) (now out) ⌝ }
+    requires { ⌜ Fitting (now source) (now image) state stop (now store) (now marks) (now out) × (needed ≡ marksNeeded (stop - state .row) (now store) (state .row)) ⌝ }
     ensures { λ r. ⌜ Called (now (source .entry)) (now (image .entry)) state stop (now (store .entry)) (now (marks .entry)) (now (out .entry)) r (now (store .entry)) (now (marks .exit)) (now (out .exit)) ⌝ }
 {
     let from = state.row;
     let len = out.len();
     let start = start_pen(state);
-    let needed = marks_needed(store, from, stop);
     clear_marks(marks, state.in_use, needed);
     let end = run_rows(start, store, source, image, marks, out, len, 80, from, stop);
     let column = end.column;
@@ -209,7 +207,30 @@ fn write_rows(
     Rendering::Written(left, bytes)
 }
 
-// Renders what nothing refuses before the run, or refuses it with 10.
+// Counts the bytes first, and renders the rows or refuses with 10.
+fn render_counted(
+    source: &[u8],
+    image: &[u8],
+    store: &mut [u32],
+    marks: &mut [u8],
+    out: &mut [u8],
+    state: RenderState,
+    stop: usize,
+    needed: usize,
+) -> Rendering
+    requires { ⌜ Passing (now source) (now image) state stop (now store) (now marks) × (needed ≡ marksNeeded (stop - state .row) (now store) (state .row)) ⌝ }
+    ensures { λ r. ⌜ Called (now (source .entry)) (now (image .entry)) state stop (now (store .entry)) (now (marks .entry)) (now (out .entry)) r (now (store .exit)) (now (marks .exit)) (now (out .exit)) ⌝ }
+{
+    let bytes = bytes_needed(source, image, store, marks, out, state, stop);
+    let size = bytes.0;
+    if out.len() < size {
+        return Rendering::Refused(10, size);
+    }
+    write_rows(source, image, store, marks, out, state, stop, needed)
+}
+
+// Renders what nothing refuses before the run, or refuses it with 10. Where a sum over the rows shows that the text has room, nothing is
+// counted.
 fn render_accepted(
     source: &[u8],
     image: &[u8],
@@ -218,16 +239,38 @@ fn render_accepted(
     out: &mut [u8],
     state: RenderState,
     stop: usize,
+    needed: usize,
 ) -> Rendering
-    requires { ⌜ Passing (now source) (now image) state stop (now store) (now marks) ⌝ }
+    requires { ⌜ Passing (now source) (now image) state stop (now store) (now marks) × (needed ≡ marksNeeded (stop - state .row) (now store) (state .row)) ⌝ }
     ensures { λ r. ⌜ Called (now (source .entry)) (now (image .entry)) state stop (now (store .entry)) (now (marks .entry)) (now (out .entry)) r (now (store .exit)) (now (marks .exit)) (now (out .exit)) ⌝ }
 {
-    let bytes = bytes_needed(source, image, store, marks, out, state, stop);
-    let needed = bytes.0;
-    if out.len() < needed {
-        return Rendering::Refused(10, needed);
+    let from = state.row;
+    let most = most_bytes(store, from, stop, state.indent + state.next_indent);
+    if most <= out.len() {
+        return write_rows(source, image, store, marks, out, state, stop, needed);
     }
-    write_rows(source, image, store, marks, out, state, stop)
+    render_counted(source, image, store, marks, out, state, stop, needed)
+}
+
+// A rendering call that 1, 3, 11 and 12 do not refuse.
+pub fn render_checked(
+    source: &[u8],
+    image: &[u8],
+    store: &mut [u32],
+    marks: &mut [u8],
+    out: &mut [u8],
+    state: RenderState,
+    stop: usize,
+) -> Rendering
+    requires { ⌜ Checked (now source) (now image) state stop (now store) (now marks) ⌝ }
+    ensures { λ r. ⌜ Called (now (source .entry)) (now (image .entry)) state stop (now (store .entry)) (now (marks .entry)) (now (out .entry)) r (now (store .exit)) (now (marks .exit)) (now (out .exit)) ⌝ }
+{
+    let from = state.row;
+    let needed = marks_needed(store, from, stop);
+    if marks.len() < needed {
+        return Rendering::Refused(9, needed);
+    }
+    render_accepted(source, image, store, marks, out, state, stop, needed)
 }
 
 // A rendering call: renders the rows from the state's next row up to `stop`.
@@ -244,6 +287,6 @@ pub fn render_call(
 {
     match refusal(source, image, store, marks, state, stop) {
         Verdict::Refused(number, place) => Rendering::Refused(number, place),
-        Verdict::Accepted => render_accepted(source, image, store, marks, out, state, stop),
+        Verdict::Accepted => render_checked(source, image, store, marks, out, state, stop),
     }
 }

@@ -3,7 +3,7 @@
 use Rattle.renderer.specs.Check.{wrongPlace}
 use mathlib.Core.Path.{sym, _∙_}
 use borrow.Author.Tests.{not-true, not-false}
-use Rattle.rendering.proofs.Tests.{found-wrong, found-right, stop-within}
+use Rattle.rendering.proofs.Tests.{found-wrong, found-right}
 use borrow.Author.Needs.{needs}
 use Rattle.rendering.proofs.refusal.Statement.{statement}
 use Rattle.rendering.proofs.refusal.Tie as tie
@@ -30,7 +30,7 @@ enum-told : tie.Need-enum-told
 enum-told c = search needs
 
 state-refusal-requires : tie.Need-state-refusal-requires
-state-refusal-requires c κs = stop-within (c .before .before .before .before .before .before .before .before .before .before .before .args .source .now) (c .before .before .before .before .before .before .before .before .before .before .before .args .image .now) (c .before .before .before .before .before .before .before .before .before .before .before .args .store .now) (c .before .before .before .before .before .before .before .before .before .before .before .args .state .row) (c .before .before .before .before .before .before .before .before .before .before .before .args .stop) (found-right (wrongPlace (c .before .before .before .before .before .before .before .before .before .before .before .args .source .now) (c .before .before .before .before .before .before .before .before .before .before .before .args .image .now) (c .before .before .before .before .before .before .before .before .before .before .before .args .store .now) (c .before .before .before .before .before .before .before .before .before .before .before .args .state .row) (c .before .before .before .before .before .before .before .before .before .before .before .args .stop)) (sym (c .before .before .check-rows .ensures) ∙ c .enum-told .given .1))
+state-refusal-requires c κs = search needs
 
 returns-3 : tie.Need-returns-3
 returns-3 c = simp (sym (c .before .before .before .before .before .before .before .source-fits .ensures) ∙ not-false _ (c .before .before .before .before .before .before .if1 .left), sym (c .before .before .before .before .before .header-fits .ensures) ∙ not-false _ (c .before .before .before .before .if2 .left), found-wrong (wrongPlace (c .before .before .before .before .before .before .before .before .before .before .before .before .args .source .now) (c .before .before .before .before .before .before .before .before .before .before .before .before .args .image .now) (c .before .before .before .before .before .before .before .before .before .before .before .before .args .store .now) (c .before .before .before .before .before .before .before .before .before .before .before .before .args .state .row) (c .before .before .before .before .before .before .before .before .before .before .before .before .args .stop)) _ (sym (c .before .before .before .check-rows .ensures) ∙ c .before .row .given .1))

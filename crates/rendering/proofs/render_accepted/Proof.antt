@@ -1,12 +1,20 @@
--- The dry run, and then 10 or the true run.
+-- The sum over the rows, and then the true run or the dry run first.
 -- Assumes nothing.
-use Rattle.rendering.proofs.Steps.{ends-ten, has-room, then-run}
+use mathlib.Core.Path.{refl}
+use native.Mathlib.Omega.{arith}
+use Rattle.rendering.proofs.Steps.{small-margin, sums-within, fits-most}
 use borrow.Author.Needs.{needs}
 use Rattle.rendering.proofs.render_accepted.Statement.{statement}
 use Rattle.rendering.proofs.render_accepted.Tie as tie
 
-bytes-needed-requires : tie.Need-bytes-needed-requires
-bytes-needed-requires c κs = search needs
+add-most-bytes : tie.Need-add-most-bytes
+add-most-bytes c = let w = small-margin _ _ _ _ _ _ (c .before .before .before .before .before .before .before .pre .0) in omega (arith, w .0, w .1)
+
+most-bytes-requires : tie.Need-most-bytes-requires
+most-bytes-requires c κs = sums-within _ _ _ _ _ _ (c .before .before .before .before .before .before .before .pre .0) _ refl
+
+write-rows-requires : tie.Need-write-rows-requires
+write-rows-requires c κs = (fits-most _ _ _ _ _ _ (c .before .before .before .before .before .before .before .before .before .before .before .before .pre .0) _ _ _ refl (c .before .before .before .before .most-bytes .ensures) (c .before .before .before .if1 .taken), c .before .before .before .before .before .before .before .before .before .before .before .before .pre .1)
 
 same-length : tie.Need-same-length
 same-length c = search needs
@@ -18,10 +26,10 @@ same-length-3 : tie.Need-same-length-3
 same-length-3 c = search needs
 
 returns : tie.Need-returns
-returns c = ends-ten _ _ _ _ _ _ (c .before .before .before .before .before .before .before .before .before .before .before .before .before .before .before .before .pre) _ _ _ _ _ (c .before .before .before .before .before .before .before .bytes-needed .ensures) (c .if1 .taken)
+returns c = search needs
 
-write-rows-requires : tie.Need-write-rows-requires
-write-rows-requires c κs = has-room _ _ _ _ _ _ (c .before .before .before .before .before .before .before .before .before .before .before .before .before .before .before .before .before .before .before .pre) _ _ _ _ _ (c .before .before .before .before .before .before .before .before .before .before .bytes-needed .ensures) (c .before .before .before .if1 .left)
+render-counted-requires : tie.Need-render-counted-requires
+render-counted-requires c κs = search needs
 
 same-length-4 : tie.Need-same-length-4
 same-length-4 c = search needs
@@ -33,18 +41,20 @@ same-length-6 : tie.Need-same-length-6
 same-length-6 c = search needs
 
 returns-2 : tie.Need-returns-2
-returns-2 c = then-run _ _ _ _ _ _ (c .before .before .before .before .before .before .before .before .before .before .before .before .before .before .before .before .before .before .before .before .before .before .before .before .pre) _ _ _ _ _ (c .before .before .before .before .before .before .before .before .before .before .before .before .before .before .before .bytes-needed .ensures) _ _ _ (c .before .before .before .before .write-rows .ensures)
+returns-2 c = search needs
 
 pub render-accepted-spec : {M : Type 1} → statement M
 render-accepted-spec =
     tie.close
     (tie.spec
-    bytes-needed-requires
+    add-most-bytes
+    most-bytes-requires
+    write-rows-requires
     same-length
     same-length-2
     same-length-3
     returns
-    write-rows-requires
+    render-counted-requires
     same-length-4
     same-length-5
     same-length-6

@@ -1,6 +1,6 @@
--- By the verdict of the tests before the run.
+-- By the verdict of the first tests.
 -- Assumes nothing.
-use Rattle.rendering.proofs.Steps.{passes-by, refused-by}
+use Rattle.rendering.proofs.Steps.{checked-by, refused-by}
 use borrow.Author.Needs.{needs}
 use Rattle.rendering.proofs.render_call.Statement.{statement}
 use Rattle.rendering.proofs.render_call.Tie as tie
@@ -14,8 +14,8 @@ enum-known-number c = search needs
 enum-told : tie.Need-enum-told
 enum-told c = search needs
 
-render-accepted-requires : tie.Need-render-accepted-requires
-render-accepted-requires c κs = passes-by _ _ _ _ _ _ _ (c .before .before .before .before .before .refusal .ensures) (c .before .before .before .enum-told .given .1)
+render-checked-requires : tie.Need-render-checked-requires
+render-checked-requires c κs = checked-by _ _ _ _ _ _ _ (c .before .before .before .before .before .refusal .ensures) (c .before .before .before .enum-told .given .1)
 
 same-length : tie.Need-same-length
 same-length c = search needs
@@ -45,7 +45,7 @@ render-call-spec =
     refusal-requires
     enum-known-number
     enum-told
-    render-accepted-requires
+    render-checked-requires
     same-length
     same-length-2
     returns

@@ -1,6 +1,6 @@
 -- The laws of the true run, step by step.
 -- Assumes nothing.
-use Rattle.rendering.proofs.Steps.{rows-ahead, marks-within, run-starts, run-ends}
+use Rattle.rendering.proofs.Steps.{marks-within, run-starts, run-ends}
 use borrow.Author.Needs.{needs}
 use Rattle.rendering.proofs.write_rows.Statement.{statement}
 use Rattle.rendering.proofs.write_rows.Tie as tie
@@ -8,14 +8,11 @@ use Rattle.rendering.proofs.write_rows.Tie as tie
 start-pen-requires : tie.Need-start-pen-requires
 start-pen-requires c κs = search needs
 
-marks-needed-requires : tie.Need-marks-needed-requires
-marks-needed-requires c κs = rows-ahead _ _ _ _ _ _ (c .before .before .before .before .before .before .pre .passing)
-
 clear-marks-requires : tie.Need-clear-marks-requires
-clear-marks-requires c κs = marks-within _ _ _ _ _ _ _ (c .before .before .before .before .before .before .before .before .pre) _ (c .before .marks-needed .ensures)
+clear-marks-requires c κs = marks-within _ _ _ _ _ _ _ (c .before .before .before .before .before .before .before .pre .0) _ (c .before .before .before .before .before .before .before .pre .1)
 
 run-rows-requires : tie.Need-run-rows-requires
-run-rows-requires c κs = run-starts _ _ _ _ _ _ _ (c .before .before .before .before .before .before .before .before .before .before .before .before .before .pre) _ (c .before .before .before .before .before .before .before .start-pen .ensures)
+run-rows-requires c κs = run-starts _ _ _ _ _ _ _ (c .before .before .before .before .before .before .before .before .before .before .before .before .pre .0) _ (c .before .before .before .before .before .before .start-pen .ensures)
 
 larger-requires : tie.Need-larger-requires
 larger-requires c κs = search needs
@@ -27,14 +24,13 @@ same-length-2 : tie.Need-same-length-2
 same-length-2 c = search needs
 
 returns : tie.Need-returns
-returns c = run-ends _ _ _ _ _ _ _ (c .before .before .before .before .before .before .before .before .before .before .before .before .before .before .before .before .before .before .before .before .before .pre) _ _ (c .before .before .before .before .before .before .before .before .before .before .before .before .before .before .before .start-pen .ensures) _ (c .before .before .before .before .before .before .before .before .before .before .before .before .before .before .marks-needed .ensures) _ (c .before .before .before .before .before .before .before .before .before .before .before .before .clear-marks .ensures) _ _ (c .before .before .before .before .before .before .before .run-rows .ensures) _ (c .larger .ensures)
+returns c = run-ends _ _ _ _ _ _ _ (c .before .before .before .before .before .before .before .before .before .before .before .before .before .before .before .before .before .before .before .before .pre .0) _ _ (c .before .before .before .before .before .before .before .before .before .before .before .before .before .before .start-pen .ensures) _ (c .before .before .before .before .before .before .before .before .before .before .before .before .before .before .before .before .before .before .before .before .pre .1) _ (c .before .before .before .before .before .before .before .before .before .before .before .before .clear-marks .ensures) _ _ (c .before .before .before .before .before .before .before .run-rows .ensures) _ (c .larger .ensures)
 
 pub write-rows-spec : {M : Type 1} → statement M
 write-rows-spec =
     tie.close
     (tie.spec
     start-pen-requires
-    marks-needed-requires
     clear-marks-requires
     run-rows-requires
     larger-requires

