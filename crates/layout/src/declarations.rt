@@ -13,11 +13,10 @@ ghost use Rattle.layout.specs.Forms.{two, three, four, five, OfDeclarati
 ghost use Rattle.layout.specs.Forms.{MaybeTypeAt, MaybeIdentAt, declarationsFrom};
 use crate::block;
 use crate::expr;
-use crate::import;
+use crate::item;
 use crate::kinds::BOTTOM;
 use crate::kinds::Element;
 use crate::kinds::WrapStyle;
-use crate::list;
 use crate::numbers::HEAD;
 use crate::numbers::is_absent;
 use crate::numbers::kind;
@@ -26,6 +25,7 @@ use crate::numbers::second;
 use crate::numbers::start;
 use crate::numbers::third;
 use crate::paths::ident;
+use crate::seq;
 use crate::type_expr;
 use comments::pop_whitespace;
 use image::bytes::num16;
@@ -105,7 +105,7 @@ fn type_params(store: &mut [u32], c: Cursor, s: &[u8], b: &[u8], at: usize) -> C
     if at + HEAD == past(b, at) {
         return c;
     }
-    list(
+    seq(
         store,
         c,
         s,
@@ -139,7 +139,7 @@ fn filter_map(store: &mut [u32], c: Cursor, s: &[u8], b: &[u8], at: usize, first
     let p = second(b, at);
     let q = third(b, at);
     let d = declares(store, c, s, b, at + HEAD, FILTERMAP, first);
-    let e = list(
+    let e = seq(
         store,
         d,
         s,
@@ -178,7 +178,7 @@ fn decl_record(store: &mut [u32], c: Cursor, s: &[u8], b: &[u8], at: usize, firs
     let d = declares(store, c, s, b, at + HEAD, RECORD, first);
     let e = type_params(store, d, s, b, p);
     let f = word(store, e, SPACE);
-    list(
+    seq(
         store,
         f,
         s,
@@ -201,7 +201,7 @@ fn decl_enum(store: &mut [u32], c: Cursor, s: &[u8], b: &[u8], at: usize, first:
     let d = declares(store, c, s, b, at + HEAD, ENUM, first);
     let e = type_params(store, d, s, b, p);
     let f = word(store, e, SPACE);
-    list(
+    seq(
         store,
         f,
         s,
@@ -222,7 +222,7 @@ fn function(store: &mut [u32], c: Cursor, s: &[u8], b: &[u8], at: usize, first: 
     let p = second(b, at);
     let q = third(b, at);
     let d = declares(store, c, s, b, at + HEAD, FN, first);
-    let e = list(
+    let e = seq(
         store,
         d,
         s,
@@ -255,7 +255,7 @@ fn decl_import(store: &mut [u32], c: Cursor, s: &[u8], b: &[u8], at: usize, firs
 {
     let d = opening(store, c, s, b, start(b, at), first);
     let e = word(store, d, IMPORT);
-    let f = import(store, e, s, b, at);
+    let f = item(store, e, s, b, at);
     word(store, f, SEMICOLON)
 }
 

@@ -1,4 +1,5 @@
-// The layout functions: `State` of fmt.rs from `separated` on. They call each other, and the record's length falls at each call.
+// The layout functions: `State` of fmt.rs from `separated` on. They call each other, and the record's length falls at each call. Their
+// names are short because the check joins the names of all of them to one (docs/PROOF-NOTES.md).
 mod blocks;
 mod chains;
 pub mod declarations;
@@ -121,7 +122,7 @@ fn separated(
     ensures { λ r. ⌜ LaidList k left right commas style end (now (s .entry)) (now (b .entry)) at (now (store .entry)) c (now (store .exit)) r ⌝ }
 {
     let g = open_group(store, c);
-    let d = inside(
+    let d = core(
         store,
         g,
         s,
@@ -140,7 +141,7 @@ fn separated(
 }
 
 // `separated` inside its group, which has the number id.
-fn inside(
+fn core(
     store: &mut [u32],
     c: Cursor,
     s: &[u8],
@@ -171,7 +172,7 @@ fn inside(
 }
 
 // `separated` over the span of the list itself.
-fn list(
+fn seq(
     store: &mut [u32],
     c: Cursor,
     s: &[u8],
@@ -224,8 +225,8 @@ fn elem(store: &mut [u32], c: Cursor, s: &[u8], b: &[u8], at: usize, k: Element)
     match k {
         Element::Ident => ident(store, c, s, b, at),
         Element::Type => type_expr(store, c, s, b, at),
-        Element::Field => field(store, c, s, b, at),
-        Element::Import => import(store, c, s, b, at),
+        Element::Field => param(store, c, s, b, at),
+        Element::Import => item(store, c, s, b, at),
         Element::Expr => expr(store, c, s, b, at, BOTTOM),
         Element::Grouped => {
             let g = open_group(store, c);
@@ -233,9 +234,9 @@ fn elem(store: &mut [u32], c: Cursor, s: &[u8], b: &[u8], at: usize, k: Element)
             close(store, c.row, d);
             d
         }
-        Element::Entry => entry(store, c, s, b, at),
+        Element::Entry => pair(store, c, s, b, at),
         Element::Arm => arm(store, c, s, b, at),
-        Element::Variant => variant(store, c, s, b, at),
+        Element::Variant => ctor(store, c, s, b, at),
     }
 }
 
@@ -248,10 +249,10 @@ fn type_expr(store: &mut [u32], c: Cursor, s: &[u8], b: &[u8], at: usize) -> Cur
             let d = type_expr(store, c, s, b, at + HEAD);
             word(store, d, QUESTION)
         }
-        41 => type_path(store, c, s, b, at),
+        41 => ty(store, c, s, b, at),
         42 => word(store, c, NOT),
         43 => word(store, c, UNIT),
-        _ => list(
+        _ => seq(
             store,
             c,
             s,
@@ -267,7 +268,7 @@ fn type_expr(store: &mut [u32], c: Cursor, s: &[u8], b: &[u8], at: usize) -> Cur
 }
 
 // A path as a type, with its arguments.
-fn type_path(store: &mut [u32], c: Cursor, s: &[u8], b: &[u8], at: usize) -> Cursor
+fn ty(store: &mut [u32], c: Cursor, s: &[u8], b: &[u8], at: usize) -> Cursor
     requires { ⌜ Has (OfType (two typePath)) (now s) (now b) at ⌝ }
     ensures { λ r. ⌜ LaidAs (OfType (two typePath)) (typeRule (two typePath)) (now (s .entry)) (now (b .entry)) at (now (store .entry)) c (now (store .exit)) r ⌝ }
 {
@@ -276,7 +277,7 @@ fn type_path(store: &mut [u32], c: Cursor, s: &[u8], b: &[u8], at: usize) -> Cur
     if is_absent(b, p) {
         return d;
     }
-    list(
+    seq(
         store,
         d,
         s,
@@ -291,7 +292,7 @@ fn type_path(store: &mut [u32], c: Cursor, s: &[u8], b: &[u8], at: usize) -> Cur
 }
 
 // A parameter, or a field of a record type.
-fn field(store: &mut [u32], c: Cursor, s: &[u8], b: &[u8], at: usize) -> Cursor
+fn param(store: &mut [u32], c: Cursor, s: &[u8], b: &[u8], at: usize) -> Cursor
     requires { ⌜ Has FieldAt (now s) (now b) at ⌝ }
     ensures { λ r. ⌜ LaidAs FieldAt fieldRule (now (s .entry)) (now (b .entry)) at (now (store .entry)) c (now (store .exit)) r ⌝ }
 {
@@ -302,7 +303,7 @@ fn field(store: &mut [u32], c: Cursor, s: &[u8], b: &[u8], at: usize) -> Cursor
 }
 
 // A variant of an enum. The span of its types ends with the last of them.
-fn variant(store: &mut [u32], c: Cursor, s: &[u8], b: &[u8], at: usize) -> Cursor
+fn ctor(store: &mut [u32], c: Cursor, s: &[u8], b: &[u8], at: usize) -> Cursor
     requires { ⌜ Has VariantAt (now s) (now b) at ⌝ }
     ensures { λ r. ⌜ LaidAs VariantAt variantRule (now (s .entry)) (now (b .entry)) at (now (store .entry)) c (now (store .exit)) r ⌝ }
 {
@@ -328,18 +329,19 @@ fn variant(store: &mut [u32], c: Cursor, s: &[u8], b: &[u8], at: usize) -> Curso
     )
 }
 
-fn import(store: &mut [u32], c: Cursor, s: &[u8], b: &[u8], at: usize) -> Cursor
+// `import_path`: a path, a group of imports, or both.
+fn item(store: &mut [u32], c: Cursor, s: &[u8], b: &[u8], at: usize) -> Cursor
     requires { ⌜ Has ImportAt (now s) (now b) at ⌝ }
     ensures { λ r. ⌜ LaidAs ImportAt importPath (now (s .entry)) (now (b .entry)) at (now (store .entry)) c (now (store .exit)) r ⌝ }
 {
     let p = second(b, at);
     let d = import_first(store, c, s, b, at + HEAD);
     let e = import_dot(store, d, b, at + HEAD, p);
-    group(store, e, s, b, p)
+    items(store, e, s, b, p)
 }
 
 // The group of an import: one item loses its braces.
-fn group(store: &mut [u32], c: Cursor, s: &[u8], b: &[u8], at: usize) -> Cursor
+fn items(store: &mut [u32], c: Cursor, s: &[u8], b: &[u8], at: usize) -> Cursor
     requires { ⌜ Has ImportGroupAt (now s) (now b) at ⌝ }
     ensures { λ r. ⌜ LaidAs ImportGroupAt importGroup (now (s .entry)) (now (b .entry)) at (now (store .entry)) c (now (store .exit)) r ⌝ }
 {
@@ -347,9 +349,9 @@ fn group(store: &mut [u32], c: Cursor, s: &[u8], b: &[u8], at: usize) -> Cursor
         return c;
     }
     if is_single(b, at) {
-        return import(store, c, s, b, at + HEAD);
+        return item(store, c, s, b, at + HEAD);
     }
-    list(
+    seq(
         store,
         c,
         s,
@@ -364,7 +366,7 @@ fn group(store: &mut [u32], c: Cursor, s: &[u8], b: &[u8], at: usize) -> Cursor
 }
 
 // A field of a record.
-fn entry(store: &mut [u32], c: Cursor, s: &[u8], b: &[u8], at: usize) -> Cursor
+fn pair(store: &mut [u32], c: Cursor, s: &[u8], b: &[u8], at: usize) -> Cursor
     requires { ⌜ Has EntryAt (now s) (now b) at ⌝ }
     ensures { λ r. ⌜ LaidAs EntryAt entryRule (now (s .entry)) (now (b .entry)) at (now (store .entry)) c (now (store .exit)) r ⌝ }
 {
@@ -381,14 +383,15 @@ fn arm(store: &mut [u32], c: Cursor, s: &[u8], b: &[u8], at: usize) -> Cursor
 {
     let p = second(b, at);
     let q = third(b, at);
-    let d = pattern(store, c, s, b, at + HEAD);
-    let e = maybe(store, d, s, b, p, GUARD);
+    let d = pat(store, c, s, b, at + HEAD);
+    let e = opt(store, d, s, b, p, GUARD);
     let f = word(store, e, FAT_ARROW);
     let g = expr(store, f, s, b, q, BOTTOM);
     arm_comma(store, g, b, q)
 }
 
-fn pattern(store: &mut [u32], c: Cursor, s: &[u8], b: &[u8], at: usize) -> Cursor
+// A pattern of a match.
+fn pat(store: &mut [u32], c: Cursor, s: &[u8], b: &[u8], at: usize) -> Cursor
     requires { ⌜ Has PatternAt (now s) (now b) at ⌝ }
     ensures { λ r. ⌜ LaidAs PatternAt pattern (now (s .entry)) (now (b .entry)) at (now (store .entry)) c (now (store .exit)) r ⌝ }
 {
@@ -400,7 +403,7 @@ fn pattern(store: &mut [u32], c: Cursor, s: &[u8], b: &[u8], at: usize) -> Curso
     if is_absent(b, p) {
         return d;
     }
-    list(
+    seq(
         store,
         d,
         s,
@@ -432,11 +435,11 @@ fn form(store: &mut [u32], c: Cursor, s: &[u8], b: &[u8], at: usize, outer: usiz
         50 => ret(store, c, s, b, at),
         51 => literal(store, c, s, b, at + HEAD),
         52 => block(store, c, s, b, at + HEAD),
-        53 => match_on(store, c, s, b, at),
+        53 => cases(store, c, s, b, at),
         54 => call(store, c, s, b, at, outer),
         55 => access(store, c, s, b, at, outer),
         56 => path(store, c, s, b, at + HEAD, outer < CHAIN, true),
-        57 => list(
+        57 => seq(
             store,
             c,
             s,
@@ -448,7 +451,7 @@ fn form(store: &mut [u32], c: Cursor, s: &[u8], b: &[u8], at: usize, outer: usiz
             true,
             WrapStyle::Spaced,
         ),
-        58 => typed(store, c, s, b, at),
+        58 => rec(store, c, s, b, at),
         59 => separated(
             store,
             c,
@@ -462,31 +465,31 @@ fn form(store: &mut [u32], c: Cursor, s: &[u8], b: &[u8], at: usize, outer: usiz
             true,
             WrapStyle::Tight,
         ),
-        60 => after(store, c, s, b, at + HEAD, NOT, UNIT_PRECEDENCE),
+        60 => then(store, c, s, b, at + HEAD, NOT, UNIT_PRECEDENCE),
         61 => {
             let d = path(store, c, s, b, at + HEAD, true, true);
-            after(store, d, s, b, second(b, at), ASSIGN, BOTTOM)
+            then(store, d, s, b, second(b, at), ASSIGN, BOTTOM)
         }
         62 => {
             let d = path(store, c, s, b, at + HEAD, true, true);
-            after(store, d, s, b, third(b, at), assign_word(b, at), BOTTOM)
+            then(store, d, s, b, third(b, at), assign_word(b, at), BOTTOM)
         }
         63 => binop(store, c, s, b, at),
-        64 => after(store, c, s, b, at + HEAD, MINUS, BOTTOM),
-        65 => ifelse(store, c, s, b, at),
-        66 => clause(store, c, s, b, at + HEAD, WHILE),
-        67 => for_in(store, c, s, b, at),
+        64 => then(store, c, s, b, at + HEAD, MINUS, BOTTOM),
+        65 => alt(store, c, s, b, at),
+        66 => cond(store, c, s, b, at + HEAD, WHILE),
+        67 => each(store, c, s, b, at),
         68 => {
             let d = expr(store, c, s, b, at + HEAD, outer);
             word(store, d, QUESTION)
         }
         69 => fstr(store, c, s, b, at),
-        _ => parens(store, c, s, b, at),
+        _ => par(store, c, s, b, at),
     }
 }
 
 // A word, and then the expression at `at`.
-fn after(
+fn then(
     store: &mut [u32],
     c: Cursor,
     s: &[u8],
@@ -503,18 +506,18 @@ fn after(
 }
 
 // The same, where the expression is there.
-fn maybe(store: &mut [u32], c: Cursor, s: &[u8], b: &[u8], at: usize, k: usize) -> Cursor
+fn opt(store: &mut [u32], c: Cursor, s: &[u8], b: &[u8], at: usize, k: usize) -> Cursor
     requires { ⌜ Has MaybeExprAt (now s) (now b) at ⌝ }
     ensures { λ r. ⌜ LaidAs MaybeExprAt (maybeAfter k) (now (s .entry)) (now (b .entry)) at (now (store .entry)) c (now (store .exit)) r ⌝ }
 {
     if is_absent(b, at) {
         return c;
     }
-    after(store, c, s, b, at, k, BOTTOM)
+    then(store, c, s, b, at, k, BOTTOM)
 }
 
 // The condition of `if`, `while` and `for`, after its word, and the block after it.
-fn clause(store: &mut [u32], c: Cursor, s: &[u8], b: &[u8], at: usize, k: usize) -> Cursor
+fn cond(store: &mut [u32], c: Cursor, s: &[u8], b: &[u8], at: usize, k: usize) -> Cursor
     requires { ⌜ Has ClauseAt (now s) (now b) at ⌝ }
     ensures { λ r. ⌜ LaidAs ClauseAt (clauseRule k) (now (s .entry)) (now (b .entry)) at (now (store .entry)) c (now (store .exit)) r ⌝ }
 {
@@ -535,10 +538,11 @@ fn ret(store: &mut [u32], c: Cursor, s: &[u8], b: &[u8], at: usize) -> Cursor
 {
     let k = payload(b, at);
     let d = word(store, c, RETURN + k);
-    maybe(store, d, s, b, at + 14, SPACE)
+    opt(store, d, s, b, at + 14, SPACE)
 }
 
-fn match_on(store: &mut [u32], c: Cursor, s: &[u8], b: &[u8], at: usize) -> Cursor
+// `match`: the expression and its arms.
+fn cases(store: &mut [u32], c: Cursor, s: &[u8], b: &[u8], at: usize) -> Cursor
     requires { ⌜ Has (Of (three match′)) (now s) (now b) at ⌝ }
     ensures { λ r. ⌜ LaidAs (Of (three match′)) (formRule (three match′) 0) (now (s .entry)) (now (b .entry)) at (now (store .entry)) c (now (store .exit)) r ⌝ }
 {
@@ -546,7 +550,7 @@ fn match_on(store: &mut [u32], c: Cursor, s: &[u8], b: &[u8], at: usize) -> Curs
     let d = word(store, c, MATCH);
     let e = expr(store, d, s, b, at + HEAD, BOTTOM);
     let f = word(store, e, SPACE);
-    list(
+    seq(
         store,
         f,
         s,
@@ -569,7 +573,7 @@ fn call(store: &mut [u32], c: Cursor, s: &[u8], b: &[u8], at: usize, outer: usiz
     if outer < CHAIN {
         let i = open_call(store, c);
         let d = expr(store, i, s, b, at + HEAD, CHAIN);
-        let e = list(
+        let e = seq(
             store,
             d,
             s,
@@ -586,7 +590,7 @@ fn call(store: &mut [u32], c: Cursor, s: &[u8], b: &[u8], at: usize, outer: usiz
         return e;
     }
     let d = expr(store, c, s, b, at + HEAD, CHAIN);
-    list(
+    seq(
         store,
         d,
         s,
@@ -600,6 +604,7 @@ fn call(store: &mut [u32], c: Cursor, s: &[u8], b: &[u8], at: usize, outer: usiz
     )
 }
 
+// `access`: a field of an expression.
 fn access(store: &mut [u32], c: Cursor, s: &[u8], b: &[u8], at: usize, outer: usize) -> Cursor
     requires { ⌜ Has (Of (two access)) (now s) (now b) at ⌝ }
     ensures { λ r. ⌜ LaidAs (Of (two access)) (formRule (two access) outer) (now (s .entry)) (now (b .entry)) at (now (store .entry)) c (now (store .exit)) r ⌝ }
@@ -619,14 +624,14 @@ fn access(store: &mut [u32], c: Cursor, s: &[u8], b: &[u8], at: usize, outer: us
 }
 
 // A record after its type's path.
-fn typed(store: &mut [u32], c: Cursor, s: &[u8], b: &[u8], at: usize) -> Cursor
+fn rec(store: &mut [u32], c: Cursor, s: &[u8], b: &[u8], at: usize) -> Cursor
     requires { ⌜ Has (Of (three typedRecord)) (now s) (now b) at ⌝ }
     ensures { λ r. ⌜ LaidAs (Of (three typedRecord)) (formRule (three typedRecord) 0) (now (s .entry)) (now (b .entry)) at (now (store .entry)) c (now (store .exit)) r ⌝ }
 {
     let p = second(b, at);
     let d = path(store, c, s, b, at + HEAD, true, true);
     let e = word(store, d, SPACE);
-    list(
+    seq(
         store,
         e,
         s,
@@ -684,12 +689,13 @@ fn tail(
     d
 }
 
-fn ifelse(store: &mut [u32], c: Cursor, s: &[u8], b: &[u8], at: usize) -> Cursor
+// `if`, with `else` where it is there.
+fn alt(store: &mut [u32], c: Cursor, s: &[u8], b: &[u8], at: usize) -> Cursor
     requires { ⌜ Has (Of (three ifElse)) (now s) (now b) at ⌝ }
     ensures { λ r. ⌜ LaidAs (Of (three ifElse)) (formRule (three ifElse) 0) (now (s .entry)) (now (b .entry)) at (now (store .entry)) c (now (store .exit)) r ⌝ }
 {
     let p = third(b, at);
-    let d = clause(store, c, s, b, at + HEAD, IF);
+    let d = cond(store, c, s, b, at + HEAD, IF);
     if is_absent(b, p) {
         return d;
     }
@@ -697,14 +703,15 @@ fn ifelse(store: &mut [u32], c: Cursor, s: &[u8], b: &[u8], at: usize) -> Cursor
     block(store, e, s, b, p)
 }
 
-fn for_in(store: &mut [u32], c: Cursor, s: &[u8], b: &[u8], at: usize) -> Cursor
+// `for`
+fn each(store: &mut [u32], c: Cursor, s: &[u8], b: &[u8], at: usize) -> Cursor
     requires { ⌜ Has (Of (three for)) (now s) (now b) at ⌝ }
     ensures { λ r. ⌜ LaidAs (Of (three for)) (formRule (three for) 0) (now (s .entry)) (now (b .entry)) at (now (store .entry)) c (now (store .exit)) r ⌝ }
 {
     let p = second(b, at);
     let d = word(store, c, FOR);
     let e = ident(store, d, s, b, at + HEAD);
-    clause(store, e, s, b, p, IN)
+    cond(store, e, s, b, p, IN)
 }
 
 // An f-string.
@@ -732,6 +739,7 @@ fn parts(store: &mut [u32], c: Cursor, s: &[u8], b: &[u8], from: usize, to: usiz
     d
 }
 
+// A part of an f-string: text, or an expression in braces.
 fn part(store: &mut [u32], c: Cursor, s: &[u8], b: &[u8], at: usize) -> Cursor
     requires { ⌜ Has PartAt (now s) (now b) at ⌝ }
     ensures { λ r. ⌜ LaidAs PartAt partRule (now (s .entry)) (now (b .entry)) at (now (store .entry)) c (now (store .exit)) r ⌝ }
@@ -744,7 +752,8 @@ fn part(store: &mut [u32], c: Cursor, s: &[u8], b: &[u8], at: usize) -> Cursor
     word(store, e, BRACE_CLOSE)
 }
 
-fn parens(store: &mut [u32], c: Cursor, s: &[u8], b: &[u8], at: usize) -> Cursor
+// An expression in parentheses.
+fn par(store: &mut [u32], c: Cursor, s: &[u8], b: &[u8], at: usize) -> Cursor
     requires { ⌜ Has (Of parentheses) (now s) (now b) at ⌝ }
     ensures { λ r. ⌜ LaidAs (Of parentheses) (formRule parentheses 0) (now (s .entry)) (now (b .entry)) at (now (store .entry)) c (now (store .exit)) r ⌝ }
 {
@@ -823,7 +832,7 @@ fn stmt(store: &mut [u32], c: Cursor, s: &[u8], b: &[u8], at: usize) -> Cursor
         30 => bind(store, c, s, b, at),
         31 => {
             let d = word(store, c, IMPORT);
-            let e = import(store, d, s, b, at + HEAD);
+            let e = item(store, d, s, b, at + HEAD);
             word(store, e, SEMICOLON)
         }
         _ => {
@@ -836,6 +845,7 @@ fn stmt(store: &mut [u32], c: Cursor, s: &[u8], b: &[u8], at: usize) -> Cursor
     }
 }
 
+// `let`
 fn bind(store: &mut [u32], c: Cursor, s: &[u8], b: &[u8], at: usize) -> Cursor
     requires { ⌜ Has LetAt (now s) (now b) at ⌝ }
     ensures { λ r. ⌜ LaidAs LetAt letRule (now (s .entry)) (now (b .entry)) at (now (store .entry)) c (now (store .exit)) r ⌝ }
@@ -844,14 +854,14 @@ fn bind(store: &mut [u32], c: Cursor, s: &[u8], b: &[u8], at: usize) -> Cursor
     let q = third(b, at);
     let d = word(store, c, LET);
     let e = ident(store, d, s, b, at + HEAD);
-    let f = colon(store, e, s, b, p);
+    let f = ann(store, e, s, b, p);
     let g = word(store, f, ASSIGN);
     let h = expr(store, g, s, b, q, BOTTOM);
     word(store, h, SEMICOLON)
 }
 
 // The type of a `let`, where it is there.
-fn colon(store: &mut [u32], c: Cursor, s: &[u8], b: &[u8], at: usize) -> Cursor
+fn ann(store: &mut [u32], c: Cursor, s: &[u8], b: &[u8], at: usize) -> Cursor
     requires { ⌜ Has MaybeTypeAt (now s) (now b) at ⌝ }
     ensures { λ r. ⌜ LaidAs MaybeTypeAt letType (now (s .entry)) (now (b .entry)) at (now (store .entry)) c (now (store .exit)) r ⌝ }
 {

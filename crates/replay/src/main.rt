@@ -130,6 +130,7 @@ fn main() {
     let n = io::read_full(STDIN_FILENO, &mut input);
     if n == 4194304 {
         io::write_all(STDOUT_FILENO, b"the answers have no room\n");
+        return;
     }
     replay(&input[..n]);
 }

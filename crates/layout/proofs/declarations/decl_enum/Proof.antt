@@ -10,7 +10,7 @@ use Rattle.layout.proofs.declarations.decl_enum.Reads as reads
 use Rattle.layout.proofs.declarations.decl_enum.Lts as lts
 use Rattle.layout.proofs.declarations.declares.Reads as declares-reads
 use Rattle.layout.proofs.declarations.type_params.Reads as type-params-reads
-use Rattle.layout.proofs.list.Reads as list-reads
+use Rattle.layout.proofs.seq.Reads as seq-reads
 use Rattle.layout.proofs.numbers.second.Reads as second-reads
 use Rattle.layout.proofs.numbers.third.Reads as third-reads
 use Rattle.state.proofs.words.word.Reads as word-reads
@@ -44,9 +44,9 @@ word-requires : tie.Need-word-requires
 word-requires c κs = search needs
 
 -- src/declarations.rt:175:5
-list-requires : tie.Need-list-requires
+seq-requires : tie.Need-seq-requires
 unfolding DeclarationAt
-list-requires c κs = rw (c .before .before .before .before .before .before .before .before .before .before .before .before .before .third .ensures)
+seq-requires c κs = rw (c .before .before .before .before .before .before .before .before .before .before .before .before .before .third .ensures)
     (record {
       accepted = c .before .before .before .before .before .before .before .before .before .before .before .before .before .before .before .before .before .before .pre .accepted;
       tree = rules.variantElems _ (c .before .before .before .before .before .before .before .before .before .before .before .before .before .before .before .before .before .before .pre .tree .3);
@@ -60,7 +60,7 @@ same-length c = search needs
 -- src/declarations.rt:166:1
 returns : tie.Need-returns
 unfolding DeclarationAt rules.declaration
-returns c = let l = rw (c .before .before .before .before .before .before .before .before .before .before .before .before .before .before .before .before .third .ensures) at (c .before .before .list .ensures) in
+returns c = let l = rw (c .before .before .before .before .before .before .before .before .before .before .before .before .before .before .before .before .third .ensures) at (c .before .before .seq .ensures) in
     record {
       of =
           λ x a.
@@ -79,6 +79,6 @@ decl-enum-spec =
     declares-requires
     type-params-requires
     word-requires
-    list-requires
+    seq-requires
     same-length
     returns)

@@ -8,7 +8,7 @@ use Rattle.layout.proofs.declarations.decl_import.Tie as tie
 use Rattle.layout.proofs.declarations.decl_import.Reads as reads
 use Rattle.layout.proofs.declarations.decl_import.Lts as lts
 use Rattle.layout.proofs.declarations.opening.Reads as opening-reads
-use Rattle.layout.proofs.import.Reads as import-reads
+use Rattle.layout.proofs.item.Reads as item-reads
 use Rattle.layout.proofs.numbers.start.Reads as start-reads
 use Rattle.state.proofs.words.word.Reads as word-reads
 
@@ -26,9 +26,9 @@ word-requires : tie.Need-word-requires
 word-requires c κs = search needs
 
 -- src/declarations.rt:207:9
-import-requires : tie.Need-import-requires
+item-requires : tie.Need-item-requires
 unfolding DeclarationAt
-import-requires c κs = record { accepted = c .before .before .before .before .before .before .before .before .before .before .before .before .before .pre .accepted; tree = c .before .before .before .before .before .before .before .before .before .before .before .before .before .pre .tree; held = c .before .before .before .before .before .before .before .before .before .before .before .before .before .pre .held }
+item-requires c κs = record { accepted = c .before .before .before .before .before .before .before .before .before .before .before .before .before .pre .accepted; tree = c .before .before .before .before .before .before .before .before .before .before .before .before .before .pre .tree; held = c .before .before .before .before .before .before .before .before .before .before .before .before .before .pre .held }
 
 -- src/declarations.rt:208:5
 word-requires-2 : tie.Need-word-requires-2
@@ -45,7 +45,7 @@ returns c = record {
   of =
       λ x a.
       rw (← (import-start _ _ _ x a), ← (c .before .before .before .before .before .before .before .before .before .before .before .before .before .before .before .start .ensures))
-      (laid-then (c .before .before .before .before .before .before .before .before .before .before .before .before .before .before .opening .ensures) (laid-then (c .before .before .before .before .before .before .before .before .before .before .word .ensures) (laid-then (c .before .before .before .before .before .before .import .ensures .of x a) (c .before .before .word2 .ensures))));
+      (laid-then (c .before .before .before .before .before .before .before .before .before .before .before .before .before .before .opening .ensures) (laid-then (c .before .before .before .before .before .before .before .before .before .before .word .ensures) (laid-then (c .before .before .before .before .before .before .item .ensures .of x a) (c .before .before .word2 .ensures))));
 }
 
 pub decl-import-spec : {M : Type 1} → statement M
@@ -55,7 +55,7 @@ decl-import-spec =
     start-requires
     opening-requires
     word-requires
-    import-requires
+    item-requires
     word-requires-2
     same-length
     returns)

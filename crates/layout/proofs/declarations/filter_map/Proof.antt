@@ -10,7 +10,7 @@ use Rattle.layout.proofs.declarations.filter_map.Reads as reads
 use Rattle.layout.proofs.declarations.filter_map.Lts as lts
 use Rattle.layout.proofs.block.Reads as block-reads
 use Rattle.layout.proofs.declarations.declares.Reads as declares-reads
-use Rattle.layout.proofs.list.Reads as list-reads
+use Rattle.layout.proofs.seq.Reads as seq-reads
 use Rattle.layout.proofs.numbers.second.Reads as second-reads
 use Rattle.layout.proofs.numbers.third.Reads as third-reads
 use Rattle.state.proofs.words.word.Reads as word-reads
@@ -35,9 +35,9 @@ unfolding DeclarationAt
 declares-requires c κs = record { accepted = c .before .before .before .before .before .before .pre .accepted; tree = c .before .before .before .before .before .before .pre .tree .0; held = c .before .before .before .before .before .before .pre .held .1 }
 
 -- src/declarations.rt:135:9
-list-requires : tie.Need-list-requires
+seq-requires : tie.Need-seq-requires
 unfolding DeclarationAt
-list-requires c κs = rw (c .before .before .before .before .before .before .second .ensures)
+seq-requires c κs = rw (c .before .before .before .before .before .before .second .ensures)
     (record {
       accepted = c .before .before .before .before .before .before .before .before .before .before .pre .accepted;
       tree = rules.fieldElems _ (c .before .before .before .before .before .before .before .before .before .before .pre .tree .2);
@@ -60,7 +60,7 @@ same-length c = search needs
 -- src/declarations.rt:128:1
 returns : tie.Need-returns
 unfolding DeclarationAt rules.declaration rules.params
-returns c = let l = rw (c .before .before .before .before .before .before .before .before .before .before .before .before .before .before .before .before .before .second .ensures) at (c .before .before .before .before .before .before .before .before .before .before .list .ensures) in
+returns c = let l = rw (c .before .before .before .before .before .before .before .before .before .before .before .before .before .before .before .before .before .second .ensures) at (c .before .before .before .before .before .before .before .before .before .before .seq .ensures) in
     record {
       of =
           λ x a.
@@ -77,7 +77,7 @@ filter-map-spec =
     third-requires
     add-declares
     declares-requires
-    list-requires
+    seq-requires
     word-requires
     block-requires
     same-length

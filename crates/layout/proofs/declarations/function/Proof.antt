@@ -12,7 +12,7 @@ use Rattle.layout.proofs.declarations.function.Lts as lts
 use Rattle.layout.proofs.block.Reads as block-reads
 use Rattle.layout.proofs.declarations.declares.Reads as declares-reads
 use Rattle.layout.proofs.declarations.return_type.Reads as return-type-reads
-use Rattle.layout.proofs.list.Reads as list-reads
+use Rattle.layout.proofs.seq.Reads as seq-reads
 use Rattle.layout.proofs.numbers.past.Reads as past-reads
 use Rattle.layout.proofs.numbers.second.Reads as second-reads
 use Rattle.layout.proofs.numbers.third.Reads as third-reads
@@ -38,9 +38,9 @@ unfolding DeclarationAt
 declares-requires c κs = record { accepted = c .before .before .before .before .before .before .pre .accepted; tree = c .before .before .before .before .before .before .pre .tree .0; held = c .before .before .before .before .before .before .pre .held .1 }
 
 -- src/declarations.rt:185:9
-list-requires : tie.Need-list-requires
+seq-requires : tie.Need-seq-requires
 unfolding DeclarationAt
-list-requires c κs = rw (c .before .before .before .before .before .before .second .ensures)
+seq-requires c κs = rw (c .before .before .before .before .before .before .second .ensures)
     (record {
       accepted = c .before .before .before .before .before .before .before .before .before .before .pre .accepted;
       tree = rules.fieldElems _ (c .before .before .before .before .before .before .before .before .before .before .pre .tree .2);
@@ -68,12 +68,12 @@ block-requires c κs = rw (c .past .ensures, c .before .before .before .before .
 
 -- src/declarations.rt:178:1
 same-length : tie.Need-same-length
-same-length c = c .before .before .block .kept .0 ∙ c .before .before .before .before .before .before .before .return-type .kept .0 ∙ c .before .before .before .before .before .before .before .before .before .before .before .word .kept .0 ∙ c .before .before .before .before .before .before .before .before .before .before .before .before .before .before .before .list .kept .0 ∙ c .before .before .before .before .before .before .before .before .before .before .before .before .before .before .before .before .before .before .before .declares .kept .0
+same-length c = c .before .before .block .kept .0 ∙ c .before .before .before .before .before .before .before .return-type .kept .0 ∙ c .before .before .before .before .before .before .before .before .before .before .before .word .kept .0 ∙ c .before .before .before .before .before .before .before .before .before .before .before .before .before .before .before .seq .kept .0 ∙ c .before .before .before .before .before .before .before .before .before .before .before .before .before .before .before .before .before .before .before .declares .kept .0
 
 -- src/declarations.rt:178:1
 returns : tie.Need-returns
 unfolding DeclarationAt rules.declaration rules.params
-returns c = let l = rw (c .before .before .before .before .before .before .before .before .before .before .before .before .before .before .before .before .before .before .before .before .before .before .second .ensures) at (c .before .before .before .before .before .before .before .before .before .before .before .before .before .before .before .list .ensures) in
+returns c = let l = rw (c .before .before .before .before .before .before .before .before .before .before .before .before .before .before .before .before .before .before .before .before .before .before .second .ensures) at (c .before .before .before .before .before .before .before .before .before .before .before .before .before .before .before .seq .ensures) in
     record {
       of =
           λ x a.
@@ -92,7 +92,7 @@ function-spec =
     third-requires
     add-declares
     declares-requires
-    list-requires
+    seq-requires
     word-requires
     return-type-requires
     past-requires

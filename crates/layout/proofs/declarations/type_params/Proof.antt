@@ -7,7 +7,7 @@ use Rattle.layout.proofs.declarations.type_params.Statement.{statement}
 use Rattle.layout.proofs.declarations.type_params.Tie as tie
 use Rattle.layout.proofs.declarations.type_params.Reads as reads
 use Rattle.layout.proofs.declarations.type_params.Lts as lts
-use Rattle.layout.proofs.list.Reads as list-reads
+use Rattle.layout.proofs.seq.Reads as seq-reads
 use Rattle.layout.proofs.numbers.is_absent.Reads as is-absent-reads
 use Rattle.layout.proofs.numbers.past.Reads as past-reads
 
@@ -32,8 +32,8 @@ returns-2 : tie.Need-returns-2
 returns-2 c = empty-params (c .if2 .taken ∙ c .before .past .ensures)
 
 -- src/declarations.rt:112:5
-list-requires : tie.Need-list-requires
-list-requires c κs = params-list (present (c .before .before .before .before .is-absent .ensures) (c .before .before .before .if1 .left)) (c .before .before .before .before .before .before .before .before .pre)
+seq-requires : tie.Need-seq-requires
+seq-requires c κs = params-list (present (c .before .before .before .before .is-absent .ensures) (c .before .before .before .if1 .left)) (c .before .before .before .before .before .before .before .before .pre)
 
 -- src/declarations.rt:102:1
 same-length : tie.Need-same-length
@@ -41,7 +41,7 @@ same-length c = search needs
 
 -- src/declarations.rt:102:1
 returns-3 : tie.Need-returns-3
-returns-3 c = some-params (present (c .before .before .before .before .before .before .before .is-absent .ensures) (c .before .before .before .before .before .before .if1 .left)) (λ e. c .before .before .before .before .if2 .left (e ∙ sym (c .before .before .before .before .before .past .ensures))) (c .before .before .list .ensures)
+returns-3 c = some-params (present (c .before .before .before .before .before .before .before .is-absent .ensures) (c .before .before .before .before .before .before .if1 .left)) (λ e. c .before .before .before .before .if2 .left (e ∙ sym (c .before .before .before .before .before .past .ensures))) (c .before .before .seq .ensures)
 
 pub type-params-spec : {M : Type 1} → statement M
 type-params-spec =
@@ -52,6 +52,6 @@ type-params-spec =
     add-if2
     past-requires
     returns-2
-    list-requires
+    seq-requires
     same-length
     returns-3)

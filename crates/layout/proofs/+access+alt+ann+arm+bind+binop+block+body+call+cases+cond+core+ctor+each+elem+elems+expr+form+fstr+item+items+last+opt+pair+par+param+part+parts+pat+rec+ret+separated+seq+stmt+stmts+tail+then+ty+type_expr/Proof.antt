@@ -38,121 +38,121 @@ use borrow.Fn.Kinds.{In}
 use borrow.Fn.PlainCycle.{Measures, is, falls, and}
 use Rattle.layout.proofs.access.Reads as access
 use Rattle.layout.proofs.access.Kinds as access-kinds
-use Rattle.layout.proofs.+access+after+arm+bind+binop+block+body+call+clause+colon+elem+elems+entry+expr+field+for_in+form+fstr+group+ifelse+import+inside+last+list+match_on+maybe+parens+part+parts+pattern+ret+separated+stmt+stmts+tail+type_expr+type_path+typed+variant.Lts-access as access-lts
-use Rattle.layout.proofs.after.Reads as after
-use Rattle.layout.proofs.after.Kinds as after-kinds
-use Rattle.layout.proofs.+access+after+arm+bind+binop+block+body+call+clause+colon+elem+elems+entry+expr+field+for_in+form+fstr+group+ifelse+import+inside+last+list+match_on+maybe+parens+part+parts+pattern+ret+separated+stmt+stmts+tail+type_expr+type_path+typed+variant.Lts-after as after-lts
+use Rattle.layout.proofs.+access+alt+ann+arm+bind+binop+block+body+call+cases+cond+core+ctor+each+elem+elems+expr+form+fstr+item+items+last+opt+pair+par+param+part+parts+pat+rec+ret+separated+seq+stmt+stmts+tail+then+ty+type_expr.Lts-access as access-lts
+use Rattle.layout.proofs.then.Reads as then
+use Rattle.layout.proofs.then.Kinds as then-kinds
+use Rattle.layout.proofs.+access+alt+ann+arm+bind+binop+block+body+call+cases+cond+core+ctor+each+elem+elems+expr+form+fstr+item+items+last+opt+pair+par+param+part+parts+pat+rec+ret+separated+seq+stmt+stmts+tail+then+ty+type_expr.Lts-then as then-lts
 use Rattle.layout.proofs.arm.Reads as arm
 use Rattle.layout.proofs.arm.Kinds as arm-kinds
-use Rattle.layout.proofs.+access+after+arm+bind+binop+block+body+call+clause+colon+elem+elems+entry+expr+field+for_in+form+fstr+group+ifelse+import+inside+last+list+match_on+maybe+parens+part+parts+pattern+ret+separated+stmt+stmts+tail+type_expr+type_path+typed+variant.Lts-arm as arm-lts
+use Rattle.layout.proofs.+access+alt+ann+arm+bind+binop+block+body+call+cases+cond+core+ctor+each+elem+elems+expr+form+fstr+item+items+last+opt+pair+par+param+part+parts+pat+rec+ret+separated+seq+stmt+stmts+tail+then+ty+type_expr.Lts-arm as arm-lts
 use Rattle.layout.proofs.bind.Reads as bind
 use Rattle.layout.proofs.bind.Kinds as bind-kinds
-use Rattle.layout.proofs.+access+after+arm+bind+binop+block+body+call+clause+colon+elem+elems+entry+expr+field+for_in+form+fstr+group+ifelse+import+inside+last+list+match_on+maybe+parens+part+parts+pattern+ret+separated+stmt+stmts+tail+type_expr+type_path+typed+variant.Lts-bind as bind-lts
+use Rattle.layout.proofs.+access+alt+ann+arm+bind+binop+block+body+call+cases+cond+core+ctor+each+elem+elems+expr+form+fstr+item+items+last+opt+pair+par+param+part+parts+pat+rec+ret+separated+seq+stmt+stmts+tail+then+ty+type_expr.Lts-bind as bind-lts
 use Rattle.layout.proofs.binop.Reads as binop
 use Rattle.layout.proofs.binop.Kinds as binop-kinds
-use Rattle.layout.proofs.+access+after+arm+bind+binop+block+body+call+clause+colon+elem+elems+entry+expr+field+for_in+form+fstr+group+ifelse+import+inside+last+list+match_on+maybe+parens+part+parts+pattern+ret+separated+stmt+stmts+tail+type_expr+type_path+typed+variant.Lts-binop as binop-lts
+use Rattle.layout.proofs.+access+alt+ann+arm+bind+binop+block+body+call+cases+cond+core+ctor+each+elem+elems+expr+form+fstr+item+items+last+opt+pair+par+param+part+parts+pat+rec+ret+separated+seq+stmt+stmts+tail+then+ty+type_expr.Lts-binop as binop-lts
 use Rattle.layout.proofs.block.Reads as block
 use Rattle.layout.proofs.block.Kinds as block-kinds
-use Rattle.layout.proofs.+access+after+arm+bind+binop+block+body+call+clause+colon+elem+elems+entry+expr+field+for_in+form+fstr+group+ifelse+import+inside+last+list+match_on+maybe+parens+part+parts+pattern+ret+separated+stmt+stmts+tail+type_expr+type_path+typed+variant.Lts-block as block-lts
+use Rattle.layout.proofs.+access+alt+ann+arm+bind+binop+block+body+call+cases+cond+core+ctor+each+elem+elems+expr+form+fstr+item+items+last+opt+pair+par+param+part+parts+pat+rec+ret+separated+seq+stmt+stmts+tail+then+ty+type_expr.Lts-block as block-lts
 use Rattle.layout.proofs.body.Reads as body
 use Rattle.layout.proofs.body.Kinds as body-kinds
-use Rattle.layout.proofs.+access+after+arm+bind+binop+block+body+call+clause+colon+elem+elems+entry+expr+field+for_in+form+fstr+group+ifelse+import+inside+last+list+match_on+maybe+parens+part+parts+pattern+ret+separated+stmt+stmts+tail+type_expr+type_path+typed+variant.Lts-body as body-lts
+use Rattle.layout.proofs.+access+alt+ann+arm+bind+binop+block+body+call+cases+cond+core+ctor+each+elem+elems+expr+form+fstr+item+items+last+opt+pair+par+param+part+parts+pat+rec+ret+separated+seq+stmt+stmts+tail+then+ty+type_expr.Lts-body as body-lts
 use Rattle.layout.proofs.call.Reads as call
 use Rattle.layout.proofs.call.Kinds as call-kinds
-use Rattle.layout.proofs.+access+after+arm+bind+binop+block+body+call+clause+colon+elem+elems+entry+expr+field+for_in+form+fstr+group+ifelse+import+inside+last+list+match_on+maybe+parens+part+parts+pattern+ret+separated+stmt+stmts+tail+type_expr+type_path+typed+variant.Lts-call as call-lts
-use Rattle.layout.proofs.clause.Reads as clause
-use Rattle.layout.proofs.clause.Kinds as clause-kinds
-use Rattle.layout.proofs.+access+after+arm+bind+binop+block+body+call+clause+colon+elem+elems+entry+expr+field+for_in+form+fstr+group+ifelse+import+inside+last+list+match_on+maybe+parens+part+parts+pattern+ret+separated+stmt+stmts+tail+type_expr+type_path+typed+variant.Lts-clause as clause-lts
-use Rattle.layout.proofs.colon.Reads as colon
-use Rattle.layout.proofs.colon.Kinds as colon-kinds
-use Rattle.layout.proofs.+access+after+arm+bind+binop+block+body+call+clause+colon+elem+elems+entry+expr+field+for_in+form+fstr+group+ifelse+import+inside+last+list+match_on+maybe+parens+part+parts+pattern+ret+separated+stmt+stmts+tail+type_expr+type_path+typed+variant.Lts-colon as colon-lts
+use Rattle.layout.proofs.+access+alt+ann+arm+bind+binop+block+body+call+cases+cond+core+ctor+each+elem+elems+expr+form+fstr+item+items+last+opt+pair+par+param+part+parts+pat+rec+ret+separated+seq+stmt+stmts+tail+then+ty+type_expr.Lts-call as call-lts
+use Rattle.layout.proofs.cond.Reads as cond
+use Rattle.layout.proofs.cond.Kinds as cond-kinds
+use Rattle.layout.proofs.+access+alt+ann+arm+bind+binop+block+body+call+cases+cond+core+ctor+each+elem+elems+expr+form+fstr+item+items+last+opt+pair+par+param+part+parts+pat+rec+ret+separated+seq+stmt+stmts+tail+then+ty+type_expr.Lts-cond as cond-lts
+use Rattle.layout.proofs.ann.Reads as ann
+use Rattle.layout.proofs.ann.Kinds as ann-kinds
+use Rattle.layout.proofs.+access+alt+ann+arm+bind+binop+block+body+call+cases+cond+core+ctor+each+elem+elems+expr+form+fstr+item+items+last+opt+pair+par+param+part+parts+pat+rec+ret+separated+seq+stmt+stmts+tail+then+ty+type_expr.Lts-ann as ann-lts
 use Rattle.layout.proofs.elem.Reads as elem
 use Rattle.layout.proofs.elem.Kinds as elem-kinds
-use Rattle.layout.proofs.+access+after+arm+bind+binop+block+body+call+clause+colon+elem+elems+entry+expr+field+for_in+form+fstr+group+ifelse+import+inside+last+list+match_on+maybe+parens+part+parts+pattern+ret+separated+stmt+stmts+tail+type_expr+type_path+typed+variant.Lts-elem as elem-lts
+use Rattle.layout.proofs.+access+alt+ann+arm+bind+binop+block+body+call+cases+cond+core+ctor+each+elem+elems+expr+form+fstr+item+items+last+opt+pair+par+param+part+parts+pat+rec+ret+separated+seq+stmt+stmts+tail+then+ty+type_expr.Lts-elem as elem-lts
 use Rattle.layout.proofs.elems.Reads as elems
 use Rattle.layout.proofs.elems.Kinds as elems-kinds
-use Rattle.layout.proofs.+access+after+arm+bind+binop+block+body+call+clause+colon+elem+elems+entry+expr+field+for_in+form+fstr+group+ifelse+import+inside+last+list+match_on+maybe+parens+part+parts+pattern+ret+separated+stmt+stmts+tail+type_expr+type_path+typed+variant.Lts-elems as elems-lts
-use Rattle.layout.proofs.entry.Reads as entry
-use Rattle.layout.proofs.entry.Kinds as entry-kinds
-use Rattle.layout.proofs.+access+after+arm+bind+binop+block+body+call+clause+colon+elem+elems+entry+expr+field+for_in+form+fstr+group+ifelse+import+inside+last+list+match_on+maybe+parens+part+parts+pattern+ret+separated+stmt+stmts+tail+type_expr+type_path+typed+variant.Lts-entry as entry-lts
+use Rattle.layout.proofs.+access+alt+ann+arm+bind+binop+block+body+call+cases+cond+core+ctor+each+elem+elems+expr+form+fstr+item+items+last+opt+pair+par+param+part+parts+pat+rec+ret+separated+seq+stmt+stmts+tail+then+ty+type_expr.Lts-elems as elems-lts
+use Rattle.layout.proofs.pair.Reads as pair
+use Rattle.layout.proofs.pair.Kinds as pair-kinds
+use Rattle.layout.proofs.+access+alt+ann+arm+bind+binop+block+body+call+cases+cond+core+ctor+each+elem+elems+expr+form+fstr+item+items+last+opt+pair+par+param+part+parts+pat+rec+ret+separated+seq+stmt+stmts+tail+then+ty+type_expr.Lts-pair as pair-lts
 use Rattle.layout.proofs.expr.Reads as expr
 use Rattle.layout.proofs.expr.Kinds as expr-kinds
-use Rattle.layout.proofs.+access+after+arm+bind+binop+block+body+call+clause+colon+elem+elems+entry+expr+field+for_in+form+fstr+group+ifelse+import+inside+last+list+match_on+maybe+parens+part+parts+pattern+ret+separated+stmt+stmts+tail+type_expr+type_path+typed+variant.Lts-expr as expr-lts
-use Rattle.layout.proofs.field.Reads as field
-use Rattle.layout.proofs.field.Kinds as field-kinds
-use Rattle.layout.proofs.+access+after+arm+bind+binop+block+body+call+clause+colon+elem+elems+entry+expr+field+for_in+form+fstr+group+ifelse+import+inside+last+list+match_on+maybe+parens+part+parts+pattern+ret+separated+stmt+stmts+tail+type_expr+type_path+typed+variant.Lts-field as field-lts
-use Rattle.layout.proofs.for_in.Reads as for-in
-use Rattle.layout.proofs.for_in.Kinds as for-in-kinds
-use Rattle.layout.proofs.+access+after+arm+bind+binop+block+body+call+clause+colon+elem+elems+entry+expr+field+for_in+form+fstr+group+ifelse+import+inside+last+list+match_on+maybe+parens+part+parts+pattern+ret+separated+stmt+stmts+tail+type_expr+type_path+typed+variant.Lts-for_in as for-in-lts
+use Rattle.layout.proofs.+access+alt+ann+arm+bind+binop+block+body+call+cases+cond+core+ctor+each+elem+elems+expr+form+fstr+item+items+last+opt+pair+par+param+part+parts+pat+rec+ret+separated+seq+stmt+stmts+tail+then+ty+type_expr.Lts-expr as expr-lts
+use Rattle.layout.proofs.param.Reads as param
+use Rattle.layout.proofs.param.Kinds as param-kinds
+use Rattle.layout.proofs.+access+alt+ann+arm+bind+binop+block+body+call+cases+cond+core+ctor+each+elem+elems+expr+form+fstr+item+items+last+opt+pair+par+param+part+parts+pat+rec+ret+separated+seq+stmt+stmts+tail+then+ty+type_expr.Lts-param as param-lts
+use Rattle.layout.proofs.each.Reads as each
+use Rattle.layout.proofs.each.Kinds as each-kinds
+use Rattle.layout.proofs.+access+alt+ann+arm+bind+binop+block+body+call+cases+cond+core+ctor+each+elem+elems+expr+form+fstr+item+items+last+opt+pair+par+param+part+parts+pat+rec+ret+separated+seq+stmt+stmts+tail+then+ty+type_expr.Lts-each as each-lts
 use Rattle.layout.proofs.form.Reads as form
 use Rattle.layout.proofs.form.Kinds as form-kinds
-use Rattle.layout.proofs.+access+after+arm+bind+binop+block+body+call+clause+colon+elem+elems+entry+expr+field+for_in+form+fstr+group+ifelse+import+inside+last+list+match_on+maybe+parens+part+parts+pattern+ret+separated+stmt+stmts+tail+type_expr+type_path+typed+variant.Lts-form as form-lts
+use Rattle.layout.proofs.+access+alt+ann+arm+bind+binop+block+body+call+cases+cond+core+ctor+each+elem+elems+expr+form+fstr+item+items+last+opt+pair+par+param+part+parts+pat+rec+ret+separated+seq+stmt+stmts+tail+then+ty+type_expr.Lts-form as form-lts
 use Rattle.layout.proofs.fstr.Reads as fstr
 use Rattle.layout.proofs.fstr.Kinds as fstr-kinds
-use Rattle.layout.proofs.+access+after+arm+bind+binop+block+body+call+clause+colon+elem+elems+entry+expr+field+for_in+form+fstr+group+ifelse+import+inside+last+list+match_on+maybe+parens+part+parts+pattern+ret+separated+stmt+stmts+tail+type_expr+type_path+typed+variant.Lts-fstr as fstr-lts
-use Rattle.layout.proofs.group.Reads as group
-use Rattle.layout.proofs.group.Kinds as group-kinds
-use Rattle.layout.proofs.+access+after+arm+bind+binop+block+body+call+clause+colon+elem+elems+entry+expr+field+for_in+form+fstr+group+ifelse+import+inside+last+list+match_on+maybe+parens+part+parts+pattern+ret+separated+stmt+stmts+tail+type_expr+type_path+typed+variant.Lts-group as group-lts
-use Rattle.layout.proofs.ifelse.Reads as ifelse
-use Rattle.layout.proofs.ifelse.Kinds as ifelse-kinds
-use Rattle.layout.proofs.+access+after+arm+bind+binop+block+body+call+clause+colon+elem+elems+entry+expr+field+for_in+form+fstr+group+ifelse+import+inside+last+list+match_on+maybe+parens+part+parts+pattern+ret+separated+stmt+stmts+tail+type_expr+type_path+typed+variant.Lts-ifelse as ifelse-lts
-use Rattle.layout.proofs.import.Reads as import
-use Rattle.layout.proofs.import.Kinds as import-kinds
-use Rattle.layout.proofs.+access+after+arm+bind+binop+block+body+call+clause+colon+elem+elems+entry+expr+field+for_in+form+fstr+group+ifelse+import+inside+last+list+match_on+maybe+parens+part+parts+pattern+ret+separated+stmt+stmts+tail+type_expr+type_path+typed+variant.Lts-import as import-lts
-use Rattle.layout.proofs.inside.Reads as inside
-use Rattle.layout.proofs.inside.Kinds as inside-kinds
-use Rattle.layout.proofs.+access+after+arm+bind+binop+block+body+call+clause+colon+elem+elems+entry+expr+field+for_in+form+fstr+group+ifelse+import+inside+last+list+match_on+maybe+parens+part+parts+pattern+ret+separated+stmt+stmts+tail+type_expr+type_path+typed+variant.Lts-inside as inside-lts
+use Rattle.layout.proofs.+access+alt+ann+arm+bind+binop+block+body+call+cases+cond+core+ctor+each+elem+elems+expr+form+fstr+item+items+last+opt+pair+par+param+part+parts+pat+rec+ret+separated+seq+stmt+stmts+tail+then+ty+type_expr.Lts-fstr as fstr-lts
+use Rattle.layout.proofs.items.Reads as items
+use Rattle.layout.proofs.items.Kinds as items-kinds
+use Rattle.layout.proofs.+access+alt+ann+arm+bind+binop+block+body+call+cases+cond+core+ctor+each+elem+elems+expr+form+fstr+item+items+last+opt+pair+par+param+part+parts+pat+rec+ret+separated+seq+stmt+stmts+tail+then+ty+type_expr.Lts-items as items-lts
+use Rattle.layout.proofs.alt.Reads as alt
+use Rattle.layout.proofs.alt.Kinds as alt-kinds
+use Rattle.layout.proofs.+access+alt+ann+arm+bind+binop+block+body+call+cases+cond+core+ctor+each+elem+elems+expr+form+fstr+item+items+last+opt+pair+par+param+part+parts+pat+rec+ret+separated+seq+stmt+stmts+tail+then+ty+type_expr.Lts-alt as alt-lts
+use Rattle.layout.proofs.item.Reads as item
+use Rattle.layout.proofs.item.Kinds as item-kinds
+use Rattle.layout.proofs.+access+alt+ann+arm+bind+binop+block+body+call+cases+cond+core+ctor+each+elem+elems+expr+form+fstr+item+items+last+opt+pair+par+param+part+parts+pat+rec+ret+separated+seq+stmt+stmts+tail+then+ty+type_expr.Lts-item as item-lts
+use Rattle.layout.proofs.core.Reads as core
+use Rattle.layout.proofs.core.Kinds as core-kinds
+use Rattle.layout.proofs.+access+alt+ann+arm+bind+binop+block+body+call+cases+cond+core+ctor+each+elem+elems+expr+form+fstr+item+items+last+opt+pair+par+param+part+parts+pat+rec+ret+separated+seq+stmt+stmts+tail+then+ty+type_expr.Lts-core as core-lts
 use Rattle.layout.proofs.last.Reads as last
 use Rattle.layout.proofs.last.Kinds as last-kinds
-use Rattle.layout.proofs.+access+after+arm+bind+binop+block+body+call+clause+colon+elem+elems+entry+expr+field+for_in+form+fstr+group+ifelse+import+inside+last+list+match_on+maybe+parens+part+parts+pattern+ret+separated+stmt+stmts+tail+type_expr+type_path+typed+variant.Lts-last as last-lts
-use Rattle.layout.proofs.list.Reads as list
-use Rattle.layout.proofs.list.Kinds as list-kinds
-use Rattle.layout.proofs.+access+after+arm+bind+binop+block+body+call+clause+colon+elem+elems+entry+expr+field+for_in+form+fstr+group+ifelse+import+inside+last+list+match_on+maybe+parens+part+parts+pattern+ret+separated+stmt+stmts+tail+type_expr+type_path+typed+variant.Lts-list as list-lts
-use Rattle.layout.proofs.match_on.Reads as match-on
-use Rattle.layout.proofs.match_on.Kinds as match-on-kinds
-use Rattle.layout.proofs.+access+after+arm+bind+binop+block+body+call+clause+colon+elem+elems+entry+expr+field+for_in+form+fstr+group+ifelse+import+inside+last+list+match_on+maybe+parens+part+parts+pattern+ret+separated+stmt+stmts+tail+type_expr+type_path+typed+variant.Lts-match_on as match-on-lts
-use Rattle.layout.proofs.maybe.Reads as maybe
-use Rattle.layout.proofs.maybe.Kinds as maybe-kinds
-use Rattle.layout.proofs.+access+after+arm+bind+binop+block+body+call+clause+colon+elem+elems+entry+expr+field+for_in+form+fstr+group+ifelse+import+inside+last+list+match_on+maybe+parens+part+parts+pattern+ret+separated+stmt+stmts+tail+type_expr+type_path+typed+variant.Lts-maybe as maybe-lts
-use Rattle.layout.proofs.parens.Reads as parens
-use Rattle.layout.proofs.parens.Kinds as parens-kinds
-use Rattle.layout.proofs.+access+after+arm+bind+binop+block+body+call+clause+colon+elem+elems+entry+expr+field+for_in+form+fstr+group+ifelse+import+inside+last+list+match_on+maybe+parens+part+parts+pattern+ret+separated+stmt+stmts+tail+type_expr+type_path+typed+variant.Lts-parens as parens-lts
+use Rattle.layout.proofs.+access+alt+ann+arm+bind+binop+block+body+call+cases+cond+core+ctor+each+elem+elems+expr+form+fstr+item+items+last+opt+pair+par+param+part+parts+pat+rec+ret+separated+seq+stmt+stmts+tail+then+ty+type_expr.Lts-last as last-lts
+use Rattle.layout.proofs.seq.Reads as seq
+use Rattle.layout.proofs.seq.Kinds as seq-kinds
+use Rattle.layout.proofs.+access+alt+ann+arm+bind+binop+block+body+call+cases+cond+core+ctor+each+elem+elems+expr+form+fstr+item+items+last+opt+pair+par+param+part+parts+pat+rec+ret+separated+seq+stmt+stmts+tail+then+ty+type_expr.Lts-seq as seq-lts
+use Rattle.layout.proofs.cases.Reads as cases
+use Rattle.layout.proofs.cases.Kinds as cases-kinds
+use Rattle.layout.proofs.+access+alt+ann+arm+bind+binop+block+body+call+cases+cond+core+ctor+each+elem+elems+expr+form+fstr+item+items+last+opt+pair+par+param+part+parts+pat+rec+ret+separated+seq+stmt+stmts+tail+then+ty+type_expr.Lts-cases as cases-lts
+use Rattle.layout.proofs.opt.Reads as opt
+use Rattle.layout.proofs.opt.Kinds as opt-kinds
+use Rattle.layout.proofs.+access+alt+ann+arm+bind+binop+block+body+call+cases+cond+core+ctor+each+elem+elems+expr+form+fstr+item+items+last+opt+pair+par+param+part+parts+pat+rec+ret+separated+seq+stmt+stmts+tail+then+ty+type_expr.Lts-opt as opt-lts
+use Rattle.layout.proofs.par.Reads as par
+use Rattle.layout.proofs.par.Kinds as par-kinds
+use Rattle.layout.proofs.+access+alt+ann+arm+bind+binop+block+body+call+cases+cond+core+ctor+each+elem+elems+expr+form+fstr+item+items+last+opt+pair+par+param+part+parts+pat+rec+ret+separated+seq+stmt+stmts+tail+then+ty+type_expr.Lts-par as par-lts
 use Rattle.layout.proofs.part.Reads as part
 use Rattle.layout.proofs.part.Kinds as part-kinds
-use Rattle.layout.proofs.+access+after+arm+bind+binop+block+body+call+clause+colon+elem+elems+entry+expr+field+for_in+form+fstr+group+ifelse+import+inside+last+list+match_on+maybe+parens+part+parts+pattern+ret+separated+stmt+stmts+tail+type_expr+type_path+typed+variant.Lts-part as part-lts
+use Rattle.layout.proofs.+access+alt+ann+arm+bind+binop+block+body+call+cases+cond+core+ctor+each+elem+elems+expr+form+fstr+item+items+last+opt+pair+par+param+part+parts+pat+rec+ret+separated+seq+stmt+stmts+tail+then+ty+type_expr.Lts-part as part-lts
 use Rattle.layout.proofs.parts.Reads as parts
 use Rattle.layout.proofs.parts.Kinds as parts-kinds
-use Rattle.layout.proofs.+access+after+arm+bind+binop+block+body+call+clause+colon+elem+elems+entry+expr+field+for_in+form+fstr+group+ifelse+import+inside+last+list+match_on+maybe+parens+part+parts+pattern+ret+separated+stmt+stmts+tail+type_expr+type_path+typed+variant.Lts-parts as parts-lts
-use Rattle.layout.proofs.pattern.Reads as pattern
-use Rattle.layout.proofs.pattern.Kinds as pattern-kinds
-use Rattle.layout.proofs.+access+after+arm+bind+binop+block+body+call+clause+colon+elem+elems+entry+expr+field+for_in+form+fstr+group+ifelse+import+inside+last+list+match_on+maybe+parens+part+parts+pattern+ret+separated+stmt+stmts+tail+type_expr+type_path+typed+variant.Lts-pattern as pattern-lts
+use Rattle.layout.proofs.+access+alt+ann+arm+bind+binop+block+body+call+cases+cond+core+ctor+each+elem+elems+expr+form+fstr+item+items+last+opt+pair+par+param+part+parts+pat+rec+ret+separated+seq+stmt+stmts+tail+then+ty+type_expr.Lts-parts as parts-lts
+use Rattle.layout.proofs.pat.Reads as pat
+use Rattle.layout.proofs.pat.Kinds as pat-kinds
+use Rattle.layout.proofs.+access+alt+ann+arm+bind+binop+block+body+call+cases+cond+core+ctor+each+elem+elems+expr+form+fstr+item+items+last+opt+pair+par+param+part+parts+pat+rec+ret+separated+seq+stmt+stmts+tail+then+ty+type_expr.Lts-pat as pat-lts
 use Rattle.layout.proofs.ret.Reads as ret
 use Rattle.layout.proofs.ret.Kinds as ret-kinds
-use Rattle.layout.proofs.+access+after+arm+bind+binop+block+body+call+clause+colon+elem+elems+entry+expr+field+for_in+form+fstr+group+ifelse+import+inside+last+list+match_on+maybe+parens+part+parts+pattern+ret+separated+stmt+stmts+tail+type_expr+type_path+typed+variant.Lts-ret as ret-lts
+use Rattle.layout.proofs.+access+alt+ann+arm+bind+binop+block+body+call+cases+cond+core+ctor+each+elem+elems+expr+form+fstr+item+items+last+opt+pair+par+param+part+parts+pat+rec+ret+separated+seq+stmt+stmts+tail+then+ty+type_expr.Lts-ret as ret-lts
 use Rattle.layout.proofs.separated.Reads as separated
 use Rattle.layout.proofs.separated.Kinds as separated-kinds
-use Rattle.layout.proofs.+access+after+arm+bind+binop+block+body+call+clause+colon+elem+elems+entry+expr+field+for_in+form+fstr+group+ifelse+import+inside+last+list+match_on+maybe+parens+part+parts+pattern+ret+separated+stmt+stmts+tail+type_expr+type_path+typed+variant.Lts-separated as separated-lts
+use Rattle.layout.proofs.+access+alt+ann+arm+bind+binop+block+body+call+cases+cond+core+ctor+each+elem+elems+expr+form+fstr+item+items+last+opt+pair+par+param+part+parts+pat+rec+ret+separated+seq+stmt+stmts+tail+then+ty+type_expr.Lts-separated as separated-lts
 use Rattle.layout.proofs.stmt.Reads as stmt
 use Rattle.layout.proofs.stmt.Kinds as stmt-kinds
-use Rattle.layout.proofs.+access+after+arm+bind+binop+block+body+call+clause+colon+elem+elems+entry+expr+field+for_in+form+fstr+group+ifelse+import+inside+last+list+match_on+maybe+parens+part+parts+pattern+ret+separated+stmt+stmts+tail+type_expr+type_path+typed+variant.Lts-stmt as stmt-lts
+use Rattle.layout.proofs.+access+alt+ann+arm+bind+binop+block+body+call+cases+cond+core+ctor+each+elem+elems+expr+form+fstr+item+items+last+opt+pair+par+param+part+parts+pat+rec+ret+separated+seq+stmt+stmts+tail+then+ty+type_expr.Lts-stmt as stmt-lts
 use Rattle.layout.proofs.stmts.Reads as stmts
 use Rattle.layout.proofs.stmts.Kinds as stmts-kinds
-use Rattle.layout.proofs.+access+after+arm+bind+binop+block+body+call+clause+colon+elem+elems+entry+expr+field+for_in+form+fstr+group+ifelse+import+inside+last+list+match_on+maybe+parens+part+parts+pattern+ret+separated+stmt+stmts+tail+type_expr+type_path+typed+variant.Lts-stmts as stmts-lts
+use Rattle.layout.proofs.+access+alt+ann+arm+bind+binop+block+body+call+cases+cond+core+ctor+each+elem+elems+expr+form+fstr+item+items+last+opt+pair+par+param+part+parts+pat+rec+ret+separated+seq+stmt+stmts+tail+then+ty+type_expr.Lts-stmts as stmts-lts
 use Rattle.layout.proofs.tail.Reads as tail
 use Rattle.layout.proofs.tail.Kinds as tail-kinds
-use Rattle.layout.proofs.+access+after+arm+bind+binop+block+body+call+clause+colon+elem+elems+entry+expr+field+for_in+form+fstr+group+ifelse+import+inside+last+list+match_on+maybe+parens+part+parts+pattern+ret+separated+stmt+stmts+tail+type_expr+type_path+typed+variant.Lts-tail as tail-lts
+use Rattle.layout.proofs.+access+alt+ann+arm+bind+binop+block+body+call+cases+cond+core+ctor+each+elem+elems+expr+form+fstr+item+items+last+opt+pair+par+param+part+parts+pat+rec+ret+separated+seq+stmt+stmts+tail+then+ty+type_expr.Lts-tail as tail-lts
 use Rattle.layout.proofs.type_expr.Reads as type-expr
 use Rattle.layout.proofs.type_expr.Kinds as type-expr-kinds
-use Rattle.layout.proofs.+access+after+arm+bind+binop+block+body+call+clause+colon+elem+elems+entry+expr+field+for_in+form+fstr+group+ifelse+import+inside+last+list+match_on+maybe+parens+part+parts+pattern+ret+separated+stmt+stmts+tail+type_expr+type_path+typed+variant.Lts-type_expr as type-expr-lts
-use Rattle.layout.proofs.type_path.Reads as type-path
-use Rattle.layout.proofs.type_path.Kinds as type-path-kinds
-use Rattle.layout.proofs.+access+after+arm+bind+binop+block+body+call+clause+colon+elem+elems+entry+expr+field+for_in+form+fstr+group+ifelse+import+inside+last+list+match_on+maybe+parens+part+parts+pattern+ret+separated+stmt+stmts+tail+type_expr+type_path+typed+variant.Lts-type_path as type-path-lts
-use Rattle.layout.proofs.typed.Reads as typed
-use Rattle.layout.proofs.typed.Kinds as typed-kinds
-use Rattle.layout.proofs.+access+after+arm+bind+binop+block+body+call+clause+colon+elem+elems+entry+expr+field+for_in+form+fstr+group+ifelse+import+inside+last+list+match_on+maybe+parens+part+parts+pattern+ret+separated+stmt+stmts+tail+type_expr+type_path+typed+variant.Lts-typed as typed-lts
-use Rattle.layout.proofs.variant.Reads as variant
-use Rattle.layout.proofs.variant.Kinds as variant-kinds
-use Rattle.layout.proofs.+access+after+arm+bind+binop+block+body+call+clause+colon+elem+elems+entry+expr+field+for_in+form+fstr+group+ifelse+import+inside+last+list+match_on+maybe+parens+part+parts+pattern+ret+separated+stmt+stmts+tail+type_expr+type_path+typed+variant.Lts-variant as variant-lts
+use Rattle.layout.proofs.+access+alt+ann+arm+bind+binop+block+body+call+cases+cond+core+ctor+each+elem+elems+expr+form+fstr+item+items+last+opt+pair+par+param+part+parts+pat+rec+ret+separated+seq+stmt+stmts+tail+then+ty+type_expr.Lts-type_expr as type-expr-lts
+use Rattle.layout.proofs.ty.Reads as ty
+use Rattle.layout.proofs.ty.Kinds as ty-kinds
+use Rattle.layout.proofs.+access+alt+ann+arm+bind+binop+block+body+call+cases+cond+core+ctor+each+elem+elems+expr+form+fstr+item+items+last+opt+pair+par+param+part+parts+pat+rec+ret+separated+seq+stmt+stmts+tail+then+ty+type_expr.Lts-ty as ty-lts
+use Rattle.layout.proofs.rec.Reads as rec
+use Rattle.layout.proofs.rec.Kinds as rec-kinds
+use Rattle.layout.proofs.+access+alt+ann+arm+bind+binop+block+body+call+cases+cond+core+ctor+each+elem+elems+expr+form+fstr+item+items+last+opt+pair+par+param+part+parts+pat+rec+ret+separated+seq+stmt+stmts+tail+then+ty+type_expr.Lts-rec as rec-lts
+use Rattle.layout.proofs.ctor.Reads as ctor
+use Rattle.layout.proofs.ctor.Kinds as ctor-kinds
+use Rattle.layout.proofs.+access+alt+ann+arm+bind+binop+block+body+call+cases+cond+core+ctor+each+elem+elems+expr+form+fstr+item+items+last+opt+pair+par+param+part+parts+pat+rec+ret+separated+seq+stmt+stmts+tail+then+ty+type_expr.Lts-ctor as ctor-lts
 use Rattle.comments.proofs.pop_trailing_comment.Reads as pop-trailing-comment-reads
 use Rattle.layout.proofs.blocks.after_stmt.Reads as after-stmt-reads
 use Rattle.layout.proofs.blocks.arm_comma.Reads as arm-comma-reads
@@ -197,14 +197,14 @@ use Rattle.state.proofs.parts.open_indent.Reads as open-indent-reads
 use Rattle.state.proofs.parts.open_indent_next.Reads as open-indent-next-reads
 use Rattle.state.proofs.parts.set_second.Reads as set-second-reads
 use Rattle.state.proofs.words.word.Reads as word-reads
-use Rattle.layout.proofs.+access+after+arm+bind+binop+block+body+call+clause+colon+elem+elems+entry+expr+field+for_in+form+fstr+group+ifelse+import+inside+last+list+match_on+maybe+parens+part+parts+pattern+ret+separated+stmt+stmts+tail+type_expr+type_path+typed+variant.{statement}
-use Rattle.layout.proofs.+access+after+arm+bind+binop+block+body+call+clause+colon+elem+elems+entry+expr+field+for_in+form+fstr+group+ifelse+import+inside+last+list+match_on+maybe+parens+part+parts+pattern+ret+separated+stmt+stmts+tail+type_expr+type_path+typed+variant.Tie.{close}
+use Rattle.layout.proofs.+access+alt+ann+arm+bind+binop+block+body+call+cases+cond+core+ctor+each+elem+elems+expr+form+fstr+item+items+last+opt+pair+par+param+part+parts+pat+rec+ret+separated+seq+stmt+stmts+tail+then+ty+type_expr.{statement}
+use Rattle.layout.proofs.+access+alt+ann+arm+bind+binop+block+body+call+cases+cond+core+ctor+each+elem+elems+expr+form+fstr+item+items+last+opt+pair+par+param+part+parts+pat+rec+ret+separated+seq+stmt+stmts+tail+then+ty+type_expr.Tie.{close}
 
 abbrev μ-access : Measures 3 access-kinds.ps ℕ
 μ-access κs a = 16 * be32 (a .1 .1 .1 .0 .now) (a .1 .1 .1 .1 .0) + 7
 
-abbrev μ-after : Measures 3 after-kinds.ps ℕ
-μ-after κs a = 16 * be32 (a .1 .1 .1 .0 .now) (a .1 .1 .1 .1 .0) + 10
+abbrev μ-then : Measures 3 then-kinds.ps ℕ
+μ-then κs a = 16 * be32 (a .1 .1 .1 .0 .now) (a .1 .1 .1 .1 .0) + 10
 
 abbrev μ-arm : Measures 3 arm-kinds.ps ℕ
 μ-arm κs a = 16 * be32 (a .1 .1 .1 .0 .now) (a .1 .1 .1 .1 .0) + 7
@@ -224,11 +224,11 @@ abbrev μ-body : Measures 3 body-kinds.ps ℕ
 abbrev μ-call : Measures 3 call-kinds.ps ℕ
 μ-call κs a = 16 * be32 (a .1 .1 .1 .0 .now) (a .1 .1 .1 .1 .0) + 7
 
-abbrev μ-clause : Measures 3 clause-kinds.ps ℕ
-μ-clause κs a = 16 * (be32 (a .1 .1 .1 .0 .now) (a .1 .1 .1 .1 .0) + be32 (a .1 .1 .1 .0 .now) (stopAt (a .1 .1 .1 .0 .now) (a .1 .1 .1 .1 .0))) + 10
+abbrev μ-cond : Measures 3 cond-kinds.ps ℕ
+μ-cond κs a = 16 * (be32 (a .1 .1 .1 .0 .now) (a .1 .1 .1 .1 .0) + be32 (a .1 .1 .1 .0 .now) (stopAt (a .1 .1 .1 .0 .now) (a .1 .1 .1 .1 .0))) + 10
 
-abbrev μ-colon : Measures 3 colon-kinds.ps ℕ
-μ-colon κs a = 16 * be32 (a .1 .1 .1 .0 .now) (a .1 .1 .1 .1 .0) + 9
+abbrev μ-ann : Measures 3 ann-kinds.ps ℕ
+μ-ann κs a = 16 * be32 (a .1 .1 .1 .0 .now) (a .1 .1 .1 .1 .0) + 9
 
 abbrev μ-elem : Measures 3 elem-kinds.ps ℕ
 μ-elem κs a = 16 * be32 (a .1 .1 .1 .0 .now) (a .1 .1 .1 .1 .0) + 12
@@ -236,17 +236,17 @@ abbrev μ-elem : Measures 3 elem-kinds.ps ℕ
 abbrev μ-elems : Measures 3 elems-kinds.ps ℕ
 μ-elems κs a = 16 * (a .1 .1 .1 .1 .1 .0 - a .1 .1 .1 .1 .0) + 2
 
-abbrev μ-entry : Measures 3 entry-kinds.ps ℕ
-μ-entry κs a = 16 * be32 (a .1 .1 .1 .0 .now) (a .1 .1 .1 .1 .0) + 7
+abbrev μ-pair : Measures 3 pair-kinds.ps ℕ
+μ-pair κs a = 16 * be32 (a .1 .1 .1 .0 .now) (a .1 .1 .1 .1 .0) + 7
 
 abbrev μ-expr : Measures 3 expr-kinds.ps ℕ
 μ-expr κs a = 16 * be32 (a .1 .1 .1 .0 .now) (a .1 .1 .1 .1 .0) + 9
 
-abbrev μ-field : Measures 3 field-kinds.ps ℕ
-μ-field κs a = 16 * be32 (a .1 .1 .1 .0 .now) (a .1 .1 .1 .1 .0) + 7
+abbrev μ-param : Measures 3 param-kinds.ps ℕ
+μ-param κs a = 16 * be32 (a .1 .1 .1 .0 .now) (a .1 .1 .1 .1 .0) + 7
 
-abbrev μ-for-in : Measures 3 for-in-kinds.ps ℕ
-μ-for-in κs a = 16 * be32 (a .1 .1 .1 .0 .now) (a .1 .1 .1 .1 .0) + 7
+abbrev μ-each : Measures 3 each-kinds.ps ℕ
+μ-each κs a = 16 * be32 (a .1 .1 .1 .0 .now) (a .1 .1 .1 .1 .0) + 7
 
 abbrev μ-form : Measures 3 form-kinds.ps ℕ
 μ-form κs a = 16 * be32 (a .1 .1 .1 .0 .now) (a .1 .1 .1 .1 .0) + 8
@@ -254,32 +254,32 @@ abbrev μ-form : Measures 3 form-kinds.ps ℕ
 abbrev μ-fstr : Measures 3 fstr-kinds.ps ℕ
 μ-fstr κs a = 16 * be32 (a .1 .1 .1 .0 .now) (a .1 .1 .1 .1 .0) + 7
 
-abbrev μ-group : Measures 3 group-kinds.ps ℕ
-μ-group κs a = 16 * be32 (a .1 .1 .1 .0 .now) (a .1 .1 .1 .1 .0) + 7
+abbrev μ-items : Measures 3 items-kinds.ps ℕ
+μ-items κs a = 16 * be32 (a .1 .1 .1 .0 .now) (a .1 .1 .1 .1 .0) + 7
 
-abbrev μ-ifelse : Measures 3 ifelse-kinds.ps ℕ
-μ-ifelse κs a = 16 * be32 (a .1 .1 .1 .0 .now) (a .1 .1 .1 .1 .0) + 7
+abbrev μ-alt : Measures 3 alt-kinds.ps ℕ
+μ-alt κs a = 16 * be32 (a .1 .1 .1 .0 .now) (a .1 .1 .1 .1 .0) + 7
 
-abbrev μ-import : Measures 3 import-kinds.ps ℕ
-μ-import κs a = 16 * be32 (a .1 .1 .1 .0 .now) (a .1 .1 .1 .1 .0) + 8
+abbrev μ-item : Measures 3 item-kinds.ps ℕ
+μ-item κs a = 16 * be32 (a .1 .1 .1 .0 .now) (a .1 .1 .1 .1 .0) + 8
 
-abbrev μ-inside : Measures 3 inside-kinds.ps ℕ
-μ-inside κs a = 16 * be32 (a .1 .1 .1 .0 .now) (a .1 .1 .1 .1 .0) + 3
+abbrev μ-core : Measures 3 core-kinds.ps ℕ
+μ-core κs a = 16 * be32 (a .1 .1 .1 .0 .now) (a .1 .1 .1 .1 .0) + 3
 
 abbrev μ-last : Measures 3 last-kinds.ps ℕ
 μ-last κs a = 16 * be32 (a .1 .1 .1 .0 .now) (a .1 .1 .1 .1 .0) + 10
 
-abbrev μ-list : Measures 3 list-kinds.ps ℕ
-μ-list κs a = 16 * be32 (a .1 .1 .1 .0 .now) (a .1 .1 .1 .1 .0) + 5
+abbrev μ-seq : Measures 3 seq-kinds.ps ℕ
+μ-seq κs a = 16 * be32 (a .1 .1 .1 .0 .now) (a .1 .1 .1 .1 .0) + 5
 
-abbrev μ-match-on : Measures 3 match-on-kinds.ps ℕ
-μ-match-on κs a = 16 * be32 (a .1 .1 .1 .0 .now) (a .1 .1 .1 .1 .0) + 7
+abbrev μ-cases : Measures 3 cases-kinds.ps ℕ
+μ-cases κs a = 16 * be32 (a .1 .1 .1 .0 .now) (a .1 .1 .1 .1 .0) + 7
 
-abbrev μ-maybe : Measures 3 maybe-kinds.ps ℕ
-μ-maybe κs a = 16 * be32 (a .1 .1 .1 .0 .now) (a .1 .1 .1 .1 .0) + 11
+abbrev μ-opt : Measures 3 opt-kinds.ps ℕ
+μ-opt κs a = 16 * be32 (a .1 .1 .1 .0 .now) (a .1 .1 .1 .1 .0) + 11
 
-abbrev μ-parens : Measures 3 parens-kinds.ps ℕ
-μ-parens κs a = 16 * be32 (a .1 .1 .1 .0 .now) (a .1 .1 .1 .1 .0) + 7
+abbrev μ-par : Measures 3 par-kinds.ps ℕ
+μ-par κs a = 16 * be32 (a .1 .1 .1 .0 .now) (a .1 .1 .1 .1 .0) + 7
 
 abbrev μ-part : Measures 3 part-kinds.ps ℕ
 μ-part κs a = 16 * be32 (a .1 .1 .1 .0 .now) (a .1 .1 .1 .1 .0) + 7
@@ -287,8 +287,8 @@ abbrev μ-part : Measures 3 part-kinds.ps ℕ
 abbrev μ-parts : Measures 3 parts-kinds.ps ℕ
 μ-parts κs a = 16 * (a .1 .1 .1 .1 .1 .0 - a .1 .1 .1 .1 .0) + 2
 
-abbrev μ-pattern : Measures 3 pattern-kinds.ps ℕ
-μ-pattern κs a = 16 * be32 (a .1 .1 .1 .0 .now) (a .1 .1 .1 .1 .0) + 7
+abbrev μ-pat : Measures 3 pat-kinds.ps ℕ
+μ-pat κs a = 16 * be32 (a .1 .1 .1 .0 .now) (a .1 .1 .1 .1 .0) + 7
 
 abbrev μ-ret : Measures 3 ret-kinds.ps ℕ
 μ-ret κs a = 16 * be32 (a .1 .1 .1 .0 .now) (a .1 .1 .1 .1 .0) + 7
@@ -308,14 +308,14 @@ abbrev μ-tail : Measures 4 tail-kinds.ps ℕ
 abbrev μ-type-expr : Measures 3 type-expr-kinds.ps ℕ
 μ-type-expr κs a = 16 * be32 (a .1 .1 .1 .0 .now) (a .1 .1 .1 .1 .0) + 8
 
-abbrev μ-type-path : Measures 3 type-path-kinds.ps ℕ
-μ-type-path κs a = 16 * be32 (a .1 .1 .1 .0 .now) (a .1 .1 .1 .1 .0) + 7
+abbrev μ-ty : Measures 3 ty-kinds.ps ℕ
+μ-ty κs a = 16 * be32 (a .1 .1 .1 .0 .now) (a .1 .1 .1 .1 .0) + 7
 
-abbrev μ-typed : Measures 3 typed-kinds.ps ℕ
-μ-typed κs a = 16 * be32 (a .1 .1 .1 .0 .now) (a .1 .1 .1 .1 .0) + 7
+abbrev μ-rec : Measures 3 rec-kinds.ps ℕ
+μ-rec κs a = 16 * be32 (a .1 .1 .1 .0 .now) (a .1 .1 .1 .1 .0) + 7
 
-abbrev μ-variant : Measures 3 variant-kinds.ps ℕ
-μ-variant κs a = 16 * be32 (a .1 .1 .1 .0 .now) (a .1 .1 .1 .1 .0) + 7
+abbrev μ-ctor : Measures 3 ctor-kinds.ps ℕ
+μ-ctor κs a = 16 * be32 (a .1 .1 .1 .0 .now) (a .1 .1 .1 .1 .0) + 7
 
 abbrev access-at : ℕ → In 3 access-kinds.ps
 access-at t = and 3 access-kinds.ps (is 3 access-kinds.ps μ-access t) access.Pre
@@ -323,11 +323,11 @@ access-at t = and 3 access-kinds.ps (is 3 access-kinds.ps μ-access t) access.Pr
 abbrev access-below : ℕ → In 3 access-kinds.ps
 access-below t = and 3 access-kinds.ps (falls 3 access-kinds.ps _<_ μ-access t) access.Pre
 
-abbrev after-at : ℕ → In 3 after-kinds.ps
-after-at t = and 3 after-kinds.ps (is 3 after-kinds.ps μ-after t) after.Pre
+abbrev then-at : ℕ → In 3 then-kinds.ps
+then-at t = and 3 then-kinds.ps (is 3 then-kinds.ps μ-then t) then.Pre
 
-abbrev after-below : ℕ → In 3 after-kinds.ps
-after-below t = and 3 after-kinds.ps (falls 3 after-kinds.ps _<_ μ-after t) after.Pre
+abbrev then-below : ℕ → In 3 then-kinds.ps
+then-below t = and 3 then-kinds.ps (falls 3 then-kinds.ps _<_ μ-then t) then.Pre
 
 abbrev arm-at : ℕ → In 3 arm-kinds.ps
 arm-at t = and 3 arm-kinds.ps (is 3 arm-kinds.ps μ-arm t) arm.Pre
@@ -365,17 +365,17 @@ call-at t = and 3 call-kinds.ps (is 3 call-kinds.ps μ-call t) call.Pre
 abbrev call-below : ℕ → In 3 call-kinds.ps
 call-below t = and 3 call-kinds.ps (falls 3 call-kinds.ps _<_ μ-call t) call.Pre
 
-abbrev clause-at : ℕ → In 3 clause-kinds.ps
-clause-at t = and 3 clause-kinds.ps (is 3 clause-kinds.ps μ-clause t) clause.Pre
+abbrev cond-at : ℕ → In 3 cond-kinds.ps
+cond-at t = and 3 cond-kinds.ps (is 3 cond-kinds.ps μ-cond t) cond.Pre
 
-abbrev clause-below : ℕ → In 3 clause-kinds.ps
-clause-below t = and 3 clause-kinds.ps (falls 3 clause-kinds.ps _<_ μ-clause t) clause.Pre
+abbrev cond-below : ℕ → In 3 cond-kinds.ps
+cond-below t = and 3 cond-kinds.ps (falls 3 cond-kinds.ps _<_ μ-cond t) cond.Pre
 
-abbrev colon-at : ℕ → In 3 colon-kinds.ps
-colon-at t = and 3 colon-kinds.ps (is 3 colon-kinds.ps μ-colon t) colon.Pre
+abbrev ann-at : ℕ → In 3 ann-kinds.ps
+ann-at t = and 3 ann-kinds.ps (is 3 ann-kinds.ps μ-ann t) ann.Pre
 
-abbrev colon-below : ℕ → In 3 colon-kinds.ps
-colon-below t = and 3 colon-kinds.ps (falls 3 colon-kinds.ps _<_ μ-colon t) colon.Pre
+abbrev ann-below : ℕ → In 3 ann-kinds.ps
+ann-below t = and 3 ann-kinds.ps (falls 3 ann-kinds.ps _<_ μ-ann t) ann.Pre
 
 abbrev elem-at : ℕ → In 3 elem-kinds.ps
 elem-at t = and 3 elem-kinds.ps (is 3 elem-kinds.ps μ-elem t) elem.Pre
@@ -389,11 +389,11 @@ elems-at t = and 3 elems-kinds.ps (is 3 elems-kinds.ps μ-elems t) elems.Pre
 abbrev elems-below : ℕ → In 3 elems-kinds.ps
 elems-below t = and 3 elems-kinds.ps (falls 3 elems-kinds.ps _<_ μ-elems t) elems.Pre
 
-abbrev entry-at : ℕ → In 3 entry-kinds.ps
-entry-at t = and 3 entry-kinds.ps (is 3 entry-kinds.ps μ-entry t) entry.Pre
+abbrev pair-at : ℕ → In 3 pair-kinds.ps
+pair-at t = and 3 pair-kinds.ps (is 3 pair-kinds.ps μ-pair t) pair.Pre
 
-abbrev entry-below : ℕ → In 3 entry-kinds.ps
-entry-below t = and 3 entry-kinds.ps (falls 3 entry-kinds.ps _<_ μ-entry t) entry.Pre
+abbrev pair-below : ℕ → In 3 pair-kinds.ps
+pair-below t = and 3 pair-kinds.ps (falls 3 pair-kinds.ps _<_ μ-pair t) pair.Pre
 
 abbrev expr-at : ℕ → In 3 expr-kinds.ps
 expr-at t = and 3 expr-kinds.ps (is 3 expr-kinds.ps μ-expr t) expr.Pre
@@ -401,17 +401,17 @@ expr-at t = and 3 expr-kinds.ps (is 3 expr-kinds.ps μ-expr t) expr.Pre
 abbrev expr-below : ℕ → In 3 expr-kinds.ps
 expr-below t = and 3 expr-kinds.ps (falls 3 expr-kinds.ps _<_ μ-expr t) expr.Pre
 
-abbrev field-at : ℕ → In 3 field-kinds.ps
-field-at t = and 3 field-kinds.ps (is 3 field-kinds.ps μ-field t) field.Pre
+abbrev param-at : ℕ → In 3 param-kinds.ps
+param-at t = and 3 param-kinds.ps (is 3 param-kinds.ps μ-param t) param.Pre
 
-abbrev field-below : ℕ → In 3 field-kinds.ps
-field-below t = and 3 field-kinds.ps (falls 3 field-kinds.ps _<_ μ-field t) field.Pre
+abbrev param-below : ℕ → In 3 param-kinds.ps
+param-below t = and 3 param-kinds.ps (falls 3 param-kinds.ps _<_ μ-param t) param.Pre
 
-abbrev for-in-at : ℕ → In 3 for-in-kinds.ps
-for-in-at t = and 3 for-in-kinds.ps (is 3 for-in-kinds.ps μ-for-in t) for-in.Pre
+abbrev each-at : ℕ → In 3 each-kinds.ps
+each-at t = and 3 each-kinds.ps (is 3 each-kinds.ps μ-each t) each.Pre
 
-abbrev for-in-below : ℕ → In 3 for-in-kinds.ps
-for-in-below t = and 3 for-in-kinds.ps (falls 3 for-in-kinds.ps _<_ μ-for-in t) for-in.Pre
+abbrev each-below : ℕ → In 3 each-kinds.ps
+each-below t = and 3 each-kinds.ps (falls 3 each-kinds.ps _<_ μ-each t) each.Pre
 
 abbrev form-at : ℕ → In 3 form-kinds.ps
 form-at t = and 3 form-kinds.ps (is 3 form-kinds.ps μ-form t) form.Pre
@@ -425,29 +425,29 @@ fstr-at t = and 3 fstr-kinds.ps (is 3 fstr-kinds.ps μ-fstr t) fstr.Pre
 abbrev fstr-below : ℕ → In 3 fstr-kinds.ps
 fstr-below t = and 3 fstr-kinds.ps (falls 3 fstr-kinds.ps _<_ μ-fstr t) fstr.Pre
 
-abbrev group-at : ℕ → In 3 group-kinds.ps
-group-at t = and 3 group-kinds.ps (is 3 group-kinds.ps μ-group t) group.Pre
+abbrev items-at : ℕ → In 3 items-kinds.ps
+items-at t = and 3 items-kinds.ps (is 3 items-kinds.ps μ-items t) items.Pre
 
-abbrev group-below : ℕ → In 3 group-kinds.ps
-group-below t = and 3 group-kinds.ps (falls 3 group-kinds.ps _<_ μ-group t) group.Pre
+abbrev items-below : ℕ → In 3 items-kinds.ps
+items-below t = and 3 items-kinds.ps (falls 3 items-kinds.ps _<_ μ-items t) items.Pre
 
-abbrev ifelse-at : ℕ → In 3 ifelse-kinds.ps
-ifelse-at t = and 3 ifelse-kinds.ps (is 3 ifelse-kinds.ps μ-ifelse t) ifelse.Pre
+abbrev alt-at : ℕ → In 3 alt-kinds.ps
+alt-at t = and 3 alt-kinds.ps (is 3 alt-kinds.ps μ-alt t) alt.Pre
 
-abbrev ifelse-below : ℕ → In 3 ifelse-kinds.ps
-ifelse-below t = and 3 ifelse-kinds.ps (falls 3 ifelse-kinds.ps _<_ μ-ifelse t) ifelse.Pre
+abbrev alt-below : ℕ → In 3 alt-kinds.ps
+alt-below t = and 3 alt-kinds.ps (falls 3 alt-kinds.ps _<_ μ-alt t) alt.Pre
 
-abbrev import-at : ℕ → In 3 import-kinds.ps
-import-at t = and 3 import-kinds.ps (is 3 import-kinds.ps μ-import t) import.Pre
+abbrev item-at : ℕ → In 3 item-kinds.ps
+item-at t = and 3 item-kinds.ps (is 3 item-kinds.ps μ-item t) item.Pre
 
-abbrev import-below : ℕ → In 3 import-kinds.ps
-import-below t = and 3 import-kinds.ps (falls 3 import-kinds.ps _<_ μ-import t) import.Pre
+abbrev item-below : ℕ → In 3 item-kinds.ps
+item-below t = and 3 item-kinds.ps (falls 3 item-kinds.ps _<_ μ-item t) item.Pre
 
-abbrev inside-at : ℕ → In 3 inside-kinds.ps
-inside-at t = and 3 inside-kinds.ps (is 3 inside-kinds.ps μ-inside t) inside.Pre
+abbrev core-at : ℕ → In 3 core-kinds.ps
+core-at t = and 3 core-kinds.ps (is 3 core-kinds.ps μ-core t) core.Pre
 
-abbrev inside-below : ℕ → In 3 inside-kinds.ps
-inside-below t = and 3 inside-kinds.ps (falls 3 inside-kinds.ps _<_ μ-inside t) inside.Pre
+abbrev core-below : ℕ → In 3 core-kinds.ps
+core-below t = and 3 core-kinds.ps (falls 3 core-kinds.ps _<_ μ-core t) core.Pre
 
 abbrev last-at : ℕ → In 3 last-kinds.ps
 last-at t = and 3 last-kinds.ps (is 3 last-kinds.ps μ-last t) last.Pre
@@ -455,30 +455,30 @@ last-at t = and 3 last-kinds.ps (is 3 last-kinds.ps μ-last t) last.Pre
 abbrev last-below : ℕ → In 3 last-kinds.ps
 last-below t = and 3 last-kinds.ps (falls 3 last-kinds.ps _<_ μ-last t) last.Pre
 
-abbrev list-at : ℕ → In 3 list-kinds.ps
-list-at t = and 3 list-kinds.ps (is 3 list-kinds.ps μ-list t) list.Pre
+abbrev seq-at : ℕ → In 3 seq-kinds.ps
+seq-at t = and 3 seq-kinds.ps (is 3 seq-kinds.ps μ-seq t) seq.Pre
 
-abbrev list-below : ℕ → In 3 list-kinds.ps
-list-below t = and 3 list-kinds.ps (falls 3 list-kinds.ps _<_ μ-list t) list.Pre
+abbrev seq-below : ℕ → In 3 seq-kinds.ps
+seq-below t = and 3 seq-kinds.ps (falls 3 seq-kinds.ps _<_ μ-seq t) seq.Pre
 
-abbrev match-on-at : ℕ → In 3 match-on-kinds.ps
-match-on-at t = and 3 match-on-kinds.ps (is 3 match-on-kinds.ps μ-match-on t) match-on.Pre
+abbrev cases-at : ℕ → In 3 cases-kinds.ps
+cases-at t = and 3 cases-kinds.ps (is 3 cases-kinds.ps μ-cases t) cases.Pre
 
-abbrev match-on-below : ℕ → In 3 match-on-kinds.ps
-match-on-below t =
-    and 3 match-on-kinds.ps (falls 3 match-on-kinds.ps _<_ μ-match-on t) match-on.Pre
+abbrev cases-below : ℕ → In 3 cases-kinds.ps
+cases-below t =
+    and 3 cases-kinds.ps (falls 3 cases-kinds.ps _<_ μ-cases t) cases.Pre
 
-abbrev maybe-at : ℕ → In 3 maybe-kinds.ps
-maybe-at t = and 3 maybe-kinds.ps (is 3 maybe-kinds.ps μ-maybe t) maybe.Pre
+abbrev opt-at : ℕ → In 3 opt-kinds.ps
+opt-at t = and 3 opt-kinds.ps (is 3 opt-kinds.ps μ-opt t) opt.Pre
 
-abbrev maybe-below : ℕ → In 3 maybe-kinds.ps
-maybe-below t = and 3 maybe-kinds.ps (falls 3 maybe-kinds.ps _<_ μ-maybe t) maybe.Pre
+abbrev opt-below : ℕ → In 3 opt-kinds.ps
+opt-below t = and 3 opt-kinds.ps (falls 3 opt-kinds.ps _<_ μ-opt t) opt.Pre
 
-abbrev parens-at : ℕ → In 3 parens-kinds.ps
-parens-at t = and 3 parens-kinds.ps (is 3 parens-kinds.ps μ-parens t) parens.Pre
+abbrev par-at : ℕ → In 3 par-kinds.ps
+par-at t = and 3 par-kinds.ps (is 3 par-kinds.ps μ-par t) par.Pre
 
-abbrev parens-below : ℕ → In 3 parens-kinds.ps
-parens-below t = and 3 parens-kinds.ps (falls 3 parens-kinds.ps _<_ μ-parens t) parens.Pre
+abbrev par-below : ℕ → In 3 par-kinds.ps
+par-below t = and 3 par-kinds.ps (falls 3 par-kinds.ps _<_ μ-par t) par.Pre
 
 abbrev part-at : ℕ → In 3 part-kinds.ps
 part-at t = and 3 part-kinds.ps (is 3 part-kinds.ps μ-part t) part.Pre
@@ -492,11 +492,11 @@ parts-at t = and 3 parts-kinds.ps (is 3 parts-kinds.ps μ-parts t) parts.Pre
 abbrev parts-below : ℕ → In 3 parts-kinds.ps
 parts-below t = and 3 parts-kinds.ps (falls 3 parts-kinds.ps _<_ μ-parts t) parts.Pre
 
-abbrev pattern-at : ℕ → In 3 pattern-kinds.ps
-pattern-at t = and 3 pattern-kinds.ps (is 3 pattern-kinds.ps μ-pattern t) pattern.Pre
+abbrev pat-at : ℕ → In 3 pat-kinds.ps
+pat-at t = and 3 pat-kinds.ps (is 3 pat-kinds.ps μ-pat t) pat.Pre
 
-abbrev pattern-below : ℕ → In 3 pattern-kinds.ps
-pattern-below t = and 3 pattern-kinds.ps (falls 3 pattern-kinds.ps _<_ μ-pattern t) pattern.Pre
+abbrev pat-below : ℕ → In 3 pat-kinds.ps
+pat-below t = and 3 pat-kinds.ps (falls 3 pat-kinds.ps _<_ μ-pat t) pat.Pre
 
 abbrev ret-at : ℕ → In 3 ret-kinds.ps
 ret-at t = and 3 ret-kinds.ps (is 3 ret-kinds.ps μ-ret t) ret.Pre
@@ -536,36 +536,36 @@ abbrev type-expr-below : ℕ → In 3 type-expr-kinds.ps
 type-expr-below t =
     and 3 type-expr-kinds.ps (falls 3 type-expr-kinds.ps _<_ μ-type-expr t) type-expr.Pre
 
-abbrev type-path-at : ℕ → In 3 type-path-kinds.ps
-type-path-at t = and 3 type-path-kinds.ps (is 3 type-path-kinds.ps μ-type-path t) type-path.Pre
+abbrev ty-at : ℕ → In 3 ty-kinds.ps
+ty-at t = and 3 ty-kinds.ps (is 3 ty-kinds.ps μ-ty t) ty.Pre
 
-abbrev type-path-below : ℕ → In 3 type-path-kinds.ps
-type-path-below t =
-    and 3 type-path-kinds.ps (falls 3 type-path-kinds.ps _<_ μ-type-path t) type-path.Pre
+abbrev ty-below : ℕ → In 3 ty-kinds.ps
+ty-below t =
+    and 3 ty-kinds.ps (falls 3 ty-kinds.ps _<_ μ-ty t) ty.Pre
 
-abbrev typed-at : ℕ → In 3 typed-kinds.ps
-typed-at t = and 3 typed-kinds.ps (is 3 typed-kinds.ps μ-typed t) typed.Pre
+abbrev rec-at : ℕ → In 3 rec-kinds.ps
+rec-at t = and 3 rec-kinds.ps (is 3 rec-kinds.ps μ-rec t) rec.Pre
 
-abbrev typed-below : ℕ → In 3 typed-kinds.ps
-typed-below t = and 3 typed-kinds.ps (falls 3 typed-kinds.ps _<_ μ-typed t) typed.Pre
+abbrev rec-below : ℕ → In 3 rec-kinds.ps
+rec-below t = and 3 rec-kinds.ps (falls 3 rec-kinds.ps _<_ μ-rec t) rec.Pre
 
-abbrev variant-at : ℕ → In 3 variant-kinds.ps
-variant-at t = and 3 variant-kinds.ps (is 3 variant-kinds.ps μ-variant t) variant.Pre
+abbrev ctor-at : ℕ → In 3 ctor-kinds.ps
+ctor-at t = and 3 ctor-kinds.ps (is 3 ctor-kinds.ps μ-ctor t) ctor.Pre
 
-abbrev variant-below : ℕ → In 3 variant-kinds.ps
-variant-below t = and 3 variant-kinds.ps (falls 3 variant-kinds.ps _<_ μ-variant t) variant.Pre
+abbrev ctor-below : ℕ → In 3 ctor-kinds.ps
+ctor-below t = and 3 ctor-kinds.ps (falls 3 ctor-kinds.ps _<_ μ-ctor t) ctor.Pre
 
 abbrev access-calls : ℕ → access-lts.Claims
 access-calls t = (second-reads.Asked, second-reads.Learnt, open-group-reads.Asked, open-group-reads.Learnt, open-indent-next-reads.Asked, open-indent-next-reads.Learnt, expr-below t, expr.Post, field-name-reads.Asked, field-name-reads.Learnt, close-reads.Asked, close-reads.Learnt)
 
-abbrev after-calls : ℕ → after-lts.Claims
-after-calls t = (word-reads.Asked, word-reads.Learnt, expr-below t, expr.Post)
+abbrev then-calls : ℕ → then-lts.Claims
+then-calls t = (word-reads.Asked, word-reads.Learnt, expr-below t, expr.Post)
 
 abbrev arm-calls : ℕ → arm-lts.Claims
-arm-calls t = (second-reads.Asked, second-reads.Learnt, third-reads.Asked, third-reads.Learnt, pattern-below t, pattern.Post, maybe-below t, maybe.Post, word-reads.Asked, word-reads.Learnt, expr-below t, expr.Post, arm-comma-reads.Asked, arm-comma-reads.Learnt)
+arm-calls t = (second-reads.Asked, second-reads.Learnt, third-reads.Asked, third-reads.Learnt, pat-below t, pat.Post, opt-below t, opt.Post, word-reads.Asked, word-reads.Learnt, expr-below t, expr.Post, arm-comma-reads.Asked, arm-comma-reads.Learnt)
 
 abbrev bind-calls : ℕ → bind-lts.Claims
-bind-calls t = (second-reads.Asked, second-reads.Learnt, third-reads.Asked, third-reads.Learnt, word-reads.Asked, word-reads.Learnt, ident-reads.Asked, ident-reads.Learnt, colon-below t, colon.Post, expr-below t, expr.Post)
+bind-calls t = (second-reads.Asked, second-reads.Learnt, third-reads.Asked, third-reads.Learnt, word-reads.Asked, word-reads.Learnt, ident-reads.Asked, ident-reads.Learnt, ann-below t, ann.Post, expr-below t, expr.Post)
 
 abbrev binop-calls : ℕ → binop-lts.Claims
 binop-calls t = (precedence-reads.Asked, precedence-reads.Learnt, leftmost-reads.Asked, leftmost-reads.Learnt, open-group-reads.Asked, open-group-reads.Learnt, expr-below t, expr.Post, line-or-space-reads.Asked, line-or-space-reads.Learnt, open-indent-reads.Asked, open-indent-reads.Learnt, tail-below t, tail.Post, close-reads.Asked, close-reads.Learnt)
@@ -577,64 +577,64 @@ abbrev body-calls : ℕ → body-lts.Claims
 body-calls t = (second-reads.Asked, second-reads.Learnt, no-stmts-reads.Asked, no-stmts-reads.Learnt, is-empty-reads.Asked, is-empty-reads.Learnt, open-indent-reads.Asked, open-indent-reads.Learnt, stmts-below t, stmts.Post, last-below t, last.Post, end-reads.Asked, end-reads.Learnt, gap-reads.Asked, gap-reads.Learnt, close-reads.Asked, close-reads.Learnt)
 
 abbrev call-calls : ℕ → call-lts.Claims
-call-calls t = (second-reads.Asked, second-reads.Learnt, open-call-reads.Asked, open-call-reads.Learnt, expr-below t, expr.Post, list-below t, list.Post, set-second-reads.Asked, set-second-reads.Learnt, close-reads.Asked, close-reads.Learnt)
+call-calls t = (second-reads.Asked, second-reads.Learnt, open-call-reads.Asked, open-call-reads.Learnt, expr-below t, expr.Post, seq-below t, seq.Post, set-second-reads.Asked, set-second-reads.Learnt, close-reads.Asked, close-reads.Learnt)
 
-abbrev clause-calls : ℕ → clause-lts.Claims
-clause-calls t = (word-reads.Asked, word-reads.Learnt, open-group-reads.Asked, open-group-reads.Learnt, open-indent-reads.Asked, open-indent-reads.Learnt, expr-below t, expr.Post, close-reads.Asked, close-reads.Learnt, past-reads.Asked, past-reads.Learnt, block-below t, block.Post)
+abbrev cond-calls : ℕ → cond-lts.Claims
+cond-calls t = (word-reads.Asked, word-reads.Learnt, open-group-reads.Asked, open-group-reads.Learnt, open-indent-reads.Asked, open-indent-reads.Learnt, expr-below t, expr.Post, close-reads.Asked, close-reads.Learnt, past-reads.Asked, past-reads.Learnt, block-below t, block.Post)
 
-abbrev colon-calls : ℕ → colon-lts.Claims
-colon-calls t = (is-absent-reads.Asked, is-absent-reads.Learnt, word-reads.Asked, word-reads.Learnt, type-expr-below t, type-expr.Post)
+abbrev ann-calls : ℕ → ann-lts.Claims
+ann-calls t = (is-absent-reads.Asked, is-absent-reads.Learnt, word-reads.Asked, word-reads.Learnt, type-expr-below t, type-expr.Post)
 
 abbrev elem-calls : ℕ → elem-lts.Claims
-elem-calls t = (ident-reads.Asked, ident-reads.Learnt, type-expr-below t, type-expr.Post, field-below t, field.Post, import-below t, import.Post, expr-below t, expr.Post, open-group-reads.Asked, open-group-reads.Learnt, close-reads.Asked, close-reads.Learnt, entry-below t, entry.Post, arm-below t, arm.Post, variant-below t, variant.Post)
+elem-calls t = (ident-reads.Asked, ident-reads.Learnt, type-expr-below t, type-expr.Post, param-below t, param.Post, item-below t, item.Post, expr-below t, expr.Post, open-group-reads.Asked, open-group-reads.Learnt, close-reads.Asked, close-reads.Learnt, pair-below t, pair.Post, arm-below t, arm.Post, ctor-below t, ctor.Post)
 
 abbrev elems-calls : ℕ → elems-lts.Claims
 elems-calls t = (start-reads.Asked, start-reads.Learnt, before-elem-reads.Asked, before-elem-reads.Learnt, elem-below t, elem.Post, past-reads.Asked, past-reads.Learnt)
 
-abbrev entry-calls : ℕ → entry-lts.Claims
-entry-calls t = (second-reads.Asked, second-reads.Learnt, ident-reads.Asked, ident-reads.Learnt, word-reads.Asked, word-reads.Learnt, expr-below t, expr.Post)
+abbrev pair-calls : ℕ → pair-lts.Claims
+pair-calls t = (second-reads.Asked, second-reads.Learnt, ident-reads.Asked, ident-reads.Learnt, word-reads.Asked, word-reads.Learnt, expr-below t, expr.Post)
 
 abbrev expr-calls : ℕ → expr-lts.Claims
 expr-calls t = (form-below t, form.Post, pop-trailing-comment-reads.Asked, pop-trailing-comment-reads.Learnt)
 
-abbrev field-calls : ℕ → field-lts.Claims
-field-calls t = (second-reads.Asked, second-reads.Learnt, ident-reads.Asked, ident-reads.Learnt, word-reads.Asked, word-reads.Learnt, type-expr-below t, type-expr.Post)
+abbrev param-calls : ℕ → param-lts.Claims
+param-calls t = (second-reads.Asked, second-reads.Learnt, ident-reads.Asked, ident-reads.Learnt, word-reads.Asked, word-reads.Learnt, type-expr-below t, type-expr.Post)
 
-abbrev for-in-calls : ℕ → for-in-lts.Claims
-for-in-calls t = (second-reads.Asked, second-reads.Learnt, word-reads.Asked, word-reads.Learnt, ident-reads.Asked, ident-reads.Learnt, clause-below t, clause.Post)
+abbrev each-calls : ℕ → each-lts.Claims
+each-calls t = (second-reads.Asked, second-reads.Learnt, word-reads.Asked, word-reads.Learnt, ident-reads.Asked, ident-reads.Learnt, cond-below t, cond.Post)
 
 abbrev form-calls : ℕ → form-lts.Claims
-form-calls t = (kind-reads.Asked, kind-reads.Learnt, ret-below t, ret.Post, literal-reads.Asked, literal-reads.Learnt, block-below t, block.Post, match-on-below t, match-on.Post, call-below t, call.Post, access-below t, access.Post, path-reads.Asked, path-reads.Learnt, list-below t, list.Post, typed-below t, typed.Post, end-reads.Asked, end-reads.Learnt, separated-below t, separated.Post, after-below t, after.Post, second-reads.Asked, second-reads.Learnt, third-reads.Asked, third-reads.Learnt, assign-word-reads.Asked, assign-word-reads.Learnt, binop-below t, binop.Post, ifelse-below t, ifelse.Post, clause-below t, clause.Post, for-in-below t, for-in.Post, expr-below t, expr.Post, word-reads.Asked, word-reads.Learnt, fstr-below t, fstr.Post, parens-below t, parens.Post)
+form-calls t = (kind-reads.Asked, kind-reads.Learnt, ret-below t, ret.Post, literal-reads.Asked, literal-reads.Learnt, block-below t, block.Post, cases-below t, cases.Post, call-below t, call.Post, access-below t, access.Post, path-reads.Asked, path-reads.Learnt, seq-below t, seq.Post, rec-below t, rec.Post, end-reads.Asked, end-reads.Learnt, separated-below t, separated.Post, then-below t, then.Post, second-reads.Asked, second-reads.Learnt, third-reads.Asked, third-reads.Learnt, assign-word-reads.Asked, assign-word-reads.Learnt, binop-below t, binop.Post, alt-below t, alt.Post, cond-below t, cond.Post, each-below t, each.Post, expr-below t, expr.Post, word-reads.Asked, word-reads.Learnt, fstr-below t, fstr.Post, par-below t, par.Post)
 
 abbrev fstr-calls : ℕ → fstr-lts.Claims
 fstr-calls t = (start-reads.Asked, start-reads.Learnt, gap-reads.Asked, gap-reads.Learnt, word-reads.Asked, word-reads.Learnt, second-reads.Asked, second-reads.Learnt, parts-below t, parts.Post)
 
-abbrev group-calls : ℕ → group-lts.Claims
-group-calls t = (is-absent-reads.Asked, is-absent-reads.Learnt, is-single-reads.Asked, is-single-reads.Learnt, import-below t, import.Post, list-below t, list.Post)
+abbrev items-calls : ℕ → items-lts.Claims
+items-calls t = (is-absent-reads.Asked, is-absent-reads.Learnt, is-single-reads.Asked, is-single-reads.Learnt, item-below t, item.Post, seq-below t, seq.Post)
 
-abbrev ifelse-calls : ℕ → ifelse-lts.Claims
-ifelse-calls t = (third-reads.Asked, third-reads.Learnt, clause-below t, clause.Post, is-absent-reads.Asked, is-absent-reads.Learnt, word-reads.Asked, word-reads.Learnt, block-below t, block.Post)
+abbrev alt-calls : ℕ → alt-lts.Claims
+alt-calls t = (third-reads.Asked, third-reads.Learnt, cond-below t, cond.Post, is-absent-reads.Asked, is-absent-reads.Learnt, word-reads.Asked, word-reads.Learnt, block-below t, block.Post)
 
-abbrev import-calls : ℕ → import-lts.Claims
-import-calls t = (second-reads.Asked, second-reads.Learnt, import-first-reads.Asked, import-first-reads.Learnt, import-dot-reads.Asked, import-dot-reads.Learnt, group-below t, group.Post)
+abbrev item-calls : ℕ → item-lts.Claims
+item-calls t = (second-reads.Asked, second-reads.Learnt, import-first-reads.Asked, import-first-reads.Learnt, import-dot-reads.Asked, import-dot-reads.Learnt, items-below t, items.Post)
 
-abbrev inside-calls : ℕ → inside-lts.Claims
-inside-calls t = (past-reads.Asked, past-reads.Learnt, hollow-reads.Asked, hollow-reads.Learnt, open-list-reads.Asked, open-list-reads.Learnt, open-indent-reads.Asked, open-indent-reads.Learnt, elems-below t, elems.Post, end-elems-reads.Asked, end-elems-reads.Learnt, close-reads.Asked, close-reads.Learnt, close-list-reads.Asked, close-list-reads.Learnt)
+abbrev core-calls : ℕ → core-lts.Claims
+core-calls t = (past-reads.Asked, past-reads.Learnt, hollow-reads.Asked, hollow-reads.Learnt, open-list-reads.Asked, open-list-reads.Learnt, open-indent-reads.Asked, open-indent-reads.Learnt, elems-below t, elems.Post, end-elems-reads.Asked, end-elems-reads.Learnt, close-reads.Asked, close-reads.Learnt, close-list-reads.Asked, close-list-reads.Learnt)
 
 abbrev last-calls : ℕ → last-lts.Claims
 last-calls t = (is-absent-reads.Asked, is-absent-reads.Learnt, start-reads.Asked, start-reads.Learnt, before-stmt-reads.Asked, before-stmt-reads.Learnt, expr-below t, expr.Post, pop-trailing-comment-reads.Asked, pop-trailing-comment-reads.Learnt)
 
-abbrev list-calls : ℕ → list-lts.Claims
-list-calls t = (end-reads.Asked, end-reads.Learnt, separated-below t, separated.Post)
+abbrev seq-calls : ℕ → seq-lts.Claims
+seq-calls t = (end-reads.Asked, end-reads.Learnt, separated-below t, separated.Post)
 
-abbrev match-on-calls : ℕ → match-on-lts.Claims
-match-on-calls t = (second-reads.Asked, second-reads.Learnt, word-reads.Asked, word-reads.Learnt, expr-below t, expr.Post, list-below t, list.Post)
+abbrev cases-calls : ℕ → cases-lts.Claims
+cases-calls t = (second-reads.Asked, second-reads.Learnt, word-reads.Asked, word-reads.Learnt, expr-below t, expr.Post, seq-below t, seq.Post)
 
-abbrev maybe-calls : ℕ → maybe-lts.Claims
-maybe-calls t = (is-absent-reads.Asked, is-absent-reads.Learnt, after-below t, after.Post)
+abbrev opt-calls : ℕ → opt-lts.Claims
+opt-calls t = (is-absent-reads.Asked, is-absent-reads.Learnt, then-below t, then.Post)
 
-abbrev parens-calls : ℕ → parens-lts.Claims
-parens-calls t = (start-reads.Asked, start-reads.Learnt, gap-reads.Asked, gap-reads.Learnt, word-reads.Asked, word-reads.Learnt, expr-below t, expr.Post)
+abbrev par-calls : ℕ → par-lts.Claims
+par-calls t = (start-reads.Asked, start-reads.Learnt, gap-reads.Asked, gap-reads.Learnt, word-reads.Asked, word-reads.Learnt, expr-below t, expr.Post)
 
 abbrev part-calls : ℕ → part-lts.Claims
 part-calls t = (kind-reads.Asked, kind-reads.Learnt, content-reads.Asked, content-reads.Learnt, word-reads.Asked, word-reads.Learnt, expr-below t, expr.Post)
@@ -642,17 +642,17 @@ part-calls t = (kind-reads.Asked, kind-reads.Learnt, content-reads.Asked, conten
 abbrev parts-calls : ℕ → parts-lts.Claims
 parts-calls t = (part-below t, part.Post, past-reads.Asked, past-reads.Learnt)
 
-abbrev pattern-calls : ℕ → pattern-lts.Claims
-pattern-calls t = (kind-reads.Asked, kind-reads.Learnt, word-reads.Asked, word-reads.Learnt, second-reads.Asked, second-reads.Learnt, ident-reads.Asked, ident-reads.Learnt, is-absent-reads.Asked, is-absent-reads.Learnt, list-below t, list.Post)
+abbrev pat-calls : ℕ → pat-lts.Claims
+pat-calls t = (kind-reads.Asked, kind-reads.Learnt, word-reads.Asked, word-reads.Learnt, second-reads.Asked, second-reads.Learnt, ident-reads.Asked, ident-reads.Learnt, is-absent-reads.Asked, is-absent-reads.Learnt, seq-below t, seq.Post)
 
 abbrev ret-calls : ℕ → ret-lts.Claims
-ret-calls t = (payload-reads.Asked, payload-reads.Learnt, word-reads.Asked, word-reads.Learnt, maybe-below t, maybe.Post)
+ret-calls t = (payload-reads.Asked, payload-reads.Learnt, word-reads.Asked, word-reads.Learnt, opt-below t, opt.Post)
 
 abbrev separated-calls : ℕ → separated-lts.Claims
-separated-calls t = (open-group-reads.Asked, open-group-reads.Learnt, inside-below t, inside.Post, close-reads.Asked, close-reads.Learnt)
+separated-calls t = (open-group-reads.Asked, open-group-reads.Learnt, core-below t, core.Post, close-reads.Asked, close-reads.Learnt)
 
 abbrev stmt-calls : ℕ → stmt-lts.Claims
-stmt-calls t = (kind-reads.Asked, kind-reads.Learnt, bind-below t, bind.Post, word-reads.Asked, word-reads.Learnt, import-below t, import.Post, open-group-reads.Asked, open-group-reads.Learnt, expr-below t, expr.Post, semicolon-reads.Asked, semicolon-reads.Learnt, close-reads.Asked, close-reads.Learnt)
+stmt-calls t = (kind-reads.Asked, kind-reads.Learnt, bind-below t, bind.Post, word-reads.Asked, word-reads.Learnt, item-below t, item.Post, open-group-reads.Asked, open-group-reads.Learnt, expr-below t, expr.Post, semicolon-reads.Asked, semicolon-reads.Learnt, close-reads.Asked, close-reads.Learnt)
 
 abbrev stmts-calls : ℕ → stmts-lts.Claims
 stmts-calls t = (start-reads.Asked, start-reads.Learnt, before-stmt-reads.Asked, before-stmt-reads.Learnt, stmt-below t, stmt.Post, end-reads.Asked, end-reads.Learnt, after-stmt-reads.Asked, after-stmt-reads.Learnt, past-reads.Asked, past-reads.Learnt)
@@ -661,16 +661,16 @@ abbrev tail-calls : ℕ → tail-lts.Claims
 tail-calls t = (second-reads.Asked, second-reads.Learnt, operator-reads.Asked, operator-reads.Learnt, third-reads.Asked, third-reads.Learnt, expr-below t, expr.Post)
 
 abbrev type-expr-calls : ℕ → type-expr-lts.Claims
-type-expr-calls t = (kind-reads.Asked, kind-reads.Learnt, type-expr-below t, type-expr.Post, word-reads.Asked, word-reads.Learnt, type-path-below t, type-path.Post, list-below t, list.Post)
+type-expr-calls t = (kind-reads.Asked, kind-reads.Learnt, type-expr-below t, type-expr.Post, word-reads.Asked, word-reads.Learnt, ty-below t, ty.Post, seq-below t, seq.Post)
 
-abbrev type-path-calls : ℕ → type-path-lts.Claims
-type-path-calls t = (second-reads.Asked, second-reads.Learnt, path-reads.Asked, path-reads.Learnt, is-absent-reads.Asked, is-absent-reads.Learnt, list-below t, list.Post)
+abbrev ty-calls : ℕ → ty-lts.Claims
+ty-calls t = (second-reads.Asked, second-reads.Learnt, path-reads.Asked, path-reads.Learnt, is-absent-reads.Asked, is-absent-reads.Learnt, seq-below t, seq.Post)
 
-abbrev typed-calls : ℕ → typed-lts.Claims
-typed-calls t = (second-reads.Asked, second-reads.Learnt, path-reads.Asked, path-reads.Learnt, word-reads.Asked, word-reads.Learnt, list-below t, list.Post)
+abbrev rec-calls : ℕ → rec-lts.Claims
+rec-calls t = (second-reads.Asked, second-reads.Learnt, path-reads.Asked, path-reads.Learnt, word-reads.Asked, word-reads.Learnt, seq-below t, seq.Post)
 
-abbrev variant-calls : ℕ → variant-lts.Claims
-variant-calls t = (second-reads.Asked, second-reads.Learnt, past-reads.Asked, past-reads.Learnt, ident-reads.Asked, ident-reads.Learnt, last-end-reads.Asked, last-end-reads.Learnt, separated-below t, separated.Post)
+abbrev ctor-calls : ℕ → ctor-lts.Claims
+ctor-calls t = (second-reads.Asked, second-reads.Learnt, past-reads.Asked, past-reads.Learnt, ident-reads.Asked, ident-reads.Learnt, last-end-reads.Asked, last-end-reads.Learnt, separated-below t, separated.Post)
 
 -- src/lib.rt:599:9
 access-second-requires : (t : ℕ) → access-lts.Need-second-requires (access-calls t) (access-at t) access.Post
@@ -756,20 +756,20 @@ access-returns-2 t c = record {
 }
 
 -- src/lib.rt:526:9
-after-word-requires : (t : ℕ) → after-lts.Need-word-requires (after-calls t) (after-at t) after.Post
-after-word-requires t c κs = tt
+then-word-requires : (t : ℕ) → then-lts.Need-word-requires (then-calls t) (then-at t) then.Post
+then-word-requires t c κs = tt
 
 -- src/lib.rt:527:5
-after-expr-requires : (t : ℕ) → after-lts.Need-expr-requires (after-calls t) (after-at t) after.Post
-after-expr-requires t c κs = (omega (arith, c .before .before .before .before .before .before .before .before .pre .0), c .before .before .before .before .before .before .before .before .pre .1)
+then-expr-requires : (t : ℕ) → then-lts.Need-expr-requires (then-calls t) (then-at t) then.Post
+then-expr-requires t c κs = (omega (arith, c .before .before .before .before .before .before .before .before .pre .0), c .before .before .before .before .before .before .before .before .pre .1)
 
 -- src/lib.rt:522:1
-after-same-length : (t : ℕ) → after-lts.Need-same-length (after-calls t) (after-at t) after.Post
-after-same-length t c = c .before .before .expr .kept .0 ∙ c .before .before .before .before .before .before .word .kept .0
+then-same-length : (t : ℕ) → then-lts.Need-same-length (then-calls t) (then-at t) then.Post
+then-same-length t c = c .before .before .expr .kept .0 ∙ c .before .before .before .before .before .before .word .kept .0
 
 -- src/lib.rt:522:1
-after-returns : (t : ℕ) → after-lts.Need-returns (after-calls t) (after-at t) after.Post
-after-returns t c = record { of = λ e a. laid-then (c .before .before .before .before .before .before .word .ensures) (c .before .before .expr .ensures .of e a) }
+then-returns : (t : ℕ) → then-lts.Need-returns (then-calls t) (then-at t) then.Post
+then-returns t c = record { of = λ e a. laid-then (c .before .before .before .before .before .before .word .ensures) (c .before .before .expr .ensures .of e a) }
 
 -- src/lib.rt:449:9
 arm-second-requires : (t : ℕ) → arm-lts.Need-second-requires (arm-calls t) (arm-at t) arm.Post
@@ -780,16 +780,16 @@ arm-third-requires : (t : ℕ) → arm-lts.Need-third-requires (arm-calls t) (ar
 arm-third-requires t c κs = (within (pattern-whole _ _ _ (c .before .before .before .before .pre .1 .tree .1) (c .before .before .before .before .pre .1 .held .1)), maybe-expr _ _ _ (c .before .before .before .before .pre .1 .tree .2) (c .before .before .before .before .pre .1 .held .2))
 
 -- src/lib.rt:451:37
-arm-add-pattern : (t : ℕ) → arm-lts.Need-add-pattern (arm-calls t) (arm-at t) arm.Post
-arm-add-pattern t c = omega (arith, c .before .before .before .before .before .before .pre .1 .accepted .small, c .before .before .before .before .before .before .pre .1 .held .0 .long, c .before .before .before .before .before .before .pre .1 .held .0 .fits)
+arm-add-pat : (t : ℕ) → arm-lts.Need-add-pat (arm-calls t) (arm-at t) arm.Post
+arm-add-pat t c = omega (arith, c .before .before .before .before .before .before .pre .1 .accepted .small, c .before .before .before .before .before .before .pre .1 .held .0 .long, c .before .before .before .before .before .before .pre .1 .held .0 .fits)
 
 -- src/lib.rt:451:9
-arm-pattern-requires : (t : ℕ) → arm-lts.Need-pattern-requires (arm-calls t) (arm-at t) arm.Post
-arm-pattern-requires t c κs = (omega (arith, c .before .before .before .before .before .before .pre .0, c .before .before .before .before .before .before .pre .1 .held .4 .same), record { accepted = c .before .before .before .before .before .before .pre .1 .accepted; tree = c .before .before .before .before .before .before .pre .1 .tree .1; held = c .before .before .before .before .before .before .pre .1 .held .1 })
+arm-pat-requires : (t : ℕ) → arm-lts.Need-pat-requires (arm-calls t) (arm-at t) arm.Post
+arm-pat-requires t c κs = (omega (arith, c .before .before .before .before .before .before .pre .0, c .before .before .before .before .before .before .pre .1 .held .4 .same), record { accepted = c .before .before .before .before .before .before .pre .1 .accepted; tree = c .before .before .before .before .before .before .pre .1 .tree .1; held = c .before .before .before .before .before .before .pre .1 .held .1 })
 
 -- src/lib.rt:452:9
-arm-maybe-requires : (t : ℕ) → arm-lts.Need-maybe-requires (arm-calls t) (arm-at t) arm.Post
-arm-maybe-requires t c κs = rw (c .before .before .before .before .before .before .second .ensures) (omega (arith, c .before .before .before .before .before .before .before .before .before .before .pre .0, c .before .before .before .before .before .before .before .before .before .before .pre .1 .held .4 .same), record { accepted = c .before .before .before .before .before .before .before .before .before .before .pre .1 .accepted; tree = c .before .before .before .before .before .before .before .before .before .before .pre .1 .tree .2; held = c .before .before .before .before .before .before .before .before .before .before .pre .1 .held .2 })
+arm-opt-requires : (t : ℕ) → arm-lts.Need-opt-requires (arm-calls t) (arm-at t) arm.Post
+arm-opt-requires t c κs = rw (c .before .before .before .before .before .before .second .ensures) (omega (arith, c .before .before .before .before .before .before .before .before .before .before .pre .0, c .before .before .before .before .before .before .before .before .before .before .pre .1 .held .4 .same), record { accepted = c .before .before .before .before .before .before .before .before .before .before .pre .1 .accepted; tree = c .before .before .before .before .before .before .before .before .before .before .pre .1 .tree .2; held = c .before .before .before .before .before .before .before .before .before .before .pre .1 .held .2 })
 
 -- src/lib.rt:453:9
 arm-word-requires : (t : ℕ) → arm-lts.Need-word-requires (arm-calls t) (arm-at t) arm.Post
@@ -805,7 +805,7 @@ arm-arm-comma-requires t c κs = rw (c .before .before .before .before .before .
 
 -- src/lib.rt:445:1
 arm-same-length : (t : ℕ) → arm-lts.Need-same-length (arm-calls t) (arm-at t) arm.Post
-arm-same-length t c = c .before .before .arm-comma .kept .0 ∙ c .before .before .before .before .before .before .expr .kept .0 ∙ c .before .before .before .before .before .before .before .before .before .before .word .kept .0 ∙ c .before .before .before .before .before .before .before .before .before .before .before .before .before .before .maybe .kept .0 ∙ c .before .before .before .before .before .before .before .before .before .before .before .before .before .before .before .before .before .before .pattern .kept .0
+arm-same-length t c = c .before .before .arm-comma .kept .0 ∙ c .before .before .before .before .before .before .expr .kept .0 ∙ c .before .before .before .before .before .before .before .before .before .before .word .kept .0 ∙ c .before .before .before .before .before .before .before .before .before .before .before .before .before .before .opt .kept .0 ∙ c .before .before .before .before .before .before .before .before .before .before .before .before .before .before .before .before .before .before .pat .kept .0
 
 -- src/lib.rt:445:1
 arm-returns : (t : ℕ) → arm-lts.Need-returns (arm-calls t) (arm-at t) arm.Post
@@ -813,8 +813,8 @@ arm-returns t c = let m = rw (c .before .before .before .before .before .before 
     record {
       of =
           λ x a.
-          laid-then (c .before .before .before .before .before .before .before .before .before .before .before .before .before .before .before .before .before .before .pattern .ensures .of (x .1) (a .1))
-          (laid-then (c .before .before .before .before .before .before .before .before .before .before .before .before .before .before .maybe .ensures .of (x .2) (rw (c .before .before .before .before .before .before .before .before .before .before .before .before .before .before .before .before .before .before .before .before .before .second .ensures) (a .2)))
+          laid-then (c .before .before .before .before .before .before .before .before .before .before .before .before .before .before .before .before .before .before .pat .ensures .of (x .1) (a .1))
+          (laid-then (c .before .before .before .before .before .before .before .before .before .before .before .before .before .before .opt .ensures .of (x .2) (rw (c .before .before .before .before .before .before .before .before .before .before .before .before .before .before .before .before .before .before .before .before .before .second .ensures) (a .2)))
           (laid-then (c .before .before .before .before .before .before .before .before .before .before .word .ensures)
           (laid-then (c .before .before .before .before .before .before .expr .ensures .of (x .3) (rw (c .before .before .before .before .before .before .before .before .before .before .before .before .before .before .before .before .before .before .before .before .third .ensures) (a .3))) (comma-laid _ _ _ (x .3) _ (a .3) m))));
     }
@@ -844,9 +844,9 @@ unfolding StmtAt
 bind-ident-requires t c κs = record { accepted = c .before .before .before .before .before .before .before .before .before .before .pre .1 .accepted; tree = c .before .before .before .before .before .before .before .before .before .before .pre .1 .tree .1; held = c .before .before .before .before .before .before .before .before .before .before .pre .1 .held .1 .0 }
 
 -- src/lib.rt:820:9
-bind-colon-requires : (t : ℕ) → bind-lts.Need-colon-requires (bind-calls t) (bind-at t) bind.Post
+bind-ann-requires : (t : ℕ) → bind-lts.Need-ann-requires (bind-calls t) (bind-at t) bind.Post
 unfolding StmtAt
-bind-colon-requires t c κs = rw (c .before .before .before .before .before .before .before .before .before .before .second .ensures) (omega (arith, c .before .before .before .before .before .before .before .before .before .before .before .before .before .before .pre .0, c .before .before .before .before .before .before .before .before .before .before .before .before .before .before .pre .1 .held .1 .3 .same), record { accepted = c .before .before .before .before .before .before .before .before .before .before .before .before .before .before .pre .1 .accepted; tree = c .before .before .before .before .before .before .before .before .before .before .before .before .before .before .pre .1 .tree .2; held = c .before .before .before .before .before .before .before .before .before .before .before .before .before .before .pre .1 .held .1 .1 })
+bind-ann-requires t c κs = rw (c .before .before .before .before .before .before .before .before .before .before .second .ensures) (omega (arith, c .before .before .before .before .before .before .before .before .before .before .before .before .before .before .pre .0, c .before .before .before .before .before .before .before .before .before .before .before .before .before .before .pre .1 .held .1 .3 .same), record { accepted = c .before .before .before .before .before .before .before .before .before .before .before .before .before .before .pre .1 .accepted; tree = c .before .before .before .before .before .before .before .before .before .before .before .before .before .before .pre .1 .tree .2; held = c .before .before .before .before .before .before .before .before .before .before .before .before .before .before .pre .1 .held .1 .1 })
 
 -- src/lib.rt:821:9
 bind-word-requires-2 : (t : ℕ) → bind-lts.Need-word-requires-2 (bind-calls t) (bind-at t) bind.Post
@@ -863,7 +863,7 @@ bind-word-requires-3 t c κs = tt
 
 -- src/lib.rt:812:1
 bind-same-length : (t : ℕ) → bind-lts.Need-same-length (bind-calls t) (bind-at t) bind.Post
-bind-same-length t c = c .before .before .word3 .kept .0 ∙ c .before .before .before .before .before .before .expr .kept .0 ∙ c .before .before .before .before .before .before .before .before .before .before .word2 .kept .0 ∙ c .before .before .before .before .before .before .before .before .before .before .before .before .before .before .colon .kept .0 ∙ c .before .before .before .before .before .before .before .before .before .before .before .before .before .before .before .before .before .before .ident .kept .0 ∙ c .before .before .before .before .before .before .before .before .before .before .before .before .before .before .before .before .before .before .before .before .before .before .word .kept .0
+bind-same-length t c = c .before .before .word3 .kept .0 ∙ c .before .before .before .before .before .before .expr .kept .0 ∙ c .before .before .before .before .before .before .before .before .before .before .word2 .kept .0 ∙ c .before .before .before .before .before .before .before .before .before .before .before .before .before .before .ann .kept .0 ∙ c .before .before .before .before .before .before .before .before .before .before .before .before .before .before .before .before .before .before .ident .kept .0 ∙ c .before .before .before .before .before .before .before .before .before .before .before .before .before .before .before .before .before .before .before .before .before .before .word .kept .0
 
 -- src/lib.rt:812:1
 bind-returns : (t : ℕ) → bind-lts.Need-returns (bind-calls t) (bind-at t) bind.Post
@@ -873,7 +873,7 @@ bind-returns t c = record {
       λ x a.
       laid-then (c .before .before .before .before .before .before .before .before .before .before .before .before .before .before .before .before .before .before .before .before .before .before .word .ensures)
       (laid-then (c .before .before .before .before .before .before .before .before .before .before .before .before .before .before .before .before .before .before .ident .ensures .of (x .1) (a .1 .0))
-      (laid-then (c .before .before .before .before .before .before .before .before .before .before .before .before .before .before .colon .ensures .of (x .2) (rw (c .before .before .before .before .before .before .before .before .before .before .before .before .before .before .before .before .before .before .before .before .before .before .before .before .before .second .ensures) (a .1 .1)))
+      (laid-then (c .before .before .before .before .before .before .before .before .before .before .before .before .before .before .ann .ensures .of (x .2) (rw (c .before .before .before .before .before .before .before .before .before .before .before .before .before .before .before .before .before .before .before .before .before .before .before .before .before .second .ensures) (a .1 .1)))
       (laid-then (c .before .before .before .before .before .before .before .before .before .before .word2 .ensures) (laid-then (c .before .before .before .before .before .before .expr .ensures .of (x .3) (rw (c .before .before .before .before .before .before .before .before .before .before .before .before .before .before .before .before .before .before .before .before .before .before .before .before .third .ensures) (a .1 .2))) (c .before .before .word3 .ensures)))));
 }
 
@@ -1057,9 +1057,9 @@ unfolding ExprAt
 call-expr-requires t c κs = (omega (arith, c .before .before .before .before .before .before .before .before .before .before .pre .0, c .before .before .before .before .before .before .before .before .before .before .pre .1 .held .1 .3 .same), record { accepted = c .before .before .before .before .before .before .before .before .before .before .pre .1 .accepted; tree = c .before .before .before .before .before .before .before .before .before .before .pre .1 .tree .1 .0; held = c .before .before .before .before .before .before .before .before .before .before .pre .1 .held .1 .0 })
 
 -- src/lib.rt:586:13
-call-list-requires : (t : ℕ) → call-lts.Need-list-requires (call-calls t) (call-at t) call.Post
+call-seq-requires : (t : ℕ) → call-lts.Need-seq-requires (call-calls t) (call-at t) call.Post
 unfolding ExprAt
-call-list-requires t c κs = rw (c .before .before .before .before .before .before .before .before .before .before .second .ensures) (omega (arith, c .before .before .before .before .before .before .before .before .before .before .before .before .before .before .pre .0, c .before .before .before .before .before .before .before .before .before .before .before .before .before .before .pre .1 .held .1 .3 .same), record { accepted = c .before .before .before .before .before .before .before .before .before .before .before .before .before .before .pre .1 .accepted; tree = rules.exprElems _ (c .before .before .before .before .before .before .before .before .before .before .before .before .before .before .pre .1 .tree .1 .2); held = list-of (c .before .before .before .before .before .before .before .before .before .before .before .before .before .before .pre .1 .held .1 .1) (expr-elems _ _ _ _ (c .before .before .before .before .before .before .before .before .before .before .before .before .before .before .pre .1 .tree .1 .2) (c .before .before .before .before .before .before .before .before .before .before .before .before .before .before .pre .1 .held .1 .2)) })
+call-seq-requires t c κs = rw (c .before .before .before .before .before .before .before .before .before .before .second .ensures) (omega (arith, c .before .before .before .before .before .before .before .before .before .before .before .before .before .before .pre .0, c .before .before .before .before .before .before .before .before .before .before .before .before .before .before .pre .1 .held .1 .3 .same), record { accepted = c .before .before .before .before .before .before .before .before .before .before .before .before .before .before .pre .1 .accepted; tree = rules.exprElems _ (c .before .before .before .before .before .before .before .before .before .before .before .before .before .before .pre .1 .tree .1 .2); held = list-of (c .before .before .before .before .before .before .before .before .before .before .before .before .before .before .pre .1 .held .1 .1) (expr-elems _ _ _ _ (c .before .before .before .before .before .before .before .before .before .before .before .before .before .before .pre .1 .tree .1 .2) (c .before .before .before .before .before .before .before .before .before .before .before .before .before .before .pre .1 .held .1 .2)) })
 
 -- src/lib.rt:587:9
 call-set-second-requires : (t : ℕ) → call-lts.Need-set-second-requires (call-calls t) (call-at t) call.Post
@@ -1071,12 +1071,12 @@ call-close-requires t c κs = tt
 
 -- src/lib.rt:589:9
 call-same-length : (t : ℕ) → call-lts.Need-same-length (call-calls t) (call-at t) call.Post
-call-same-length t c = c .before .before .close .kept .0 ∙ c .before .before .before .before .before .before .set-second .kept .0 ∙ c .before .before .before .before .before .before .before .before .before .before .list .kept .0 ∙ c .before .before .before .before .before .before .before .before .before .before .before .before .before .before .expr .kept .0 ∙ c .before .before .before .before .before .before .before .before .before .before .before .before .before .before .before .before .before .before .open-call .kept .0
+call-same-length t c = c .before .before .close .kept .0 ∙ c .before .before .before .before .before .before .set-second .kept .0 ∙ c .before .before .before .before .before .before .before .before .before .before .seq .kept .0 ∙ c .before .before .before .before .before .before .before .before .before .before .before .before .before .before .expr .kept .0 ∙ c .before .before .before .before .before .before .before .before .before .before .before .before .before .before .before .before .before .before .open-call .kept .0
 
 -- src/lib.rt:589:9
 call-returns : (t : ℕ) → call-lts.Need-returns (call-calls t) (call-at t) call.Post
 unfolding ExprAt rules.look
-call-returns t c = let l = rw (c .before .before .before .before .before .before .before .before .before .before .before .before .before .before .before .before .before .before .before .before .before .second .ensures) at (c .before .before .before .before .before .before .before .before .before .before .list .ensures) in
+call-returns t c = let l = rw (c .before .before .before .before .before .before .before .before .before .before .before .before .before .before .before .before .before .before .before .before .before .second .ensures) at (c .before .before .before .before .before .before .before .before .before .before .seq .ensures) in
     record {
       of =
           λ x a.
@@ -1095,64 +1095,64 @@ unfolding ExprAt
 call-expr-requires-2 t c κs = (omega (arith, c .before .before .before .before .before .before .pre .0, c .before .before .before .before .before .before .pre .1 .held .1 .3 .same), record { accepted = c .before .before .before .before .before .before .pre .1 .accepted; tree = c .before .before .before .before .before .before .pre .1 .tree .1 .0; held = c .before .before .before .before .before .before .pre .1 .held .1 .0 })
 
 -- src/lib.rt:592:5
-call-list-requires-2 : (t : ℕ) → call-lts.Need-list-requires-2 (call-calls t) (call-at t) call.Post
+call-seq-requires-2 : (t : ℕ) → call-lts.Need-seq-requires-2 (call-calls t) (call-at t) call.Post
 unfolding ExprAt
-call-list-requires-2 t c κs = rw (c .before .before .before .before .before .before .second .ensures) (omega (arith, c .before .before .before .before .before .before .before .before .before .before .pre .0, c .before .before .before .before .before .before .before .before .before .before .pre .1 .held .1 .3 .same), record { accepted = c .before .before .before .before .before .before .before .before .before .before .pre .1 .accepted; tree = rules.exprElems _ (c .before .before .before .before .before .before .before .before .before .before .pre .1 .tree .1 .2); held = list-of (c .before .before .before .before .before .before .before .before .before .before .pre .1 .held .1 .1) (expr-elems _ _ _ _ (c .before .before .before .before .before .before .before .before .before .before .pre .1 .tree .1 .2) (c .before .before .before .before .before .before .before .before .before .before .pre .1 .held .1 .2)) })
+call-seq-requires-2 t c κs = rw (c .before .before .before .before .before .before .second .ensures) (omega (arith, c .before .before .before .before .before .before .before .before .before .before .pre .0, c .before .before .before .before .before .before .before .before .before .before .pre .1 .held .1 .3 .same), record { accepted = c .before .before .before .before .before .before .before .before .before .before .pre .1 .accepted; tree = rules.exprElems _ (c .before .before .before .before .before .before .before .before .before .before .pre .1 .tree .1 .2); held = list-of (c .before .before .before .before .before .before .before .before .before .before .pre .1 .held .1 .1) (expr-elems _ _ _ _ (c .before .before .before .before .before .before .before .before .before .before .pre .1 .tree .1 .2) (c .before .before .before .before .before .before .before .before .before .before .pre .1 .held .1 .2)) })
 
 -- src/lib.rt:578:1
 call-same-length-2 : (t : ℕ) → call-lts.Need-same-length-2 (call-calls t) (call-at t) call.Post
-call-same-length-2 t c = c .before .before .list2 .kept .0 ∙ c .before .before .before .before .before .before .expr2 .kept .0
+call-same-length-2 t c = c .before .before .seq2 .kept .0 ∙ c .before .before .before .before .before .before .expr2 .kept .0
 
 -- src/lib.rt:578:1
 call-returns-2 : (t : ℕ) → call-lts.Need-returns-2 (call-calls t) (call-at t) call.Post
 unfolding ExprAt rules.look
-call-returns-2 t c = let l = rw (c .before .before .before .before .before .before .before .before .before .second .ensures) at (c .before .before .list2 .ensures) in
+call-returns-2 t c = let l = rw (c .before .before .before .before .before .before .before .before .before .second .ensures) at (c .before .before .seq2 .ensures) in
     record { of = λ x a. laid-else _ (le-ltb _ _ (c .before .before .before .before .before .before .before .before .if1 .left)) (laid-then (c .before .before .before .before .before .before .expr2 .ensures .of (x .1 .0) (a .1 .0)) (l .of (rules.exprElems _ (x .1 .2)) (list-of (a .1 .1) (expr-elems _ _ _ _ (x .1 .2) (a .1 .2))) (x .1 .1) (a .1 .1 .end))) }
 
 -- src/lib.rt:546:9
-clause-word-requires : (t : ℕ) → clause-lts.Need-word-requires (clause-calls t) (clause-at t) clause.Post
-clause-word-requires t c κs = tt
+cond-word-requires : (t : ℕ) → cond-lts.Need-word-requires (cond-calls t) (cond-at t) cond.Post
+cond-word-requires t c κs = tt
 
 -- src/lib.rt:547:9
-clause-open-group-requires : (t : ℕ) → clause-lts.Need-open-group-requires (clause-calls t) (clause-at t) clause.Post
-clause-open-group-requires t c κs = tt
+cond-open-group-requires : (t : ℕ) → cond-lts.Need-open-group-requires (cond-calls t) (cond-at t) cond.Post
+cond-open-group-requires t c κs = tt
 
 -- src/lib.rt:548:9
-clause-open-indent-requires : (t : ℕ) → clause-lts.Need-open-indent-requires (clause-calls t) (clause-at t) clause.Post
-clause-open-indent-requires t c κs = tt
+cond-open-indent-requires : (t : ℕ) → cond-lts.Need-open-indent-requires (cond-calls t) (cond-at t) cond.Post
+cond-open-indent-requires t c κs = tt
 
 -- src/lib.rt:549:9
-clause-expr-requires : (t : ℕ) → clause-lts.Need-expr-requires (clause-calls t) (clause-at t) clause.Post
-clause-expr-requires t c κs = (omega (arith, c .before .before .before .before .before .before .before .before .before .before .before .before .before .before .before .before .pre .0), record { accepted = c .before .before .before .before .before .before .before .before .before .before .before .before .before .before .before .before .pre .1 .accepted; tree = c .before .before .before .before .before .before .before .before .before .before .before .before .before .before .before .before .pre .1 .tree .0; held = c .before .before .before .before .before .before .before .before .before .before .before .before .before .before .before .before .pre .1 .held .0 })
+cond-expr-requires : (t : ℕ) → cond-lts.Need-expr-requires (cond-calls t) (cond-at t) cond.Post
+cond-expr-requires t c κs = (omega (arith, c .before .before .before .before .before .before .before .before .before .before .before .before .before .before .before .before .pre .0), record { accepted = c .before .before .before .before .before .before .before .before .before .before .before .before .before .before .before .before .pre .1 .accepted; tree = c .before .before .before .before .before .before .before .before .before .before .before .before .before .before .before .before .pre .1 .tree .0; held = c .before .before .before .before .before .before .before .before .before .before .before .before .before .before .before .before .pre .1 .held .0 })
 
 -- src/lib.rt:550:5
-clause-close-requires : (t : ℕ) → clause-lts.Need-close-requires (clause-calls t) (clause-at t) clause.Post
-clause-close-requires t c κs = tt
+cond-close-requires : (t : ℕ) → cond-lts.Need-close-requires (cond-calls t) (cond-at t) cond.Post
+cond-close-requires t c κs = tt
 
 -- src/lib.rt:551:5
-clause-close-requires-2 : (t : ℕ) → clause-lts.Need-close-requires-2 (clause-calls t) (clause-at t) clause.Post
-clause-close-requires-2 t c κs = tt
+cond-close-requires-2 : (t : ℕ) → cond-lts.Need-close-requires-2 (cond-calls t) (cond-at t) cond.Post
+cond-close-requires-2 t c κs = tt
 
 -- src/lib.rt:552:9
-clause-word-requires-2 : (t : ℕ) → clause-lts.Need-word-requires-2 (clause-calls t) (clause-at t) clause.Post
-clause-word-requires-2 t c κs = tt
+cond-word-requires-2 : (t : ℕ) → cond-lts.Need-word-requires-2 (cond-calls t) (cond-at t) cond.Post
+cond-word-requires-2 t c κs = tt
 
 -- src/lib.rt:553:27
-clause-past-requires : (t : ℕ) → clause-lts.Need-past-requires (clause-calls t) (clause-at t) clause.Post
-clause-past-requires t c κs = within (expr-whole _ _ _ (c .before .before .before .before .before .before .before .before .before .before .before .before .before .before .before .before .before .before .before .before .before .before .before .before .before .before .before .before .before .before .before .before .pre .1 .tree .0) (c .before .before .before .before .before .before .before .before .before .before .before .before .before .before .before .before .before .before .before .before .before .before .before .before .before .before .before .before .before .before .before .before .pre .1 .held .0))
+cond-past-requires : (t : ℕ) → cond-lts.Need-past-requires (cond-calls t) (cond-at t) cond.Post
+cond-past-requires t c κs = within (expr-whole _ _ _ (c .before .before .before .before .before .before .before .before .before .before .before .before .before .before .before .before .before .before .before .before .before .before .before .before .before .before .before .before .before .before .before .before .pre .1 .tree .0) (c .before .before .before .before .before .before .before .before .before .before .before .before .before .before .before .before .before .before .before .before .before .before .before .before .before .before .before .before .before .before .before .before .pre .1 .held .0))
 
 -- src/lib.rt:553:5
-clause-block-requires : (t : ℕ) → clause-lts.Need-block-requires (clause-calls t) (clause-at t) clause.Post
-clause-block-requires t c κs = rw (c .past .ensures) (omega (arith, c .before .before .before .before .before .before .before .before .before .before .before .before .before .before .before .before .before .before .before .before .before .before .before .before .before .before .before .before .before .before .before .before .before .pre .0), record { accepted = c .before .before .before .before .before .before .before .before .before .before .before .before .before .before .before .before .before .before .before .before .before .before .before .before .before .before .before .before .before .before .before .before .before .pre .1 .accepted; tree = c .before .before .before .before .before .before .before .before .before .before .before .before .before .before .before .before .before .before .before .before .before .before .before .before .before .before .before .before .before .before .before .before .before .pre .1 .tree .1; held = c .before .before .before .before .before .before .before .before .before .before .before .before .before .before .before .before .before .before .before .before .before .before .before .before .before .before .before .before .before .before .before .before .before .pre .1 .held .1 })
+cond-block-requires : (t : ℕ) → cond-lts.Need-block-requires (cond-calls t) (cond-at t) cond.Post
+cond-block-requires t c κs = rw (c .past .ensures) (omega (arith, c .before .before .before .before .before .before .before .before .before .before .before .before .before .before .before .before .before .before .before .before .before .before .before .before .before .before .before .before .before .before .before .before .before .pre .0), record { accepted = c .before .before .before .before .before .before .before .before .before .before .before .before .before .before .before .before .before .before .before .before .before .before .before .before .before .before .before .before .before .before .before .before .before .pre .1 .accepted; tree = c .before .before .before .before .before .before .before .before .before .before .before .before .before .before .before .before .before .before .before .before .before .before .before .before .before .before .before .before .before .before .before .before .before .pre .1 .tree .1; held = c .before .before .before .before .before .before .before .before .before .before .before .before .before .before .before .before .before .before .before .before .before .before .before .before .before .before .before .before .before .before .before .before .before .pre .1 .held .1 })
 
 -- src/lib.rt:542:1
-clause-same-length : (t : ℕ) → clause-lts.Need-same-length (clause-calls t) (clause-at t) clause.Post
-clause-same-length t c = c .before .before .block .kept .0 ∙ c .before .before .before .before .before .before .before .word2 .kept .0 ∙ c .before .before .before .before .before .before .before .before .before .before .before .close2 .kept .0 ∙ c .before .before .before .before .before .before .before .before .before .before .before .before .before .before .before .close .kept .0 ∙ c .before .before .before .before .before .before .before .before .before .before .before .before .before .before .before .before .before .before .before .expr .kept .0 ∙ c .before .before .before .before .before .before .before .before .before .before .before .before .before .before .before .before .before .before .before .before .before .before .before .open-indent .kept .0 ∙ c .before .before .before .before .before .before .before .before .before .before .before .before .before .before .before .before .before .before .before .before .before .before .before .before .before .before .before .open-group .kept .0 ∙ c .before .before .before .before .before .before .before .before .before .before .before .before .before .before .before .before .before .before .before .before .before .before .before .before .before .before .before .before .before .before .before .word .kept .0
+cond-same-length : (t : ℕ) → cond-lts.Need-same-length (cond-calls t) (cond-at t) cond.Post
+cond-same-length t c = c .before .before .block .kept .0 ∙ c .before .before .before .before .before .before .before .word2 .kept .0 ∙ c .before .before .before .before .before .before .before .before .before .before .before .close2 .kept .0 ∙ c .before .before .before .before .before .before .before .before .before .before .before .before .before .before .before .close .kept .0 ∙ c .before .before .before .before .before .before .before .before .before .before .before .before .before .before .before .before .before .before .before .expr .kept .0 ∙ c .before .before .before .before .before .before .before .before .before .before .before .before .before .before .before .before .before .before .before .before .before .before .before .open-indent .kept .0 ∙ c .before .before .before .before .before .before .before .before .before .before .before .before .before .before .before .before .before .before .before .before .before .before .before .before .before .before .before .open-group .kept .0 ∙ c .before .before .before .before .before .before .before .before .before .before .before .before .before .before .before .before .before .before .before .before .before .before .before .before .before .before .before .before .before .before .before .word .kept .0
 
 -- src/lib.rt:542:1
-clause-returns : (t : ℕ) → clause-lts.Need-returns (clause-calls t) (clause-at t) clause.Post
+cond-returns : (t : ℕ) → cond-lts.Need-returns (cond-calls t) (cond-at t) cond.Post
 unfolding rules.clause
-clause-returns t c = record {
+cond-returns t c = record {
   of =
       λ x a.
       laid-then (c .before .before .before .before .before .before .before .before .before .before .before .before .before .before .before .before .before .before .before .before .before .before .before .before .before .before .before .before .before .before .before .word .ensures)
@@ -1162,28 +1162,28 @@ clause-returns t c = record {
 }
 
 -- src/lib.rt:831:8
-colon-is-absent-requires : (t : ℕ) → colon-lts.Need-is-absent-requires (colon-calls t) (colon-at t) colon.Post
-colon-is-absent-requires t c κs = maybe-type _ _ _ (c .before .before .before .pre .1 .tree) (c .before .before .before .pre .1 .held)
+ann-is-absent-requires : (t : ℕ) → ann-lts.Need-is-absent-requires (ann-calls t) (ann-at t) ann.Post
+ann-is-absent-requires t c κs = maybe-type _ _ _ (c .before .before .before .pre .1 .tree) (c .before .before .before .pre .1 .held)
 
 -- src/lib.rt:832:9
-colon-returns : (t : ℕ) → colon-lts.Need-returns (colon-calls t) (colon-at t) colon.Post
-colon-returns t c = no-type (absent (c .before .is-absent .ensures) (c .if1 .taken))
+ann-returns : (t : ℕ) → ann-lts.Need-returns (ann-calls t) (ann-at t) ann.Post
+ann-returns t c = no-type (absent (c .before .is-absent .ensures) (c .if1 .taken))
 
 -- src/lib.rt:834:9
-colon-word-requires : (t : ℕ) → colon-lts.Need-word-requires (colon-calls t) (colon-at t) colon.Post
-colon-word-requires t c κs = tt
+ann-word-requires : (t : ℕ) → ann-lts.Need-word-requires (ann-calls t) (ann-at t) ann.Post
+ann-word-requires t c κs = tt
 
 -- src/lib.rt:835:5
-colon-type-expr-requires : (t : ℕ) → colon-lts.Need-type-expr-requires (colon-calls t) (colon-at t) colon.Post
-colon-type-expr-requires t c κs = (omega (arith, c .before .before .before .before .before .before .before .before .before .before .pre .0), has-type (present (c .before .before .before .before .before .before .is-absent .ensures) (c .before .before .before .before .before .if1 .left)) (c .before .before .before .before .before .before .before .before .before .before .pre .1))
+ann-type-expr-requires : (t : ℕ) → ann-lts.Need-type-expr-requires (ann-calls t) (ann-at t) ann.Post
+ann-type-expr-requires t c κs = (omega (arith, c .before .before .before .before .before .before .before .before .before .before .pre .0), has-type (present (c .before .before .before .before .before .before .is-absent .ensures) (c .before .before .before .before .before .if1 .left)) (c .before .before .before .before .before .before .before .before .before .before .pre .1))
 
 -- src/lib.rt:827:1
-colon-same-length : (t : ℕ) → colon-lts.Need-same-length (colon-calls t) (colon-at t) colon.Post
-colon-same-length t c = c .before .before .type-expr .kept .0 ∙ c .before .before .before .before .before .before .word .kept .0
+ann-same-length : (t : ℕ) → ann-lts.Need-same-length (ann-calls t) (ann-at t) ann.Post
+ann-same-length t c = c .before .before .type-expr .kept .0 ∙ c .before .before .before .before .before .before .word .kept .0
 
 -- src/lib.rt:827:1
-colon-returns-2 : (t : ℕ) → colon-lts.Need-returns-2 (colon-calls t) (colon-at t) colon.Post
-colon-returns-2 t c = some-type (present (c .before .before .before .before .before .before .before .before .before .is-absent .ensures) (c .before .before .before .before .before .before .before .before .if1 .left)) (c .before .before .before .before .before .before .word .ensures) (c .before .before .type-expr .ensures)
+ann-returns-2 : (t : ℕ) → ann-lts.Need-returns-2 (ann-calls t) (ann-at t) ann.Post
+ann-returns-2 t c = some-type (present (c .before .before .before .before .before .before .before .before .before .is-absent .ensures) (c .before .before .before .before .before .before .before .before .if1 .left)) (c .before .before .before .before .before .before .word .ensures) (c .before .before .type-expr .ensures)
 
 -- src/lib.rt:292:33
 elem-enum-told : (t : ℕ) → elem-lts.Need-enum-told (elem-calls t) (elem-at t) elem.Post
@@ -1208,18 +1208,18 @@ elem-enum-told-3 : (t : ℕ) → elem-lts.Need-enum-told-3 (elem-calls t) (elem-
 elem-enum-told-3 t c = search needs
 
 -- src/lib.rt:294:27
-elem-field-requires : (t : ℕ) → elem-lts.Need-field-requires (elem-calls t) (elem-at t) elem.Post
+elem-param-requires : (t : ℕ) → elem-lts.Need-param-requires (elem-calls t) (elem-at t) elem.Post
 unfolding ItemAt
-elem-field-requires t c κs = (omega (arith, c .before .before .before .before .before .before .pre .0), item-has (c .before .enum-told3 .given .1) (λ e i. i) (c .before .before .before .before .before .before .pre .1))
+elem-param-requires t c κs = (omega (arith, c .before .before .before .before .before .before .pre .0), item-has (c .before .enum-told3 .given .1) (λ e i. i) (c .before .before .before .before .before .before .pre .1))
 
 -- src/lib.rt:295:35
 elem-enum-told-4 : (t : ℕ) → elem-lts.Need-enum-told-4 (elem-calls t) (elem-at t) elem.Post
 elem-enum-told-4 t c = search needs
 
 -- src/lib.rt:295:28
-elem-import-requires : (t : ℕ) → elem-lts.Need-import-requires (elem-calls t) (elem-at t) elem.Post
+elem-item-requires : (t : ℕ) → elem-lts.Need-item-requires (elem-calls t) (elem-at t) elem.Post
 unfolding ItemAt
-elem-import-requires t c κs = (omega (arith, c .before .before .before .before .before .before .pre .0), item-has (c .before .enum-told4 .given .1) (λ e i. i) (c .before .before .before .before .before .before .pre .1))
+elem-item-requires t c κs = (omega (arith, c .before .before .before .before .before .before .pre .0), item-has (c .before .enum-told4 .given .1) (λ e i. i) (c .before .before .before .before .before .before .pre .1))
 
 -- src/lib.rt:296:31
 elem-enum-told-5 : (t : ℕ) → elem-lts.Need-enum-told-5 (elem-calls t) (elem-at t) elem.Post
@@ -1252,9 +1252,9 @@ elem-enum-told-7 : (t : ℕ) → elem-lts.Need-enum-told-7 (elem-calls t) (elem-
 elem-enum-told-7 t c = search needs
 
 -- src/lib.rt:303:27
-elem-entry-requires : (t : ℕ) → elem-lts.Need-entry-requires (elem-calls t) (elem-at t) elem.Post
+elem-pair-requires : (t : ℕ) → elem-lts.Need-pair-requires (elem-calls t) (elem-at t) elem.Post
 unfolding ItemAt
-elem-entry-requires t c κs = (omega (arith, c .before .before .before .before .before .before .pre .0), item-has (c .before .enum-told7 .given .1) (λ e i. i) (c .before .before .before .before .before .before .pre .1))
+elem-pair-requires t c κs = (omega (arith, c .before .before .before .before .before .before .pre .0), item-has (c .before .enum-told7 .given .1) (λ e i. i) (c .before .before .before .before .before .before .pre .1))
 
 -- src/lib.rt:304:29
 elem-enum-told-8 : (t : ℕ) → elem-lts.Need-enum-told-8 (elem-calls t) (elem-at t) elem.Post
@@ -1270,9 +1270,9 @@ elem-enum-told-9 : (t : ℕ) → elem-lts.Need-enum-told-9 (elem-calls t) (elem-
 elem-enum-told-9 t c = search needs
 
 -- src/lib.rt:305:29
-elem-variant-requires : (t : ℕ) → elem-lts.Need-variant-requires (elem-calls t) (elem-at t) elem.Post
+elem-ctor-requires : (t : ℕ) → elem-lts.Need-ctor-requires (elem-calls t) (elem-at t) elem.Post
 unfolding ItemAt
-elem-variant-requires t c κs = (omega (arith, c .before .before .before .before .before .before .pre .0), item-has (c .before .enum-told9 .given .1) (λ e i. i) (c .before .before .before .before .before .before .pre .1))
+elem-ctor-requires t c κs = (omega (arith, c .before .before .before .before .before .before .pre .0), item-has (c .before .enum-told9 .given .1) (λ e i. i) (c .before .before .before .before .before .before .pre .1))
 
 -- src/lib.rt:287:1
 elem-same-length : (t : ℕ) → elem-lts.Need-same-length (elem-calls t) (elem-at t) elem.Post
@@ -1294,21 +1294,21 @@ elem-returns-2 t c = item-laid (c .before .before .before .before .enum-told2 .g
 
 -- src/lib.rt:287:1
 elem-same-length-3 : (t : ℕ) → elem-lts.Need-same-length-3 (elem-calls t) (elem-at t) elem.Post
-elem-same-length-3 t c = c .before .before .field .kept .0
+elem-same-length-3 t c = c .before .before .param .kept .0
 
 -- src/lib.rt:287:1
 elem-returns-3 : (t : ℕ) → elem-lts.Need-returns-3 (elem-calls t) (elem-at t) elem.Post
 unfolding ItemAt
-elem-returns-3 t c = item-laid (c .before .before .before .before .enum-told3 .given .1) (λ e i. i) (c .before .before .field .ensures)
+elem-returns-3 t c = item-laid (c .before .before .before .before .enum-told3 .given .1) (λ e i. i) (c .before .before .param .ensures)
 
 -- src/lib.rt:287:1
 elem-same-length-4 : (t : ℕ) → elem-lts.Need-same-length-4 (elem-calls t) (elem-at t) elem.Post
-elem-same-length-4 t c = c .before .before .import .kept .0
+elem-same-length-4 t c = c .before .before .item .kept .0
 
 -- src/lib.rt:287:1
 elem-returns-4 : (t : ℕ) → elem-lts.Need-returns-4 (elem-calls t) (elem-at t) elem.Post
 unfolding ItemAt
-elem-returns-4 t c = item-laid (c .before .before .before .before .enum-told4 .given .1) (λ e i. i) (c .before .before .import .ensures)
+elem-returns-4 t c = item-laid (c .before .before .before .before .enum-told4 .given .1) (λ e i. i) (c .before .before .item .ensures)
 
 -- src/lib.rt:287:1
 elem-same-length-5 : (t : ℕ) → elem-lts.Need-same-length-5 (elem-calls t) (elem-at t) elem.Post
@@ -1331,12 +1331,12 @@ elem-returns-6 t c = item-laid (c .before .before .before .before .before .befor
 
 -- src/lib.rt:287:1
 elem-same-length-7 : (t : ℕ) → elem-lts.Need-same-length-7 (elem-calls t) (elem-at t) elem.Post
-elem-same-length-7 t c = c .before .before .entry .kept .0
+elem-same-length-7 t c = c .before .before .pair .kept .0
 
 -- src/lib.rt:287:1
 elem-returns-7 : (t : ℕ) → elem-lts.Need-returns-7 (elem-calls t) (elem-at t) elem.Post
 unfolding ItemAt
-elem-returns-7 t c = item-laid (c .before .before .before .before .enum-told7 .given .1) (λ e i. i) (c .before .before .entry .ensures)
+elem-returns-7 t c = item-laid (c .before .before .before .before .enum-told7 .given .1) (λ e i. i) (c .before .before .pair .ensures)
 
 -- src/lib.rt:287:1
 elem-same-length-8 : (t : ℕ) → elem-lts.Need-same-length-8 (elem-calls t) (elem-at t) elem.Post
@@ -1349,12 +1349,12 @@ elem-returns-8 t c = item-laid (c .before .before .before .before .enum-told8 .g
 
 -- src/lib.rt:287:1
 elem-same-length-9 : (t : ℕ) → elem-lts.Need-same-length-9 (elem-calls t) (elem-at t) elem.Post
-elem-same-length-9 t c = c .before .before .variant .kept .0
+elem-same-length-9 t c = c .before .before .ctor .kept .0
 
 -- src/lib.rt:287:1
 elem-returns-9 : (t : ℕ) → elem-lts.Need-returns-9 (elem-calls t) (elem-at t) elem.Post
 unfolding ItemAt
-elem-returns-9 t c = item-laid (c .before .before .before .before .enum-told9 .given .1) (λ e i. i) (c .before .before .variant .ensures)
+elem-returns-9 t c = item-laid (c .before .before .before .before .enum-told9 .given .1) (λ e i. i) (c .before .before .ctor .ensures)
 
 abbrev elems-Inv-loop : elems-lts.InvT-loop
 elems-Inv-loop store₀ s b from to k commas p₀ d₀ first₀ store p d first = (length store ≡ length store₀)
@@ -1411,32 +1411,32 @@ elems-returns : (t : ℕ) → elems-lts.Need-returns (elems-calls t) (elems-at t
 elems-returns t c = c .before .loop .inv .3 _ _ (elems-none _ (c .before .before .before .before .before .args .commas) (c .before .loop .first) (c .loop-test .left))
 
 -- src/lib.rt:438:9
-entry-second-requires : (t : ℕ) → entry-lts.Need-second-requires (entry-calls t) (entry-at t) entry.Post
-entry-second-requires t c κs = within (ident-whole (c .before .before .before .pre .1 .held .1))
+pair-second-requires : (t : ℕ) → pair-lts.Need-second-requires (pair-calls t) (pair-at t) pair.Post
+pair-second-requires t c κs = within (ident-whole (c .before .before .before .pre .1 .held .1))
 
 -- src/lib.rt:439:35
-entry-add-ident : (t : ℕ) → entry-lts.Need-add-ident (entry-calls t) (entry-at t) entry.Post
-entry-add-ident t c = omega (arith, c .before .before .before .before .before .pre .1 .accepted .small, c .before .before .before .before .before .pre .1 .held .0 .long, c .before .before .before .before .before .pre .1 .held .0 .fits)
+pair-add-ident : (t : ℕ) → pair-lts.Need-add-ident (pair-calls t) (pair-at t) pair.Post
+pair-add-ident t c = omega (arith, c .before .before .before .before .before .pre .1 .accepted .small, c .before .before .before .before .before .pre .1 .held .0 .long, c .before .before .before .before .before .pre .1 .held .0 .fits)
 
 -- src/lib.rt:439:9
-entry-ident-requires : (t : ℕ) → entry-lts.Need-ident-requires (entry-calls t) (entry-at t) entry.Post
-entry-ident-requires t c κs = record { accepted = c .before .before .before .before .before .pre .1 .accepted; tree = c .before .before .before .before .before .pre .1 .tree .1; held = c .before .before .before .before .before .pre .1 .held .1 }
+pair-ident-requires : (t : ℕ) → pair-lts.Need-ident-requires (pair-calls t) (pair-at t) pair.Post
+pair-ident-requires t c κs = record { accepted = c .before .before .before .before .before .pre .1 .accepted; tree = c .before .before .before .before .before .pre .1 .tree .1; held = c .before .before .before .before .before .pre .1 .held .1 }
 
 -- src/lib.rt:440:9
-entry-word-requires : (t : ℕ) → entry-lts.Need-word-requires (entry-calls t) (entry-at t) entry.Post
-entry-word-requires t c κs = tt
+pair-word-requires : (t : ℕ) → pair-lts.Need-word-requires (pair-calls t) (pair-at t) pair.Post
+pair-word-requires t c κs = tt
 
 -- src/lib.rt:441:5
-entry-expr-requires : (t : ℕ) → entry-lts.Need-expr-requires (entry-calls t) (entry-at t) entry.Post
-entry-expr-requires t c κs = rw (c .before .before .before .before .before .before .before .before .before .second .ensures) (omega (arith, c .before .before .before .before .before .before .before .before .before .before .before .before .before .pre .0, c .before .before .before .before .before .before .before .before .before .before .before .before .before .pre .1 .held .3 .same), record { accepted = c .before .before .before .before .before .before .before .before .before .before .before .before .before .pre .1 .accepted; tree = c .before .before .before .before .before .before .before .before .before .before .before .before .before .pre .1 .tree .2; held = c .before .before .before .before .before .before .before .before .before .before .before .before .before .pre .1 .held .2 })
+pair-expr-requires : (t : ℕ) → pair-lts.Need-expr-requires (pair-calls t) (pair-at t) pair.Post
+pair-expr-requires t c κs = rw (c .before .before .before .before .before .before .before .before .before .second .ensures) (omega (arith, c .before .before .before .before .before .before .before .before .before .before .before .before .before .pre .0, c .before .before .before .before .before .before .before .before .before .before .before .before .before .pre .1 .held .3 .same), record { accepted = c .before .before .before .before .before .before .before .before .before .before .before .before .before .pre .1 .accepted; tree = c .before .before .before .before .before .before .before .before .before .before .before .before .before .pre .1 .tree .2; held = c .before .before .before .before .before .before .before .before .before .before .before .before .before .pre .1 .held .2 })
 
 -- src/lib.rt:434:1
-entry-same-length : (t : ℕ) → entry-lts.Need-same-length (entry-calls t) (entry-at t) entry.Post
-entry-same-length t c = c .before .before .expr .kept .0 ∙ c .before .before .before .before .before .before .word .kept .0 ∙ c .before .before .before .before .before .before .before .before .before .before .ident .kept .0
+pair-same-length : (t : ℕ) → pair-lts.Need-same-length (pair-calls t) (pair-at t) pair.Post
+pair-same-length t c = c .before .before .expr .kept .0 ∙ c .before .before .before .before .before .before .word .kept .0 ∙ c .before .before .before .before .before .before .before .before .before .before .ident .kept .0
 
 -- src/lib.rt:434:1
-entry-returns : (t : ℕ) → entry-lts.Need-returns (entry-calls t) (entry-at t) entry.Post
-entry-returns t c = record {
+pair-returns : (t : ℕ) → pair-lts.Need-returns (pair-calls t) (pair-at t) pair.Post
+pair-returns t c = record {
   of = λ x a. laid-then (c .before .before .before .before .before .before .before .before .before .before .ident .ensures .of (x .1) (a .1)) (laid-then (c .before .before .before .before .before .before .word .ensures) (c .before .before .expr .ensures .of (x .2) (rw (c .before .before .before .before .before .before .before .before .before .before .before .before .second .ensures) (a .2))));
 }
 
@@ -1457,74 +1457,74 @@ expr-returns : (t : ℕ) → expr-lts.Need-returns (expr-calls t) (expr-at t) ex
 expr-returns t c = record { of = λ e a. laid-then (c .before .before .before .before .before .before .form .ensures .of e a) (c .before .before .pop-trailing-comment .ensures) }
 
 -- src/lib.rt:365:9
-field-second-requires : (t : ℕ) → field-lts.Need-second-requires (field-calls t) (field-at t) field.Post
-field-second-requires t c κs = within (ident-whole (c .before .before .before .pre .1 .held .1))
+param-second-requires : (t : ℕ) → param-lts.Need-second-requires (param-calls t) (param-at t) param.Post
+param-second-requires t c κs = within (ident-whole (c .before .before .before .pre .1 .held .1))
 
 -- src/lib.rt:366:35
-field-add-ident : (t : ℕ) → field-lts.Need-add-ident (field-calls t) (field-at t) field.Post
-field-add-ident t c = omega (arith, c .before .before .before .before .before .pre .1 .accepted .small, c .before .before .before .before .before .pre .1 .held .0 .long, c .before .before .before .before .before .pre .1 .held .0 .fits)
+param-add-ident : (t : ℕ) → param-lts.Need-add-ident (param-calls t) (param-at t) param.Post
+param-add-ident t c = omega (arith, c .before .before .before .before .before .pre .1 .accepted .small, c .before .before .before .before .before .pre .1 .held .0 .long, c .before .before .before .before .before .pre .1 .held .0 .fits)
 
 -- src/lib.rt:366:9
-field-ident-requires : (t : ℕ) → field-lts.Need-ident-requires (field-calls t) (field-at t) field.Post
-field-ident-requires t c κs = record { accepted = c .before .before .before .before .before .pre .1 .accepted; tree = c .before .before .before .before .before .pre .1 .tree .1; held = c .before .before .before .before .before .pre .1 .held .1 }
+param-ident-requires : (t : ℕ) → param-lts.Need-ident-requires (param-calls t) (param-at t) param.Post
+param-ident-requires t c κs = record { accepted = c .before .before .before .before .before .pre .1 .accepted; tree = c .before .before .before .before .before .pre .1 .tree .1; held = c .before .before .before .before .before .pre .1 .held .1 }
 
 -- src/lib.rt:367:9
-field-word-requires : (t : ℕ) → field-lts.Need-word-requires (field-calls t) (field-at t) field.Post
-field-word-requires t c κs = tt
+param-word-requires : (t : ℕ) → param-lts.Need-word-requires (param-calls t) (param-at t) param.Post
+param-word-requires t c κs = tt
 
 -- src/lib.rt:368:5
-field-type-expr-requires : (t : ℕ) → field-lts.Need-type-expr-requires (field-calls t) (field-at t) field.Post
-field-type-expr-requires t c κs = rw (c .before .before .before .before .before .before .before .before .before .second .ensures) (omega (arith, c .before .before .before .before .before .before .before .before .before .before .before .before .before .pre .0, c .before .before .before .before .before .before .before .before .before .before .before .before .before .pre .1 .held .3 .same), record { accepted = c .before .before .before .before .before .before .before .before .before .before .before .before .before .pre .1 .accepted; tree = c .before .before .before .before .before .before .before .before .before .before .before .before .before .pre .1 .tree .2; held = c .before .before .before .before .before .before .before .before .before .before .before .before .before .pre .1 .held .2 })
+param-type-expr-requires : (t : ℕ) → param-lts.Need-type-expr-requires (param-calls t) (param-at t) param.Post
+param-type-expr-requires t c κs = rw (c .before .before .before .before .before .before .before .before .before .second .ensures) (omega (arith, c .before .before .before .before .before .before .before .before .before .before .before .before .before .pre .0, c .before .before .before .before .before .before .before .before .before .before .before .before .before .pre .1 .held .3 .same), record { accepted = c .before .before .before .before .before .before .before .before .before .before .before .before .before .pre .1 .accepted; tree = c .before .before .before .before .before .before .before .before .before .before .before .before .before .pre .1 .tree .2; held = c .before .before .before .before .before .before .before .before .before .before .before .before .before .pre .1 .held .2 })
 
 -- src/lib.rt:361:1
-field-same-length : (t : ℕ) → field-lts.Need-same-length (field-calls t) (field-at t) field.Post
-field-same-length t c = c .before .before .type-expr .kept .0 ∙ c .before .before .before .before .before .before .word .kept .0 ∙ c .before .before .before .before .before .before .before .before .before .before .ident .kept .0
+param-same-length : (t : ℕ) → param-lts.Need-same-length (param-calls t) (param-at t) param.Post
+param-same-length t c = c .before .before .type-expr .kept .0 ∙ c .before .before .before .before .before .before .word .kept .0 ∙ c .before .before .before .before .before .before .before .before .before .before .ident .kept .0
 
 -- src/lib.rt:361:1
-field-returns : (t : ℕ) → field-lts.Need-returns (field-calls t) (field-at t) field.Post
-field-returns t c = record {
+param-returns : (t : ℕ) → param-lts.Need-returns (param-calls t) (param-at t) param.Post
+param-returns t c = record {
   of = λ x a. laid-then (c .before .before .before .before .before .before .before .before .before .before .ident .ensures .of (x .1) (a .1)) (laid-then (c .before .before .before .before .before .before .word .ensures) (c .before .before .type-expr .ensures .of (x .2) (rw (c .before .before .before .before .before .before .before .before .before .before .before .before .second .ensures) (a .2))));
 }
 
 -- src/lib.rt:677:9
-for-in-second-requires : (t : ℕ) → for-in-lts.Need-second-requires (for-in-calls t) (for-in-at t) for-in.Post
+each-second-requires : (t : ℕ) → each-lts.Need-second-requires (each-calls t) (each-at t) each.Post
 unfolding ExprAt
-for-in-second-requires t c κs = within (ident-whole (c .before .before .before .pre .1 .held .1 .0))
+each-second-requires t c κs = within (ident-whole (c .before .before .before .pre .1 .held .1 .0))
 
 -- src/lib.rt:678:9
-for-in-word-requires : (t : ℕ) → for-in-lts.Need-word-requires (for-in-calls t) (for-in-at t) for-in.Post
-for-in-word-requires t c κs = tt
+each-word-requires : (t : ℕ) → each-lts.Need-word-requires (each-calls t) (each-at t) each.Post
+each-word-requires t c κs = tt
 
 -- src/lib.rt:679:35
-for-in-add-ident : (t : ℕ) → for-in-lts.Need-add-ident (for-in-calls t) (for-in-at t) for-in.Post
+each-add-ident : (t : ℕ) → each-lts.Need-add-ident (each-calls t) (each-at t) each.Post
 unfolding ExprAt
-for-in-add-ident t c = omega (arith, c .before .before .before .before .before .before .before .before .before .pre .1 .accepted .small, c .before .before .before .before .before .before .before .before .before .pre .1 .held .0 .long, c .before .before .before .before .before .before .before .before .before .pre .1 .held .0 .fits)
+each-add-ident t c = omega (arith, c .before .before .before .before .before .before .before .before .before .pre .1 .accepted .small, c .before .before .before .before .before .before .before .before .before .pre .1 .held .0 .long, c .before .before .before .before .before .before .before .before .before .pre .1 .held .0 .fits)
 
 -- src/lib.rt:679:9
-for-in-ident-requires : (t : ℕ) → for-in-lts.Need-ident-requires (for-in-calls t) (for-in-at t) for-in.Post
+each-ident-requires : (t : ℕ) → each-lts.Need-ident-requires (each-calls t) (each-at t) each.Post
 unfolding ExprAt
-for-in-ident-requires t c κs = record { accepted = c .before .before .before .before .before .before .before .before .before .pre .1 .accepted; tree = c .before .before .before .before .before .before .before .before .before .pre .1 .tree .1 .0; held = c .before .before .before .before .before .before .before .before .before .pre .1 .held .1 .0 }
+each-ident-requires t c κs = record { accepted = c .before .before .before .before .before .before .before .before .before .pre .1 .accepted; tree = c .before .before .before .before .before .before .before .before .before .pre .1 .tree .1 .0; held = c .before .before .before .before .before .before .before .before .before .pre .1 .held .1 .0 }
 
 -- src/lib.rt:680:5
-for-in-clause-requires : (t : ℕ) → for-in-lts.Need-clause-requires (for-in-calls t) (for-in-at t) for-in.Post
+each-cond-requires : (t : ℕ) → each-lts.Need-cond-requires (each-calls t) (each-at t) each.Post
 unfolding ExprAt
-for-in-clause-requires t c κs = rw (c .before .before .before .before .before .before .before .before .before .second .ensures) (
+each-cond-requires t c κs = rw (c .before .before .before .before .before .before .before .before .before .second .ensures) (
   omega (arith, c .before .before .before .before .before .before .before .before .before .before .before .before .before .pre .0, c .before .before .before .before .before .before .before .before .before .before .before .before .before .pre .1 .held .1 .3 .same),
   record { accepted = c .before .before .before .before .before .before .before .before .before .before .before .before .before .pre .1 .accepted; tree = (c .before .before .before .before .before .before .before .before .before .before .before .before .before .pre .1 .tree .1 .1, c .before .before .before .before .before .before .before .before .before .before .before .before .before .pre .1 .tree .1 .2); held = (c .before .before .before .before .before .before .before .before .before .before .before .before .before .pre .1 .held .1 .1, c .before .before .before .before .before .before .before .before .before .before .before .before .before .pre .1 .held .1 .2) },
 )
 
 -- src/lib.rt:673:1
-for-in-same-length : (t : ℕ) → for-in-lts.Need-same-length (for-in-calls t) (for-in-at t) for-in.Post
-for-in-same-length t c = c .before .before .clause .kept .0 ∙ c .before .before .before .before .before .before .ident .kept .0 ∙ c .before .before .before .before .before .before .before .before .before .before .word .kept .0
+each-same-length : (t : ℕ) → each-lts.Need-same-length (each-calls t) (each-at t) each.Post
+each-same-length t c = c .before .before .cond .kept .0 ∙ c .before .before .before .before .before .before .ident .kept .0 ∙ c .before .before .before .before .before .before .before .before .before .before .word .kept .0
 
 -- src/lib.rt:673:1
-for-in-returns : (t : ℕ) → for-in-lts.Need-returns (for-in-calls t) (for-in-at t) for-in.Post
+each-returns : (t : ℕ) → each-lts.Need-returns (each-calls t) (each-at t) each.Post
 unfolding ExprAt rules.look
-for-in-returns t c = record {
+each-returns t c = record {
   of =
       λ x a.
       laid-then (c .before .before .before .before .before .before .before .before .before .before .word .ensures)
-      (laid-then (c .before .before .before .before .before .before .ident .ensures .of (x .1 .0) (a .1 .0)) (c .before .before .clause .ensures .of (x .1 .1, x .1 .2) (rw (c .before .before .before .before .before .before .before .before .before .before .before .before .second .ensures) (a .1 .1, a .1 .2))));
+      (laid-then (c .before .before .before .before .before .before .ident .ensures .of (x .1 .0) (a .1 .0)) (c .before .before .cond .ensures .of (x .1 .1, x .1 .2) (rw (c .before .before .before .before .before .before .before .before .before .before .before .before .second .ensures) (a .1 .1, a .1 .2))));
 }
 
 -- src/lib.rt:487:11
@@ -1556,8 +1556,8 @@ form-block-requires t c κs = let h = expr-has _ (expr-is _ _ _ 52 (sym (c .befo
     (omega (arith, c .before .before .before .before .before .before .pre .0, h .held .1 .1 .same), record { accepted = h .accepted; tree = h .tree .1; held = h .held .1 .0 })
 
 -- src/lib.rt:491:15
-form-match-on-requires : (t : ℕ) → form-lts.Need-match-on-requires (form-calls t) (form-at t) form.Post
-form-match-on-requires t c κs = (omega (arith, c .before .before .before .before .before .before .pre .0), expr-has _ (expr-is _ _ _ 53 (sym (c .before .before .kind .ensures) ∙ c .before .match .keys4)) (c .before .before .before .before .before .before .pre .1))
+form-cases-requires : (t : ℕ) → form-lts.Need-cases-requires (form-calls t) (form-at t) form.Post
+form-cases-requires t c κs = (omega (arith, c .before .before .before .before .before .before .pre .0), expr-has _ (expr-is _ _ _ 53 (sym (c .before .before .kind .ensures) ∙ c .before .match .keys4)) (c .before .before .before .before .before .before .pre .1))
 
 -- src/lib.rt:492:15
 form-call-requires : (t : ℕ) → form-lts.Need-call-requires (form-calls t) (form-at t) form.Post
@@ -1578,13 +1578,13 @@ form-path-requires t c κs = let h = expr-has _ (expr-is _ _ _ 56 (sym (c .befor
     record { accepted = h .accepted; tree = h .tree .1; held = h .held .1 .0 }
 
 -- src/lib.rt:495:36
-form-add-list : (t : ℕ) → form-lts.Need-add-list (form-calls t) (form-at t) form.Post
-form-add-list t c = let w = expr-whole _ _ _ (c .before .before .before .before .before .before .pre .1 .tree) (c .before .before .before .before .before .before .pre .1 .held) in omega (arith, c .before .before .before .before .before .before .pre .1 .accepted .small, w .long, w .fits)
+form-add-seq : (t : ℕ) → form-lts.Need-add-seq (form-calls t) (form-at t) form.Post
+form-add-seq t c = let w = expr-whole _ _ _ (c .before .before .before .before .before .before .pre .1 .tree) (c .before .before .before .before .before .before .pre .1 .held) in omega (arith, c .before .before .before .before .before .before .pre .1 .accepted .small, w .long, w .fits)
 
 -- src/lib.rt:495:15
-form-list-requires : (t : ℕ) → form-lts.Need-list-requires (form-calls t) (form-at t) form.Post
+form-seq-requires : (t : ℕ) → form-lts.Need-seq-requires (form-calls t) (form-at t) form.Post
 unfolding ExprAt
-form-list-requires t c κs = let h = expr-has _ (expr-is _ _ _ 57 (sym (c .before .before .kind .ensures) ∙ c .before .match .keys8)) (c .before .before .before .before .before .before .pre .1) in (
+form-seq-requires t c κs = let h = expr-has _ (expr-is _ _ _ 57 (sym (c .before .before .kind .ensures) ∙ c .before .match .keys8)) (c .before .before .before .before .before .before .pre .1) in (
   omega (arith, c .before .before .before .before .before .before .pre .0, h .held .1 .2 .same),
   record {
     accepted = h .accepted;
@@ -1594,8 +1594,8 @@ form-list-requires t c κs = let h = expr-has _ (expr-is _ _ _ 57 (sym (c .befor
 )
 
 -- src/lib.rt:496:15
-form-typed-requires : (t : ℕ) → form-lts.Need-typed-requires (form-calls t) (form-at t) form.Post
-form-typed-requires t c κs = (omega (arith, c .before .before .before .before .before .before .pre .0), expr-has _ (expr-is _ _ _ 58 (sym (c .before .before .kind .ensures) ∙ c .before .match .keys9)) (c .before .before .before .before .before .before .pre .1))
+form-rec-requires : (t : ℕ) → form-lts.Need-rec-requires (form-calls t) (form-at t) form.Post
+form-rec-requires t c κs = (omega (arith, c .before .before .before .before .before .before .pre .0), expr-has _ (expr-is _ _ _ 58 (sym (c .before .before .kind .ensures) ∙ c .before .match .keys9)) (c .before .before .before .before .before .before .pre .1))
 
 -- src/lib.rt:497:41
 form-add-separated : (t : ℕ) → form-lts.Need-add-separated (form-calls t) (form-at t) form.Post
@@ -1618,13 +1618,13 @@ form-separated-requires t c κs = let h = expr-has _ (expr-is _ _ _ 59 (sym (c .
 )
 
 -- src/lib.rt:498:37
-form-add-after : (t : ℕ) → form-lts.Need-add-after (form-calls t) (form-at t) form.Post
-form-add-after t c = let w = expr-whole _ _ _ (c .before .before .before .before .before .before .pre .1 .tree) (c .before .before .before .before .before .before .pre .1 .held) in omega (arith, c .before .before .before .before .before .before .pre .1 .accepted .small, w .long, w .fits)
+form-add-then : (t : ℕ) → form-lts.Need-add-then (form-calls t) (form-at t) form.Post
+form-add-then t c = let w = expr-whole _ _ _ (c .before .before .before .before .before .before .pre .1 .tree) (c .before .before .before .before .before .before .pre .1 .held) in omega (arith, c .before .before .before .before .before .before .pre .1 .accepted .small, w .long, w .fits)
 
 -- src/lib.rt:498:15
-form-after-requires : (t : ℕ) → form-lts.Need-after-requires (form-calls t) (form-at t) form.Post
+form-then-requires : (t : ℕ) → form-lts.Need-then-requires (form-calls t) (form-at t) form.Post
 unfolding ExprAt
-form-after-requires t c κs = let h = expr-has _ (expr-is _ _ _ 60 (sym (c .before .before .kind .ensures) ∙ c .before .match .keys11)) (c .before .before .before .before .before .before .pre .1) in
+form-then-requires t c κs = let h = expr-has _ (expr-is _ _ _ 60 (sym (c .before .before .kind .ensures) ∙ c .before .match .keys11)) (c .before .before .before .before .before .before .pre .1) in
     (omega (arith, c .before .before .before .before .before .before .pre .0, h .held .1 .1 .same), record { accepted = h .accepted; tree = h .tree .1; held = h .held .1 .0 })
 
 -- src/lib.rt:500:42
@@ -1643,9 +1643,9 @@ unfolding ExprAt
 form-second-requires t c κs = let h = expr-has _ (expr-is _ _ _ 61 (sym (c .before .before .before .before .before .before .kind .ensures) ∙ c .before .before .before .before .before .match .keys12)) (c .before .before .before .before .before .before .before .before .before .before .pre .1) in within (path-whole (h .held .1 .0))
 
 -- src/lib.rt:501:13
-form-after-requires-2 : (t : ℕ) → form-lts.Need-after-requires-2 (form-calls t) (form-at t) form.Post
+form-then-requires-2 : (t : ℕ) → form-lts.Need-then-requires-2 (form-calls t) (form-at t) form.Post
 unfolding ExprAt
-form-after-requires-2 t c κs = let h = expr-has _ (expr-is _ _ _ 61 (sym (c .before .before .before .before .before .before .before .kind .ensures) ∙ c .before .before .before .before .before .before .match .keys12)) (c .before .before .before .before .before .before .before .before .before .before .before .pre .1) in
+form-then-requires-2 t c κs = let h = expr-has _ (expr-is _ _ _ 61 (sym (c .before .before .before .before .before .before .before .kind .ensures) ∙ c .before .before .before .before .before .before .match .keys12)) (c .before .before .before .before .before .before .before .before .before .before .before .pre .1) in
     rw (c .second .ensures) (omega (arith, c .before .before .before .before .before .before .before .before .before .before .before .pre .0, h .held .1 .2 .same), record { accepted = h .accepted; tree = h .tree .1 .1; held = h .held .1 .1 })
 
 -- src/lib.rt:504:42
@@ -1673,9 +1673,9 @@ form-assign-word-requires t c κs = let h = expr-has _ (expr-is _ _ _ 62 (sym (c
 )
 
 -- src/lib.rt:505:13
-form-after-requires-3 : (t : ℕ) → form-lts.Need-after-requires-3 (form-calls t) (form-at t) form.Post
+form-then-requires-3 : (t : ℕ) → form-lts.Need-then-requires-3 (form-calls t) (form-at t) form.Post
 unfolding ExprAt
-form-after-requires-3 t c κs = let h = expr-has _ (expr-is _ _ _ 62 (sym (c .before .before .before .before .before .before .before .before .kind .ensures) ∙ c .before .before .before .before .before .before .before .match .keys13)) (c .before .before .before .before .before .before .before .before .before .before .before .before .pre .1) in
+form-then-requires-3 t c κs = let h = expr-has _ (expr-is _ _ _ 62 (sym (c .before .before .before .before .before .before .before .before .kind .ensures) ∙ c .before .before .before .before .before .before .before .match .keys13)) (c .before .before .before .before .before .before .before .before .before .before .before .before .pre .1) in
     rw (c .before .third .ensures) (omega (arith, c .before .before .before .before .before .before .before .before .before .before .before .before .pre .0, h .held .1 .4 .same), record { accepted = h .accepted; tree = h .tree .1 .2; held = h .held .1 .3 })
 
 -- src/lib.rt:507:15
@@ -1683,32 +1683,32 @@ form-binop-requires : (t : ℕ) → form-lts.Need-binop-requires (form-calls t) 
 form-binop-requires t c κs = (omega (arith, c .before .before .before .before .before .before .pre .0), expr-has _ (expr-is _ _ _ 63 (sym (c .before .before .kind .ensures) ∙ c .before .match .keys14)) (c .before .before .before .before .before .before .pre .1))
 
 -- src/lib.rt:508:37
-form-add-after-2 : (t : ℕ) → form-lts.Need-add-after-2 (form-calls t) (form-at t) form.Post
-form-add-after-2 t c = let w = expr-whole _ _ _ (c .before .before .before .before .before .before .pre .1 .tree) (c .before .before .before .before .before .before .pre .1 .held) in omega (arith, c .before .before .before .before .before .before .pre .1 .accepted .small, w .long, w .fits)
+form-add-then-2 : (t : ℕ) → form-lts.Need-add-then-2 (form-calls t) (form-at t) form.Post
+form-add-then-2 t c = let w = expr-whole _ _ _ (c .before .before .before .before .before .before .pre .1 .tree) (c .before .before .before .before .before .before .pre .1 .held) in omega (arith, c .before .before .before .before .before .before .pre .1 .accepted .small, w .long, w .fits)
 
 -- src/lib.rt:508:15
-form-after-requires-4 : (t : ℕ) → form-lts.Need-after-requires-4 (form-calls t) (form-at t) form.Post
+form-then-requires-4 : (t : ℕ) → form-lts.Need-then-requires-4 (form-calls t) (form-at t) form.Post
 unfolding ExprAt
-form-after-requires-4 t c κs = let h = expr-has _ (expr-is _ _ _ 64 (sym (c .before .before .kind .ensures) ∙ c .before .match .keys15)) (c .before .before .before .before .before .before .pre .1) in
+form-then-requires-4 t c κs = let h = expr-has _ (expr-is _ _ _ 64 (sym (c .before .before .kind .ensures) ∙ c .before .match .keys15)) (c .before .before .before .before .before .before .pre .1) in
     (omega (arith, c .before .before .before .before .before .before .pre .0, h .held .1 .1 .same), record { accepted = h .accepted; tree = h .tree .1; held = h .held .1 .0 })
 
 -- src/lib.rt:509:15
-form-ifelse-requires : (t : ℕ) → form-lts.Need-ifelse-requires (form-calls t) (form-at t) form.Post
-form-ifelse-requires t c κs = (omega (arith, c .before .before .before .before .before .before .pre .0), expr-has _ (expr-is _ _ _ 65 (sym (c .before .before .kind .ensures) ∙ c .before .match .keys16)) (c .before .before .before .before .before .before .pre .1))
+form-alt-requires : (t : ℕ) → form-lts.Need-alt-requires (form-calls t) (form-at t) form.Post
+form-alt-requires t c κs = (omega (arith, c .before .before .before .before .before .before .pre .0), expr-has _ (expr-is _ _ _ 65 (sym (c .before .before .kind .ensures) ∙ c .before .match .keys16)) (c .before .before .before .before .before .before .pre .1))
 
 -- src/lib.rt:510:38
-form-add-clause : (t : ℕ) → form-lts.Need-add-clause (form-calls t) (form-at t) form.Post
-form-add-clause t c = let w = expr-whole _ _ _ (c .before .before .before .before .before .before .pre .1 .tree) (c .before .before .before .before .before .before .pre .1 .held) in omega (arith, c .before .before .before .before .before .before .pre .1 .accepted .small, w .long, w .fits)
+form-add-cond : (t : ℕ) → form-lts.Need-add-cond (form-calls t) (form-at t) form.Post
+form-add-cond t c = let w = expr-whole _ _ _ (c .before .before .before .before .before .before .pre .1 .tree) (c .before .before .before .before .before .before .pre .1 .held) in omega (arith, c .before .before .before .before .before .before .pre .1 .accepted .small, w .long, w .fits)
 
 -- src/lib.rt:510:15
-form-clause-requires : (t : ℕ) → form-lts.Need-clause-requires (form-calls t) (form-at t) form.Post
+form-cond-requires : (t : ℕ) → form-lts.Need-cond-requires (form-calls t) (form-at t) form.Post
 unfolding ExprAt
-form-clause-requires t c κs = let h = expr-has _ (expr-is _ _ _ 66 (sym (c .before .before .kind .ensures) ∙ c .before .match .keys17)) (c .before .before .before .before .before .before .pre .1) in
+form-cond-requires t c κs = let h = expr-has _ (expr-is _ _ _ 66 (sym (c .before .before .kind .ensures) ∙ c .before .match .keys17)) (c .before .before .before .before .before .before .pre .1) in
     (omega (arith, c .before .before .before .before .before .before .pre .0, h .held .1 .2 .same), record { accepted = h .accepted; tree = (h .tree .1 .0, h .tree .1 .1); held = (h .held .1 .0, h .held .1 .1) })
 
 -- src/lib.rt:511:15
-form-for-in-requires : (t : ℕ) → form-lts.Need-for-in-requires (form-calls t) (form-at t) form.Post
-form-for-in-requires t c κs = (omega (arith, c .before .before .before .before .before .before .pre .0), expr-has _ (expr-is _ _ _ 67 (sym (c .before .before .kind .ensures) ∙ c .before .match .keys18)) (c .before .before .before .before .before .before .pre .1))
+form-each-requires : (t : ℕ) → form-lts.Need-each-requires (form-calls t) (form-at t) form.Post
+form-each-requires t c κs = (omega (arith, c .before .before .before .before .before .before .pre .0), expr-has _ (expr-is _ _ _ 67 (sym (c .before .before .kind .ensures) ∙ c .before .match .keys18)) (c .before .before .before .before .before .before .pre .1))
 
 -- src/lib.rt:513:42
 form-add-expr : (t : ℕ) → form-lts.Need-add-expr (form-calls t) (form-at t) form.Post
@@ -1729,8 +1729,8 @@ form-fstr-requires : (t : ℕ) → form-lts.Need-fstr-requires (form-calls t) (f
 form-fstr-requires t c κs = (omega (arith, c .before .before .before .before .before .before .pre .0), expr-has _ (expr-is _ _ _ 69 (sym (c .before .before .kind .ensures) ∙ c .before .match .keys20)) (c .before .before .before .before .before .before .pre .1))
 
 -- src/lib.rt:517:14
-form-parens-requires : (t : ℕ) → form-lts.Need-parens-requires (form-calls t) (form-at t) form.Post
-form-parens-requires t c κs = (omega (arith, c .before .before .before .before .before .before .pre .0), expr-has _ (expr-is _ _ _ 70 (omega (arith, c .before .before .kind .ensures, expr-kind _ _ _ (c .before .before .before .before .before .before .pre .1 .tree) (c .before .before .before .before .before .before .pre .1 .held) .1, (next 69 (next 68 (next 67 (next 66 (next 65 (next 64 (next 63 (next 62 (next 61 (next 60 (next 59 (next 58 (next 57 (next 56 (next 55 (next 54 (next 53 (next 52 (next 51 (next 50 (omega (arith, c .before .before .kind .ensures, expr-kind _ _ _ (c .before .before .before .before .before .before .pre .1 .tree) (c .before .before .before .before .before .before .pre .1 .held) .0)) (c .before .match .rest .0 .0 .0 .0 .0 .0 .0 .0 .0 .0 .0 .0 .0 .0 .0 .0 .0 .0 .0 .1)) (c .before .match .rest .0 .0 .0 .0 .0 .0 .0 .0 .0 .0 .0 .0 .0 .0 .0 .0 .0 .0 .1)) (c .before .match .rest .0 .0 .0 .0 .0 .0 .0 .0 .0 .0 .0 .0 .0 .0 .0 .0 .0 .1)) (c .before .match .rest .0 .0 .0 .0 .0 .0 .0 .0 .0 .0 .0 .0 .0 .0 .0 .0 .1)) (c .before .match .rest .0 .0 .0 .0 .0 .0 .0 .0 .0 .0 .0 .0 .0 .0 .0 .1)) (c .before .match .rest .0 .0 .0 .0 .0 .0 .0 .0 .0 .0 .0 .0 .0 .0 .1)) (c .before .match .rest .0 .0 .0 .0 .0 .0 .0 .0 .0 .0 .0 .0 .0 .1)) (c .before .match .rest .0 .0 .0 .0 .0 .0 .0 .0 .0 .0 .0 .0 .1)) (c .before .match .rest .0 .0 .0 .0 .0 .0 .0 .0 .0 .0 .0 .1)) (c .before .match .rest .0 .0 .0 .0 .0 .0 .0 .0 .0 .0 .1)) (c .before .match .rest .0 .0 .0 .0 .0 .0 .0 .0 .0 .1)) (c .before .match .rest .0 .0 .0 .0 .0 .0 .0 .0 .1)) (c .before .match .rest .0 .0 .0 .0 .0 .0 .0 .1)) (c .before .match .rest .0 .0 .0 .0 .0 .0 .1)) (c .before .match .rest .0 .0 .0 .0 .0 .1)) (c .before .match .rest .0 .0 .0 .0 .1)) (c .before .match .rest .0 .0 .0 .1)) (c .before .match .rest .0 .0 .1)) (c .before .match .rest .0 .1)) (c .before .match .rest .1))))) (c .before .before .before .before .before .before .pre .1))
+form-par-requires : (t : ℕ) → form-lts.Need-par-requires (form-calls t) (form-at t) form.Post
+form-par-requires t c κs = (omega (arith, c .before .before .before .before .before .before .pre .0), expr-has _ (expr-is _ _ _ 70 (omega (arith, c .before .before .kind .ensures, expr-kind _ _ _ (c .before .before .before .before .before .before .pre .1 .tree) (c .before .before .before .before .before .before .pre .1 .held) .1, (next 69 (next 68 (next 67 (next 66 (next 65 (next 64 (next 63 (next 62 (next 61 (next 60 (next 59 (next 58 (next 57 (next 56 (next 55 (next 54 (next 53 (next 52 (next 51 (next 50 (omega (arith, c .before .before .kind .ensures, expr-kind _ _ _ (c .before .before .before .before .before .before .pre .1 .tree) (c .before .before .before .before .before .before .pre .1 .held) .0)) (c .before .match .rest .0 .0 .0 .0 .0 .0 .0 .0 .0 .0 .0 .0 .0 .0 .0 .0 .0 .0 .0 .1)) (c .before .match .rest .0 .0 .0 .0 .0 .0 .0 .0 .0 .0 .0 .0 .0 .0 .0 .0 .0 .0 .1)) (c .before .match .rest .0 .0 .0 .0 .0 .0 .0 .0 .0 .0 .0 .0 .0 .0 .0 .0 .0 .1)) (c .before .match .rest .0 .0 .0 .0 .0 .0 .0 .0 .0 .0 .0 .0 .0 .0 .0 .0 .1)) (c .before .match .rest .0 .0 .0 .0 .0 .0 .0 .0 .0 .0 .0 .0 .0 .0 .0 .1)) (c .before .match .rest .0 .0 .0 .0 .0 .0 .0 .0 .0 .0 .0 .0 .0 .0 .1)) (c .before .match .rest .0 .0 .0 .0 .0 .0 .0 .0 .0 .0 .0 .0 .0 .1)) (c .before .match .rest .0 .0 .0 .0 .0 .0 .0 .0 .0 .0 .0 .0 .1)) (c .before .match .rest .0 .0 .0 .0 .0 .0 .0 .0 .0 .0 .0 .1)) (c .before .match .rest .0 .0 .0 .0 .0 .0 .0 .0 .0 .0 .1)) (c .before .match .rest .0 .0 .0 .0 .0 .0 .0 .0 .0 .1)) (c .before .match .rest .0 .0 .0 .0 .0 .0 .0 .0 .1)) (c .before .match .rest .0 .0 .0 .0 .0 .0 .0 .1)) (c .before .match .rest .0 .0 .0 .0 .0 .0 .1)) (c .before .match .rest .0 .0 .0 .0 .0 .1)) (c .before .match .rest .0 .0 .0 .0 .1)) (c .before .match .rest .0 .0 .0 .1)) (c .before .match .rest .0 .0 .1)) (c .before .match .rest .0 .1)) (c .before .match .rest .1))))) (c .before .before .before .before .before .before .pre .1))
 
 -- src/lib.rt:483:1
 form-same-length : (t : ℕ) → form-lts.Need-same-length (form-calls t) (form-at t) form.Post
@@ -1761,12 +1761,12 @@ form-returns-3 t c = expr-laid _ (expr-is _ _ _ 52 (sym (c .before .before .befo
 
 -- src/lib.rt:483:1
 form-same-length-4 : (t : ℕ) → form-lts.Need-same-length-4 (form-calls t) (form-at t) form.Post
-form-same-length-4 t c = c .before .before .match-on .kept .0
+form-same-length-4 t c = c .before .before .cases .kept .0
 
 -- src/lib.rt:483:1
 form-returns-4 : (t : ℕ) → form-lts.Need-returns-4 (form-calls t) (form-at t) form.Post
 unfolding ExprAt rules.look
-form-returns-4 t c = expr-laid _ (expr-is _ _ _ 53 (sym (c .before .before .before .before .before .kind .ensures) ∙ c .before .before .before .before .match .keys4)) (c .before .before .before .before .before .before .before .before .before .args .outer) (record { of = λ x a. c .before .before .match-on .ensures .of x a })
+form-returns-4 t c = expr-laid _ (expr-is _ _ _ 53 (sym (c .before .before .before .before .before .kind .ensures) ∙ c .before .before .before .before .match .keys4)) (c .before .before .before .before .before .before .before .before .before .args .outer) (record { of = λ x a. c .before .before .cases .ensures .of x a })
 
 -- src/lib.rt:483:1
 form-same-length-5 : (t : ℕ) → form-lts.Need-same-length-5 (form-calls t) (form-at t) form.Post
@@ -1795,24 +1795,24 @@ form-returns-7 t c = expr-laid _ (expr-is _ _ _ 56 (sym (c .before .before .befo
 
 -- src/lib.rt:483:1
 form-same-length-8 : (t : ℕ) → form-lts.Need-same-length-8 (form-calls t) (form-at t) form.Post
-form-same-length-8 t c = c .before .before .list .kept .0
+form-same-length-8 t c = c .before .before .seq .kept .0
 
 -- src/lib.rt:483:1
 form-returns-8 : (t : ℕ) → form-lts.Need-returns-8 (form-calls t) (form-at t) form.Post
 unfolding ExprAt rules.look
 form-returns-8 t c = expr-laid _ (expr-is _ _ _ 57 (sym (c .before .before .before .before .before .kind .ensures) ∙ c .before .before .before .before .match .keys8)) (c .before .before .before .before .before .before .before .before .before .args .outer)
     (record {
-      of = λ x a. c .before .before .list .ensures .of (rules.entryElems _ (x .1 .1)) (list-of (a .1 .0) (entry-elems _ _ _ _ (x .1 .1) (a .1 .1))) (x .1 .0) (a .1 .0 .end);
+      of = λ x a. c .before .before .seq .ensures .of (rules.entryElems _ (x .1 .1)) (list-of (a .1 .0) (entry-elems _ _ _ _ (x .1 .1) (a .1 .1))) (x .1 .0) (a .1 .0 .end);
     })
 
 -- src/lib.rt:483:1
 form-same-length-9 : (t : ℕ) → form-lts.Need-same-length-9 (form-calls t) (form-at t) form.Post
-form-same-length-9 t c = c .before .before .typed .kept .0
+form-same-length-9 t c = c .before .before .rec .kept .0
 
 -- src/lib.rt:483:1
 form-returns-9 : (t : ℕ) → form-lts.Need-returns-9 (form-calls t) (form-at t) form.Post
 unfolding ExprAt rules.look
-form-returns-9 t c = expr-laid _ (expr-is _ _ _ 58 (sym (c .before .before .before .before .before .kind .ensures) ∙ c .before .before .before .before .match .keys9)) (c .before .before .before .before .before .before .before .before .before .args .outer) (record { of = λ x a. c .before .before .typed .ensures .of x a })
+form-returns-9 t c = expr-laid _ (expr-is _ _ _ 58 (sym (c .before .before .before .before .before .kind .ensures) ∙ c .before .before .before .before .match .keys9)) (c .before .before .before .before .before .before .before .before .before .args .outer) (record { of = λ x a. c .before .before .rec .ensures .of x a })
 
 -- src/lib.rt:483:1
 form-same-length-10 : (t : ℕ) → form-lts.Need-same-length-10 (form-calls t) (form-at t) form.Post
@@ -1831,28 +1831,28 @@ form-returns-10 t c = expr-laid _ (expr-is _ _ _ 59 (sym (c .before .before .bef
 
 -- src/lib.rt:483:1
 form-same-length-11 : (t : ℕ) → form-lts.Need-same-length-11 (form-calls t) (form-at t) form.Post
-form-same-length-11 t c = c .before .before .after .kept .0
+form-same-length-11 t c = c .before .before .then .kept .0
 
 -- src/lib.rt:483:1
 form-returns-11 : (t : ℕ) → form-lts.Need-returns-11 (form-calls t) (form-at t) form.Post
 unfolding ExprAt rules.look
-form-returns-11 t c = expr-laid _ (expr-is _ _ _ 60 (sym (c .before .before .before .before .before .kind .ensures) ∙ c .before .before .before .before .match .keys11)) (c .before .before .before .before .before .before .before .before .before .args .outer) (record { of = λ x a. c .before .before .after .ensures .of (x .1) (a .1 .0) })
+form-returns-11 t c = expr-laid _ (expr-is _ _ _ 60 (sym (c .before .before .before .before .before .kind .ensures) ∙ c .before .before .before .before .match .keys11)) (c .before .before .before .before .before .before .before .before .before .args .outer) (record { of = λ x a. c .before .before .then .ensures .of (x .1) (a .1 .0) })
 
 -- src/lib.rt:483:1
 form-same-length-12 : (t : ℕ) → form-lts.Need-same-length-12 (form-calls t) (form-at t) form.Post
-form-same-length-12 t c = c .before .before .after2 .kept .0 ∙ c .before .before .before .before .before .before .before .path2 .kept .0
+form-same-length-12 t c = c .before .before .then2 .kept .0 ∙ c .before .before .before .before .before .before .before .path2 .kept .0
 
 -- src/lib.rt:483:1
 form-returns-12 : (t : ℕ) → form-lts.Need-returns-12 (form-calls t) (form-at t) form.Post
 unfolding ExprAt rules.look
 form-returns-12 t c = expr-laid _ (expr-is _ _ _ 61 (sym (c .before .before .before .before .before .before .before .before .before .before .kind .ensures) ∙ c .before .before .before .before .before .before .before .before .before .match .keys12)) (c .before .before .before .before .before .before .before .before .before .before .before .before .before .before .args .outer)
     (record {
-      of = λ x a. laid-then (c .before .before .before .before .before .before .before .path2 .ensures .of (x .1 .0) (a .1 .0)) (c .before .before .after2 .ensures .of (x .1 .1) (rw (c .before .before .before .second .ensures) (a .1 .1)));
+      of = λ x a. laid-then (c .before .before .before .before .before .before .before .path2 .ensures .of (x .1 .0) (a .1 .0)) (c .before .before .then2 .ensures .of (x .1 .1) (rw (c .before .before .before .second .ensures) (a .1 .1)));
     })
 
 -- src/lib.rt:483:1
 form-same-length-13 : (t : ℕ) → form-lts.Need-same-length-13 (form-calls t) (form-at t) form.Post
-form-same-length-13 t c = c .before .before .after3 .kept .0 ∙ c .before .before .before .before .before .before .before .before .path3 .kept .0
+form-same-length-13 t c = c .before .before .then3 .kept .0 ∙ c .before .before .before .before .before .before .before .before .path3 .kept .0
 
 -- src/lib.rt:483:1
 form-returns-13 : (t : ℕ) → form-lts.Need-returns-13 (form-calls t) (form-at t) form.Post
@@ -1863,7 +1863,7 @@ form-returns-13 t c = expr-laid _ (expr-is _ _ _ 62 (sym (c .before .before .bef
           λ x a.
           let e : getD table (c .before .before .before .assign-word .result) "" ≡ rules.assignSymbol (x .1 .1) =
           c .before .before .before .assign-word .ensures ∙ ap rules.assignSymbol (a .1 .1 .op .which .byte) in
-          rw (← e) (laid-then (c .before .before .before .before .before .before .before .before .path3 .ensures .of (x .1 .0) (a .1 .0)) (c .before .before .after3 .ensures .of (x .1 .2) (rw (c .before .before .before .before .third .ensures) (a .1 .3))));
+          rw (← e) (laid-then (c .before .before .before .before .before .before .before .before .path3 .ensures .of (x .1 .0) (a .1 .0)) (c .before .before .then3 .ensures .of (x .1 .2) (rw (c .before .before .before .before .third .ensures) (a .1 .3))));
     })
 
 -- src/lib.rt:483:1
@@ -1877,39 +1877,39 @@ form-returns-14 t c = expr-laid _ (expr-is _ _ _ 63 (sym (c .before .before .bef
 
 -- src/lib.rt:483:1
 form-same-length-15 : (t : ℕ) → form-lts.Need-same-length-15 (form-calls t) (form-at t) form.Post
-form-same-length-15 t c = c .before .before .after4 .kept .0
+form-same-length-15 t c = c .before .before .then4 .kept .0
 
 -- src/lib.rt:483:1
 form-returns-15 : (t : ℕ) → form-lts.Need-returns-15 (form-calls t) (form-at t) form.Post
 unfolding ExprAt rules.look
-form-returns-15 t c = expr-laid _ (expr-is _ _ _ 64 (sym (c .before .before .before .before .before .kind .ensures) ∙ c .before .before .before .before .match .keys15)) (c .before .before .before .before .before .before .before .before .before .args .outer) (record { of = λ x a. c .before .before .after4 .ensures .of (x .1) (a .1 .0) })
+form-returns-15 t c = expr-laid _ (expr-is _ _ _ 64 (sym (c .before .before .before .before .before .kind .ensures) ∙ c .before .before .before .before .match .keys15)) (c .before .before .before .before .before .before .before .before .before .args .outer) (record { of = λ x a. c .before .before .then4 .ensures .of (x .1) (a .1 .0) })
 
 -- src/lib.rt:483:1
 form-same-length-16 : (t : ℕ) → form-lts.Need-same-length-16 (form-calls t) (form-at t) form.Post
-form-same-length-16 t c = c .before .before .ifelse .kept .0
+form-same-length-16 t c = c .before .before .alt .kept .0
 
 -- src/lib.rt:483:1
 form-returns-16 : (t : ℕ) → form-lts.Need-returns-16 (form-calls t) (form-at t) form.Post
 unfolding ExprAt rules.look
-form-returns-16 t c = expr-laid _ (expr-is _ _ _ 65 (sym (c .before .before .before .before .before .kind .ensures) ∙ c .before .before .before .before .match .keys16)) (c .before .before .before .before .before .before .before .before .before .args .outer) (record { of = λ x a. c .before .before .ifelse .ensures .of x a })
+form-returns-16 t c = expr-laid _ (expr-is _ _ _ 65 (sym (c .before .before .before .before .before .kind .ensures) ∙ c .before .before .before .before .match .keys16)) (c .before .before .before .before .before .before .before .before .before .args .outer) (record { of = λ x a. c .before .before .alt .ensures .of x a })
 
 -- src/lib.rt:483:1
 form-same-length-17 : (t : ℕ) → form-lts.Need-same-length-17 (form-calls t) (form-at t) form.Post
-form-same-length-17 t c = c .before .before .clause .kept .0
+form-same-length-17 t c = c .before .before .cond .kept .0
 
 -- src/lib.rt:483:1
 form-returns-17 : (t : ℕ) → form-lts.Need-returns-17 (form-calls t) (form-at t) form.Post
 unfolding ExprAt rules.look
-form-returns-17 t c = expr-laid _ (expr-is _ _ _ 66 (sym (c .before .before .before .before .before .kind .ensures) ∙ c .before .before .before .before .match .keys17)) (c .before .before .before .before .before .before .before .before .before .args .outer) (record { of = λ x a. c .before .before .clause .ensures .of (x .1 .0, x .1 .1) (a .1 .0, a .1 .1) })
+form-returns-17 t c = expr-laid _ (expr-is _ _ _ 66 (sym (c .before .before .before .before .before .kind .ensures) ∙ c .before .before .before .before .match .keys17)) (c .before .before .before .before .before .before .before .before .before .args .outer) (record { of = λ x a. c .before .before .cond .ensures .of (x .1 .0, x .1 .1) (a .1 .0, a .1 .1) })
 
 -- src/lib.rt:483:1
 form-same-length-18 : (t : ℕ) → form-lts.Need-same-length-18 (form-calls t) (form-at t) form.Post
-form-same-length-18 t c = c .before .before .for-in .kept .0
+form-same-length-18 t c = c .before .before .each .kept .0
 
 -- src/lib.rt:483:1
 form-returns-18 : (t : ℕ) → form-lts.Need-returns-18 (form-calls t) (form-at t) form.Post
 unfolding ExprAt rules.look
-form-returns-18 t c = expr-laid _ (expr-is _ _ _ 67 (sym (c .before .before .before .before .before .kind .ensures) ∙ c .before .before .before .before .match .keys18)) (c .before .before .before .before .before .before .before .before .before .args .outer) (record { of = λ x a. c .before .before .for-in .ensures .of x a })
+form-returns-18 t c = expr-laid _ (expr-is _ _ _ 67 (sym (c .before .before .before .before .before .kind .ensures) ∙ c .before .before .before .before .match .keys18)) (c .before .before .before .before .before .before .before .before .before .args .outer) (record { of = λ x a. c .before .before .each .ensures .of x a })
 
 -- src/lib.rt:483:1
 form-same-length-19 : (t : ℕ) → form-lts.Need-same-length-19 (form-calls t) (form-at t) form.Post
@@ -1931,12 +1931,12 @@ form-returns-20 t c = expr-laid _ (expr-is _ _ _ 69 (sym (c .before .before .bef
 
 -- src/lib.rt:483:1
 form-same-length-21 : (t : ℕ) → form-lts.Need-same-length-21 (form-calls t) (form-at t) form.Post
-form-same-length-21 t c = c .before .before .parens .kept .0
+form-same-length-21 t c = c .before .before .par .kept .0
 
 -- src/lib.rt:483:1
 form-returns-21 : (t : ℕ) → form-lts.Need-returns-21 (form-calls t) (form-at t) form.Post
 unfolding ExprAt rules.look
-form-returns-21 t c = expr-laid _ (expr-is _ _ _ 70 (omega (arith, c .before .before .before .before .before .kind .ensures, expr-kind _ _ _ (c .before .before .before .before .before .before .before .before .before .pre .1 .tree) (c .before .before .before .before .before .before .before .before .before .pre .1 .held) .1, (next 69 (next 68 (next 67 (next 66 (next 65 (next 64 (next 63 (next 62 (next 61 (next 60 (next 59 (next 58 (next 57 (next 56 (next 55 (next 54 (next 53 (next 52 (next 51 (next 50 (omega (arith, c .before .before .before .before .before .kind .ensures, expr-kind _ _ _ (c .before .before .before .before .before .before .before .before .before .pre .1 .tree) (c .before .before .before .before .before .before .before .before .before .pre .1 .held) .0)) (c .before .before .before .before .match .rest .0 .0 .0 .0 .0 .0 .0 .0 .0 .0 .0 .0 .0 .0 .0 .0 .0 .0 .0 .1)) (c .before .before .before .before .match .rest .0 .0 .0 .0 .0 .0 .0 .0 .0 .0 .0 .0 .0 .0 .0 .0 .0 .0 .1)) (c .before .before .before .before .match .rest .0 .0 .0 .0 .0 .0 .0 .0 .0 .0 .0 .0 .0 .0 .0 .0 .0 .1)) (c .before .before .before .before .match .rest .0 .0 .0 .0 .0 .0 .0 .0 .0 .0 .0 .0 .0 .0 .0 .0 .1)) (c .before .before .before .before .match .rest .0 .0 .0 .0 .0 .0 .0 .0 .0 .0 .0 .0 .0 .0 .0 .1)) (c .before .before .before .before .match .rest .0 .0 .0 .0 .0 .0 .0 .0 .0 .0 .0 .0 .0 .0 .1)) (c .before .before .before .before .match .rest .0 .0 .0 .0 .0 .0 .0 .0 .0 .0 .0 .0 .0 .1)) (c .before .before .before .before .match .rest .0 .0 .0 .0 .0 .0 .0 .0 .0 .0 .0 .0 .1)) (c .before .before .before .before .match .rest .0 .0 .0 .0 .0 .0 .0 .0 .0 .0 .0 .1)) (c .before .before .before .before .match .rest .0 .0 .0 .0 .0 .0 .0 .0 .0 .0 .1)) (c .before .before .before .before .match .rest .0 .0 .0 .0 .0 .0 .0 .0 .0 .1)) (c .before .before .before .before .match .rest .0 .0 .0 .0 .0 .0 .0 .0 .1)) (c .before .before .before .before .match .rest .0 .0 .0 .0 .0 .0 .0 .1)) (c .before .before .before .before .match .rest .0 .0 .0 .0 .0 .0 .1)) (c .before .before .before .before .match .rest .0 .0 .0 .0 .0 .1)) (c .before .before .before .before .match .rest .0 .0 .0 .0 .1)) (c .before .before .before .before .match .rest .0 .0 .0 .1)) (c .before .before .before .before .match .rest .0 .0 .1)) (c .before .before .before .before .match .rest .0 .1)) (c .before .before .before .before .match .rest .1))))) (c .before .before .before .before .before .before .before .before .before .args .outer) (record { of = λ x a. c .before .before .parens .ensures .of x a })
+form-returns-21 t c = expr-laid _ (expr-is _ _ _ 70 (omega (arith, c .before .before .before .before .before .kind .ensures, expr-kind _ _ _ (c .before .before .before .before .before .before .before .before .before .pre .1 .tree) (c .before .before .before .before .before .before .before .before .before .pre .1 .held) .1, (next 69 (next 68 (next 67 (next 66 (next 65 (next 64 (next 63 (next 62 (next 61 (next 60 (next 59 (next 58 (next 57 (next 56 (next 55 (next 54 (next 53 (next 52 (next 51 (next 50 (omega (arith, c .before .before .before .before .before .kind .ensures, expr-kind _ _ _ (c .before .before .before .before .before .before .before .before .before .pre .1 .tree) (c .before .before .before .before .before .before .before .before .before .pre .1 .held) .0)) (c .before .before .before .before .match .rest .0 .0 .0 .0 .0 .0 .0 .0 .0 .0 .0 .0 .0 .0 .0 .0 .0 .0 .0 .1)) (c .before .before .before .before .match .rest .0 .0 .0 .0 .0 .0 .0 .0 .0 .0 .0 .0 .0 .0 .0 .0 .0 .0 .1)) (c .before .before .before .before .match .rest .0 .0 .0 .0 .0 .0 .0 .0 .0 .0 .0 .0 .0 .0 .0 .0 .0 .1)) (c .before .before .before .before .match .rest .0 .0 .0 .0 .0 .0 .0 .0 .0 .0 .0 .0 .0 .0 .0 .0 .1)) (c .before .before .before .before .match .rest .0 .0 .0 .0 .0 .0 .0 .0 .0 .0 .0 .0 .0 .0 .0 .1)) (c .before .before .before .before .match .rest .0 .0 .0 .0 .0 .0 .0 .0 .0 .0 .0 .0 .0 .0 .1)) (c .before .before .before .before .match .rest .0 .0 .0 .0 .0 .0 .0 .0 .0 .0 .0 .0 .0 .1)) (c .before .before .before .before .match .rest .0 .0 .0 .0 .0 .0 .0 .0 .0 .0 .0 .0 .1)) (c .before .before .before .before .match .rest .0 .0 .0 .0 .0 .0 .0 .0 .0 .0 .0 .1)) (c .before .before .before .before .match .rest .0 .0 .0 .0 .0 .0 .0 .0 .0 .0 .1)) (c .before .before .before .before .match .rest .0 .0 .0 .0 .0 .0 .0 .0 .0 .1)) (c .before .before .before .before .match .rest .0 .0 .0 .0 .0 .0 .0 .0 .1)) (c .before .before .before .before .match .rest .0 .0 .0 .0 .0 .0 .0 .1)) (c .before .before .before .before .match .rest .0 .0 .0 .0 .0 .0 .1)) (c .before .before .before .before .match .rest .0 .0 .0 .0 .0 .1)) (c .before .before .before .before .match .rest .0 .0 .0 .0 .1)) (c .before .before .before .before .match .rest .0 .0 .0 .1)) (c .before .before .before .before .match .rest .0 .0 .1)) (c .before .before .before .before .match .rest .0 .1)) (c .before .before .before .before .match .rest .1))))) (c .before .before .before .before .before .before .before .before .before .args .outer) (record { of = λ x a. c .before .before .par .ensures .of x a })
 
 -- src/lib.rt:688:33
 fstr-start-requires : (t : ℕ) → fstr-lts.Need-start-requires (fstr-calls t) (fstr-at t) fstr.Post
@@ -1992,190 +1992,190 @@ fstr-returns t c = record {
 }
 
 -- src/lib.rt:413:8
-group-is-absent-requires : (t : ℕ) → group-lts.Need-is-absent-requires (group-calls t) (group-at t) group.Post
-group-is-absent-requires t c κs = group-within _ _ _ (c .before .before .before .pre .1 .tree) (c .before .before .before .pre .1 .held)
+items-is-absent-requires : (t : ℕ) → items-lts.Need-is-absent-requires (items-calls t) (items-at t) items.Post
+items-is-absent-requires t c κs = group-within _ _ _ (c .before .before .before .pre .1 .tree) (c .before .before .before .pre .1 .held)
 
 -- src/lib.rt:414:9
-group-returns : (t : ℕ) → group-lts.Need-returns (group-calls t) (group-at t) group.Post
-group-returns t c = no-group (absent (c .before .is-absent .ensures) (c .if1 .taken))
+items-returns : (t : ℕ) → items-lts.Need-returns (items-calls t) (items-at t) items.Post
+items-returns t c = no-group (absent (c .before .is-absent .ensures) (c .if1 .taken))
 
 -- src/lib.rt:416:8
-group-is-single-requires : (t : ℕ) → group-lts.Need-is-single-requires (group-calls t) (group-at t) group.Post
-group-is-single-requires t c κs = let w = group-list (present (c .before .is-absent .ensures) (c .if1 .left)) (c .before .before .before .before .before .pre .1) in
+items-is-single-requires : (t : ℕ) → items-lts.Need-is-single-requires (items-calls t) (items-at t) items.Post
+items-is-single-requires t c κs = let w = group-list (present (c .before .is-absent .ensures) (c .if1 .left)) (c .before .before .before .before .before .pre .1) in
     (record { long = w .held .long; fits = w .held .fits }, λ e. let i = group-first (present (c .before .is-absent .ensures) (c .if1 .left)) e (c .before .before .before .before .before .pre .1) in within (import-whole _ _ _ (i .tree) (i .held)))
 
 -- src/lib.rt:417:39
-group-add-import : (t : ℕ) → group-lts.Need-add-import (group-calls t) (group-at t) group.Post
-group-add-import t c = let w = group-list (present (c .before .before .before .before .is-absent .ensures) (c .before .before .before .if1 .left)) (c .before .before .before .before .before .before .before .before .pre .1) in omega (arith, c .before .before .before .before .before .before .before .before .pre .1 .accepted .small, w .held .long, w .held .fits)
+items-add-item : (t : ℕ) → items-lts.Need-add-item (items-calls t) (items-at t) items.Post
+items-add-item t c = let w = group-list (present (c .before .before .before .before .is-absent .ensures) (c .before .before .before .if1 .left)) (c .before .before .before .before .before .before .before .before .pre .1) in omega (arith, c .before .before .before .before .before .before .before .before .pre .1 .accepted .small, w .held .long, w .held .fits)
 
 -- src/lib.rt:417:9
-group-import-requires : (t : ℕ) → group-lts.Need-import-requires (group-calls t) (group-at t) group.Post
-group-import-requires t c κs = let q : (stopAt (c .before .before .before .before .before .before .before .before .args .b .now) (c .before .before .before .before .before .before .before .before .args .at) ≡ c .before .before .before .before .before .before .before .before .args .at + 13 → ⊥) × (stopAt (c .before .before .before .before .before .before .before .before .args .b .now) (c .before .before .before .before .before .before .before .before .args .at + 13) ≡ stopAt (c .before .before .before .before .before .before .before .before .args .b .now) (c .before .before .before .before .before .before .before .before .args .at)) =
+items-item-requires : (t : ℕ) → items-lts.Need-item-requires (items-calls t) (items-at t) items.Post
+items-item-requires t c κs = let q : (stopAt (c .before .before .before .before .before .before .before .before .args .b .now) (c .before .before .before .before .before .before .before .before .args .at) ≡ c .before .before .before .before .before .before .before .before .args .at + 13 → ⊥) × (stopAt (c .before .before .before .before .before .before .before .before .args .b .now) (c .before .before .before .before .before .before .before .before .args .at + 13) ≡ stopAt (c .before .before .before .before .before .before .before .before .args .b .now) (c .before .before .before .before .before .before .before .before .args .at)) =
     single-true (c .before .before .is-single .ensures) (c .before .if2 .taken) in
     (omega (arith, c .before .before .before .before .before .before .before .before .pre .0, q .1), group-first (present (c .before .before .before .before .is-absent .ensures) (c .before .before .before .if1 .left)) (q .0) (c .before .before .before .before .before .before .before .before .pre .1))
 
 -- src/lib.rt:417:9
-group-same-length : (t : ℕ) → group-lts.Need-same-length (group-calls t) (group-at t) group.Post
-group-same-length t c = c .before .before .import .kept .0
+items-same-length : (t : ℕ) → items-lts.Need-same-length (items-calls t) (items-at t) items.Post
+items-same-length t c = c .before .before .item .kept .0
 
 -- src/lib.rt:417:9
-group-returns-2 : (t : ℕ) → group-lts.Need-returns-2 (group-calls t) (group-at t) group.Post
-group-returns-2 t c = let q = single-true (c .before .before .before .before .before .is-single .ensures) (c .before .before .before .before .if2 .taken) in
-    one-import (present (c .before .before .before .before .before .before .before .is-absent .ensures) (c .before .before .before .before .before .before .if1 .left)) (q .0) (q .1) (c .before .before .import .ensures)
+items-returns-2 : (t : ℕ) → items-lts.Need-returns-2 (items-calls t) (items-at t) items.Post
+items-returns-2 t c = let q = single-true (c .before .before .before .before .before .is-single .ensures) (c .before .before .before .before .if2 .taken) in
+    one-import (present (c .before .before .before .before .before .before .before .is-absent .ensures) (c .before .before .before .before .before .before .if1 .left)) (q .0) (q .1) (c .before .before .item .ensures)
 
 -- src/lib.rt:419:5
-group-list-requires : (t : ℕ) → group-lts.Need-list-requires (group-calls t) (group-at t) group.Post
-group-list-requires t c κs = (omega (arith, c .before .before .before .before .before .before .before .before .pre .0), group-list (present (c .before .before .before .before .is-absent .ensures) (c .before .before .before .if1 .left)) (c .before .before .before .before .before .before .before .before .pre .1))
+items-seq-requires : (t : ℕ) → items-lts.Need-seq-requires (items-calls t) (items-at t) items.Post
+items-seq-requires t c κs = (omega (arith, c .before .before .before .before .before .before .before .before .pre .0), group-list (present (c .before .before .before .before .is-absent .ensures) (c .before .before .before .if1 .left)) (c .before .before .before .before .before .before .before .before .pre .1))
 
 -- src/lib.rt:409:1
-group-same-length-2 : (t : ℕ) → group-lts.Need-same-length-2 (group-calls t) (group-at t) group.Post
-group-same-length-2 t c = c .before .before .list .kept .0
+items-same-length-2 : (t : ℕ) → items-lts.Need-same-length-2 (items-calls t) (items-at t) items.Post
+items-same-length-2 t c = c .before .before .seq .kept .0
 
 -- src/lib.rt:409:1
-group-returns-3 : (t : ℕ) → group-lts.Need-returns-3 (group-calls t) (group-at t) group.Post
-group-returns-3 t c = more-imports (present (c .before .before .before .before .before .before .before .is-absent .ensures) (c .before .before .before .before .before .before .if1 .left)) (single-false (c .before .before .before .before .before .is-single .ensures) (c .before .before .before .before .if2 .left)) (c .before .before .list .ensures)
+items-returns-3 : (t : ℕ) → items-lts.Need-returns-3 (items-calls t) (items-at t) items.Post
+items-returns-3 t c = more-imports (present (c .before .before .before .before .before .before .before .is-absent .ensures) (c .before .before .before .before .before .before .if1 .left)) (single-false (c .before .before .before .before .before .is-single .ensures) (c .before .before .before .before .if2 .left)) (c .before .before .seq .ensures)
 
 -- src/lib.rt:664:9
-ifelse-third-requires : (t : ℕ) → ifelse-lts.Need-third-requires (ifelse-calls t) (ifelse-at t) ifelse.Post
+alt-third-requires : (t : ℕ) → alt-lts.Need-third-requires (alt-calls t) (alt-at t) alt.Post
 unfolding ExprAt
-ifelse-third-requires t c κs = (within (expr-whole _ _ _ (c .before .before .before .pre .1 .tree .1 .0) (c .before .before .before .pre .1 .held .1 .0)), within (block-whole _ _ _ (c .before .before .before .pre .1 .tree .1 .1) (c .before .before .before .pre .1 .held .1 .1)))
+alt-third-requires t c κs = (within (expr-whole _ _ _ (c .before .before .before .pre .1 .tree .1 .0) (c .before .before .before .pre .1 .held .1 .0)), within (block-whole _ _ _ (c .before .before .before .pre .1 .tree .1 .1) (c .before .before .before .pre .1 .held .1 .1)))
 
 -- src/lib.rt:665:36
-ifelse-add-clause : (t : ℕ) → ifelse-lts.Need-add-clause (ifelse-calls t) (ifelse-at t) ifelse.Post
+alt-add-cond : (t : ℕ) → alt-lts.Need-add-cond (alt-calls t) (alt-at t) alt.Post
 unfolding ExprAt
-ifelse-add-clause t c = omega (arith, c .before .before .before .before .before .pre .1 .accepted .small, c .before .before .before .before .before .pre .1 .held .0 .long, c .before .before .before .before .before .pre .1 .held .0 .fits)
+alt-add-cond t c = omega (arith, c .before .before .before .before .before .pre .1 .accepted .small, c .before .before .before .before .before .pre .1 .held .0 .long, c .before .before .before .before .before .pre .1 .held .0 .fits)
 
 -- src/lib.rt:665:9
-ifelse-clause-requires : (t : ℕ) → ifelse-lts.Need-clause-requires (ifelse-calls t) (ifelse-at t) ifelse.Post
+alt-cond-requires : (t : ℕ) → alt-lts.Need-cond-requires (alt-calls t) (alt-at t) alt.Post
 unfolding ExprAt
-ifelse-clause-requires t c κs = (
+alt-cond-requires t c κs = (
   omega (arith, c .before .before .before .before .before .pre .0, c .before .before .before .before .before .pre .1 .held .1 .3 .same),
   record { accepted = c .before .before .before .before .before .pre .1 .accepted; tree = (c .before .before .before .before .before .pre .1 .tree .1 .0, c .before .before .before .before .before .pre .1 .tree .1 .1); held = (c .before .before .before .before .before .pre .1 .held .1 .0, c .before .before .before .before .before .pre .1 .held .1 .1) },
 )
 
 -- src/lib.rt:666:8
-ifelse-is-absent-requires : (t : ℕ) → ifelse-lts.Need-is-absent-requires (ifelse-calls t) (ifelse-at t) ifelse.Post
+alt-is-absent-requires : (t : ℕ) → alt-lts.Need-is-absent-requires (alt-calls t) (alt-at t) alt.Post
 unfolding ExprAt
-ifelse-is-absent-requires t c κs = rw (c .before .before .before .before .third .ensures) (maybe-block _ _ _ (c .before .before .before .before .before .before .before .before .pre .1 .tree .1 .2) (c .before .before .before .before .before .before .before .before .pre .1 .held .1 .2))
+alt-is-absent-requires t c κs = rw (c .before .before .before .before .third .ensures) (maybe-block _ _ _ (c .before .before .before .before .before .before .before .before .pre .1 .tree .1 .2) (c .before .before .before .before .before .before .before .before .pre .1 .held .1 .2))
 
 -- src/lib.rt:667:9
-ifelse-same-length : (t : ℕ) → ifelse-lts.Need-same-length (ifelse-calls t) (ifelse-at t) ifelse.Post
-ifelse-same-length t c = c .before .before .before .before .clause .kept .0
+alt-same-length : (t : ℕ) → alt-lts.Need-same-length (alt-calls t) (alt-at t) alt.Post
+alt-same-length t c = c .before .before .before .before .cond .kept .0
 
 -- src/lib.rt:667:9
-ifelse-returns : (t : ℕ) → ifelse-lts.Need-returns (ifelse-calls t) (ifelse-at t) ifelse.Post
+alt-returns : (t : ℕ) → alt-lts.Need-returns (alt-calls t) (alt-at t) alt.Post
 unfolding ExprAt rules.look
-ifelse-returns t c = let e : be32 (c .before .before .before .before .before .before .before .before .before .before .args .b .now) (stopAt (c .before .before .before .before .before .before .before .before .before .before .args .b .now) (stopAt (c .before .before .before .before .before .before .before .before .before .before .args .b .now) (c .before .before .before .before .before .before .before .before .before .before .args .at + 13))) ≡ 0 = absent (rw (c .before .before .before .before .before .before .third .ensures) at (c .before .is-absent .ensures)) (c .if1 .taken) in
-    record { of = λ x a. laid-then (c .before .before .before .before .clause .ensures .of (x .1 .0, x .1 .1) (a .1 .0, a .1 .1)) (no-else e .of (x .1 .2) (a .1 .2)) }
+alt-returns t c = let e : be32 (c .before .before .before .before .before .before .before .before .before .before .args .b .now) (stopAt (c .before .before .before .before .before .before .before .before .before .before .args .b .now) (stopAt (c .before .before .before .before .before .before .before .before .before .before .args .b .now) (c .before .before .before .before .before .before .before .before .before .before .args .at + 13))) ≡ 0 = absent (rw (c .before .before .before .before .before .before .third .ensures) at (c .before .is-absent .ensures)) (c .if1 .taken) in
+    record { of = λ x a. laid-then (c .before .before .before .before .cond .ensures .of (x .1 .0, x .1 .1) (a .1 .0, a .1 .1)) (no-else e .of (x .1 .2) (a .1 .2)) }
 
 -- src/lib.rt:669:9
-ifelse-word-requires : (t : ℕ) → ifelse-lts.Need-word-requires (ifelse-calls t) (ifelse-at t) ifelse.Post
-ifelse-word-requires t c κs = tt
+alt-word-requires : (t : ℕ) → alt-lts.Need-word-requires (alt-calls t) (alt-at t) alt.Post
+alt-word-requires t c κs = tt
 
 -- src/lib.rt:670:5
-ifelse-block-requires : (t : ℕ) → ifelse-lts.Need-block-requires (ifelse-calls t) (ifelse-at t) ifelse.Post
+alt-block-requires : (t : ℕ) → alt-lts.Need-block-requires (alt-calls t) (alt-at t) alt.Post
 unfolding ExprAt
-ifelse-block-requires t c κs = let f : be32 (c .before .before .before .before .before .before .before .before .before .before .before .before .before .before .before .args .b .now) (stopAt (c .before .before .before .before .before .before .before .before .before .before .before .before .before .before .before .args .b .now) (stopAt (c .before .before .before .before .before .before .before .before .before .before .before .before .before .before .before .args .b .now) (c .before .before .before .before .before .before .before .before .before .before .before .before .before .before .before .args .at + 13))) ≡ 0 → ⊥ = present (rw (c .before .before .before .before .before .before .before .before .before .before .before .third .ensures) at (c .before .before .before .before .before .before .is-absent .ensures)) (c .before .before .before .before .before .if1 .left) in
+alt-block-requires t c κs = let f : be32 (c .before .before .before .before .before .before .before .before .before .before .before .before .before .before .before .args .b .now) (stopAt (c .before .before .before .before .before .before .before .before .before .before .before .before .before .before .before .args .b .now) (stopAt (c .before .before .before .before .before .before .before .before .before .before .before .before .before .before .before .args .b .now) (c .before .before .before .before .before .before .before .before .before .before .before .before .before .before .before .args .at + 13))) ≡ 0 → ⊥ = present (rw (c .before .before .before .before .before .before .before .before .before .before .before .third .ensures) at (c .before .before .before .before .before .before .is-absent .ensures)) (c .before .before .before .before .before .if1 .left) in
     rw (c .before .before .before .before .before .before .before .before .before .before .before .third .ensures)
     (omega (arith, c .before .before .before .before .before .before .before .before .before .before .before .before .before .before .before .pre .0, c .before .before .before .before .before .before .before .before .before .before .before .before .before .before .before .pre .1 .held .1 .3 .same), has-block f (record { accepted = c .before .before .before .before .before .before .before .before .before .before .before .before .before .before .before .pre .1 .accepted; tree = c .before .before .before .before .before .before .before .before .before .before .before .before .before .before .before .pre .1 .tree .1 .2; held = c .before .before .before .before .before .before .before .before .before .before .before .before .before .before .before .pre .1 .held .1 .2 }))
 
 -- src/lib.rt:660:1
-ifelse-same-length-2 : (t : ℕ) → ifelse-lts.Need-same-length-2 (ifelse-calls t) (ifelse-at t) ifelse.Post
-ifelse-same-length-2 t c = c .before .before .block .kept .0 ∙ c .before .before .before .before .before .before .word .kept .0 ∙ c .before .before .before .before .before .before .before .before .before .before .before .before .clause .kept .0
+alt-same-length-2 : (t : ℕ) → alt-lts.Need-same-length-2 (alt-calls t) (alt-at t) alt.Post
+alt-same-length-2 t c = c .before .before .block .kept .0 ∙ c .before .before .before .before .before .before .word .kept .0 ∙ c .before .before .before .before .before .before .before .before .before .before .before .before .cond .kept .0
 
 -- src/lib.rt:660:1
-ifelse-returns-2 : (t : ℕ) → ifelse-lts.Need-returns-2 (ifelse-calls t) (ifelse-at t) ifelse.Post
+alt-returns-2 : (t : ℕ) → alt-lts.Need-returns-2 (alt-calls t) (alt-at t) alt.Post
 unfolding ExprAt rules.look
-ifelse-returns-2 t c = let f : be32 (c .before .before .before .before .before .before .before .before .before .before .before .before .before .before .before .before .before .before .args .b .now) (stopAt (c .before .before .before .before .before .before .before .before .before .before .before .before .before .before .before .before .before .before .args .b .now) (stopAt (c .before .before .before .before .before .before .before .before .before .before .before .before .before .before .before .before .before .before .args .b .now) (c .before .before .before .before .before .before .before .before .before .before .before .before .before .before .before .before .before .before .args .at + 13))) ≡ 0 → ⊥ = present (rw (c .before .before .before .before .before .before .before .before .before .before .before .before .before .before .third .ensures) at (c .before .before .before .before .before .before .before .before .before .is-absent .ensures)) (c .before .before .before .before .before .before .before .before .if1 .left) in
+alt-returns-2 t c = let f : be32 (c .before .before .before .before .before .before .before .before .before .before .before .before .before .before .before .before .before .before .args .b .now) (stopAt (c .before .before .before .before .before .before .before .before .before .before .before .before .before .before .before .before .before .before .args .b .now) (stopAt (c .before .before .before .before .before .before .before .before .before .before .before .before .before .before .before .before .before .before .args .b .now) (c .before .before .before .before .before .before .before .before .before .before .before .before .before .before .before .before .before .before .args .at + 13))) ≡ 0 → ⊥ = present (rw (c .before .before .before .before .before .before .before .before .before .before .before .before .before .before .third .ensures) at (c .before .before .before .before .before .before .before .before .before .is-absent .ensures)) (c .before .before .before .before .before .before .before .before .if1 .left) in
     let l = rw (c .before .before .before .before .before .before .before .before .before .before .before .before .before .before .third .ensures) at (c .before .before .block .ensures) in
     record {
-      of = λ x a. laid-then (c .before .before .before .before .before .before .before .before .before .before .before .before .clause .ensures .of (x .1 .0, x .1 .1) (a .1 .0, a .1 .1)) (some-else f (c .before .before .before .before .before .before .word .ensures) l .of (x .1 .2) (a .1 .2));
+      of = λ x a. laid-then (c .before .before .before .before .before .before .before .before .before .before .before .before .cond .ensures .of (x .1 .0, x .1 .1) (a .1 .0, a .1 .1)) (some-else f (c .before .before .before .before .before .before .word .ensures) l .of (x .1 .2) (a .1 .2));
     }
 
 -- src/lib.rt:402:9
-import-second-requires : (t : ℕ) → import-lts.Need-second-requires (import-calls t) (import-at t) import.Post
-import-second-requires t c κs = let w = import-parts (c .before .before .before .pre .1) in maybe-path _ _ _ (w .path .tree) (w .path .held)
+item-second-requires : (t : ℕ) → item-lts.Need-second-requires (item-calls t) (item-at t) item.Post
+item-second-requires t c κs = let w = import-parts (c .before .before .before .pre .1) in maybe-path _ _ _ (w .path .tree) (w .path .held)
 
 -- src/lib.rt:403:42
-import-add-import-first : (t : ℕ) → import-lts.Need-add-import-first (import-calls t) (import-at t) import.Post
-import-add-import-first t c = let w = import-parts (c .before .before .before .before .before .pre .1) in omega (arith, c .before .before .before .before .before .pre .1 .accepted .small, w .whole .long, w .whole .fits)
+item-add-import-first : (t : ℕ) → item-lts.Need-add-import-first (item-calls t) (item-at t) item.Post
+item-add-import-first t c = let w = import-parts (c .before .before .before .before .before .pre .1) in omega (arith, c .before .before .before .before .before .pre .1 .accepted .small, w .whole .long, w .whole .fits)
 
 -- src/lib.rt:403:9
-import-import-first-requires : (t : ℕ) → import-lts.Need-import-first-requires (import-calls t) (import-at t) import.Post
-import-import-first-requires t c κs = import-parts (c .before .before .before .before .before .pre .1) .path
+item-import-first-requires : (t : ℕ) → item-lts.Need-import-first-requires (item-calls t) (item-at t) item.Post
+item-import-first-requires t c κs = import-parts (c .before .before .before .before .before .pre .1) .path
 
 -- src/lib.rt:404:37
-import-add-import-dot : (t : ℕ) → import-lts.Need-add-import-dot (import-calls t) (import-at t) import.Post
-import-add-import-dot t c = let w = import-parts (c .before .before .before .before .before .before .before .before .before .pre .1) in omega (arith, c .before .before .before .before .before .before .before .before .before .pre .1 .accepted .small, w .whole .long, w .whole .fits)
+item-add-import-dot : (t : ℕ) → item-lts.Need-add-import-dot (item-calls t) (item-at t) item.Post
+item-add-import-dot t c = let w = import-parts (c .before .before .before .before .before .before .before .before .before .pre .1) in omega (arith, c .before .before .before .before .before .before .before .before .before .pre .1 .accepted .small, w .whole .long, w .whole .fits)
 
 -- src/lib.rt:404:9
-import-import-dot-requires : (t : ℕ) → import-lts.Need-import-dot-requires (import-calls t) (import-at t) import.Post
-import-import-dot-requires t c κs = let w = import-parts (c .before .before .before .before .before .before .before .before .before .pre .1) in (maybe-path _ _ _ (w .path .tree) (w .path .held), rw (c .before .before .before .before .before .second .ensures) (group-within _ _ _ (w .group .tree) (w .group .held)))
+item-import-dot-requires : (t : ℕ) → item-lts.Need-import-dot-requires (item-calls t) (item-at t) item.Post
+item-import-dot-requires t c κs = let w = import-parts (c .before .before .before .before .before .before .before .before .before .pre .1) in (maybe-path _ _ _ (w .path .tree) (w .path .held), rw (c .before .before .before .before .before .second .ensures) (group-within _ _ _ (w .group .tree) (w .group .held)))
 
 -- src/lib.rt:405:5
-import-group-requires : (t : ℕ) → import-lts.Need-group-requires (import-calls t) (import-at t) import.Post
-import-group-requires t c κs = let w = import-parts (c .before .before .before .before .before .before .before .before .before .before .before .before .before .pre .1) in rw (c .before .before .before .before .before .before .before .before .before .second .ensures) (omega (arith, c .before .before .before .before .before .before .before .before .before .before .before .before .before .pre .0, w .ends .same), w .group)
+item-items-requires : (t : ℕ) → item-lts.Need-items-requires (item-calls t) (item-at t) item.Post
+item-items-requires t c κs = let w = import-parts (c .before .before .before .before .before .before .before .before .before .before .before .before .before .pre .1) in rw (c .before .before .before .before .before .before .before .before .before .second .ensures) (omega (arith, c .before .before .before .before .before .before .before .before .before .before .before .before .before .pre .0, w .ends .same), w .group)
 
 -- src/lib.rt:398:1
-import-same-length : (t : ℕ) → import-lts.Need-same-length (import-calls t) (import-at t) import.Post
-import-same-length t c = c .before .before .group .kept .0 ∙ c .before .before .before .before .before .before .import-dot .kept .0 ∙ c .before .before .before .before .before .before .before .before .before .before .import-first .kept .0
+item-same-length : (t : ℕ) → item-lts.Need-same-length (item-calls t) (item-at t) item.Post
+item-same-length t c = c .before .before .items .kept .0 ∙ c .before .before .before .before .before .before .import-dot .kept .0 ∙ c .before .before .before .before .before .before .before .before .before .before .import-first .kept .0
 
 -- src/lib.rt:398:1
-import-returns : (t : ℕ) → import-lts.Need-returns (import-calls t) (import-at t) import.Post
-import-returns t c = import-laid (c .before .before .before .before .before .before .before .before .before .before .import-first .ensures) (rw (c .before .before .before .before .before .before .before .before .before .before .before .before .second .ensures) at (c .before .before .before .before .before .before .import-dot .ensures)) (rw (c .before .before .before .before .before .before .before .before .before .before .before .before .second .ensures) at (c .before .before .group .ensures))
+item-returns : (t : ℕ) → item-lts.Need-returns (item-calls t) (item-at t) item.Post
+item-returns t c = import-laid (c .before .before .before .before .before .before .before .before .before .before .import-first .ensures) (rw (c .before .before .before .before .before .before .before .before .before .before .before .before .second .ensures) at (c .before .before .before .before .before .before .import-dot .ensures)) (rw (c .before .before .before .before .before .before .before .before .before .before .before .before .second .ensures) at (c .before .before .items .ensures))
 
 -- src/lib.rt:227:16
-inside-add-from : (t : ℕ) → inside-lts.Need-add-from (inside-calls t) (inside-at t) inside.Post
-inside-add-from t c = omega (arith, c .before .before .before .pre .1 .accepted .small, c .before .before .before .pre .1 .held .long, c .before .before .before .pre .1 .held .fits)
+core-add-from : (t : ℕ) → core-lts.Need-add-from (core-calls t) (core-at t) core.Post
+core-add-from t c = omega (arith, c .before .before .before .pre .1 .accepted .small, c .before .before .before .pre .1 .held .long, c .before .before .before .pre .1 .held .fits)
 
 -- src/lib.rt:228:9
-inside-past-requires : (t : ℕ) → inside-lts.Need-past-requires (inside-calls t) (inside-at t) inside.Post
-inside-past-requires t c κs = record { fits = c .before .before .before .pre .1 .held .fits }
+core-past-requires : (t : ℕ) → core-lts.Need-past-requires (core-calls t) (core-at t) core.Post
+core-past-requires t c κs = record { fits = c .before .before .before .pre .1 .held .fits }
 
 -- src/lib.rt:230:9
-inside-hollow-requires : (t : ℕ) → inside-lts.Need-hollow-requires (inside-calls t) (inside-at t) inside.Post
-inside-hollow-requires t c κs = c .before .before .before .before .before .before .pre .1 .accepted
+core-hollow-requires : (t : ℕ) → core-lts.Need-hollow-requires (core-calls t) (core-at t) core.Post
+core-hollow-requires t c κs = c .before .before .before .before .before .before .pre .1 .accepted
 
 -- src/lib.rt:230:9
-inside-same-length : (t : ℕ) → inside-lts.Need-same-length (inside-calls t) (inside-at t) inside.Post
-inside-same-length t c = c .before .before .hollow .kept .0
+core-same-length : (t : ℕ) → core-lts.Need-same-length (core-calls t) (core-at t) core.Post
+core-same-length t c = c .before .before .hollow .kept .0
 
 -- src/lib.rt:230:9
-inside-returns : (t : ℕ) → inside-lts.Need-returns (inside-calls t) (inside-at t) inside.Post
-inside-returns t c = inside-none (c .before .before .before .before .if1 .taken ∙ c .before .before .before .before .before .past .ensures) (c .before .before .hollow .ensures)
+core-returns : (t : ℕ) → core-lts.Need-returns (core-calls t) (core-at t) core.Post
+core-returns t c = inside-none (c .before .before .before .before .if1 .taken ∙ c .before .before .before .before .before .past .ensures) (c .before .before .hollow .ensures)
 
 -- src/lib.rt:232:9
-inside-open-list-requires : (t : ℕ) → inside-lts.Need-open-list-requires (inside-calls t) (inside-at t) inside.Post
-inside-open-list-requires t c κs = tt
+core-open-list-requires : (t : ℕ) → core-lts.Need-open-list-requires (core-calls t) (core-at t) core.Post
+core-open-list-requires t c κs = tt
 
 -- src/lib.rt:233:9
-inside-open-indent-requires : (t : ℕ) → inside-lts.Need-open-indent-requires (inside-calls t) (inside-at t) inside.Post
-inside-open-indent-requires t c κs = tt
+core-open-indent-requires : (t : ℕ) → core-lts.Need-open-indent-requires (core-calls t) (core-at t) core.Post
+core-open-indent-requires t c κs = tt
 
 -- src/lib.rt:234:9
-inside-elems-requires : (t : ℕ) → inside-lts.Need-elems-requires (inside-calls t) (inside-at t) inside.Post
-inside-elems-requires t c κs = rw (c .before .before .before .before .before .before .before .before .before .before .past .ensures) (omega (arith, c .before .before .before .before .before .before .before .before .before .before .before .before .before .before .pre .0), record { accepted = c .before .before .before .before .before .before .before .before .before .before .before .before .before .before .pre .1 .accepted; tree = c .before .before .before .before .before .before .before .before .before .before .before .before .before .before .pre .1 .tree; held = c .before .before .before .before .before .before .before .before .before .before .before .before .before .before .pre .1 .held .elems; inside = c .before .before .before .before .before .before .before .before .before .before .before .before .before .before .pre .1 .held .fits })
+core-elems-requires : (t : ℕ) → core-lts.Need-elems-requires (core-calls t) (core-at t) core.Post
+core-elems-requires t c κs = rw (c .before .before .before .before .before .before .before .before .before .before .past .ensures) (omega (arith, c .before .before .before .before .before .before .before .before .before .before .before .before .before .before .pre .0), record { accepted = c .before .before .before .before .before .before .before .before .before .before .before .before .before .before .pre .1 .accepted; tree = c .before .before .before .before .before .before .before .before .before .before .before .before .before .before .pre .1 .tree; held = c .before .before .before .before .before .before .before .before .before .before .before .before .before .before .pre .1 .held .elems; inside = c .before .before .before .before .before .before .before .before .before .before .before .before .before .before .pre .1 .held .fits })
 
 -- src/lib.rt:235:9
-inside-end-elems-requires : (t : ℕ) → inside-lts.Need-end-elems-requires (inside-calls t) (inside-at t) inside.Post
-inside-end-elems-requires t c κs = c .before .before .before .before .before .before .before .before .before .before .before .before .before .before .before .before .before .before .pre .1 .accepted
+core-end-elems-requires : (t : ℕ) → core-lts.Need-end-elems-requires (core-calls t) (core-at t) core.Post
+core-end-elems-requires t c κs = c .before .before .before .before .before .before .before .before .before .before .before .before .before .before .before .before .before .before .pre .1 .accepted
 
 -- src/lib.rt:236:5
-inside-close-requires : (t : ℕ) → inside-lts.Need-close-requires (inside-calls t) (inside-at t) inside.Post
-inside-close-requires t c κs = tt
+core-close-requires : (t : ℕ) → core-lts.Need-close-requires (core-calls t) (core-at t) core.Post
+core-close-requires t c κs = tt
 
 -- src/lib.rt:237:5
-inside-close-list-requires : (t : ℕ) → inside-lts.Need-close-list-requires (inside-calls t) (inside-at t) inside.Post
-inside-close-list-requires t c κs = c .before .before .before .before .before .before .before .before .before .before .before .before .before .before .before .before .before .before .before .before .before .before .before .before .before .before .pre .1 .accepted
+core-close-list-requires : (t : ℕ) → core-lts.Need-close-list-requires (core-calls t) (core-at t) core.Post
+core-close-list-requires t c κs = c .before .before .before .before .before .before .before .before .before .before .before .before .before .before .before .before .before .before .before .before .before .before .before .before .before .before .pre .1 .accepted
 
 -- src/lib.rt:210:1
-inside-same-length-2 : (t : ℕ) → inside-lts.Need-same-length-2 (inside-calls t) (inside-at t) inside.Post
-inside-same-length-2 t c = c .before .before .close-list .kept .0 ∙ c .before .before .before .before .before .before .close .kept .0 ∙ c .before .before .before .before .before .before .before .before .before .before .end-elems .kept .0 ∙ c .before .before .before .before .before .before .before .before .before .before .before .before .before .before .elems .kept .0 ∙ c .before .before .before .before .before .before .before .before .before .before .before .before .before .before .before .before .before .before .open-indent .kept .0 ∙ c .before .before .before .before .before .before .before .before .before .before .before .before .before .before .before .before .before .before .before .before .before .before .open-list .kept .0
+core-same-length-2 : (t : ℕ) → core-lts.Need-same-length-2 (core-calls t) (core-at t) core.Post
+core-same-length-2 t c = c .before .before .close-list .kept .0 ∙ c .before .before .before .before .before .before .close .kept .0 ∙ c .before .before .before .before .before .before .before .before .before .before .end-elems .kept .0 ∙ c .before .before .before .before .before .before .before .before .before .before .before .before .before .before .elems .kept .0 ∙ c .before .before .before .before .before .before .before .before .before .before .before .before .before .before .before .before .before .before .open-indent .kept .0 ∙ c .before .before .before .before .before .before .before .before .before .before .before .before .before .before .before .before .before .before .before .before .before .before .open-list .kept .0
 
 -- src/lib.rt:210:1
-inside-returns-2 : (t : ℕ) → inside-lts.Need-returns-2 (inside-calls t) (inside-at t) inside.Post
+core-returns-2 : (t : ℕ) → core-lts.Need-returns-2 (core-calls t) (core-at t) core.Post
 unfolding rules.inside
-inside-returns-2 t c = inside-some (λ e. c .before .before .before .before .before .before .before .before .before .before .before .before .before .before .before .before .before .before .before .before .before .before .before .before .if1 .left (e ∙ sym (c .before .before .before .before .before .before .before .before .before .before .before .before .before .before .before .before .before .before .before .before .before .before .before .before .before .past .ensures)))
+core-returns-2 t c = inside-some (λ e. c .before .before .before .before .before .before .before .before .before .before .before .before .before .before .before .before .before .before .before .before .before .before .before .before .if1 .left (e ∙ sym (c .before .before .before .before .before .before .before .before .before .before .before .before .before .before .before .before .before .before .before .before .before .before .before .before .before .past .ensures)))
     (λ i es a p e.
     laid-then (c .before .before .before .before .before .before .before .before .before .before .before .before .before .before .before .before .before .before .before .before .before .before .open-list .ensures)
     (laid-then
@@ -2215,60 +2215,60 @@ last-returns-2 : (t : ℕ) → last-lts.Need-returns-2 (last-calls t) (last-at t
 last-returns-2 t c = some-last _ (present (c .before .before .before .before .before .before .before .before .before .before .before .before .before .before .is-absent .ensures) (c .before .before .before .before .before .before .before .before .before .before .before .before .before .if1 .left)) (c .before .before .before .before .before .before .before .before .before .before .before .start .ensures) (c .before .before .before .before .before .before .before .before .before .before .before-stmt .ensures) (c .before .before .before .before .before .before .expr .ensures) (c .before .before .pop-trailing-comment .ensures)
 
 -- src/lib.rt:256:9
-list-end-requires : (t : ℕ) → list-lts.Need-end-requires (list-calls t) (list-at t) list.Post
-list-end-requires t c κs = record { long = c .before .before .before .pre .1 .held .long; fits = c .before .before .before .pre .1 .held .fits }
+seq-end-requires : (t : ℕ) → seq-lts.Need-end-requires (seq-calls t) (seq-at t) seq.Post
+seq-end-requires t c κs = record { long = c .before .before .before .pre .1 .held .long; fits = c .before .before .before .pre .1 .held .fits }
 
 -- src/lib.rt:257:5
-list-separated-requires : (t : ℕ) → list-lts.Need-separated-requires (list-calls t) (list-at t) list.Post
-list-separated-requires t c κs = (omega (arith, c .before .before .before .before .before .pre .0), c .before .before .before .before .before .pre .1)
+seq-separated-requires : (t : ℕ) → seq-lts.Need-separated-requires (seq-calls t) (seq-at t) seq.Post
+seq-separated-requires t c κs = (omega (arith, c .before .before .before .before .before .pre .0), c .before .before .before .before .before .pre .1)
 
 -- src/lib.rt:241:1
-list-same-length : (t : ℕ) → list-lts.Need-same-length (list-calls t) (list-at t) list.Post
-list-same-length t c = c .before .before .separated .kept .0
+seq-same-length : (t : ℕ) → seq-lts.Need-same-length (seq-calls t) (seq-at t) seq.Post
+seq-same-length t c = c .before .before .separated .kept .0
 
 -- src/lib.rt:241:1
-list-returns : (t : ℕ) → list-lts.Need-returns (list-calls t) (list-at t) list.Post
-list-returns t c = record { of = λ es l p e. c .before .before .separated .ensures .of es l p (c .before .before .before .before .end .ensures ∙ e) }
+seq-returns : (t : ℕ) → seq-lts.Need-returns (seq-calls t) (seq-at t) seq.Post
+seq-returns t c = record { of = λ es l p e. c .before .before .separated .ensures .of es l p (c .before .before .before .before .end .ensures ∙ e) }
 
 -- src/lib.rt:570:9
-match-on-second-requires : (t : ℕ) → match-on-lts.Need-second-requires (match-on-calls t) (match-on-at t) match-on.Post
+cases-second-requires : (t : ℕ) → cases-lts.Need-second-requires (cases-calls t) (cases-at t) cases.Post
 unfolding ExprAt
-match-on-second-requires t c κs = within (expr-whole _ _ _ (c .before .before .before .pre .1 .tree .1 .0) (c .before .before .before .pre .1 .held .1 .0))
+cases-second-requires t c κs = within (expr-whole _ _ _ (c .before .before .before .pre .1 .tree .1 .0) (c .before .before .before .pre .1 .held .1 .0))
 
 -- src/lib.rt:571:9
-match-on-word-requires : (t : ℕ) → match-on-lts.Need-word-requires (match-on-calls t) (match-on-at t) match-on.Post
-match-on-word-requires t c κs = tt
+cases-word-requires : (t : ℕ) → cases-lts.Need-word-requires (cases-calls t) (cases-at t) cases.Post
+cases-word-requires t c κs = tt
 
 -- src/lib.rt:572:34
-match-on-add-expr : (t : ℕ) → match-on-lts.Need-add-expr (match-on-calls t) (match-on-at t) match-on.Post
+cases-add-expr : (t : ℕ) → cases-lts.Need-add-expr (cases-calls t) (cases-at t) cases.Post
 unfolding ExprAt
-match-on-add-expr t c = omega (arith, c .before .before .before .before .before .before .before .before .before .pre .1 .accepted .small, c .before .before .before .before .before .before .before .before .before .pre .1 .held .0 .long, c .before .before .before .before .before .before .before .before .before .pre .1 .held .0 .fits)
+cases-add-expr t c = omega (arith, c .before .before .before .before .before .before .before .before .before .pre .1 .accepted .small, c .before .before .before .before .before .before .before .before .before .pre .1 .held .0 .long, c .before .before .before .before .before .before .before .before .before .pre .1 .held .0 .fits)
 
 -- src/lib.rt:572:9
-match-on-expr-requires : (t : ℕ) → match-on-lts.Need-expr-requires (match-on-calls t) (match-on-at t) match-on.Post
+cases-expr-requires : (t : ℕ) → cases-lts.Need-expr-requires (cases-calls t) (cases-at t) cases.Post
 unfolding ExprAt
-match-on-expr-requires t c κs = (omega (arith, c .before .before .before .before .before .before .before .before .before .pre .0, c .before .before .before .before .before .before .before .before .before .pre .1 .held .1 .3 .same), record { accepted = c .before .before .before .before .before .before .before .before .before .pre .1 .accepted; tree = c .before .before .before .before .before .before .before .before .before .pre .1 .tree .1 .0; held = c .before .before .before .before .before .before .before .before .before .pre .1 .held .1 .0 })
+cases-expr-requires t c κs = (omega (arith, c .before .before .before .before .before .before .before .before .before .pre .0, c .before .before .before .before .before .before .before .before .before .pre .1 .held .1 .3 .same), record { accepted = c .before .before .before .before .before .before .before .before .before .pre .1 .accepted; tree = c .before .before .before .before .before .before .before .before .before .pre .1 .tree .1 .0; held = c .before .before .before .before .before .before .before .before .before .pre .1 .held .1 .0 })
 
 -- src/lib.rt:573:9
-match-on-word-requires-2 : (t : ℕ) → match-on-lts.Need-word-requires-2 (match-on-calls t) (match-on-at t) match-on.Post
-match-on-word-requires-2 t c κs = tt
+cases-word-requires-2 : (t : ℕ) → cases-lts.Need-word-requires-2 (cases-calls t) (cases-at t) cases.Post
+cases-word-requires-2 t c κs = tt
 
 -- src/lib.rt:574:5
-match-on-list-requires : (t : ℕ) → match-on-lts.Need-list-requires (match-on-calls t) (match-on-at t) match-on.Post
+cases-seq-requires : (t : ℕ) → cases-lts.Need-seq-requires (cases-calls t) (cases-at t) cases.Post
 unfolding ExprAt
-match-on-list-requires t c κs = rw (c .before .before .before .before .before .before .before .before .before .before .before .before .before .second .ensures) (
+cases-seq-requires t c κs = rw (c .before .before .before .before .before .before .before .before .before .before .before .before .before .second .ensures) (
   omega (arith, c .before .before .before .before .before .before .before .before .before .before .before .before .before .before .before .before .before .pre .0, c .before .before .before .before .before .before .before .before .before .before .before .before .before .before .before .before .before .pre .1 .held .1 .3 .same),
   record { accepted = c .before .before .before .before .before .before .before .before .before .before .before .before .before .before .before .before .before .pre .1 .accepted; tree = rules.armElems _ (c .before .before .before .before .before .before .before .before .before .before .before .before .before .before .before .before .before .pre .1 .tree .1 .2); held = list-of (c .before .before .before .before .before .before .before .before .before .before .before .before .before .before .before .before .before .pre .1 .held .1 .1) (arm-elems _ _ _ _ (c .before .before .before .before .before .before .before .before .before .before .before .before .before .before .before .before .before .pre .1 .tree .1 .2) (c .before .before .before .before .before .before .before .before .before .before .before .before .before .before .before .before .before .pre .1 .held .1 .2)) },
 )
 
 -- src/lib.rt:566:1
-match-on-same-length : (t : ℕ) → match-on-lts.Need-same-length (match-on-calls t) (match-on-at t) match-on.Post
-match-on-same-length t c = c .before .before .list .kept .0 ∙ c .before .before .before .before .before .before .word2 .kept .0 ∙ c .before .before .before .before .before .before .before .before .before .before .expr .kept .0 ∙ c .before .before .before .before .before .before .before .before .before .before .before .before .before .before .word .kept .0
+cases-same-length : (t : ℕ) → cases-lts.Need-same-length (cases-calls t) (cases-at t) cases.Post
+cases-same-length t c = c .before .before .seq .kept .0 ∙ c .before .before .before .before .before .before .word2 .kept .0 ∙ c .before .before .before .before .before .before .before .before .before .before .expr .kept .0 ∙ c .before .before .before .before .before .before .before .before .before .before .before .before .before .before .word .kept .0
 
 -- src/lib.rt:566:1
-match-on-returns : (t : ℕ) → match-on-lts.Need-returns (match-on-calls t) (match-on-at t) match-on.Post
+cases-returns : (t : ℕ) → cases-lts.Need-returns (cases-calls t) (cases-at t) cases.Post
 unfolding ExprAt rules.look
-match-on-returns t c = let l = rw (c .before .before .before .before .before .before .before .before .before .before .before .before .before .before .before .before .second .ensures) at (c .before .before .list .ensures) in
+cases-returns t c = let l = rw (c .before .before .before .before .before .before .before .before .before .before .before .before .before .before .before .before .second .ensures) at (c .before .before .seq .ensures) in
     record {
       of =
           λ x a.
@@ -2279,60 +2279,60 @@ match-on-returns t c = let l = rw (c .before .before .before .before .before .be
     }
 
 -- src/lib.rt:535:8
-maybe-is-absent-requires : (t : ℕ) → maybe-lts.Need-is-absent-requires (maybe-calls t) (maybe-at t) maybe.Post
-maybe-is-absent-requires t c κs = maybe-expr _ _ _ (c .before .before .before .pre .1 .tree) (c .before .before .before .pre .1 .held)
+opt-is-absent-requires : (t : ℕ) → opt-lts.Need-is-absent-requires (opt-calls t) (opt-at t) opt.Post
+opt-is-absent-requires t c κs = maybe-expr _ _ _ (c .before .before .before .pre .1 .tree) (c .before .before .before .pre .1 .held)
 
 -- src/lib.rt:536:9
-maybe-returns : (t : ℕ) → maybe-lts.Need-returns (maybe-calls t) (maybe-at t) maybe.Post
-maybe-returns t c = no-maybe (c .before .before .before .before .before .args .k) (absent (c .before .is-absent .ensures) (c .if1 .taken))
+opt-returns : (t : ℕ) → opt-lts.Need-returns (opt-calls t) (opt-at t) opt.Post
+opt-returns t c = no-maybe (c .before .before .before .before .before .args .k) (absent (c .before .is-absent .ensures) (c .if1 .taken))
 
 -- src/lib.rt:538:5
-maybe-after-requires : (t : ℕ) → maybe-lts.Need-after-requires (maybe-calls t) (maybe-at t) maybe.Post
-maybe-after-requires t c κs = (omega (arith, c .before .before .before .before .before .before .pre .0), has-expr (present (c .before .before .is-absent .ensures) (c .before .if1 .left)) (c .before .before .before .before .before .before .pre .1))
+opt-then-requires : (t : ℕ) → opt-lts.Need-then-requires (opt-calls t) (opt-at t) opt.Post
+opt-then-requires t c κs = (omega (arith, c .before .before .before .before .before .before .pre .0), has-expr (present (c .before .before .is-absent .ensures) (c .before .if1 .left)) (c .before .before .before .before .before .before .pre .1))
 
 -- src/lib.rt:531:1
-maybe-same-length : (t : ℕ) → maybe-lts.Need-same-length (maybe-calls t) (maybe-at t) maybe.Post
-maybe-same-length t c = c .before .before .after .kept .0
+opt-same-length : (t : ℕ) → opt-lts.Need-same-length (opt-calls t) (opt-at t) opt.Post
+opt-same-length t c = c .before .before .then .kept .0
 
 -- src/lib.rt:531:1
-maybe-returns-2 : (t : ℕ) → maybe-lts.Need-returns-2 (maybe-calls t) (maybe-at t) maybe.Post
-maybe-returns-2 t c = some-maybe (c .before .before .before .before .before .before .before .before .before .args .k) (present (c .before .before .before .before .before .is-absent .ensures) (c .before .before .before .before .if1 .left)) (c .before .before .after .ensures)
+opt-returns-2 : (t : ℕ) → opt-lts.Need-returns-2 (opt-calls t) (opt-at t) opt.Post
+opt-returns-2 t c = some-maybe (c .before .before .before .before .before .before .before .before .before .args .k) (present (c .before .before .before .before .before .is-absent .ensures) (c .before .before .before .before .if1 .left)) (c .before .before .then .ensures)
 
 -- src/lib.rt:724:33
-parens-start-requires : (t : ℕ) → parens-lts.Need-start-requires (parens-calls t) (parens-at t) parens.Post
+par-start-requires : (t : ℕ) → par-lts.Need-start-requires (par-calls t) (par-at t) par.Post
 unfolding ExprAt
-parens-start-requires t c κs = head-whole (c .before .before .before .before .pre .1 .held .0)
+par-start-requires t c κs = head-whole (c .before .before .before .before .pre .1 .held .0)
 
 -- src/lib.rt:724:9
-parens-gap-requires : (t : ℕ) → parens-lts.Need-gap-requires (parens-calls t) (parens-at t) parens.Post
-parens-gap-requires t c κs = c .before .before .before .before .before .pre .1 .accepted
+par-gap-requires : (t : ℕ) → par-lts.Need-gap-requires (par-calls t) (par-at t) par.Post
+par-gap-requires t c κs = c .before .before .before .before .before .pre .1 .accepted
 
 -- src/lib.rt:725:9
-parens-word-requires : (t : ℕ) → parens-lts.Need-word-requires (parens-calls t) (parens-at t) parens.Post
-parens-word-requires t c κs = tt
+par-word-requires : (t : ℕ) → par-lts.Need-word-requires (par-calls t) (par-at t) par.Post
+par-word-requires t c κs = tt
 
 -- src/lib.rt:726:34
-parens-add-expr : (t : ℕ) → parens-lts.Need-add-expr (parens-calls t) (parens-at t) parens.Post
+par-add-expr : (t : ℕ) → par-lts.Need-add-expr (par-calls t) (par-at t) par.Post
 unfolding ExprAt
-parens-add-expr t c = omega (arith, c .before .before .before .before .before .before .before .before .before .before .before .before .before .pre .1 .accepted .small, c .before .before .before .before .before .before .before .before .before .before .before .before .before .pre .1 .held .0 .long, c .before .before .before .before .before .before .before .before .before .before .before .before .before .pre .1 .held .0 .fits)
+par-add-expr t c = omega (arith, c .before .before .before .before .before .before .before .before .before .before .before .before .before .pre .1 .accepted .small, c .before .before .before .before .before .before .before .before .before .before .before .before .before .pre .1 .held .0 .long, c .before .before .before .before .before .before .before .before .before .before .before .before .before .pre .1 .held .0 .fits)
 
 -- src/lib.rt:726:9
-parens-expr-requires : (t : ℕ) → parens-lts.Need-expr-requires (parens-calls t) (parens-at t) parens.Post
+par-expr-requires : (t : ℕ) → par-lts.Need-expr-requires (par-calls t) (par-at t) par.Post
 unfolding ExprAt
-parens-expr-requires t c κs = (omega (arith, c .before .before .before .before .before .before .before .before .before .before .before .before .before .pre .0, c .before .before .before .before .before .before .before .before .before .before .before .before .before .pre .1 .held .1 .1 .same), record { accepted = c .before .before .before .before .before .before .before .before .before .before .before .before .before .pre .1 .accepted; tree = c .before .before .before .before .before .before .before .before .before .before .before .before .before .pre .1 .tree .1; held = c .before .before .before .before .before .before .before .before .before .before .before .before .before .pre .1 .held .1 .0 })
+par-expr-requires t c κs = (omega (arith, c .before .before .before .before .before .before .before .before .before .before .before .before .before .pre .0, c .before .before .before .before .before .before .before .before .before .before .before .before .before .pre .1 .held .1 .1 .same), record { accepted = c .before .before .before .before .before .before .before .before .before .before .before .before .before .pre .1 .accepted; tree = c .before .before .before .before .before .before .before .before .before .before .before .before .before .pre .1 .tree .1; held = c .before .before .before .before .before .before .before .before .before .before .before .before .before .pre .1 .held .1 .0 })
 
 -- src/lib.rt:727:5
-parens-word-requires-2 : (t : ℕ) → parens-lts.Need-word-requires-2 (parens-calls t) (parens-at t) parens.Post
-parens-word-requires-2 t c κs = tt
+par-word-requires-2 : (t : ℕ) → par-lts.Need-word-requires-2 (par-calls t) (par-at t) par.Post
+par-word-requires-2 t c κs = tt
 
 -- src/lib.rt:720:1
-parens-same-length : (t : ℕ) → parens-lts.Need-same-length (parens-calls t) (parens-at t) parens.Post
-parens-same-length t c = c .before .before .word2 .kept .0 ∙ c .before .before .before .before .before .before .expr .kept .0 ∙ c .before .before .before .before .before .before .before .before .before .before .word .kept .0 ∙ c .before .before .before .before .before .before .before .before .before .before .before .before .before .before .gap .kept .0
+par-same-length : (t : ℕ) → par-lts.Need-same-length (par-calls t) (par-at t) par.Post
+par-same-length t c = c .before .before .word2 .kept .0 ∙ c .before .before .before .before .before .before .expr .kept .0 ∙ c .before .before .before .before .before .before .before .before .before .before .word .kept .0 ∙ c .before .before .before .before .before .before .before .before .before .before .before .before .before .before .gap .kept .0
 
 -- src/lib.rt:720:1
-parens-returns : (t : ℕ) → parens-lts.Need-returns (parens-calls t) (parens-at t) parens.Post
+par-returns : (t : ℕ) → par-lts.Need-returns (par-calls t) (par-at t) par.Post
 unfolding ExprAt rules.look
-parens-returns t c = record {
+par-returns t c = record {
   of =
       λ x a.
       rw (← (a .0 .start), ← (c .before .before .before .before .before .before .before .before .before .before .before .before .before .before .before .start .ensures))
@@ -2422,60 +2422,60 @@ parts-returns : (t : ℕ) → parts-lts.Need-returns (parts-calls t) (parts-at t
 parts-returns t c = c .before .loop .inv .3 _ _ (parts-none (c .loop-test .left))
 
 -- src/lib.rt:462:8
-pattern-kind-requires : (t : ℕ) → pattern-lts.Need-kind-requires (pattern-calls t) (pattern-at t) pattern.Post
-pattern-kind-requires t c κs = pattern-whole _ _ _ (c .before .before .before .pre .1 .tree) (c .before .before .before .pre .1 .held)
+pat-kind-requires : (t : ℕ) → pat-lts.Need-kind-requires (pat-calls t) (pat-at t) pat.Post
+pat-kind-requires t c κs = pattern-whole _ _ _ (c .before .before .before .pre .1 .tree) (c .before .before .before .pre .1 .held)
 
 -- src/lib.rt:463:9
-pattern-word-requires : (t : ℕ) → pattern-lts.Need-word-requires (pattern-calls t) (pattern-at t) pattern.Post
-pattern-word-requires t c κs = tt
+pat-word-requires : (t : ℕ) → pat-lts.Need-word-requires (pat-calls t) (pat-at t) pat.Post
+pat-word-requires t c κs = tt
 
 -- src/lib.rt:463:9
-pattern-same-length : (t : ℕ) → pattern-lts.Need-same-length (pattern-calls t) (pattern-at t) pattern.Post
-pattern-same-length t c = c .before .before .word .kept .0
+pat-same-length : (t : ℕ) → pat-lts.Need-same-length (pat-calls t) (pat-at t) pat.Post
+pat-same-length t c = c .before .before .word .kept .0
 
 -- src/lib.rt:463:9
-pattern-returns : (t : ℕ) → pattern-lts.Need-returns (pattern-calls t) (pattern-at t) pattern.Post
-pattern-returns t c = any-pattern (sym (c .before .before .before .before .before .kind .ensures) ∙ c .before .before .before .before .if1 .taken) (c .before .before .word .ensures)
+pat-returns : (t : ℕ) → pat-lts.Need-returns (pat-calls t) (pat-at t) pat.Post
+pat-returns t c = any-pattern (sym (c .before .before .before .before .before .kind .ensures) ∙ c .before .before .before .before .if1 .taken) (c .before .before .word .ensures)
 
 -- src/lib.rt:465:9
-pattern-second-requires : (t : ℕ) → pattern-lts.Need-second-requires (pattern-calls t) (pattern-at t) pattern.Post
-pattern-second-requires t c κs = let w = pattern-parts (λ e. c .if1 .left (c .before .kind .ensures ∙ e)) (c .before .before .before .before .before .pre .1) in within (ident-whole (w .name .held))
+pat-second-requires : (t : ℕ) → pat-lts.Need-second-requires (pat-calls t) (pat-at t) pat.Post
+pat-second-requires t c κs = let w = pattern-parts (λ e. c .if1 .left (c .before .kind .ensures ∙ e)) (c .before .before .before .before .before .pre .1) in within (ident-whole (w .name .held))
 
 -- src/lib.rt:466:35
-pattern-add-ident : (t : ℕ) → pattern-lts.Need-add-ident (pattern-calls t) (pattern-at t) pattern.Post
-pattern-add-ident t c = let w = pattern-parts (λ e. c .before .before .if1 .left (c .before .before .before .kind .ensures ∙ e)) (c .before .before .before .before .before .before .before .pre .1) in omega (arith, c .before .before .before .before .before .before .before .pre .1 .accepted .small, w .whole .long, w .whole .fits)
+pat-add-ident : (t : ℕ) → pat-lts.Need-add-ident (pat-calls t) (pat-at t) pat.Post
+pat-add-ident t c = let w = pattern-parts (λ e. c .before .before .if1 .left (c .before .before .before .kind .ensures ∙ e)) (c .before .before .before .before .before .before .before .pre .1) in omega (arith, c .before .before .before .before .before .before .before .pre .1 .accepted .small, w .whole .long, w .whole .fits)
 
 -- src/lib.rt:466:9
-pattern-ident-requires : (t : ℕ) → pattern-lts.Need-ident-requires (pattern-calls t) (pattern-at t) pattern.Post
-pattern-ident-requires t c κs = pattern-parts (λ e. c .before .before .if1 .left (c .before .before .before .kind .ensures ∙ e)) (c .before .before .before .before .before .before .before .pre .1) .name
+pat-ident-requires : (t : ℕ) → pat-lts.Need-ident-requires (pat-calls t) (pat-at t) pat.Post
+pat-ident-requires t c κs = pattern-parts (λ e. c .before .before .if1 .left (c .before .before .before .kind .ensures ∙ e)) (c .before .before .before .before .before .before .before .pre .1) .name
 
 -- src/lib.rt:467:8
-pattern-is-absent-requires : (t : ℕ) → pattern-lts.Need-is-absent-requires (pattern-calls t) (pattern-at t) pattern.Post
-pattern-is-absent-requires t c κs = let w = pattern-parts (λ e. c .before .before .before .before .before .if1 .left (c .before .before .before .before .before .before .kind .ensures ∙ e)) (c .before .before .before .before .before .before .before .before .before .before .pre .1) in rw (c .before .before .before .before .second .ensures) (maybe-list _ _ _ (w .fields .tree) (w .fields .held))
+pat-is-absent-requires : (t : ℕ) → pat-lts.Need-is-absent-requires (pat-calls t) (pat-at t) pat.Post
+pat-is-absent-requires t c κs = let w = pattern-parts (λ e. c .before .before .before .before .before .if1 .left (c .before .before .before .before .before .before .kind .ensures ∙ e)) (c .before .before .before .before .before .before .before .before .before .before .pre .1) in rw (c .before .before .before .before .second .ensures) (maybe-list _ _ _ (w .fields .tree) (w .fields .held))
 
 -- src/lib.rt:468:9
-pattern-same-length-2 : (t : ℕ) → pattern-lts.Need-same-length-2 (pattern-calls t) (pattern-at t) pattern.Post
-pattern-same-length-2 t c = c .before .before .before .before .ident .kept .0
+pat-same-length-2 : (t : ℕ) → pat-lts.Need-same-length-2 (pat-calls t) (pat-at t) pat.Post
+pat-same-length-2 t c = c .before .before .before .before .ident .kept .0
 
 -- src/lib.rt:468:9
-pattern-returns-2 : (t : ℕ) → pattern-lts.Need-returns-2 (pattern-calls t) (pattern-at t) pattern.Post
-pattern-returns-2 t c = let e : be32 (c .before .before .before .before .before .before .before .before .before .before .before .before .args .b .now) (stopAt (c .before .before .before .before .before .before .before .before .before .before .before .before .args .b .now) (c .before .before .before .before .before .before .before .before .before .before .before .before .args .at + 13)) ≡ 0 = absent (rw (c .before .before .before .before .before .before .second .ensures) at (c .before .is-absent .ensures)) (c .if2 .taken) in
+pat-returns-2 : (t : ℕ) → pat-lts.Need-returns-2 (pat-calls t) (pat-at t) pat.Post
+pat-returns-2 t c = let e : be32 (c .before .before .before .before .before .before .before .before .before .before .before .before .args .b .now) (stopAt (c .before .before .before .before .before .before .before .before .before .before .before .before .args .b .now) (c .before .before .before .before .before .before .before .before .before .before .before .before .args .at + 13)) ≡ 0 = absent (rw (c .before .before .before .before .before .before .second .ensures) at (c .before .is-absent .ensures)) (c .if2 .taken) in
     bare-pattern (λ e. c .before .before .before .before .before .before .before .if1 .left (c .before .before .before .before .before .before .before .before .kind .ensures ∙ e)) e (c .before .before .before .before .ident .ensures)
 
 -- src/lib.rt:470:5
-pattern-list-requires : (t : ℕ) → pattern-lts.Need-list-requires (pattern-calls t) (pattern-at t) pattern.Post
-pattern-list-requires t c κs = let w = pattern-parts (λ e. c .before .before .before .before .before .before .before .before .if1 .left (c .before .before .before .before .before .before .before .before .before .kind .ensures ∙ e)) (c .before .before .before .before .before .before .before .before .before .before .before .before .before .pre .1) in
+pat-seq-requires : (t : ℕ) → pat-lts.Need-seq-requires (pat-calls t) (pat-at t) pat.Post
+pat-seq-requires t c κs = let w = pattern-parts (λ e. c .before .before .before .before .before .before .before .before .if1 .left (c .before .before .before .before .before .before .before .before .before .kind .ensures ∙ e)) (c .before .before .before .before .before .before .before .before .before .before .before .before .before .pre .1) in
     let f : be32 (c .before .before .before .before .before .before .before .before .before .before .before .before .before .args .b .now) (stopAt (c .before .before .before .before .before .before .before .before .before .before .before .before .before .args .b .now) (c .before .before .before .before .before .before .before .before .before .before .before .before .before .args .at + 13)) ≡ 0 → ⊥ = present (rw (c .before .before .before .before .before .before .before .second .ensures) at (c .before .before .is-absent .ensures)) (c .before .if2 .left) in
     rw (c .before .before .before .before .before .before .before .second .ensures) (omega (arith, c .before .before .before .before .before .before .before .before .before .before .before .before .before .pre .0, w .ends .same), fields-list f (w .fields))
 
 -- src/lib.rt:458:1
-pattern-same-length-3 : (t : ℕ) → pattern-lts.Need-same-length-3 (pattern-calls t) (pattern-at t) pattern.Post
-pattern-same-length-3 t c = c .before .before .list .kept .0 ∙ c .before .before .before .before .before .before .before .before .ident .kept .0
+pat-same-length-3 : (t : ℕ) → pat-lts.Need-same-length-3 (pat-calls t) (pat-at t) pat.Post
+pat-same-length-3 t c = c .before .before .seq .kept .0 ∙ c .before .before .before .before .before .before .before .before .ident .kept .0
 
 -- src/lib.rt:458:1
-pattern-returns-3 : (t : ℕ) → pattern-lts.Need-returns-3 (pattern-calls t) (pattern-at t) pattern.Post
-pattern-returns-3 t c = let f : be32 (c .before .before .before .before .before .before .before .before .before .before .before .before .before .before .before .before .args .b .now) (stopAt (c .before .before .before .before .before .before .before .before .before .before .before .before .before .before .before .before .args .b .now) (c .before .before .before .before .before .before .before .before .before .before .before .before .before .before .before .before .args .at + 13)) ≡ 0 → ⊥ = present (rw (c .before .before .before .before .before .before .before .before .before .before .second .ensures) at (c .before .before .before .before .before .is-absent .ensures)) (c .before .before .before .before .if2 .left) in
-    full-pattern (λ e. c .before .before .before .before .before .before .before .before .before .before .before .if1 .left (c .before .before .before .before .before .before .before .before .before .before .before .before .kind .ensures ∙ e)) f (c .before .before .before .before .before .before .before .before .ident .ensures) (rw (c .before .before .before .before .before .before .before .before .before .before .second .ensures) at (c .before .before .list .ensures))
+pat-returns-3 : (t : ℕ) → pat-lts.Need-returns-3 (pat-calls t) (pat-at t) pat.Post
+pat-returns-3 t c = let f : be32 (c .before .before .before .before .before .before .before .before .before .before .before .before .before .before .before .before .args .b .now) (stopAt (c .before .before .before .before .before .before .before .before .before .before .before .before .before .before .before .before .args .b .now) (c .before .before .before .before .before .before .before .before .before .before .before .before .before .before .before .before .args .at + 13)) ≡ 0 → ⊥ = present (rw (c .before .before .before .before .before .before .before .before .before .before .second .ensures) at (c .before .before .before .before .before .is-absent .ensures)) (c .before .before .before .before .if2 .left) in
+    full-pattern (λ e. c .before .before .before .before .before .before .before .before .before .before .before .if1 .left (c .before .before .before .before .before .before .before .before .before .before .before .before .kind .ensures ∙ e)) f (c .before .before .before .before .before .before .before .before .ident .ensures) (rw (c .before .before .before .before .before .before .before .before .before .before .second .ensures) at (c .before .before .seq .ensures))
 
 -- src/lib.rt:561:9
 ret-payload-requires : (t : ℕ) → ret-lts.Need-payload-requires (ret-calls t) (ret-at t) ret.Post
@@ -2492,18 +2492,18 @@ ret-word-requires : (t : ℕ) → ret-lts.Need-word-requires (ret-calls t) (ret-
 ret-word-requires t c κs = tt
 
 -- src/lib.rt:563:27
-ret-add-maybe : (t : ℕ) → ret-lts.Need-add-maybe (ret-calls t) (ret-at t) ret.Post
+ret-add-opt : (t : ℕ) → ret-lts.Need-add-opt (ret-calls t) (ret-at t) ret.Post
 unfolding ExprAt
-ret-add-maybe t c = let w = maybe-expr _ _ _ (c .before .before .before .before .before .before .before .before .before .pre .1 .tree .1 .1) (c .before .before .before .before .before .before .before .before .before .pre .1 .held .1 .2) in omega (arith, c .before .before .before .before .before .before .before .before .before .pre .1 .accepted .small, w .fits)
+ret-add-opt t c = let w = maybe-expr _ _ _ (c .before .before .before .before .before .before .before .before .before .pre .1 .tree .1 .1) (c .before .before .before .before .before .before .before .before .before .pre .1 .held .1 .2) in omega (arith, c .before .before .before .before .before .before .before .before .before .pre .1 .accepted .small, w .fits)
 
 -- src/lib.rt:563:5
-ret-maybe-requires : (t : ℕ) → ret-lts.Need-maybe-requires (ret-calls t) (ret-at t) ret.Post
+ret-opt-requires : (t : ℕ) → ret-lts.Need-opt-requires (ret-calls t) (ret-at t) ret.Post
 unfolding ExprAt
-ret-maybe-requires t c κs = (omega (arith, c .before .before .before .before .before .before .before .before .before .pre .0, c .before .before .before .before .before .before .before .before .before .pre .1 .held .1 .3 .same), record { accepted = c .before .before .before .before .before .before .before .before .before .pre .1 .accepted; tree = c .before .before .before .before .before .before .before .before .before .pre .1 .tree .1 .1; held = c .before .before .before .before .before .before .before .before .before .pre .1 .held .1 .2 })
+ret-opt-requires t c κs = (omega (arith, c .before .before .before .before .before .before .before .before .before .pre .0, c .before .before .before .before .before .before .before .before .before .pre .1 .held .1 .3 .same), record { accepted = c .before .before .before .before .before .before .before .before .before .pre .1 .accepted; tree = c .before .before .before .before .before .before .before .before .before .pre .1 .tree .1 .1; held = c .before .before .before .before .before .before .before .before .before .pre .1 .held .1 .2 })
 
 -- src/lib.rt:557:1
 ret-same-length : (t : ℕ) → ret-lts.Need-same-length (ret-calls t) (ret-at t) ret.Post
-ret-same-length t c = c .before .before .maybe .kept .0 ∙ c .before .before .before .before .before .before .word .kept .0
+ret-same-length t c = c .before .before .opt .kept .0 ∙ c .before .before .before .before .before .before .word .kept .0
 
 -- src/lib.rt:557:1
 ret-returns : (t : ℕ) → ret-lts.Need-returns (ret-calls t) (ret-at t) ret.Post
@@ -2513,7 +2513,7 @@ ret-returns t c = record {
       λ x a.
       let e : getD table (9 + c .before .before .before .before .before .before .before .before .payload .result) "" ≡ rules.returnWord (x .1 .0) =
       return-word (c .before .before .before .before .before .before .before .before .payload .result) (omega (arith, c .before .before .before .before .before .before .before .before .payload .ensures, a .1 .0 .byte, a .1 .1)) ∙ ap rules.returnWord (c .before .before .before .before .before .before .before .before .payload .ensures ∙ a .1 .0 .byte) in
-      rw (← e) (laid-then (c .before .before .before .before .before .before .word .ensures) (c .before .before .maybe .ensures .of (x .1 .1) (a .1 .2)));
+      rw (← e) (laid-then (c .before .before .before .before .before .before .word .ensures) (c .before .before .opt .ensures .of (x .1 .1) (a .1 .2)));
 }
 
 -- src/lib.rt:190:9
@@ -2521,8 +2521,8 @@ separated-open-group-requires : (t : ℕ) → separated-lts.Need-open-group-requ
 separated-open-group-requires t c κs = tt
 
 -- src/lib.rt:191:9
-separated-inside-requires : (t : ℕ) → separated-lts.Need-inside-requires (separated-calls t) (separated-at t) separated.Post
-separated-inside-requires t c κs = (omega (arith, c .before .before .before .before .before .before .before .before .pre .0), c .before .before .before .before .before .before .before .before .pre .1)
+separated-core-requires : (t : ℕ) → separated-lts.Need-core-requires (separated-calls t) (separated-at t) separated.Post
+separated-core-requires t c κs = (omega (arith, c .before .before .before .before .before .before .before .before .pre .0), c .before .before .before .before .before .before .before .before .pre .1)
 
 -- src/lib.rt:205:5
 separated-close-requires : (t : ℕ) → separated-lts.Need-close-requires (separated-calls t) (separated-at t) separated.Post
@@ -2530,12 +2530,12 @@ separated-close-requires t c κs = tt
 
 -- src/lib.rt:174:1
 separated-same-length : (t : ℕ) → separated-lts.Need-same-length (separated-calls t) (separated-at t) separated.Post
-separated-same-length t c = c .before .before .close .kept .0 ∙ c .before .before .before .before .before .before .inside .kept .0 ∙ c .before .before .before .before .before .before .before .before .before .before .open-group .kept .0
+separated-same-length t c = c .before .before .close .kept .0 ∙ c .before .before .before .before .before .before .core .kept .0 ∙ c .before .before .before .before .before .before .before .before .before .before .open-group .kept .0
 
 -- src/lib.rt:174:1
 separated-returns : (t : ℕ) → separated-lts.Need-returns (separated-calls t) (separated-at t) separated.Post
 unfolding rules.separated
-separated-returns t c = record { of = λ es l p e. laid-group _ (c .before .before .before .before .before .before .before .before .before .before .open-group .ensures) (c .before .before .before .before .before .before .inside .ensures .of es l p e) (c .before .before .close .ensures) }
+separated-returns t c = record { of = λ es l p e. laid-group _ (c .before .before .before .before .before .before .before .before .before .before .open-group .ensures) (c .before .before .before .before .before .before .core .ensures .of es l p e) (c .before .before .close .ensures) }
 
 -- src/lib.rt:795:11
 stmt-kind-requires : (t : ℕ) → stmt-lts.Need-kind-requires (stmt-calls t) (stmt-at t) stmt.Post
@@ -2550,13 +2550,13 @@ stmt-word-requires : (t : ℕ) → stmt-lts.Need-word-requires (stmt-calls t) (s
 stmt-word-requires t c κs = tt
 
 -- src/lib.rt:799:44
-stmt-add-import : (t : ℕ) → stmt-lts.Need-add-import (stmt-calls t) (stmt-at t) stmt.Post
-stmt-add-import t c = let w = stmt-whole _ _ _ (c .before .before .before .before .before .before .before .before .before .before .pre .1 .tree) (c .before .before .before .before .before .before .before .before .before .before .pre .1 .held) in omega (arith, c .before .before .before .before .before .before .before .before .before .before .pre .1 .accepted .small, w .long, w .fits)
+stmt-add-item : (t : ℕ) → stmt-lts.Need-add-item (stmt-calls t) (stmt-at t) stmt.Post
+stmt-add-item t c = let w = stmt-whole _ _ _ (c .before .before .before .before .before .before .before .before .before .before .pre .1 .tree) (c .before .before .before .before .before .before .before .before .before .before .pre .1 .held) in omega (arith, c .before .before .before .before .before .before .before .before .before .before .pre .1 .accepted .small, w .long, w .fits)
 
 -- src/lib.rt:799:17
-stmt-import-requires : (t : ℕ) → stmt-lts.Need-import-requires (stmt-calls t) (stmt-at t) stmt.Post
+stmt-item-requires : (t : ℕ) → stmt-lts.Need-item-requires (stmt-calls t) (stmt-at t) stmt.Post
 unfolding StmtAt
-stmt-import-requires t c κs = let h = import-has (sym (c .before .before .before .before .before .before .kind .ensures) ∙ c .before .before .before .before .before .match .keys2) (c .before .before .before .before .before .before .before .before .before .before .pre .1) in
+stmt-item-requires t c κs = let h = import-has (sym (c .before .before .before .before .before .before .kind .ensures) ∙ c .before .before .before .before .before .match .keys2) (c .before .before .before .before .before .before .before .before .before .before .pre .1) in
     (omega (arith, c .before .before .before .before .before .before .before .before .before .before .pre .0, h .held .1 .1 .same), record { accepted = h .accepted; tree = h .tree .1; held = h .held .1 .0 })
 
 -- src/lib.rt:800:13
@@ -2601,11 +2601,11 @@ stmt-returns t c = let-laid (sym (c .before .before .before .before .before .kin
 
 -- src/lib.rt:791:1
 stmt-same-length-2 : (t : ℕ) → stmt-lts.Need-same-length-2 (stmt-calls t) (stmt-at t) stmt.Post
-stmt-same-length-2 t c = c .before .before .word2 .kept .0 ∙ c .before .before .before .before .before .before .import .kept .0 ∙ c .before .before .before .before .before .before .before .before .before .before .word .kept .0
+stmt-same-length-2 t c = c .before .before .word2 .kept .0 ∙ c .before .before .before .before .before .before .item .kept .0 ∙ c .before .before .before .before .before .before .before .before .before .before .word .kept .0
 
 -- src/lib.rt:791:1
 stmt-returns-2 : (t : ℕ) → stmt-lts.Need-returns-2 (stmt-calls t) (stmt-at t) stmt.Post
-stmt-returns-2 t c = import-stmt (sym (c .before .before .before .before .before .before .before .before .before .before .before .before .before .kind .ensures) ∙ c .before .before .before .before .before .before .before .before .before .before .before .before .match .keys2) (c .before .before .before .before .before .before .before .before .before .before .word .ensures) (c .before .before .before .before .before .before .import .ensures) (c .before .before .word2 .ensures)
+stmt-returns-2 t c = import-stmt (sym (c .before .before .before .before .before .before .before .before .before .before .before .before .before .kind .ensures) ∙ c .before .before .before .before .before .before .before .before .before .before .before .before .match .keys2) (c .before .before .before .before .before .before .before .before .before .before .word .ensures) (c .before .before .before .before .before .before .item .ensures) (c .before .before .word2 .ensures)
 
 -- src/lib.rt:791:1
 stmt-same-length-3 : (t : ℕ) → stmt-lts.Need-same-length-3 (stmt-calls t) (stmt-at t) stmt.Post
@@ -2800,8 +2800,8 @@ type-expr-word-requires : (t : ℕ) → type-expr-lts.Need-word-requires (type-e
 type-expr-word-requires t c κs = tt
 
 -- src/lib.rt:318:15
-type-expr-type-path-requires : (t : ℕ) → type-expr-lts.Need-type-path-requires (type-expr-calls t) (type-expr-at t) type-expr.Post
-type-expr-type-path-requires t c κs = (omega (arith, c .before .before .before .before .before .before .pre .0), type-has _ (type-is _ _ _ 41 (sym (c .before .before .kind .ensures) ∙ c .before .match .keys2)) (c .before .before .before .before .before .before .pre .1))
+type-expr-ty-requires : (t : ℕ) → type-expr-lts.Need-ty-requires (type-expr-calls t) (type-expr-at t) type-expr.Post
+type-expr-ty-requires t c κs = (omega (arith, c .before .before .before .before .before .before .pre .0), type-has _ (type-is _ _ _ 41 (sym (c .before .before .kind .ensures) ∙ c .before .match .keys2)) (c .before .before .before .before .before .before .pre .1))
 
 -- src/lib.rt:319:15
 type-expr-word-requires-2 : (t : ℕ) → type-expr-lts.Need-word-requires-2 (type-expr-calls t) (type-expr-at t) type-expr.Post
@@ -2812,13 +2812,13 @@ type-expr-word-requires-3 : (t : ℕ) → type-expr-lts.Need-word-requires-3 (ty
 type-expr-word-requires-3 t c κs = tt
 
 -- src/lib.rt:326:13
-type-expr-add-list : (t : ℕ) → type-expr-lts.Need-add-list (type-expr-calls t) (type-expr-at t) type-expr.Post
-type-expr-add-list t c = let w = type-whole _ _ _ (c .before .before .before .before .before .before .pre .1 .tree) (c .before .before .before .before .before .before .pre .1 .held) in omega (arith, c .before .before .before .before .before .before .pre .1 .accepted .small, w .long, w .fits)
+type-expr-add-seq : (t : ℕ) → type-expr-lts.Need-add-seq (type-expr-calls t) (type-expr-at t) type-expr.Post
+type-expr-add-seq t c = let w = type-whole _ _ _ (c .before .before .before .before .before .before .pre .1 .tree) (c .before .before .before .before .before .before .pre .1 .held) in omega (arith, c .before .before .before .before .before .before .pre .1 .accepted .small, w .long, w .fits)
 
 -- src/lib.rt:321:14
-type-expr-list-requires : (t : ℕ) → type-expr-lts.Need-list-requires (type-expr-calls t) (type-expr-at t) type-expr.Post
+type-expr-seq-requires : (t : ℕ) → type-expr-lts.Need-seq-requires (type-expr-calls t) (type-expr-at t) type-expr.Post
 unfolding TypeAt
-type-expr-list-requires t c κs = let h = type-has _ (type-is _ _ _ 44 (omega (arith, c .before .match .rest, c .before .before .kind .ensures, type-kind _ _ _ (c .before .before .before .before .before .before .pre .1 .tree) (c .before .before .before .before .before .before .pre .1 .held)))) (c .before .before .before .before .before .before .pre .1) in (
+type-expr-seq-requires t c κs = let h = type-has _ (type-is _ _ _ 44 (omega (arith, c .before .match .rest, c .before .before .kind .ensures, type-kind _ _ _ (c .before .before .before .before .before .before .pre .1 .tree) (c .before .before .before .before .before .before .pre .1 .held)))) (c .before .before .before .before .before .before .pre .1) in (
   omega (arith, c .before .before .before .before .before .before .pre .0, h .held .1 .2 .same),
   record { accepted = h .accepted; tree = rules.fieldElems _ (h .tree .1 .1); held = list-of (h .held .1 .0) (field-elems _ _ _ _ (h .tree .1 .1) (h .held .1 .1)) },
 )
@@ -2834,11 +2834,11 @@ type-expr-returns t c = type-laid _ (type-is _ _ _ 40 (sym (c .before .before .b
 
 -- src/lib.rt:309:1
 type-expr-same-length-2 : (t : ℕ) → type-expr-lts.Need-same-length-2 (type-expr-calls t) (type-expr-at t) type-expr.Post
-type-expr-same-length-2 t c = c .before .before .type-path .kept .0
+type-expr-same-length-2 t c = c .before .before .ty .kept .0
 
 -- src/lib.rt:309:1
 type-expr-returns-2 : (t : ℕ) → type-expr-lts.Need-returns-2 (type-expr-calls t) (type-expr-at t) type-expr.Post
-type-expr-returns-2 t c = type-laid _ (type-is _ _ _ 41 (sym (c .before .before .before .before .before .kind .ensures) ∙ c .before .before .before .before .match .keys2)) (c .before .before .type-path .ensures)
+type-expr-returns-2 t c = type-laid _ (type-is _ _ _ 41 (sym (c .before .before .before .before .before .kind .ensures) ∙ c .before .before .before .before .match .keys2)) (c .before .before .ty .ensures)
 
 -- src/lib.rt:309:1
 type-expr-same-length-3 : (t : ℕ) → type-expr-lts.Need-same-length-3 (type-expr-calls t) (type-expr-at t) type-expr.Post
@@ -2860,99 +2860,99 @@ type-expr-returns-4 t c = type-laid unitOf (type-is _ _ _ 43 (sym (c .before .be
 
 -- src/lib.rt:309:1
 type-expr-same-length-5 : (t : ℕ) → type-expr-lts.Need-same-length-5 (type-expr-calls t) (type-expr-at t) type-expr.Post
-type-expr-same-length-5 t c = c .before .before .list .kept .0
+type-expr-same-length-5 t c = c .before .before .seq .kept .0
 
 -- src/lib.rt:309:1
 type-expr-returns-5 : (t : ℕ) → type-expr-lts.Need-returns-5 (type-expr-calls t) (type-expr-at t) type-expr.Post
 unfolding TypeAt rules.typeForm
 type-expr-returns-5 t c = type-laid _ (type-is _ _ _ 44 (omega (arith, c .before .before .before .before .match .rest, c .before .before .before .before .before .kind .ensures, type-kind _ _ _ (c .before .before .before .before .before .before .before .before .before .pre .1 .tree) (c .before .before .before .before .before .before .before .before .before .pre .1 .held))))
-    (record { of = λ x a. c .before .before .list .ensures .of (rules.fieldElems _ (x .1 .1)) (list-of (a .1 .0) (field-elems _ _ _ _ (x .1 .1) (a .1 .1))) (x .1 .0) (a .1 .0 .end) })
+    (record { of = λ x a. c .before .before .seq .ensures .of (rules.fieldElems _ (x .1 .1)) (list-of (a .1 .0) (field-elems _ _ _ _ (x .1 .1) (a .1 .1))) (x .1 .0) (a .1 .0 .end) })
 
 -- src/lib.rt:341:9
-type-path-second-requires : (t : ℕ) → type-path-lts.Need-second-requires (type-path-calls t) (type-path-at t) type-path.Post
+ty-second-requires : (t : ℕ) → ty-lts.Need-second-requires (ty-calls t) (ty-at t) ty.Post
 unfolding TypeAt
-type-path-second-requires t c κs = within (path-whole (c .before .before .before .pre .1 .held .1 .0))
+ty-second-requires t c κs = within (path-whole (c .before .before .before .pre .1 .held .1 .0))
 
 -- src/lib.rt:342:34
-type-path-add-path : (t : ℕ) → type-path-lts.Need-add-path (type-path-calls t) (type-path-at t) type-path.Post
+ty-add-path : (t : ℕ) → ty-lts.Need-add-path (ty-calls t) (ty-at t) ty.Post
 unfolding TypeAt
-type-path-add-path t c = omega (arith, c .before .before .before .before .before .pre .1 .accepted .small, c .before .before .before .before .before .pre .1 .held .0 .long, c .before .before .before .before .before .pre .1 .held .0 .fits)
+ty-add-path t c = omega (arith, c .before .before .before .before .before .pre .1 .accepted .small, c .before .before .before .before .before .pre .1 .held .0 .long, c .before .before .before .before .before .pre .1 .held .0 .fits)
 
 -- src/lib.rt:342:9
-type-path-path-requires : (t : ℕ) → type-path-lts.Need-path-requires (type-path-calls t) (type-path-at t) type-path.Post
+ty-path-requires : (t : ℕ) → ty-lts.Need-path-requires (ty-calls t) (ty-at t) ty.Post
 unfolding TypeAt
-type-path-path-requires t c κs = record { accepted = c .before .before .before .before .before .pre .1 .accepted; tree = c .before .before .before .before .before .pre .1 .tree .1 .0; held = c .before .before .before .before .before .pre .1 .held .1 .0 }
+ty-path-requires t c κs = record { accepted = c .before .before .before .before .before .pre .1 .accepted; tree = c .before .before .before .before .before .pre .1 .tree .1 .0; held = c .before .before .before .before .before .pre .1 .held .1 .0 }
 
 -- src/lib.rt:343:8
-type-path-is-absent-requires : (t : ℕ) → type-path-lts.Need-is-absent-requires (type-path-calls t) (type-path-at t) type-path.Post
+ty-is-absent-requires : (t : ℕ) → ty-lts.Need-is-absent-requires (ty-calls t) (ty-at t) ty.Post
 unfolding TypeAt
-type-path-is-absent-requires t c κs = rw (c .before .before .before .before .second .ensures) (args-within _ _ _ (c .before .before .before .before .before .before .before .before .pre .1 .tree .1 .1) (c .before .before .before .before .before .before .before .before .pre .1 .held .1 .1))
+ty-is-absent-requires t c κs = rw (c .before .before .before .before .second .ensures) (args-within _ _ _ (c .before .before .before .before .before .before .before .before .pre .1 .tree .1 .1) (c .before .before .before .before .before .before .before .before .pre .1 .held .1 .1))
 
 -- src/lib.rt:344:9
-type-path-same-length : (t : ℕ) → type-path-lts.Need-same-length (type-path-calls t) (type-path-at t) type-path.Post
-type-path-same-length t c = c .before .before .before .before .path .kept .0
+ty-same-length : (t : ℕ) → ty-lts.Need-same-length (ty-calls t) (ty-at t) ty.Post
+ty-same-length t c = c .before .before .before .before .path .kept .0
 
 -- src/lib.rt:344:9
-type-path-returns : (t : ℕ) → type-path-lts.Need-returns (type-path-calls t) (type-path-at t) type-path.Post
+ty-returns : (t : ℕ) → ty-lts.Need-returns (ty-calls t) (ty-at t) ty.Post
 unfolding TypeAt rules.typeForm
-type-path-returns t c = let e : be32 (c .before .before .before .before .before .before .before .before .before .before .args .b .now) (stopAt (c .before .before .before .before .before .before .before .before .before .before .args .b .now) (c .before .before .before .before .before .before .before .before .before .before .args .at + 13)) ≡ 0 = absent (rw (c .before .before .before .before .before .before .second .ensures) at (c .before .is-absent .ensures)) (c .if1 .taken) in
+ty-returns t c = let e : be32 (c .before .before .before .before .before .before .before .before .before .before .args .b .now) (stopAt (c .before .before .before .before .before .before .before .before .before .before .args .b .now) (c .before .before .before .before .before .before .before .before .before .before .args .at + 13)) ≡ 0 = absent (rw (c .before .before .before .before .before .before .second .ensures) at (c .before .is-absent .ensures)) (c .if1 .taken) in
     record { of = λ x a. laid-then (c .before .before .before .before .path .ensures .of (x .1 .0) (a .1 .0)) (no-args e .of (x .1 .1) (a .1 .1)) }
 
 -- src/lib.rt:346:5
-type-path-list-requires : (t : ℕ) → type-path-lts.Need-list-requires (type-path-calls t) (type-path-at t) type-path.Post
+ty-seq-requires : (t : ℕ) → ty-lts.Need-seq-requires (ty-calls t) (ty-at t) ty.Post
 unfolding TypeAt
-type-path-list-requires t c κs = let f : be32 (c .before .before .before .before .before .before .before .before .before .before .before .args .b .now) (stopAt (c .before .before .before .before .before .before .before .before .before .before .before .args .b .now) (c .before .before .before .before .before .before .before .before .before .before .before .args .at + 13)) ≡ 0 → ⊥ = present (rw (c .before .before .before .before .before .before .before .second .ensures) at (c .before .before .is-absent .ensures)) (c .before .if1 .left) in
+ty-seq-requires t c κs = let f : be32 (c .before .before .before .before .before .before .before .before .before .before .before .args .b .now) (stopAt (c .before .before .before .before .before .before .before .before .before .before .before .args .b .now) (c .before .before .before .before .before .before .before .before .before .before .before .args .at + 13)) ≡ 0 → ⊥ = present (rw (c .before .before .before .before .before .before .before .second .ensures) at (c .before .before .is-absent .ensures)) (c .before .if1 .left) in
     rw (c .before .before .before .before .before .before .before .second .ensures) (
       omega (arith, c .before .before .before .before .before .before .before .before .before .before .before .pre .0, c .before .before .before .before .before .before .before .before .before .before .before .pre .1 .held .1 .2 .same),
       args-list f (record { accepted = c .before .before .before .before .before .before .before .before .before .before .before .pre .1 .accepted; tree = c .before .before .before .before .before .before .before .before .before .before .before .pre .1 .tree .1 .1; held = c .before .before .before .before .before .before .before .before .before .before .before .pre .1 .held .1 .1 }),
     )
 
 -- src/lib.rt:337:1
-type-path-same-length-2 : (t : ℕ) → type-path-lts.Need-same-length-2 (type-path-calls t) (type-path-at t) type-path.Post
-type-path-same-length-2 t c = c .before .before .list .kept .0 ∙ c .before .before .before .before .before .before .before .before .path .kept .0
+ty-same-length-2 : (t : ℕ) → ty-lts.Need-same-length-2 (ty-calls t) (ty-at t) ty.Post
+ty-same-length-2 t c = c .before .before .seq .kept .0 ∙ c .before .before .before .before .before .before .before .before .path .kept .0
 
 -- src/lib.rt:337:1
-type-path-returns-2 : (t : ℕ) → type-path-lts.Need-returns-2 (type-path-calls t) (type-path-at t) type-path.Post
+ty-returns-2 : (t : ℕ) → ty-lts.Need-returns-2 (ty-calls t) (ty-at t) ty.Post
 unfolding TypeAt rules.typeForm
-type-path-returns-2 t c = let f : be32 (c .before .before .before .before .before .before .before .before .before .before .before .before .before .before .args .b .now) (stopAt (c .before .before .before .before .before .before .before .before .before .before .before .before .before .before .args .b .now) (c .before .before .before .before .before .before .before .before .before .before .before .before .before .before .args .at + 13)) ≡ 0 → ⊥ = present (rw (c .before .before .before .before .before .before .before .before .before .before .second .ensures) at (c .before .before .before .before .before .is-absent .ensures)) (c .before .before .before .before .if1 .left) in
-    let l = rw (c .before .before .before .before .before .before .before .before .before .before .second .ensures) at (c .before .before .list .ensures) in
+ty-returns-2 t c = let f : be32 (c .before .before .before .before .before .before .before .before .before .before .before .before .before .before .args .b .now) (stopAt (c .before .before .before .before .before .before .before .before .before .before .before .before .before .before .args .b .now) (c .before .before .before .before .before .before .before .before .before .before .before .before .before .before .args .at + 13)) ≡ 0 → ⊥ = present (rw (c .before .before .before .before .before .before .before .before .before .before .second .ensures) at (c .before .before .before .before .before .is-absent .ensures)) (c .before .before .before .before .if1 .left) in
+    let l = rw (c .before .before .before .before .before .before .before .before .before .before .second .ensures) at (c .before .before .seq .ensures) in
     record { of = λ x a. laid-then (c .before .before .before .before .before .before .before .before .path .ensures .of (x .1 .0) (a .1 .0)) (some-args f l .of (x .1 .1) (a .1 .1)) }
 
 -- src/lib.rt:618:9
-typed-second-requires : (t : ℕ) → typed-lts.Need-second-requires (typed-calls t) (typed-at t) typed.Post
+rec-second-requires : (t : ℕ) → rec-lts.Need-second-requires (rec-calls t) (rec-at t) rec.Post
 unfolding ExprAt
-typed-second-requires t c κs = within (path-whole (c .before .before .before .pre .1 .held .1 .0))
+rec-second-requires t c κs = within (path-whole (c .before .before .before .pre .1 .held .1 .0))
 
 -- src/lib.rt:619:34
-typed-add-path : (t : ℕ) → typed-lts.Need-add-path (typed-calls t) (typed-at t) typed.Post
+rec-add-path : (t : ℕ) → rec-lts.Need-add-path (rec-calls t) (rec-at t) rec.Post
 unfolding ExprAt
-typed-add-path t c = omega (arith, c .before .before .before .before .before .pre .1 .accepted .small, c .before .before .before .before .before .pre .1 .held .0 .long, c .before .before .before .before .before .pre .1 .held .0 .fits)
+rec-add-path t c = omega (arith, c .before .before .before .before .before .pre .1 .accepted .small, c .before .before .before .before .before .pre .1 .held .0 .long, c .before .before .before .before .before .pre .1 .held .0 .fits)
 
 -- src/lib.rt:619:9
-typed-path-requires : (t : ℕ) → typed-lts.Need-path-requires (typed-calls t) (typed-at t) typed.Post
+rec-path-requires : (t : ℕ) → rec-lts.Need-path-requires (rec-calls t) (rec-at t) rec.Post
 unfolding ExprAt
-typed-path-requires t c κs = record { accepted = c .before .before .before .before .before .pre .1 .accepted; tree = c .before .before .before .before .before .pre .1 .tree .1 .0; held = c .before .before .before .before .before .pre .1 .held .1 .0 }
+rec-path-requires t c κs = record { accepted = c .before .before .before .before .before .pre .1 .accepted; tree = c .before .before .before .before .before .pre .1 .tree .1 .0; held = c .before .before .before .before .before .pre .1 .held .1 .0 }
 
 -- src/lib.rt:620:9
-typed-word-requires : (t : ℕ) → typed-lts.Need-word-requires (typed-calls t) (typed-at t) typed.Post
-typed-word-requires t c κs = tt
+rec-word-requires : (t : ℕ) → rec-lts.Need-word-requires (rec-calls t) (rec-at t) rec.Post
+rec-word-requires t c κs = tt
 
 -- src/lib.rt:621:5
-typed-list-requires : (t : ℕ) → typed-lts.Need-list-requires (typed-calls t) (typed-at t) typed.Post
+rec-seq-requires : (t : ℕ) → rec-lts.Need-seq-requires (rec-calls t) (rec-at t) rec.Post
 unfolding ExprAt
-typed-list-requires t c κs = rw (c .before .before .before .before .before .before .before .before .before .second .ensures) (
+rec-seq-requires t c κs = rw (c .before .before .before .before .before .before .before .before .before .second .ensures) (
   omega (arith, c .before .before .before .before .before .before .before .before .before .before .before .before .before .pre .0, c .before .before .before .before .before .before .before .before .before .before .before .before .before .pre .1 .held .1 .3 .same),
   record { accepted = c .before .before .before .before .before .before .before .before .before .before .before .before .before .pre .1 .accepted; tree = rules.entryElems _ (c .before .before .before .before .before .before .before .before .before .before .before .before .before .pre .1 .tree .1 .2); held = list-of (c .before .before .before .before .before .before .before .before .before .before .before .before .before .pre .1 .held .1 .1) (entry-elems _ _ _ _ (c .before .before .before .before .before .before .before .before .before .before .before .before .before .pre .1 .tree .1 .2) (c .before .before .before .before .before .before .before .before .before .before .before .before .before .pre .1 .held .1 .2)) },
 )
 
 -- src/lib.rt:614:1
-typed-same-length : (t : ℕ) → typed-lts.Need-same-length (typed-calls t) (typed-at t) typed.Post
-typed-same-length t c = c .before .before .list .kept .0 ∙ c .before .before .before .before .before .before .word .kept .0 ∙ c .before .before .before .before .before .before .before .before .before .before .path .kept .0
+rec-same-length : (t : ℕ) → rec-lts.Need-same-length (rec-calls t) (rec-at t) rec.Post
+rec-same-length t c = c .before .before .seq .kept .0 ∙ c .before .before .before .before .before .before .word .kept .0 ∙ c .before .before .before .before .before .before .before .before .before .before .path .kept .0
 
 -- src/lib.rt:614:1
-typed-returns : (t : ℕ) → typed-lts.Need-returns (typed-calls t) (typed-at t) typed.Post
+rec-returns : (t : ℕ) → rec-lts.Need-returns (rec-calls t) (rec-at t) rec.Post
 unfolding ExprAt rules.look
-typed-returns t c = let l = rw (c .before .before .before .before .before .before .before .before .before .before .before .before .second .ensures) at (c .before .before .list .ensures) in
+rec-returns t c = let l = rw (c .before .before .before .before .before .before .before .before .before .before .before .before .second .ensures) at (c .before .before .seq .ensures) in
     record {
       of =
           λ x a.
@@ -2962,102 +2962,102 @@ typed-returns t c = let l = rw (c .before .before .before .before .before .befor
     }
 
 -- src/lib.rt:376:9
-variant-second-requires : (t : ℕ) → variant-lts.Need-second-requires (variant-calls t) (variant-at t) variant.Post
-variant-second-requires t c κs = within (ident-whole (c .before .before .before .pre .1 .held .1))
+ctor-second-requires : (t : ℕ) → ctor-lts.Need-second-requires (ctor-calls t) (ctor-at t) ctor.Post
+ctor-second-requires t c κs = within (ident-whole (c .before .before .before .pre .1 .held .1))
 
 -- src/lib.rt:377:9
-variant-past-requires : (t : ℕ) → variant-lts.Need-past-requires (variant-calls t) (variant-at t) variant.Post
-variant-past-requires t c κs = rw (c .second .ensures) (record { fits = c .before .before .before .before .pre .1 .held .2 .head .fits })
+ctor-past-requires : (t : ℕ) → ctor-lts.Need-past-requires (ctor-calls t) (ctor-at t) ctor.Post
+ctor-past-requires t c κs = rw (c .second .ensures) (record { fits = c .before .before .before .before .pre .1 .held .2 .head .fits })
 
 -- src/lib.rt:378:35
-variant-add-ident : (t : ℕ) → variant-lts.Need-add-ident (variant-calls t) (variant-at t) variant.Post
-variant-add-ident t c = omega (arith, c .before .before .before .before .before .before .pre .1 .accepted .small, c .before .before .before .before .before .before .pre .1 .held .0 .long, c .before .before .before .before .before .before .pre .1 .held .0 .fits)
+ctor-add-ident : (t : ℕ) → ctor-lts.Need-add-ident (ctor-calls t) (ctor-at t) ctor.Post
+ctor-add-ident t c = omega (arith, c .before .before .before .before .before .before .pre .1 .accepted .small, c .before .before .before .before .before .before .pre .1 .held .0 .long, c .before .before .before .before .before .before .pre .1 .held .0 .fits)
 
 -- src/lib.rt:378:9
-variant-ident-requires : (t : ℕ) → variant-lts.Need-ident-requires (variant-calls t) (variant-at t) variant.Post
-variant-ident-requires t c κs = record { accepted = c .before .before .before .before .before .before .pre .1 .accepted; tree = c .before .before .before .before .before .before .pre .1 .tree .1; held = c .before .before .before .before .before .before .pre .1 .held .1 }
+ctor-ident-requires : (t : ℕ) → ctor-lts.Need-ident-requires (ctor-calls t) (ctor-at t) ctor.Post
+ctor-ident-requires t c κs = record { accepted = c .before .before .before .before .before .before .pre .1 .accepted; tree = c .before .before .before .before .before .before .pre .1 .tree .1; held = c .before .before .before .before .before .before .pre .1 .held .1 }
 
 -- src/lib.rt:379:8
-variant-add-if1 : (t : ℕ) → variant-lts.Need-add-if1 (variant-calls t) (variant-at t) variant.Post
-variant-add-if1 t c = omega (arith, c .before .before .before .before .before .before .before .before .before .pre .1 .accepted .small, c .before .before .before .before .before .second .ensures, c .before .before .before .before .before .before .before .before .before .pre .1 .held .2 .head .long, c .before .before .before .before .before .before .before .before .before .pre .1 .held .2 .head .fits)
+ctor-add-if1 : (t : ℕ) → ctor-lts.Need-add-if1 (ctor-calls t) (ctor-at t) ctor.Post
+ctor-add-if1 t c = omega (arith, c .before .before .before .before .before .before .before .before .before .pre .1 .accepted .small, c .before .before .before .before .before .second .ensures, c .before .before .before .before .before .before .before .before .before .pre .1 .held .2 .head .long, c .before .before .before .before .before .before .before .before .before .pre .1 .held .2 .head .fits)
 
 -- src/lib.rt:380:9
-variant-same-length : (t : ℕ) → variant-lts.Need-same-length (variant-calls t) (variant-at t) variant.Post
-variant-same-length t c = c .before .before .before .ident .kept .0
+ctor-same-length : (t : ℕ) → ctor-lts.Need-same-length (ctor-calls t) (ctor-at t) ctor.Post
+ctor-same-length t c = c .before .before .before .ident .kept .0
 
 -- src/lib.rt:380:9
-variant-returns : (t : ℕ) → variant-lts.Need-returns (variant-calls t) (variant-at t) variant.Post
-variant-returns t c = let e = rw (c .before .before .before .before .before .past .ensures, c .before .before .before .before .before .before .second .ensures) at (c .if1 .taken) in
+ctor-returns : (t : ℕ) → ctor-lts.Need-returns (ctor-calls t) (ctor-at t) ctor.Post
+ctor-returns t c = let e = rw (c .before .before .before .before .before .past .ensures, c .before .before .before .before .before .before .second .ensures) at (c .if1 .taken) in
     record { of = λ x a. laid-then (c .before .before .before .ident .ensures .of (x .1) (a .1)) (no-types _ _ _ _ e (x .2) (a .3)) }
 
 -- src/lib.rt:382:28
-variant-add-last-end : (t : ℕ) → variant-lts.Need-add-last-end (variant-calls t) (variant-at t) variant.Post
-variant-add-last-end t c = omega (arith, c .before .before .before .before .before .before .before .before .before .before .pre .1 .accepted .small, c .before .before .before .before .before .before .second .ensures, c .before .before .before .before .before .before .before .before .before .before .pre .1 .held .2 .head .long, c .before .before .before .before .before .before .before .before .before .before .pre .1 .held .2 .head .fits)
+ctor-add-last-end : (t : ℕ) → ctor-lts.Need-add-last-end (ctor-calls t) (ctor-at t) ctor.Post
+ctor-add-last-end t c = omega (arith, c .before .before .before .before .before .before .before .before .before .before .pre .1 .accepted .small, c .before .before .before .before .before .before .second .ensures, c .before .before .before .before .before .before .before .before .before .before .pre .1 .held .2 .head .long, c .before .before .before .before .before .before .before .before .before .before .pre .1 .held .2 .head .fits)
 
 -- src/lib.rt:382:9
-variant-last-end-requires : (t : ℕ) → variant-lts.Need-last-end-requires (variant-calls t) (variant-at t) variant.Post
-variant-last-end-requires t c κs = rw (c .before .before .before .before .before .past .ensures, c .before .before .before .before .before .before .second .ensures) (some-types _ _ _ _ (λ e. c .if1 .left (rw (c .before .before .before .before .before .past .ensures, c .before .before .before .before .before .before .second .ensures) e)) (c .before .before .before .before .before .before .before .before .before .before .pre .1 .held .2 .head .fits) (c .before .before .before .before .before .before .before .before .before .before .pre .1 .tree .2) (c .before .before .before .before .before .before .before .before .before .before .pre .1 .held .3))
+ctor-last-end-requires : (t : ℕ) → ctor-lts.Need-last-end-requires (ctor-calls t) (ctor-at t) ctor.Post
+ctor-last-end-requires t c κs = rw (c .before .before .before .before .before .past .ensures, c .before .before .before .before .before .before .second .ensures) (some-types _ _ _ _ (λ e. c .if1 .left (rw (c .before .before .before .before .before .past .ensures, c .before .before .before .before .before .before .second .ensures) e)) (c .before .before .before .before .before .before .before .before .before .before .pre .1 .held .2 .head .fits) (c .before .before .before .before .before .before .before .before .before .before .pre .1 .tree .2) (c .before .before .before .before .before .before .before .before .before .before .pre .1 .held .3))
 
 -- src/lib.rt:383:5
-variant-separated-requires : (t : ℕ) → variant-lts.Need-separated-requires (variant-calls t) (variant-at t) variant.Post
-variant-separated-requires t c κs = rw (c .before .before .before .before .before .before .before .before .second .ensures) (
+ctor-separated-requires : (t : ℕ) → ctor-lts.Need-separated-requires (ctor-calls t) (ctor-at t) ctor.Post
+ctor-separated-requires t c κs = rw (c .before .before .before .before .before .before .before .before .second .ensures) (
   omega (arith, c .before .before .before .before .before .before .before .before .before .before .before .before .pre .0, c .before .before .before .before .before .before .before .before .before .before .before .before .pre .1 .held .4 .same),
   record { accepted = c .before .before .before .before .before .before .before .before .before .before .before .before .pre .1 .accepted; tree = rules.typeElems _ (c .before .before .before .before .before .before .before .before .before .before .before .before .pre .1 .tree .2); held = list-of (c .before .before .before .before .before .before .before .before .before .before .before .before .pre .1 .held .2 .head) (type-elems _ _ _ _ (c .before .before .before .before .before .before .before .before .before .before .before .before .pre .1 .tree .2) (c .before .before .before .before .before .before .before .before .before .before .before .before .pre .1 .held .3)) },
 )
 
 -- src/lib.rt:372:1
-variant-same-length-2 : (t : ℕ) → variant-lts.Need-same-length-2 (variant-calls t) (variant-at t) variant.Post
-variant-same-length-2 t c = c .before .before .separated .kept .0 ∙ c .before .before .before .before .before .before .before .before .ident .kept .0
+ctor-same-length-2 : (t : ℕ) → ctor-lts.Need-same-length-2 (ctor-calls t) (ctor-at t) ctor.Post
+ctor-same-length-2 t c = c .before .before .separated .kept .0 ∙ c .before .before .before .before .before .before .before .before .ident .kept .0
 
 -- src/lib.rt:372:1
-variant-returns-2 : (t : ℕ) → variant-lts.Need-returns-2 (variant-calls t) (variant-at t) variant.Post
-variant-returns-2 t c = let l = rw (c .before .before .before .before .before .before .before .before .before .before .before .second .ensures) at (c .before .before .separated .ensures) in
+ctor-returns-2 : (t : ℕ) → ctor-lts.Need-returns-2 (ctor-calls t) (ctor-at t) ctor.Post
+ctor-returns-2 t c = let l = rw (c .before .before .before .before .before .before .before .before .before .before .before .second .ensures) at (c .before .before .separated .ensures) in
     let e = rw (c .before .before .before .before .before .before .before .before .before .before .past .ensures, c .before .before .before .before .before .before .before .before .before .before .before .second .ensures) at (c .before .before .before .before .last-end .ensures) in
     record { of = λ x a. laid-then (c .before .before .before .before .before .before .before .before .ident .ensures .of (x .1) (a .1)) (types-laid (λ e. c .before .before .before .before .before .if1 .left (rw (c .before .before .before .before .before .before .before .before .before .before .past .ensures, c .before .before .before .before .before .before .before .before .before .before .before .second .ensures) e)) (a .2 .head) e l (x .2) (a .3)) }
 
-pub +access+after+arm+bind+binop+block+body+call+clause+colon+elem+elems+entry+expr+field+for-in+form+fstr+group+ifelse+import+inside+last+list+match-on+maybe+parens+part+parts+pattern+ret+separated+stmt+stmts+tail+type-expr+type-path+typed+variant-spec :
+pub +access+alt+ann+arm+bind+binop+block+body+call+cases+cond+core+ctor+each+elem+elems+expr+form+fstr+item+items+last+opt+pair+par+param+part+parts+pat+rec+ret+separated+seq+stmt+stmts+tail+then+ty+type-expr-spec :
     {M : Type 1} → statement M
-+access+after+arm+bind+binop+block+body+call+clause+colon+elem+elems+entry+expr+field+for-in+form+fstr+group+ifelse+import+inside+last+list+match-on+maybe+parens+part+parts+pattern+ret+separated+stmt+stmts+tail+type-expr+type-path+typed+variant-spec =
++access+alt+ann+arm+bind+binop+block+body+call+cases+cond+core+ctor+each+elem+elems+expr+form+fstr+item+items+last+opt+pair+par+param+part+parts+pat+rec+ret+separated+seq+stmt+stmts+tail+then+ty+type-expr-spec =
     close
     μ-access
-    μ-after
+    μ-alt
+    μ-ann
     μ-arm
     μ-bind
     μ-binop
     μ-block
     μ-body
     μ-call
-    μ-clause
-    μ-colon
+    μ-cases
+    μ-cond
+    μ-core
+    μ-ctor
+    μ-each
     μ-elem
     μ-elems
-    μ-entry
     μ-expr
-    μ-field
-    μ-for-in
     μ-form
     μ-fstr
-    μ-group
-    μ-ifelse
-    μ-import
-    μ-inside
+    μ-item
+    μ-items
     μ-last
-    μ-list
-    μ-match-on
-    μ-maybe
-    μ-parens
+    μ-opt
+    μ-pair
+    μ-par
+    μ-param
     μ-part
     μ-parts
-    μ-pattern
+    μ-pat
+    μ-rec
     μ-ret
     μ-separated
+    μ-seq
     μ-stmt
     μ-stmts
     μ-tail
+    μ-then
+    μ-ty
     μ-type-expr
-    μ-type-path
-    μ-typed
-    μ-variant
     (λ t. access-lts.spec (access-calls t)
     (access-at t)
     access.Post
@@ -3076,21 +3076,36 @@ pub +access+after+arm+bind+binop+block+body+call+clause+colon+elem+elems+entry+e
     (access-field-name-requires-2 t)
     (access-same-length-2 t)
     (access-returns-2 t))
-    (λ t. after-lts.spec (after-calls t)
-    (after-at t)
-    after.Post
-    (after-word-requires t)
-    (after-expr-requires t)
-    (after-same-length t)
-    (after-returns t))
+    (λ t. alt-lts.spec (alt-calls t)
+    (alt-at t)
+    alt.Post
+    (alt-third-requires t)
+    (alt-add-cond t)
+    (alt-cond-requires t)
+    (alt-is-absent-requires t)
+    (alt-same-length t)
+    (alt-returns t)
+    (alt-word-requires t)
+    (alt-block-requires t)
+    (alt-same-length-2 t)
+    (alt-returns-2 t))
+    (λ t. ann-lts.spec (ann-calls t)
+    (ann-at t)
+    ann.Post
+    (ann-is-absent-requires t)
+    (ann-returns t)
+    (ann-word-requires t)
+    (ann-type-expr-requires t)
+    (ann-same-length t)
+    (ann-returns-2 t))
     (λ t. arm-lts.spec (arm-calls t)
     (arm-at t)
     arm.Post
     (arm-second-requires t)
     (arm-third-requires t)
-    (arm-add-pattern t)
-    (arm-pattern-requires t)
-    (arm-maybe-requires t)
+    (arm-add-pat t)
+    (arm-pat-requires t)
+    (arm-opt-requires t)
     (arm-word-requires t)
     (arm-expr-requires t)
     (arm-arm-comma-requires t)
@@ -3104,7 +3119,7 @@ pub +access+after+arm+bind+binop+block+body+call+clause+colon+elem+elems+entry+e
     (bind-word-requires t)
     (bind-add-ident t)
     (bind-ident-requires t)
-    (bind-colon-requires t)
+    (bind-ann-requires t)
     (bind-word-requires-2 t)
     (bind-expr-requires t)
     (bind-word-requires-3 t)
@@ -3159,39 +3174,82 @@ pub +access+after+arm+bind+binop+block+body+call+clause+colon+elem+elems+entry+e
     (call-open-call-requires t)
     (call-add-expr t)
     (call-expr-requires t)
-    (call-list-requires t)
+    (call-seq-requires t)
     (call-set-second-requires t)
     (call-close-requires t)
     (call-same-length t)
     (call-returns t)
     (call-add-expr-2 t)
     (call-expr-requires-2 t)
-    (call-list-requires-2 t)
+    (call-seq-requires-2 t)
     (call-same-length-2 t)
     (call-returns-2 t))
-    (λ t. clause-lts.spec (clause-calls t)
-    (clause-at t)
-    clause.Post
-    (clause-word-requires t)
-    (clause-open-group-requires t)
-    (clause-open-indent-requires t)
-    (clause-expr-requires t)
-    (clause-close-requires t)
-    (clause-close-requires-2 t)
-    (clause-word-requires-2 t)
-    (clause-past-requires t)
-    (clause-block-requires t)
-    (clause-same-length t)
-    (clause-returns t))
-    (λ t. colon-lts.spec (colon-calls t)
-    (colon-at t)
-    colon.Post
-    (colon-is-absent-requires t)
-    (colon-returns t)
-    (colon-word-requires t)
-    (colon-type-expr-requires t)
-    (colon-same-length t)
-    (colon-returns-2 t))
+    (λ t. cases-lts.spec (cases-calls t)
+    (cases-at t)
+    cases.Post
+    (cases-second-requires t)
+    (cases-word-requires t)
+    (cases-add-expr t)
+    (cases-expr-requires t)
+    (cases-word-requires-2 t)
+    (cases-seq-requires t)
+    (cases-same-length t)
+    (cases-returns t))
+    (λ t. cond-lts.spec (cond-calls t)
+    (cond-at t)
+    cond.Post
+    (cond-word-requires t)
+    (cond-open-group-requires t)
+    (cond-open-indent-requires t)
+    (cond-expr-requires t)
+    (cond-close-requires t)
+    (cond-close-requires-2 t)
+    (cond-word-requires-2 t)
+    (cond-past-requires t)
+    (cond-block-requires t)
+    (cond-same-length t)
+    (cond-returns t))
+    (λ t. core-lts.spec (core-calls t)
+    (core-at t)
+    core.Post
+    (core-add-from t)
+    (core-past-requires t)
+    (core-hollow-requires t)
+    (core-same-length t)
+    (core-returns t)
+    (core-open-list-requires t)
+    (core-open-indent-requires t)
+    (core-elems-requires t)
+    (core-end-elems-requires t)
+    (core-close-requires t)
+    (core-close-list-requires t)
+    (core-same-length-2 t)
+    (core-returns-2 t))
+    (λ t. ctor-lts.spec (ctor-calls t)
+    (ctor-at t)
+    ctor.Post
+    (ctor-second-requires t)
+    (ctor-past-requires t)
+    (ctor-add-ident t)
+    (ctor-ident-requires t)
+    (ctor-add-if1 t)
+    (ctor-same-length t)
+    (ctor-returns t)
+    (ctor-add-last-end t)
+    (ctor-last-end-requires t)
+    (ctor-separated-requires t)
+    (ctor-same-length-2 t)
+    (ctor-returns-2 t))
+    (λ t. each-lts.spec (each-calls t)
+    (each-at t)
+    each.Post
+    (each-second-requires t)
+    (each-word-requires t)
+    (each-add-ident t)
+    (each-ident-requires t)
+    (each-cond-requires t)
+    (each-same-length t)
+    (each-returns t))
     (λ t. elem-lts.spec (elem-calls t)
     (elem-at t)
     elem.Post
@@ -3200,9 +3258,9 @@ pub +access+after+arm+bind+binop+block+body+call+clause+colon+elem+elems+entry+e
     (elem-enum-told-2 t)
     (elem-type-expr-requires t)
     (elem-enum-told-3 t)
-    (elem-field-requires t)
+    (elem-param-requires t)
     (elem-enum-told-4 t)
-    (elem-import-requires t)
+    (elem-item-requires t)
     (elem-enum-told-5 t)
     (elem-expr-requires t)
     (elem-enum-told-6 t)
@@ -3210,11 +3268,11 @@ pub +access+after+arm+bind+binop+block+body+call+clause+colon+elem+elems+entry+e
     (elem-expr-requires-2 t)
     (elem-close-requires t)
     (elem-enum-told-7 t)
-    (elem-entry-requires t)
+    (elem-pair-requires t)
     (elem-enum-told-8 t)
     (elem-arm-requires t)
     (elem-enum-told-9 t)
-    (elem-variant-requires t)
+    (elem-ctor-requires t)
     (elem-same-length t)
     (elem-returns t)
     (elem-same-length-2 t)
@@ -3247,16 +3305,6 @@ pub +access+after+arm+bind+binop+block+body+call+clause+colon+elem+elems+entry+e
     (elems-loop-again t)
     (elems-same-length t)
     (elems-returns t))
-    (λ t. entry-lts.spec (entry-calls t)
-    (entry-at t)
-    entry.Post
-    (entry-second-requires t)
-    (entry-add-ident t)
-    (entry-ident-requires t)
-    (entry-word-requires t)
-    (entry-expr-requires t)
-    (entry-same-length t)
-    (entry-returns t))
     (λ t. expr-lts.spec (expr-calls t)
     (expr-at t)
     expr.Post
@@ -3264,26 +3312,6 @@ pub +access+after+arm+bind+binop+block+body+call+clause+colon+elem+elems+entry+e
     (expr-pop-trailing-comment-requires t)
     (expr-same-length t)
     (expr-returns t))
-    (λ t. field-lts.spec (field-calls t)
-    (field-at t)
-    field.Post
-    (field-second-requires t)
-    (field-add-ident t)
-    (field-ident-requires t)
-    (field-word-requires t)
-    (field-type-expr-requires t)
-    (field-same-length t)
-    (field-returns t))
-    (λ t. for-in-lts.spec (for-in-calls t)
-    (for-in-at t)
-    for-in.Post
-    (for-in-second-requires t)
-    (for-in-word-requires t)
-    (for-in-add-ident t)
-    (for-in-ident-requires t)
-    (for-in-clause-requires t)
-    (for-in-same-length t)
-    (for-in-returns t))
     (λ t. form-lts.spec (form-calls t)
     (form-at t)
     form.Post
@@ -3293,40 +3321,40 @@ pub +access+after+arm+bind+binop+block+body+call+clause+colon+elem+elems+entry+e
     (form-literal-requires t)
     (form-add-block t)
     (form-block-requires t)
-    (form-match-on-requires t)
+    (form-cases-requires t)
     (form-call-requires t)
     (form-access-requires t)
     (form-add-path t)
     (form-path-requires t)
-    (form-add-list t)
-    (form-list-requires t)
-    (form-typed-requires t)
+    (form-add-seq t)
+    (form-seq-requires t)
+    (form-rec-requires t)
     (form-add-separated t)
     (form-end-requires t)
     (form-separated-requires t)
-    (form-add-after t)
-    (form-after-requires t)
+    (form-add-then t)
+    (form-then-requires t)
     (form-add-path-2 t)
     (form-path-requires-2 t)
     (form-second-requires t)
-    (form-after-requires-2 t)
+    (form-then-requires-2 t)
     (form-add-path-3 t)
     (form-path-requires-3 t)
     (form-third-requires t)
     (form-assign-word-requires t)
-    (form-after-requires-3 t)
+    (form-then-requires-3 t)
     (form-binop-requires t)
-    (form-add-after-2 t)
-    (form-after-requires-4 t)
-    (form-ifelse-requires t)
-    (form-add-clause t)
-    (form-clause-requires t)
-    (form-for-in-requires t)
+    (form-add-then-2 t)
+    (form-then-requires-4 t)
+    (form-alt-requires t)
+    (form-add-cond t)
+    (form-cond-requires t)
+    (form-each-requires t)
     (form-add-expr t)
     (form-expr-requires t)
     (form-word-requires t)
     (form-fstr-requires t)
-    (form-parens-requires t)
+    (form-par-requires t)
     (form-same-length t)
     (form-returns t)
     (form-same-length-2 t)
@@ -3382,59 +3410,30 @@ pub +access+after+arm+bind+binop+block+body+call+clause+colon+elem+elems+entry+e
     (fstr-word-requires-2 t)
     (fstr-same-length t)
     (fstr-returns t))
-    (λ t. group-lts.spec (group-calls t)
-    (group-at t)
-    group.Post
-    (group-is-absent-requires t)
-    (group-returns t)
-    (group-is-single-requires t)
-    (group-add-import t)
-    (group-import-requires t)
-    (group-same-length t)
-    (group-returns-2 t)
-    (group-list-requires t)
-    (group-same-length-2 t)
-    (group-returns-3 t))
-    (λ t. ifelse-lts.spec (ifelse-calls t)
-    (ifelse-at t)
-    ifelse.Post
-    (ifelse-third-requires t)
-    (ifelse-add-clause t)
-    (ifelse-clause-requires t)
-    (ifelse-is-absent-requires t)
-    (ifelse-same-length t)
-    (ifelse-returns t)
-    (ifelse-word-requires t)
-    (ifelse-block-requires t)
-    (ifelse-same-length-2 t)
-    (ifelse-returns-2 t))
-    (λ t. import-lts.spec (import-calls t)
-    (import-at t)
-    import.Post
-    (import-second-requires t)
-    (import-add-import-first t)
-    (import-import-first-requires t)
-    (import-add-import-dot t)
-    (import-import-dot-requires t)
-    (import-group-requires t)
-    (import-same-length t)
-    (import-returns t))
-    (λ t. inside-lts.spec (inside-calls t)
-    (inside-at t)
-    inside.Post
-    (inside-add-from t)
-    (inside-past-requires t)
-    (inside-hollow-requires t)
-    (inside-same-length t)
-    (inside-returns t)
-    (inside-open-list-requires t)
-    (inside-open-indent-requires t)
-    (inside-elems-requires t)
-    (inside-end-elems-requires t)
-    (inside-close-requires t)
-    (inside-close-list-requires t)
-    (inside-same-length-2 t)
-    (inside-returns-2 t))
+    (λ t. item-lts.spec (item-calls t)
+    (item-at t)
+    item.Post
+    (item-second-requires t)
+    (item-add-import-first t)
+    (item-import-first-requires t)
+    (item-add-import-dot t)
+    (item-import-dot-requires t)
+    (item-items-requires t)
+    (item-same-length t)
+    (item-returns t))
+    (λ t. items-lts.spec (items-calls t)
+    (items-at t)
+    items.Post
+    (items-is-absent-requires t)
+    (items-returns t)
+    (items-is-single-requires t)
+    (items-add-item t)
+    (items-item-requires t)
+    (items-same-length t)
+    (items-returns-2 t)
+    (items-seq-requires t)
+    (items-same-length-2 t)
+    (items-returns-3 t))
     (λ t. last-lts.spec (last-calls t)
     (last-at t)
     last.Post
@@ -3446,43 +3445,45 @@ pub +access+after+arm+bind+binop+block+body+call+clause+colon+elem+elems+entry+e
     (last-pop-trailing-comment-requires t)
     (last-same-length t)
     (last-returns-2 t))
-    (λ t. list-lts.spec (list-calls t)
-    (list-at t)
-    list.Post
-    (list-end-requires t)
-    (list-separated-requires t)
-    (list-same-length t)
-    (list-returns t))
-    (λ t. match-on-lts.spec (match-on-calls t)
-    (match-on-at t)
-    match-on.Post
-    (match-on-second-requires t)
-    (match-on-word-requires t)
-    (match-on-add-expr t)
-    (match-on-expr-requires t)
-    (match-on-word-requires-2 t)
-    (match-on-list-requires t)
-    (match-on-same-length t)
-    (match-on-returns t))
-    (λ t. maybe-lts.spec (maybe-calls t)
-    (maybe-at t)
-    maybe.Post
-    (maybe-is-absent-requires t)
-    (maybe-returns t)
-    (maybe-after-requires t)
-    (maybe-same-length t)
-    (maybe-returns-2 t))
-    (λ t. parens-lts.spec (parens-calls t)
-    (parens-at t)
-    parens.Post
-    (parens-start-requires t)
-    (parens-gap-requires t)
-    (parens-word-requires t)
-    (parens-add-expr t)
-    (parens-expr-requires t)
-    (parens-word-requires-2 t)
-    (parens-same-length t)
-    (parens-returns t))
+    (λ t. opt-lts.spec (opt-calls t)
+    (opt-at t)
+    opt.Post
+    (opt-is-absent-requires t)
+    (opt-returns t)
+    (opt-then-requires t)
+    (opt-same-length t)
+    (opt-returns-2 t))
+    (λ t. pair-lts.spec (pair-calls t)
+    (pair-at t)
+    pair.Post
+    (pair-second-requires t)
+    (pair-add-ident t)
+    (pair-ident-requires t)
+    (pair-word-requires t)
+    (pair-expr-requires t)
+    (pair-same-length t)
+    (pair-returns t))
+    (λ t. par-lts.spec (par-calls t)
+    (par-at t)
+    par.Post
+    (par-start-requires t)
+    (par-gap-requires t)
+    (par-word-requires t)
+    (par-add-expr t)
+    (par-expr-requires t)
+    (par-word-requires-2 t)
+    (par-same-length t)
+    (par-returns t))
+    (λ t. param-lts.spec (param-calls t)
+    (param-at t)
+    param.Post
+    (param-second-requires t)
+    (param-add-ident t)
+    (param-ident-requires t)
+    (param-word-requires t)
+    (param-type-expr-requires t)
+    (param-same-length t)
+    (param-returns t))
     (λ t. part-lts.spec (part-calls t)
     (part-at t)
     part.Post
@@ -3508,48 +3509,65 @@ pub +access+after+arm+bind+binop+block+body+call+clause+colon+elem+elems+entry+e
     (parts-loop-again t)
     (parts-same-length t)
     (parts-returns t))
-    (λ t. pattern-lts.spec (pattern-calls t)
-    (pattern-at t)
-    pattern.Post
-    (pattern-kind-requires t)
-    (pattern-word-requires t)
-    (pattern-same-length t)
-    (pattern-returns t)
-    (pattern-second-requires t)
-    (pattern-add-ident t)
-    (pattern-ident-requires t)
-    (pattern-is-absent-requires t)
-    (pattern-same-length-2 t)
-    (pattern-returns-2 t)
-    (pattern-list-requires t)
-    (pattern-same-length-3 t)
-    (pattern-returns-3 t))
+    (λ t. pat-lts.spec (pat-calls t)
+    (pat-at t)
+    pat.Post
+    (pat-kind-requires t)
+    (pat-word-requires t)
+    (pat-same-length t)
+    (pat-returns t)
+    (pat-second-requires t)
+    (pat-add-ident t)
+    (pat-ident-requires t)
+    (pat-is-absent-requires t)
+    (pat-same-length-2 t)
+    (pat-returns-2 t)
+    (pat-seq-requires t)
+    (pat-same-length-3 t)
+    (pat-returns-3 t))
+    (λ t. rec-lts.spec (rec-calls t)
+    (rec-at t)
+    rec.Post
+    (rec-second-requires t)
+    (rec-add-path t)
+    (rec-path-requires t)
+    (rec-word-requires t)
+    (rec-seq-requires t)
+    (rec-same-length t)
+    (rec-returns t))
     (λ t. ret-lts.spec (ret-calls t)
     (ret-at t)
     ret.Post
     (ret-payload-requires t)
     (ret-add-word t)
     (ret-word-requires t)
-    (ret-add-maybe t)
-    (ret-maybe-requires t)
+    (ret-add-opt t)
+    (ret-opt-requires t)
     (ret-same-length t)
     (ret-returns t))
     (λ t. separated-lts.spec (separated-calls t)
     (separated-at t)
     separated.Post
     (separated-open-group-requires t)
-    (separated-inside-requires t)
+    (separated-core-requires t)
     (separated-close-requires t)
     (separated-same-length t)
     (separated-returns t))
+    (λ t. seq-lts.spec (seq-calls t)
+    (seq-at t)
+    seq.Post
+    (seq-end-requires t)
+    (seq-separated-requires t)
+    (seq-same-length t)
+    (seq-returns t))
     (λ t. stmt-lts.spec (stmt-calls t)
     (stmt-at t)
     stmt.Post
     (stmt-kind-requires t)
     (stmt-bind-requires t)
     (stmt-word-requires t)
-    (stmt-add-import t)
-    (stmt-import-requires t)
+    (stmt-add-item t)
+    (stmt-item-requires t)
     (stmt-word-requires-2 t)
     (stmt-open-group-requires t)
     (stmt-add-expr t)
@@ -3597,18 +3615,37 @@ pub +access+after+arm+bind+binop+block+body+call+clause+colon+elem+elems+entry+e
     (tail-loop-again t)
     (tail-same-length t)
     (tail-returns t))
-    (λ t. type-expr-lts.spec (type-expr-calls t)
+    (λ t. then-lts.spec (then-calls t)
+    (then-at t)
+    then.Post
+    (then-word-requires t)
+    (then-expr-requires t)
+    (then-same-length t)
+    (then-returns t))
+    (λ t. ty-lts.spec (ty-calls t)
+    (ty-at t)
+    ty.Post
+    (ty-second-requires t)
+    (ty-add-path t)
+    (ty-path-requires t)
+    (ty-is-absent-requires t)
+    (ty-same-length t)
+    (ty-returns t)
+    (ty-seq-requires t)
+    (ty-same-length-2 t)
+    (ty-returns-2 t))
+    λ t. type-expr-lts.spec (type-expr-calls t)
     (type-expr-at t)
     type-expr.Post
     (type-expr-kind-requires t)
     (type-expr-add-type-expr t)
     (type-expr-type-expr-requires t)
     (type-expr-word-requires t)
-    (type-expr-type-path-requires t)
+    (type-expr-ty-requires t)
     (type-expr-word-requires-2 t)
     (type-expr-word-requires-3 t)
-    (type-expr-add-list t)
-    (type-expr-list-requires t)
+    (type-expr-add-seq t)
+    (type-expr-seq-requires t)
     (type-expr-same-length t)
     (type-expr-returns t)
     (type-expr-same-length-2 t)
@@ -3618,41 +3655,4 @@ pub +access+after+arm+bind+binop+block+body+call+clause+colon+elem+elems+entry+e
     (type-expr-same-length-4 t)
     (type-expr-returns-4 t)
     (type-expr-same-length-5 t)
-    (type-expr-returns-5 t))
-    (λ t. type-path-lts.spec (type-path-calls t)
-    (type-path-at t)
-    type-path.Post
-    (type-path-second-requires t)
-    (type-path-add-path t)
-    (type-path-path-requires t)
-    (type-path-is-absent-requires t)
-    (type-path-same-length t)
-    (type-path-returns t)
-    (type-path-list-requires t)
-    (type-path-same-length-2 t)
-    (type-path-returns-2 t))
-    (λ t. typed-lts.spec (typed-calls t)
-    (typed-at t)
-    typed.Post
-    (typed-second-requires t)
-    (typed-add-path t)
-    (typed-path-requires t)
-    (typed-word-requires t)
-    (typed-list-requires t)
-    (typed-same-length t)
-    (typed-returns t))
-    λ t. variant-lts.spec (variant-calls t)
-    (variant-at t)
-    variant.Post
-    (variant-second-requires t)
-    (variant-past-requires t)
-    (variant-add-ident t)
-    (variant-ident-requires t)
-    (variant-add-if1 t)
-    (variant-same-length t)
-    (variant-returns t)
-    (variant-add-last-end t)
-    (variant-last-end-requires t)
-    (variant-separated-requires t)
-    (variant-same-length-2 t)
-    (variant-returns-2 t)
+    (type-expr-returns-5 t)
