@@ -6,7 +6,7 @@ ghost use lib.ListN.{length, take, drop, replicate};
 ghost use Rattle.rows.specs.Words.{words};
 ghost use Rattle.renderer.specs.Page.{originText, textBytes, textOf};
 ghost use Rattle.render.specs.Output.{over};
-use rows::words::word_byte;
+use rows::words::WORDS;
 
 // Writes a byte at a place below the limit.
 pub fn emit(out: &mut [u8], limit: usize, at: usize, b: u8)
@@ -85,11 +85,7 @@ fn put_words(out: &mut [u8], at: usize, start: usize, n: usize)
     requires { ⌜ (n ≤ length (now out) - at) × (n ≤ length words - start) ⌝ }
     ensures { λ r. ⌜ now (out .exit) ≡ over (length (now (out .entry))) (now (out .entry)) at (take n (drop start words)) ⌝ }
 {
-    let mut j: usize = 0;
-    while j < n {
-        out[at + j] = word_byte(start + j);
-        j += 1;
-    }
+    put_part(out, at, &WORDS, start, n);
 }
 
 // Writes n bytes of the text of an origin, all of which have room.
