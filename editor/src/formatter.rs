@@ -11,6 +11,9 @@ use crate::{
 /// gigabytes; no script comes near this bound.
 pub const MOST_OUTPUT: u64 = 64 << 20;
 
+/// The most rows that are lent before a refusal asks for more: 18 MiB.
+const MOST_AT_FIRST: usize = 1 << 19;
+
 /// Owns the buffers of [`format_file`] and keeps them from file to file.
 #[derive(Clone, Debug)]
 pub struct Formatter {
@@ -64,13 +67,14 @@ impl Formatter {
         })
     }
 
-    /// Each buffer grows at most once, to what the file needs: four rounds
-    /// at most.
+    /// One round for most files. Where a buffer is too short it grows once,
+    /// to what the file needs: four rounds at most.
     fn run(
         &mut self,
         source: &[u8],
         image: &[u8],
     ) -> Result<FileWritten, Refusal> {
+        self.prepare(source, image);
         loop {
             let (store, marks) = (&mut self.store, &mut self.marks);
             let output = &mut self.output;
@@ -79,6 +83,18 @@ impl Formatter {
                 Err(refusal) => self.grow(refusal)?,
             }
         }
+    }
+
+    /// Room to spare, as far as there is memory: a row and a mark for each
+    /// byte of the image and two for each comment, which has eight bytes
+    /// there, and many times the source for the text. Neither layout nor
+    /// rendering then has to count before it writes.
+    fn prepare(&mut self, source: &[u8], image: &[u8]) {
+        let rows = (image.len() + image.len() / 4).min(MOST_AT_FIRST) as u64;
+        let bytes = (source.len() as u64).saturating_mul(16) + (1 << 16);
+        lengthen(&mut self.store, rows * ROW as u64);
+        lengthen(&mut self.marks, rows);
+        lengthen(&mut self.output, bytes.min(self.most_output));
     }
 
     /// Makes the room that a refusal asks for, or hands the refusal on.
