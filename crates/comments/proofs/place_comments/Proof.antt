@@ -4,8 +4,8 @@ use Rattle.comments.proofs.Pops.{laid-ignored, laid-trailing, laid-only
 use Rattle.comments.specs.Listed.{given}
 use mathlib.Core.Logic.{⊎-elim, inl, inr}
 use borrow.Author.Needs.{needs}
-use Rattle.comments.proofs.pop_whitespace.Statement.{statement}
-use Rattle.comments.proofs.pop_whitespace.Tie as tie
+use Rattle.comments.proofs.place_comments.Statement.{statement}
+use Rattle.comments.proofs.place_comments.Tie as tie
 
 is-waiting-requires : tie.Need-is-waiting-requires
 is-waiting-requires c κs = search needs
@@ -40,8 +40,8 @@ same-length-3 c = search needs
 returns-3 : tie.Need-returns-3
 returns-3 c = laid-neither (given (c .before .before .before .before .before .before .before .before .before .before .before .args .source .now) (c .before .before .before .before .before .before .before .before .before .before .before .args .image .now)) (c .before .before .before .before .before .before .before .before .before .before .before .args .position) (c .before .before .before .before .before .before .before .before .before .before .before .args .leading) (c .before .before .before .before .before .before .before .before .before .before .before .args .trailing) (⊎-elim (λ w. inl (w .1 .left)) (λ w. inr (sym (c .before .before .before .before .before .before .before .is-waiting .ensures (c .before .before .before .before .before .before .before .before .before .before .before .args .source .now)) ∙ w .left)) (c .before .before .if1 .came)) (c .before .if3 .left) (c .before .before .before .before .before .pop-comments .ensures) (laid-ignored (given (c .before .before .before .before .before .before .before .before .before .before .before .args .source .now) (c .before .before .before .before .before .before .before .before .before .before .before .args .image .now)) (c .before .before .before .before .before .before .before .before .before .before .before .args .position) (c .ignore-newlines .ensures (c .before .before .before .before .before .before .before .before .before .before .before .args .source .now)))
 
-pub pop-whitespace-spec : {M : Type 1} → statement M
-pop-whitespace-spec =
+pub place-comments-spec : {M : Type 1} → statement M
+place-comments-spec =
     tie.close
     (tie.spec
     is-waiting-requires
