@@ -111,20 +111,18 @@ fn led_by(s: &[u8], at: usize, l: Lead) -> usize
     n
 }
 
-// The largest of the sixteen bytes from `at` on.
-fn largest(s: &[u8], at: usize) -> u8
+// How many of the sixteen bytes from `at` on are 0x80 or above.
+fn count_high(s: &[u8], at: usize) -> u8
     requires { ⌜ at + 16 ≤ length (now s) ⌝ }
-    ensures { λ r. ⌜ ((k : ℕ) → k < 16 → getD (now (s .entry)) (at + k) 0 ≤ r) ⌝ }
+    ensures { λ r. ⌜ (r ≡ 0 → (k : ℕ) → k < 16 → getD (now (s .entry)) (at + k) 0 < 0x80) ⌝ }
 {
-    let mut most = 0;
+    let mut n = 0;
     let mut k = 0;
     while k < 16 {
-        if most < s[at + k] {
-            most = s[at + k];
-        }
+        n += s[at + k] / 0x80;
         k += 1;
     }
-    most
+    n
 }
 
 // Whether sixteen bytes stand from `at` on, all of them below 0x80.
@@ -135,7 +133,7 @@ fn is_plain(s: &[u8], at: usize) -> bool
     if s.len() - at < 16 {
         return false;
     }
-    largest(s, at) < 0x80
+    count_high(s, at) == 0
 }
 
 // Whether a text is well-formed, or where its first bad sequence starts.
