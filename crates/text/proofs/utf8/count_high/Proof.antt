@@ -33,10 +33,11 @@ loop-less : tie.Need-loop-less Inv-loop μ-loop
 loop-less c = omega arith
 
 loop-again : tie.Need-loop-again Inv-loop μ-loop
-loop-again c = 
-    (omega arith,
-    omega (arith, c .shared-slice-known .given (c .before .before .before .args .at + c .before .before .loop .k)),
-    λ e. below-more (λ j. getD (c .before .before .before .args .s .now) (c .before .before .before .args .at + j) 0 < 0x80) (c .before .before .loop .k) (c .before .before .loop .inv .2 (omega arith)) (omega arith))
+loop-again c = (
+  omega arith,
+  omega (arith, c .shared-slice-known .given (c .before .before .before .args .at + c .before .before .loop .k)),
+  λ e. below-more (λ j. getD (c .before .before .before .args .s .now) (c .before .before .before .args .at + j) 0 < 0x80) (c .before .before .loop .k) (c .before .before .loop .inv .2 (omega arith)) (omega arith),
+)
 
 returns : tie.Need-returns Inv-loop μ-loop
 returns c = λ e k l. c .before .loop .inv .2 e k (omega arith)
