@@ -4,12 +4,12 @@ use mathlib.Core.Path.{_≡_, refl, sym, ap, subst, _∙_}
 use mathlib.Core.Logic.{_⊎_, inl, inr}
 use mathlib.Core.Bool.{Bool, true, false, cond, _&&_}
 use mathlib.Core.List.{List}
-use mathlib.Core.Option.{none, some}
+use mathlib.Core.Option.{Option, none, some}
 use Prim.Native.Nat.{ℕ, zero, suc, _+_, _-_, _≤_, _<_, min}
 use native.Mathlib.Omega.{arith}
 use lib.ListN.{length}
 use lib.Dec.{ltb, eqb}
-use borrow.Author.Tests.{lt-ltb, le-ltb, eq-eqb, ne-eqb}
+use borrow.Author.Tests.{lt-ltb, le-ltb, ltb-false, eq-eqb, ne-eqb}
 use Rattle.text.specs.Space.{something}
 use Rattle.text.specs.Newlines.{countNewlines}
 use Rattle.text.specs.declared.space.Found.the-variants.{At, Nowhere}
@@ -217,6 +217,30 @@ module _ (g : Given) where
       whole position leading trailing only l
       (rest (waits g position (st c)) trailing position only e
       (subst (λ (x : Bool). LaidAsking (ending false position x) s₁ c₁ s₂ r) (sym o) k))
+
+  -- ---- where no comment waits
+  passes : (n position : ℕ) (leading : Bool) (s : St) → waits g position s ≡ false → popComments g n position leading s ≡ skip s
+  passes n position leading s w = go (nth (g .comments) (s .placed)) refl
+    where
+      go : (o : Option Span) → nth (g .comments) (s .placed) ≡ o → popComments g n position leading s ≡ skip s
+      go none e = pop-none n position leading s e
+      go (some p) e = pop-late n position leading s p e (sym (waits-some position s p e) ∙ w)
+
+  goes : (position : ℕ) (s : St) → waits g position s ≡ false → ignoreNewlines g position s .pos ≡ position
+  goes position s w = go (nth (g .comments) (s .placed)) refl
+    where
+      go : (o : Option Span) → nth (g .comments) (s .placed) ≡ o → ignoreNewlines g position s .pos ≡ position
+      go none e = ignored-none position s e
+      go (some p) e =
+          omega (arith, ignored-some position s p e, ltb-false (p .start) position (sym (waits-some position s p e) ∙ w))
+
+  pub laid-quiet : (position : ℕ) (leading trailing : Bool) {only : Bool} {s : List ℕ} {c c′ : Cursor} → waits g position (st c) ≡ false
+      → only ≡ false → c′ ≡ cursor (c .row) (c .number) position (c .placed)
+      → LaidAsking (popWhitespace g position leading trailing only) s c s (record { cursor = c′; answer = false })
+  laid-quiet position leading trailing {only} {s} {c} {c′} w o e =
+      laid-neither position leading trailing (inr w) o
+      (laid-same (sym (passes (length (g .comments)) position leading (st c) w)) laid-skip)
+      (laid-ignored position (e ∙ ap (λ (p : ℕ). cursor (c .row) (c .number) p (c .placed)) (sym (goes position (st c) w))))
 
   -- ---- `pop_trailing_comment`
   pub no-place : (s : St) → something (g .source) (s .pos) ≡ Nowhere → popTrailingComment g s ≡ skip s

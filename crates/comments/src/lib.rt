@@ -179,9 +179,8 @@ fn pop_comments(
     }
 }
 
-// Places the comments that start before the position, and goes there. The flags say which newlines are kept: `preserve_leading_whitespace`,
-// `preserve_trailing_whitespace` and `preserve_only_whitespace` of the Rust.
-pub fn pop_whitespace(
+// `pop_whitespace`: the comments that wait, and then newlines, kept or not.
+fn place_comments(
     store: &mut [u32],
     c: Cursor,
     source: &[u8],
@@ -209,6 +208,33 @@ pub fn pop_whitespace(
     }
     Asked {
         cursor: ignore_newlines(image, d, position),
+        answer: false,
+    }
+}
+
+// Places the comments that start before the position, and goes there. The flags say which newlines are kept: `preserve_leading_whitespace`,
+// `preserve_trailing_whitespace` and `preserve_only_whitespace` of the Rust.
+pub fn pop_whitespace(
+    store: &mut [u32],
+    c: Cursor,
+    source: &[u8],
+    image: &[u8],
+    position: u32,
+    leading: bool,
+    trailing: bool,
+    only: bool,
+) -> Asked
+    requires { ⌜ Listed (now source) (now image) ⌝ }
+    ensures { λ r. ⌜ LaidAsking (popWhitespace (given (now (source .entry)) (now (image .entry))) position leading trailing only) (now (store .entry)) c (now (store .exit)) r ⌝ }
+{
+    if only {
+        return place_comments(store, c, source, image, position, leading, trailing, only);
+    }
+    if is_waiting(image, c, position) {
+        return place_comments(store, c, source, image, position, leading, trailing, only);
+    }
+    Asked {
+        cursor: move_to(c, position),
         answer: false,
     }
 }

@@ -41,105 +41,142 @@ const TYPE: usize = 40 + 128 * 4;
 
 const EXPR: usize = 50 + 128 * 20;
 
-// The row of each kind.
-const ROWS: [usize; 88] = [
-    0,
-    MAY + TEXT + B * (MANY + DECL),
-    0,
-    0,
-    TEXT + B * (MANY + TEXT),
-    0,
-    0,
-    0,
-    0,
-    0,
-    TEXT + B * (LIST + NAMED) + C * BLOCK,
-    TEXT + B * TYPE + C * EXPR,
-    TEXT + B * (MAY + LIST + TEXT) + C * (LIST + NAMED),
-    TEXT + B * (MAY + LIST + TEXT) + C * (LIST + 21),
-    TEXT + B * (LIST + NAMED) + C * (MAY + TYPE) + D * BLOCK,
-    TEXT + B * BLOCK,
-    MAY + PATH + B * (MAY + LIST + 16),
-    0,
-    0,
-    0,
-    TEXT + B * TYPE,
-    TEXT + B * (LIST + TYPE),
-    TEXT + B * EXPR,
-    LIST + 30 + 128 * 2 + B * (MAY + EXPR),
-    0,
-    0,
-    0,
-    0,
-    0,
-    0,
-    TEXT + B * (MAY + TYPE) + C * EXPR,
-    16,
-    EXPR,
-    0,
-    0,
-    0,
-    0,
-    0,
-    0,
-    0,
-    TYPE,
-    PATH + B * (MAY + LIST + TYPE),
-    0,
-    0,
-    LIST + NAMED,
-    0,
-    0,
-    0,
-    0,
-    0,
-    MAY + EXPR,
-    87,
-    BLOCK,
-    EXPR + B * (LIST + 81),
-    EXPR + B * (LIST + EXPR),
-    EXPR + B * TEXT,
-    PATH,
-    80,
-    PATH + B * 80,
-    LIST + EXPR,
-    EXPR,
-    PATH + B * EXPR,
-    PATH + B * (ASSIGN + 86) + C * EXPR,
-    EXPR + B * 86 + C * EXPR,
-    EXPR,
-    EXPR + B * BLOCK + C * (MAY + BLOCK),
-    EXPR + B * BLOCK,
-    TEXT + B * EXPR + C * BLOCK,
-    EXPR,
-    LIST + 84 + 128,
-    EXPR,
-    0,
-    0,
-    0,
-    0,
-    0,
-    0,
-    0,
-    0,
-    0,
-    MANY + 22,
-    82 + 128 + B * (MAY + EXPR) + C * EXPR,
-    0,
-    TEXT + B * (MAY + LIST + TEXT),
-    0,
-    EXPR,
-    0,
-    0,
-];
+// The rows by kind.
+const ROW_1: usize = MAY + TEXT + B * (MANY + DECL);
+
+const ROW_4: usize = TEXT + B * (MANY + TEXT);
+
+const ROW_10: usize = TEXT + B * (LIST + NAMED) + C * BLOCK;
+
+const ROW_11: usize = TEXT + B * TYPE + C * EXPR;
+
+const ROW_12: usize = TEXT + B * (MAY + LIST + TEXT) + C * (LIST + NAMED);
+
+const ROW_13: usize = TEXT + B * (MAY + LIST + TEXT) + C * (LIST + 21);
+
+const ROW_14: usize = TEXT + B * (LIST + NAMED) + C * (MAY + TYPE) + D * BLOCK;
+
+const ROW_15: usize = TEXT + B * BLOCK;
+
+const ROW_16: usize = MAY + PATH + B * (MAY + LIST + 16);
+
+const ROW_20: usize = TEXT + B * TYPE;
+
+const ROW_21: usize = TEXT + B * (LIST + TYPE);
+
+const ROW_22: usize = TEXT + B * EXPR;
+
+const ROW_23: usize = LIST + 30 + 128 * 2 + B * (MAY + EXPR);
+
+const ROW_30: usize = TEXT + B * (MAY + TYPE) + C * EXPR;
+
+const ROW_41: usize = PATH + B * (MAY + LIST + TYPE);
+
+const ROW_44: usize = LIST + NAMED;
+
+const ROW_50: usize = MAY + EXPR;
+
+const ROW_53: usize = EXPR + B * (LIST + 81);
+
+const ROW_54: usize = EXPR + B * (LIST + EXPR);
+
+const ROW_55: usize = EXPR + B * TEXT;
+
+const ROW_58: usize = PATH + B * 80;
+
+const ROW_59: usize = LIST + EXPR;
+
+const ROW_61: usize = PATH + B * EXPR;
+
+const ROW_62: usize = PATH + B * (ASSIGN + 86) + C * EXPR;
+
+const ROW_63: usize = EXPR + B * 86 + C * EXPR;
+
+const ROW_65: usize = EXPR + B * BLOCK + C * (MAY + BLOCK);
+
+const ROW_66: usize = EXPR + B * BLOCK;
+
+const ROW_67: usize = TEXT + B * EXPR + C * BLOCK;
+
+const ROW_69: usize = LIST + 84 + 128;
+
+const ROW_80: usize = MANY + 22;
+
+const ROW_81: usize = 82 + 128 + B * (MAY + EXPR) + C * EXPR;
+
+const ROW_83: usize = TEXT + B * (MAY + LIST + TEXT);
+
+// The row of a kind below 50.
+fn low_row(k: usize) -> usize
+    requires { ⌜ k < 50 ⌝ }
+    ensures { λ r. ⌜ r ≡ rowOf k ⌝ }
+{
+    match k {
+        1 => ROW_1,
+        4 => ROW_4,
+        10 => ROW_10,
+        11 => ROW_11,
+        12 => ROW_12,
+        13 => ROW_13,
+        14 => ROW_14,
+        15 => ROW_15,
+        16 => ROW_16,
+        20 => ROW_20,
+        21 => ROW_21,
+        22 => ROW_22,
+        23 => ROW_23,
+        30 => ROW_30,
+        31 => 16,
+        32 => EXPR,
+        40 => TYPE,
+        41 => ROW_41,
+        44 => ROW_44,
+        _ => 0,
+    }
+}
+
+// The row of an expression's kind, or of a part of one.
+fn high_row(k: usize) -> usize
+    requires { ⌜ 50 ≤ k ⌝ }
+    ensures { λ r. ⌜ r ≡ rowOf k ⌝ }
+{
+    match k {
+        50 => ROW_50,
+        51 => 87,
+        52 => BLOCK,
+        53 => ROW_53,
+        54 => ROW_54,
+        55 => ROW_55,
+        56 => PATH,
+        57 => 80,
+        58 => ROW_58,
+        59 => ROW_59,
+        60 => EXPR,
+        61 => ROW_61,
+        62 => ROW_62,
+        63 => ROW_63,
+        64 => EXPR,
+        65 => ROW_65,
+        66 => ROW_66,
+        67 => ROW_67,
+        68 => EXPR,
+        69 => ROW_69,
+        70 => EXPR,
+        80 => ROW_80,
+        81 => ROW_81,
+        83 => ROW_83,
+        85 => EXPR,
+        _ => 0,
+    }
+}
 
 fn row_of(k: usize) -> usize
     ensures { λ r. ⌜ r ≡ rowOf k ⌝ }
 {
-    if k < 88 {
-        return ROWS[k];
+    if k < 50 {
+        return low_row(k);
     }
-    0
+    high_row(k)
 }
 
 // The row of a record of kind k at place p.

@@ -1,19 +1,34 @@
--- The places of the fixed words. The code's two tables are those of the definition, by computation, and past the last word there is the
+-- The places of the fixed words. The code's table is that of the definition, by computation, and past the last word there is the
 -- empty word, which no other word is.
 -- Assumes nothing.
-use mathlib.Core.Path.{_≡_, refl, sym, ap}
+use mathlib.Core.Path.{_≡_, refl}
 use mathlib.Core.Bool.{true, false, not}
-use Prim.Native.Nat.{ℕ, _≤_, _<_}
-use Prim.Native.String.{String}
+use Prim.Native.Nat.{ℕ, zero, suc, _+_, _≤_, _<_}
+use native.Mathlib.Omega.{arith}
 use lib.Text.{eqt}
 use lib.ListN.{getD, List·getD-eq-default}
 use borrow.Author.Tests.{not-true}
 use Rattle.text.proofs.Tests.{below-at}
-use Rattle.rows.specs.Node.{Text}
-use Rattle.rows.specs.Words.{table, word}
+use Rattle.rows.specs.Words.{table, word, placeIn}
+use Rattle.state.specs.Place.{Place}
 
-pub past-table : (f : Text → ℕ) (k : ℕ) → 59 ≤ k → f (word "") ≡ f (word (getD table k ""))
-past-table f k h = ap (λ (w : String). f (word w)) (sym (List·getD-eq-default table "" h))
+-- a word by the arm of its place
+pub here : {k n v : ℕ} → k ≡ n → Place (getD table n "") v → Place (getD table k "") v
+here e h = rw e h
+
+-- k is none of n places from `from` on
+abbrev Apart : ℕ → ℕ → ℕ → Type 0
+Apart k from zero = Unit
+Apart k from (suc n) = Apart k from n × (k ≡ from + n → ⊥)
+
+pub past-all : (k from n : ℕ) → from ≤ k → Apart k from n → from + n ≤ k
+past-all k from zero h a = omega arith
+past-all k from (suc n) h a = let m = past-all k from n h (a .0) in let apart = a .1 in omega arith
+
+-- no word
+pub past-table : (k : ℕ) → 59 ≤ k → Place (getD table k "") 0
+unfolding word placeIn
+past-table k h = rw (List·getD-eq-default table "" h) (record { start = refl; size = refl })
 
 -- the test of `separated`, `separator.is_empty()`, by the word's place
 pub is-empty : (k : ℕ) → 59 ≤ k → eqt (getD table k "") "" ≡ true

@@ -1,10 +1,12 @@
 // The fixed words of fmt.rs. A word is named by its place in the list of words, and NO_WORD is the empty word.
 ghost use mathlib.Core.Path.{_≡_};
+ghost use Prim.Native.Nat.{_≤_};
 ghost use lib.ListN.{getD};
 ghost use Rattle.rows.specs.Node.{ascii, ifWrap};
 ghost use Rattle.rows.specs.Words.{table, word};
 ghost use Rattle.state.specs.Act.{push, says};
 ghost use Rattle.state.specs.Laid.{Laid};
+ghost use Rattle.state.specs.Place.{Place};
 use crate::Cursor;
 use crate::parts::close;
 use crate::parts::set_second;
@@ -131,150 +133,90 @@ pub const POWER: usize = 58;
 
 pub const NO_WORD: usize = 59;
 
-// Where each word starts among the bytes of them all, and how many bytes it has.
-const STARTS: [u32; 59] = [
-    0,
-    10,
-    16,
-    23,
-    28,
-    31,
-    36,
-    43,
-    46,
-    50,
-    56,
-    62,
-    68,
-    74,
-    77,
-    83,
-    87,
-    93,
-    97,
-    101,
-    105,
-    108,
-    112,
-    116,
-    120,
-    124,
-    128,
-    130,
-    131,
-    132,
-    133,
-    134,
-    135,
-    136,
-    137,
-    138,
-    139,
-    140,
-    141,
-    142,
-    143,
-    144,
-    146,
-    148,
-    149,
-    153,
-    158,
-    160,
-    162,
-    164,
-    166,
-    167,
-    169,
-    170,
-    172,
-    173,
-    174,
-    175,
-    176,
-];
-
-const SIZES: [u32; 59] = [
-    10,
-    6,
-    7,
-    5,
-    3,
-    5,
-    7,
-    3,
-    4,
-    6,
-    6,
-    6,
-    6,
-    3,
-    6,
-    4,
-    6,
-    4,
-    4,
-    4,
-    3,
-    4,
-    4,
-    4,
-    4,
-    4,
-    2,
-    1,
-    1,
-    1,
-    1,
-    1,
-    1,
-    1,
-    1,
-    1,
-    1,
-    1,
-    1,
-    1,
-    1,
-    2,
-    2,
-    1,
-    4,
-    5,
-    2,
-    2,
-    2,
-    2,
-    1,
-    2,
-    1,
-    2,
-    1,
-    1,
-    1,
-    1,
-    2,
-];
-
-fn start_of(k: usize) -> u32
-    ensures { λ r. ⌜ r ≡ word (getD table k "") .start ⌝ }
+// Where the word at place k starts among the bytes of them all, and in the last hexadecimal digit how many bytes it has.
+fn place_of(k: usize) -> u32
+    ensures { λ r. ⌜ Place (getD table k "") r ⌝ }
 {
-    if k < 59 { STARTS[k] } else { 0 }
+    match k {
+        0 => 0x00A,
+        1 => 0x0A6,
+        2 => 0x107,
+        3 => 0x175,
+        4 => 0x1C3,
+        5 => 0x1F5,
+        6 => 0x247,
+        7 => 0x2B3,
+        8 => 0x2E4,
+        9 => 0x326,
+        10 => 0x386,
+        11 => 0x3E6,
+        12 => 0x446,
+        13 => 0x4A3,
+        14 => 0x4D6,
+        15 => 0x534,
+        16 => 0x576,
+        17 => 0x5D4,
+        18 => 0x614,
+        19 => 0x654,
+        20 => 0x693,
+        21 => 0x6C4,
+        22 => 0x704,
+        23 => 0x744,
+        24 => 0x784,
+        25 => 0x7C4,
+        26 => 0x802,
+        27 => 0x821,
+        28 => 0x831,
+        29 => 0x841,
+        _ => later_place(k),
+    }
 }
 
-fn size_of(k: usize) -> u32
-    ensures { λ r. ⌜ r ≡ word (getD table k "") .size ⌝ }
+// The same from place 30 on.
+fn later_place(k: usize) -> u32
+    requires { ⌜ 30 ≤ k ⌝ }
+    ensures { λ r. ⌜ Place (getD table k "") r ⌝ }
 {
-    if k < 59 { SIZES[k] } else { 0 }
+    match k {
+        30 => 0x851,
+        31 => 0x861,
+        32 => 0x871,
+        33 => 0x881,
+        34 => 0x891,
+        35 => 0x8A1,
+        36 => 0x8B1,
+        37 => 0x8C1,
+        38 => 0x8D1,
+        39 => 0x8E1,
+        40 => 0x8F1,
+        41 => 0x902,
+        42 => 0x922,
+        43 => 0x941,
+        44 => 0x954,
+        45 => 0x995,
+        46 => 0x9E2,
+        47 => 0xA02,
+        48 => 0xA22,
+        49 => 0xA42,
+        50 => 0xA61,
+        51 => 0xA72,
+        52 => 0xA91,
+        53 => 0xAA2,
+        54 => 0xAC1,
+        55 => 0xAD1,
+        56 => 0xAE1,
+        57 => 0xAF1,
+        58 => 0xB02,
+        _ => 0,
+    }
 }
 
 // `Node::Ascii` of the word at place k.
 pub fn word(store: &mut [u32], c: Cursor, k: usize) -> Cursor
     ensures { λ r. ⌜ Laid (says (getD table k "")) (now (store .entry)) c (now (store .exit)) r ⌝ }
 {
-    let start = start_of(k);
-    let size = size_of(k);
-    text_row(store, c, 6, 2, start, size, 0)
+    let place = place_of(k);
+    text_row(store, c, 6, 2, place / 16, place % 16, 0)
 }
 
 // `Node::IfWrap` of `separated`: the word at place k where the group with the number wraps, and nothing where it doesn't.

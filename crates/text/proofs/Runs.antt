@@ -4,10 +4,13 @@ use mathlib.Core.Path.{_≡_, refl, sym, ap, _∙_}
 use mathlib.Core.List.{List}
 use Prim.Native.Nat.{ℕ, zero, suc, _+_, _≤_, _<_}
 use native.Mathlib.Omega.{arith}
+use native.Mathlib.Nat.{add-zero, add-suc}
+use native.Mathlib.Numerals.{add-one}
 use lib.ListN.{length}
 use borrow.Author.Tests.{eq-eqb, ne-eqb, le-ltb}
-use Rattle.text.specs.Utf8.{sequence, run, prefix, wellFormed, checked}
+use Rattle.text.specs.Utf8.{sequence, Plain, run, prefix, wellFormed, checked}
 use Rattle.text.specs.declared.utf8.Checked.the-variants.{WellFormed, Bad}
+use Rattle.text.proofs.Sequences.{ascii}
 
 pub none-past : (s : List ℕ) (at : ℕ) → length s ≤ at → sequence s at ≡ 0
 unfolding sequence
@@ -38,6 +41,15 @@ next s at n h e k g = go (g .turns) (g .enough) (g .same)
     go : (m : ℕ) → length s ≤ at + m → prefix s ≡ run m s at → Going s (at + n)
     go zero f p = absurd (omega arith)
     go (suc m) f p = record { turns = m; enough = omega arith; same = p ∙ run-next m s at (omega arith) ∙ ap (λ j. run m s (at + j)) (sym e) }
+
+-- the same over bytes that are each a sequence
+pub next-plain : (n : ℕ) (s : List ℕ) (at : ℕ) → Plain n s at → Going s at → Going s (at + n)
+next-plain zero s at p g = rw add-zero g
+next-plain (suc n) s at p g =
+    let h : at + n < length s = omega (arith, p .fits) in
+    let one = ascii s (at + n) h (p .low n (omega arith)) in
+    let before : Plain n s at = record { fits = omega arith; low = λ k l. p .low k (omega arith) } in
+    rw (add-suc at n, ← add-one (at + n)) (next s (at + n) 1 h (sym one) (omega arith) (next-plain n s at before g))
 
 pub stop : (s : List ℕ) (at : ℕ) → sequence s at ≡ 0 → Going s at → prefix s ≡ at
 stop s at e g = g .same ∙ run-stop (g .turns) s at e

@@ -1,6 +1,6 @@
 -- Well-formed UTF-8, after the Unicode Standard, section 3.9. A text is a list of bytes, and a place in it counts bytes from its start.
 -- A byte past the end reads as 0, which continues no sequence.
-use Prim.Native.Nat.{ℕ, zero, suc, _+_, _*_, _-_, _%_}
+use Prim.Native.Nat.{ℕ, zero, suc, _+_, _*_, _-_, _%_, _≤_, _<_}
 use mathlib.Core.List.{List, [], _∷_}
 use mathlib.Core.Bool.{Bool, true, false, cond, not, _&&_, _||_}
 use lib.ListN.{length, getD}
@@ -66,6 +66,11 @@ followed s at r =
 -- How many bytes the well-formed sequence that starts at `at` has; 0 where none starts there.
 unfoldable pub sequence : List ℕ → ℕ → ℕ
 sequence s at = cond (ltb at (length s) && followed s at (rowOf (getD s at 0))) (rowOf (getD s at 0) .bytes) 0
+
+-- n bytes stand from `at` on, each of them a sequence by itself
+pub record Plain (n : ℕ) (s : List ℕ) (at : ℕ) : Type 0 where
+  pub fits : at + n ≤ length s
+  pub low : (k : ℕ) → k < n → getD s (at + k) 0 < 0x80
 
 -- The end of the sequences that follow one another from `at` on, n of them at most.
 unfoldable pub run : ℕ → List ℕ → ℕ → ℕ

@@ -10,11 +10,8 @@ use borrow.Author.Needs.{needs}
 use Rattle.state.proofs.words.word.Statement.{statement}
 use Rattle.state.proofs.words.word.Tie as tie
 
-start-of-requires : tie.Need-start-of-requires
-start-of-requires c κs = search needs
-
-size-of-requires : tie.Need-size-of-requires
-size-of-requires c κs = search needs
+place-of-requires : tie.Need-place-of-requires
+place-of-requires c κs = search needs
 
 text-row-requires : tie.Need-text-row-requires
 text-row-requires c κs = search needs
@@ -24,8 +21,8 @@ same-length c = search needs
 
 returns : tie.Need-returns
 unfolding size rowsOf word
-returns c = laid-leaf (ascii (word (getD table (c .before .before .before .before .before .before .before .args .k) ""))) refl (ap₂ (λ (a n : ℕ). row 6 0 0 0 (c .before .before .before .before .before .before .before .args .c .row + 1) (text 2 a n) 0) (sym (c .before .before .before .before .before .start-of .ensures)) (sym (c .before .before .before .before .size-of .ensures))) (c .before .before .text-row .ensures)
+returns c = laid-leaf (ascii (word (getD table (c .before .before .before .before .before .before .args .k) ""))) refl (ap₂ (λ (a n : ℕ). row 6 0 0 0 (c .before .before .before .before .before .before .args .c .row + 1) (text 2 a n) 0) (sym (c .before .before .before .before .place-of .ensures .start)) (sym (c .before .before .before .before .place-of .ensures .size))) (c .before .before .text-row .ensures)
 
 pub word-spec : {M : Type 1} → statement M
 word-spec =
-    tie.close (tie.spec start-of-requires size-of-requires text-row-requires same-length returns)
+    tie.close (tie.spec place-of-requires text-row-requires same-length returns)

@@ -4,9 +4,8 @@ use Prim.Native.Nat.{_-_, _≤_}
 use native.Mathlib.Omega.{arith}
 use borrow.Author.Needs.{needs}
 use lib.ListN.{length}
-use Rattle.text.specs.Utf8.{sequence}
 use Rattle.text.proofs.Sequences.{sequence-fits}
-use Rattle.text.proofs.Runs.{Going, start, next, stop, none-past, checked-bad, checked-good}
+use Rattle.text.proofs.Runs.{Going, start, next, next-plain, stop, none-past, checked-bad, checked-good}
 use Rattle.text.proofs.utf8.check.Statement.{statement}
 use Rattle.text.proofs.utf8.check.Tie as tie
 
@@ -19,20 +18,32 @@ abbrev μ-loop : tie.MeasureT-loop
 loop-holds : tie.Need-loop-holds Inv-loop μ-loop
 loop-holds c = (omega arith, start _)
 
+is-plain-requires : tie.Need-is-plain-requires Inv-loop μ-loop
+is-plain-requires c κs = omega arith
+
+add-at : tie.Need-add-at Inv-loop μ-loop
+add-at c = omega (arith, (c .before .is-plain .ensures (c .if1 .taken)) .fits)
+
+loop-less : tie.Need-loop-less Inv-loop μ-loop
+loop-less c = omega arith
+
+loop-again : tie.Need-loop-again Inv-loop μ-loop
+loop-again c = let p = c .before .is-plain .ensures (c .if1 .taken) in (p .fits, next-plain 16 _ _ p (c .before .before .before .loop .inv .1))
+
 sequence-requires : tie.Need-sequence-requires Inv-loop μ-loop
 sequence-requires c κs = search needs
 
 returns : tie.Need-returns Inv-loop μ-loop
-returns c = checked-bad _ _ (stop _ _ (sym (c .before .sequence .ensures) ∙ c .if1 .taken) (c .before .before .before .loop .inv .1)) (c .before .before .loop-test .taken)
+returns c = checked-bad _ _ (stop _ _ (sym (c .before .sequence .ensures) ∙ c .if2 .taken) (c .before .before .before .before .before .loop .inv .1)) (c .before .before .before .before .loop-test .taken)
 
-add-at : tie.Need-add-at Inv-loop μ-loop
-add-at c = omega (arith, c .before .sequence .ensures, sequence-fits (c .before .before .before .before .before .args .s .now) (c .before .before .before .loop .at) (c .before .before .before .loop .inv .0))
+add-at-2 : tie.Need-add-at-2 Inv-loop μ-loop
+add-at-2 c = omega (arith, c .before .sequence .ensures, sequence-fits (c .before .before .before .before .before .before .before .args .s .now) (c .before .before .before .before .before .loop .at) (c .before .before .before .before .before .loop .inv .0))
 
-loop-less : tie.Need-loop-less Inv-loop μ-loop
-loop-less c = omega (arith, c .before .sequence .ensures)
+loop-less-2 : tie.Need-loop-less-2 Inv-loop μ-loop
+loop-less-2 c = omega (arith, c .before .sequence .ensures)
 
-loop-again : tie.Need-loop-again Inv-loop μ-loop
-loop-again c = (omega (arith, c .before .sequence .ensures, sequence-fits (c .before .before .before .before .before .args .s .now) (c .before .before .before .loop .at) (c .before .before .before .loop .inv .0)), next _ _ _ (c .before .before .loop-test .taken) (c .before .sequence .ensures) (omega arith) (c .before .before .before .loop .inv .1))
+loop-again-2 : tie.Need-loop-again-2 Inv-loop μ-loop
+loop-again-2 c = (omega (arith, c .before .sequence .ensures, sequence-fits (c .before .before .before .before .before .before .before .args .s .now) (c .before .before .before .before .before .loop .at) (c .before .before .before .before .before .loop .inv .0)), next _ _ _ (c .before .before .before .before .loop-test .taken) (c .before .sequence .ensures) (omega arith) (c .before .before .before .before .before .loop .inv .1))
 
 returns-2 : tie.Need-returns-2 Inv-loop μ-loop
 returns-2 c = checked-good _ (stop _ _ (none-past _ _ (c .loop-test .left)) (c .before .loop .inv .1) ∙ omega arith)
@@ -44,9 +55,13 @@ check-spec =
     Inv-loop
     μ-loop
     loop-holds
-    sequence-requires
-    returns
+    is-plain-requires
     add-at
     loop-less
     loop-again
+    sequence-requires
+    returns
+    add-at-2
+    loop-less-2
+    loop-again-2
     returns-2)

@@ -1,12 +1,8 @@
 -- Nine stores in a row are one run of stores.
-use native.Mathlib.Omega.{arith}
 use Rattle.state.proofs.Stores.{nine}
 use borrow.Author.Needs.{needs}
-use Rattle.state.proofs.store.write_row.Statement.{statement}
-use Rattle.state.proofs.store.write_row.Tie as tie
-
-mul-i : tie.Need-mul-i
-mul-i c = search needs
+use Rattle.state.proofs.store.put_row.Statement.{statement}
+use Rattle.state.proofs.store.put_row.Tie as tie
 
 put-requires : tie.Need-put-requires
 put-requires c κs = search needs
@@ -54,7 +50,7 @@ put-requires-8 : tie.Need-put-requires-8
 put-requires-8 c κs = search needs
 
 add-put-8 : tie.Need-add-put-8
-add-put-8 c = omega (arith, c .before .before .before .before .before .before .before .before .before .before .before .before .before .before .before .before .before .before .before .before .before .before .before .before .before .before .before .before .before .before .before .before .before .before .fits)
+add-put-8 c = search needs
 
 put-requires-9 : tie.Need-put-requires-9
 put-requires-9 c κs = search needs
@@ -65,11 +61,10 @@ same-length c = search needs
 returns : tie.Need-returns
 returns c = nine (c .before .before .before .before .before .before .before .before .before .before .before .before .before .before .before .before .before .before .before .before .before .before .before .before .before .before .before .before .before .before .before .before .before .before .before .before .before .args .store .now) _ _ _ _ _ _ _ _ _ _ (c .before .before .before .before .before .before .before .before .before .before .before .before .before .before .before .before .before .before .before .before .before .before .before .before .before .before .before .before .before .before .before .before .before .before .before .before .before .args .kind) _ _ _ _ _ _ _ _ (c .before .before .before .before .before .before .before .before .before .before .before .before .before .before .before .before .before .before .before .before .before .before .before .before .before .before .before .before .before .before .before .before .before .before .put .ensures) (c .before .before .before .before .before .before .before .before .before .before .before .before .before .before .before .before .before .before .before .before .before .before .before .before .before .before .before .before .before .before .put2 .ensures) (c .before .before .before .before .before .before .before .before .before .before .before .before .before .before .before .before .before .before .before .before .before .before .before .before .before .before .put3 .ensures) (c .before .before .before .before .before .before .before .before .before .before .before .before .before .before .before .before .before .before .before .before .before .before .put4 .ensures) (c .before .before .before .before .before .before .before .before .before .before .before .before .before .before .before .before .before .before .put5 .ensures) (c .before .before .before .before .before .before .before .before .before .before .before .before .before .before .put6 .ensures) (c .before .before .before .before .before .before .before .before .before .before .put7 .ensures) (c .before .before .before .before .before .before .put8 .ensures) (c .before .before .put9 .ensures)
 
-pub write-row-spec : {M : Type 1} → statement M
-write-row-spec =
+pub put-row-spec : {M : Type 1} → statement M
+put-row-spec =
     tie.close
     (tie.spec
-    mul-i
     put-requires
     add-put
     put-requires-2
