@@ -1,6 +1,6 @@
 -- Well-formed UTF-8, after the Unicode Standard, section 3.9. A text is a list of bytes, and a place in it counts bytes from its start.
 -- A byte past the end reads as 0, which continues no sequence.
-use Prim.Native.Nat.{ℕ, zero, suc, _+_, _*_, _-_, _%_, _≤_, _<_}
+use Prim.Native.Nat.{ℕ, zero, suc, _+_, _*_, _-_, _/_, _%_}
 use mathlib.Core.List.{List, [], _∷_}
 use mathlib.Core.Bool.{Bool, true, false, cond, not, _&&_, _||_}
 use lib.ListN.{length, getD}
@@ -67,10 +67,18 @@ followed s at r =
 unfoldable pub sequence : List ℕ → ℕ → ℕ
 sequence s at = cond (ltb at (length s) && followed s at (rowOf (getD s at 0))) (rowOf (getD s at 0) .bytes) 0
 
--- n bytes stand from `at` on, each of them a sequence by itself
-pub record Plain (n : ℕ) (s : List ℕ) (at : ℕ) : Type 0 where
-  pub fits : at + n ≤ length s
-  pub low : (k : ℕ) → k < n → getD s (at + k) 0 < 0x80
+-- How many of the n bytes from `at` on are 0x80 or above; where none is, each is a sequence by itself.
+unfoldable pub highs : ℕ → List ℕ → ℕ → ℕ
+highs zero s at = 0
+highs (suc n) s at = highs n s at + getD s (at + n) 0 / 0x80
+
+-- n bytes stand from `at` on, and none of them is 0x80 or above
+abbrev pub plain : ℕ → List ℕ → ℕ → Bool
+plain n s at = leb (at + n) (length s) && eqb (highs n s at) 0
+
+-- how far a check goes on from `at`: over sixteen bytes below 0x80, which are looked for at each sixteenth byte, or over one sequence
+unfoldable pub stride : List ℕ → ℕ → ℕ
+stride s at = cond (eqb (at % 16) 0 && plain 16 s at) 16 (sequence s at)
 
 -- The end of the sequences that follow one another from `at` on, n of them at most.
 unfoldable pub run : ℕ → List ℕ → ℕ → ℕ

@@ -1,9 +1,8 @@
 // Well-formed UTF-8: sequences, the check of a text, boundaries, characters.
 ghost use mathlib.Core.Path.{_≡_};
-ghost use mathlib.Core.Bool.{true};
-ghost use Prim.Native.Nat.{ℕ, _+_, _≤_, _<_};
+ghost use Prim.Native.Nat.{_+_, _≤_, _<_};
 ghost use lib.ListN.{length, getD};
-ghost use Rattle.text.specs.Utf8.{rowOf, leadOf, continues, sequence, Plain, checked, boundary, scalar, charAt, ends, ending, charBefore};
+ghost use Rattle.text.specs.Utf8.{rowOf, leadOf, continues, sequence, highs, plain, stride, checked, boundary, scalar, charAt, ends, ending, charBefore};
 
 pub enum Checked {
     WellFormed,
@@ -114,7 +113,7 @@ fn led_by(s: &[u8], at: usize, l: Lead) -> usize
 // How many of the sixteen bytes from `at` on are 0x80 or above.
 fn count_high(s: &[u8], at: usize) -> u8
     requires { ⌜ at + 16 ≤ length (now s) ⌝ }
-    ensures { λ r. ⌜ (r ≡ 0 → (k : ℕ) → k < 16 → getD (now (s .entry)) (at + k) 0 < 0x80) ⌝ }
+    ensures { λ r. ⌜ r ≡ highs 16 (now (s .entry)) at ⌝ }
 {
     let mut n = 0;
     let mut k = 0;
@@ -125,19 +124,30 @@ fn count_high(s: &[u8], at: usize) -> u8
     n
 }
 
-// Whether sixteen bytes stand from `at` on, all of them below 0x80. It is asked at each sixteenth byte alone, so that a text where few stand
-// together takes little longer.
+// Whether sixteen bytes stand from `at` on, all of them below 0x80.
 fn is_plain(s: &[u8], at: usize) -> bool
     requires { ⌜ at ≤ length (now s) ⌝ }
-    ensures { λ r. ⌜ (r ≡ true → Plain 16 (now (s .entry)) at) ⌝ }
+    ensures { λ r. ⌜ r ≡ plain 16 (now (s .entry)) at ⌝ }
 {
-    if at % 16 != 0 {
-        return false;
-    }
     if s.len() - at < 16 {
         return false;
     }
     count_high(s, at) == 0
+}
+
+// How far the check goes on from `at`: sixteen bytes, the bytes of a sequence, or none. Sixteen together are looked at only at each sixteenth
+// byte, so that a text where few stand together takes little longer.
+fn stride(s: &[u8], at: usize) -> usize
+    requires { ⌜ at < length (now s) ⌝ }
+    ensures { λ r. ⌜ r ≡ stride (now (s .entry)) at ⌝ }
+{
+    if at % 16 != 0 {
+        return sequence(s, at);
+    }
+    if is_plain(s, at) {
+        return 16;
+    }
+    sequence(s, at)
 }
 
 // Whether a text is well-formed, or where its first bad sequence starts.
@@ -146,15 +156,11 @@ pub fn check(s: &[u8]) -> Checked
 {
     let mut at = 0;
     while at < s.len() {
-        if is_plain(s, at) {
-            at += 16;
-        } else {
-            let n = sequence(s, at);
-            if n == 0 {
-                return Checked::Bad(at);
-            }
-            at += n;
+        let n = stride(s, at);
+        if n == 0 {
+            return Checked::Bad(at);
         }
+        at += n;
     }
     Checked::WellFormed
 }

@@ -1,21 +1,22 @@
--- The invariant: where none of the bytes passed counts, all are below 0x80.
-use mathlib.Core.Path.{_≡_}
-use Prim.Native.Nat.{ℕ, _+_, _-_, _≤_, _<_}
-use native.Mathlib.Nat.{not-suc-le-zero}
+-- The invariant: what is counted of the bytes passed.
+use mathlib.Core.Path.{_≡_, refl}
+use Prim.Native.Nat.{ℕ, _+_, _-_, _/_, _≤_}
 use native.Mathlib.Omega.{arith}
-use borrow.Author.Count.{below-more}
 use lib.ListN.{getD}
+use Rattle.text.specs.Utf8.{highs}
+use Rattle.text.proofs.Runs.{highs-more, counted}
 use Rattle.text.proofs.utf8.count_high.Statement.{statement}
 use Rattle.text.proofs.utf8.count_high.Tie as tie
 
 abbrev Inv-loop : tie.InvT-loop
-Inv-loop s at n₀ k₀ n k = (k ≤ 16) × (n ≤ k) × (n ≡ 0 → (j : ℕ) → j < k → getD s (at + j) 0 < 0x80)
+Inv-loop s at n₀ k₀ n k = (k ≤ 16) × (n ≤ k) × _≡_ {A = ℕ} n (highs k s at)
 
 abbrev μ-loop : tie.MeasureT-loop
 μ-loop s at n₀ k₀ n k = 16 - k
 
 loop-holds : tie.Need-loop-holds Inv-loop μ-loop
-loop-holds c = (omega arith, omega arith, λ e j l. absurd (not-suc-le-zero l))
+unfolding highs
+loop-holds c = (omega arith, omega arith, refl)
 
 add-n : tie.Need-add-n Inv-loop μ-loop
 add-n c = omega arith
@@ -36,11 +37,11 @@ loop-again : tie.Need-loop-again Inv-loop μ-loop
 loop-again c = (
   omega arith,
   omega (arith, c .shared-slice-known .given (c .before .before .before .args .at + c .before .before .loop .k)),
-  λ e. below-more (λ j. getD (c .before .before .before .args .s .now) (c .before .before .before .args .at + j) 0 < 0x80) (c .before .before .loop .k) (c .before .before .loop .inv .2 (omega arith)) (omega arith),
+  highs-more (c .before .before .loop .k) (c .before .before .before .args .s .now) (c .before .before .before .args .at) (c .before .before .loop .n) (c .before .before .loop .inv .2),
 )
 
 returns : tie.Need-returns Inv-loop μ-loop
-returns c = λ e k l. c .before .loop .inv .2 e k (omega arith)
+returns c = counted (c .before .loop .k) (c .before .before .args .s .now) (c .before .before .args .at) (c .before .loop .n) (omega arith) (omega arith) (c .before .loop .inv .2)
 
 pub count-high-spec : {M : Type 1} → statement M
 count-high-spec =
