@@ -83,8 +83,9 @@ fn rows_lent(file: &File) -> usize {
     file.image.len() + 2 * comments + 16
 }
 
-/// The three steps on all files of an input.
-pub fn of_files(input: &Input) -> [Line; 3] {
+/// The three steps on all files of an input, and the whole run once more with
+/// no more room than it needs, where both calls count before they write.
+pub fn of_files(input: &Input) -> [Line; 4] {
     let files = input.files.iter();
     let accepted: Vec<_> = files
         .map(|file| reader::read(&file.source, &file.image))
@@ -95,13 +96,17 @@ pub fn of_files(input: &Input) -> [Line; 3] {
         .zip(&input.files)
         .map(|(accepted, file)| tree::Input::new(accepted, &file.image))
         .collect();
-    let mut ported = Vec::new();
+    let [mut ported, mut tight] = [const { Vec::new() }; 2];
     let [mut rows, mut bytes] = [0, 0];
     for (tree, file) in trees.iter().zip(&input.files) {
         let run = driver::run(tree);
         rows += run.rows.len();
         bytes += run.text.len();
-        ported.push(of_file(file, &run));
+        let mut one =
+            of_file(file, &run, rows_lent(file), roomy(run.text.len()));
+        let text = one.format().len();
+        ported.push(one);
+        tight.push(of_file(file, &run, run.rows.len(), text));
     }
     let line =
         |step, size, unit, [port_seconds, rust_seconds]: [f64; 2]| Line {
@@ -116,10 +121,16 @@ pub fn of_files(input: &Input) -> [Line; 3] {
         line("layout", rows, "row", layout(&mut ported, &trees)),
         line("rendering", rows, "row", rendered(&mut ported, &trees)),
         line("whole", bytes, "byte", whole(&mut ported, &trees)),
+        line("tight whole", bytes, "byte", whole(&mut tight, &trees)),
     ]
 }
 
-fn of_file<'f>(file: &'f File, run: &Run) -> Ported<'f> {
+fn of_file<'f>(
+    file: &'f File,
+    run: &Run,
+    rows: usize,
+    output: usize,
+) -> Ported<'f> {
     Ported {
         given: Given {
             source: &file.source,
@@ -127,9 +138,9 @@ fn of_file<'f>(file: &'f File, run: &Run) -> Ported<'f> {
         },
         declarations: run.stops.len() - 1,
         rows: run.rows.len(),
-        store: vec![0; rows_lent(file) * Row::CELLS],
+        store: vec![0; rows * Row::CELLS],
         marks: vec![0; run.marks.len()],
-        output: vec![0; roomy(run.text.len())],
+        output: vec![0; output],
     }
 }
 
