@@ -271,7 +271,8 @@ fn stack_of_run(case: &SizeCase) -> StackLine {
         image: &file.image,
     };
     let run = program::format(frame, Widths::Supplied).expect("accepted");
-    let mut ported = of_file(&file, &run);
+    let mut ported =
+        of_file(&file, &run, run.rows.len(), roomy(run.text.len()));
     StackLine {
         step: "whole",
         input: case.name.replace(',', ""),
