@@ -4,7 +4,7 @@
 use std::{env, fmt::Write, fs, process::ExitCode};
 
 const WIDTH: f64 = 900.0;
-const LEFT: f64 = 380.0;
+const LEFT: f64 = 400.0;
 const ROW: f64 = 22.0;
 
 /// A line of the table: what was measured, and both times, in ns a unit.
@@ -64,7 +64,7 @@ fn fields(line: &str) -> Vec<String> {
     fields
 }
 
-/// Two bars a line, on a scale of powers of ten from 1 to 10,000 ns.
+/// Two bars a line, on a scale of powers of ten from 0.1 to 1,000 ns.
 fn svg(lines: &[Line]) -> String {
     let height = ROW * (lines.len() as f64 + 3.0);
     let mut out = format!(
@@ -72,13 +72,12 @@ fn svg(lines: &[Line]) -> String {
          height=\"{height}\" font-family=\"sans-serif\" font-size=\"11\">\n\
          <rect width=\"100%\" height=\"100%\" fill=\"white\"/>\n"
     );
-    for power in 0..4 {
-        let x = place(10f64.powi(power));
+    for time in [0.1, 1.0, 10.0, 100.0, 1000.0] {
+        let x = place(time);
         let _ = writeln!(
             out,
             "<line x1=\"{x}\" y1=\"{ROW}\" x2=\"{x}\" y2=\"{height}\" stroke=\"#ddd\"/>\
-             <text x=\"{x}\" y=\"14\">{} ns</text>",
-            10u32.pow(power as u32)
+             <text x=\"{x}\" y=\"14\">{time} ns</text>"
         );
     }
     for (index, line) in lines.iter().enumerate() {
@@ -111,5 +110,5 @@ fn bar(out: &mut String, y: f64, time: f64, colour: &str) {
 
 /// Where a time stands.
 fn place(time: f64) -> f64 {
-    LEFT + time.max(1.0).log10() / 4.0 * (WIDTH - LEFT - 20.0)
+    LEFT + (time.max(0.1).log10() + 1.0) / 4.0 * (WIDTH - LEFT - 60.0)
 }
