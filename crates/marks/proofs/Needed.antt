@@ -1,4 +1,4 @@
--- The loop of `marks_needed`: the most so far, and what the rows ahead need, make the answer.
+-- The marks that rows need, counted row by row: the most so far, and what the rows ahead need, make the answer.
 -- Assumes nothing.
 use mathlib.Core.Path.{_≡_, refl, ap, sym, _∙_}
 use Prim.Native.Nat.{ℕ, suc, _+_, _-_, _≤_, _<_, max}

@@ -1,8 +1,8 @@
-// The marks that a rendering needs, and the marks that a dry run puts aside.
+// The marks that a row needs, and the marks that a dry run puts aside.
 ghost use mathlib.Core.Path.{_≡_};
 ghost use Prim.Native.Nat.{_+_, _*_, _-_, _%_, _≤_, _<_, max};
 ghost use lib.ListN.{length, getD, set};
-ghost use Rattle.marks.specs.Marks.{rowMarks, marksNeeded, clear, clearFrom, numbersOf, held, rowAside, putAside, rowBack, putBack};
+ghost use Rattle.marks.specs.Marks.{rowMarks, clear, clearFrom, numbersOf, held, rowAside, putAside, rowBack, putBack};
 use rows::store::place;
 
 pub fn larger(a: usize, b: usize) -> usize
@@ -15,7 +15,7 @@ pub fn larger(a: usize, b: usize) -> usize
 }
 
 // How many marks a row needs.
-fn row_marks(store: &[u32], row: usize) -> usize
+pub fn row_marks(store: &[u32], row: usize) -> usize
     requires { ⌜ row * 9 + 8 < length (now store) ⌝ }
     ensures { λ r. ⌜ (r ≡ rowMarks (now (store .entry)) row) × (r ≤ 4294967296) ⌝ }
 {
@@ -31,20 +31,6 @@ fn row_marks(store: &[u32], row: usize) -> usize
         return 1 + number;
     }
     0
-}
-
-// How many marks the rows from `from` up to `stop` need: refusal 9's place.
-pub fn marks_needed(store: &[u32], from: usize, stop: usize) -> usize
-    requires { ⌜ (from ≤ stop) × (stop * 9 ≤ length (now store)) ⌝ }
-    ensures { λ r. ⌜ r ≡ marksNeeded (stop - from) (now (store .entry)) from ⌝ }
-{
-    let mut most: usize = 0;
-    let mut row = from;
-    while row < stop {
-        most = larger(most, row_marks(store, row));
-        row += 1;
-    }
-    most
 }
 
 // Clears the marks from one number up to another.

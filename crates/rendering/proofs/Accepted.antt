@@ -102,10 +102,21 @@ module _ (source image : List ℕ) (state : RenderState) (stop : ℕ) (store mar
   abbrev t2 : Bool
   t2 = ltb stop (state .row) || t3
 
+  pub pen-limits : tests ≡ false → (state .indent ≤ 64) × (state .«next_indent» ≤ 64)
+  pen-limits e1 =
+      let e2 = or-rest (ltb (length store / 9) (state .row)) t2 e1 in
+      let e3 = or-rest (ltb stop (state .row)) t3 e2 in
+      let e4 = or-rest (ltb 2097152 (state .row)) t4 e3 in
+      let e5 = or-rest (ltb 64 (state .indent)) t5 e4 in (
+        ltb-false 64 (state .indent) (or-first (ltb 64 (state .indent)) t5 e4),
+        ltb-false 64 (state .«next_indent») (or-first (ltb 64 (state .«next_indent»)) t6 e5),
+      )
+
   pub accepted : beforeRun source image stop (toState state) store marks ≡ none → Accepted source image state stop store marks
   accepted e =
       let right = second-none (renderImage source image) found (when tests 12 0) fourth e in
       let e1 : (ltb (length store / 9) (state .row) || t2) ≡ false = third-none (renderImage source image) (whenFound found 11) tests fourth e in
+      let l = pen-limits e1 in
       let e2 = or-rest (ltb (length store / 9) (state .row)) t2 e1 in
       let e3 = or-rest (ltb stop (state .row)) t3 e2 in
       let e4 = or-rest (ltb 2097152 (state .row)) t4 e3 in
@@ -117,8 +128,8 @@ module _ (source image : List ℕ) (state : RenderState) (stop : ℕ) (store mar
         right = right;
         within = stop-within source image store (state .row) stop right;
         ahead = ltb-false stop (state .row) (or-first (ltb stop (state .row)) t3 e2);
-        indent = ltb-false 64 (state .indent) (or-first (ltb 64 (state .indent)) t5 e4);
-        next = ltb-false 64 (state .«next_indent») (or-first (ltb 64 (state .«next_indent»)) t6 e5);
+        indent = l .0;
+        next = l .1;
         column = ltb-false 72057594037927936 (state .column .0) (or-first (ltb 72057594037927936 (state .column .0)) t7 e6);
         in-use = ltb-false (length marks) (state .«in_use») (or-first (ltb (length marks) (state .«in_use»)) t8 e7);
         even = or-first last false e8;

@@ -4,7 +4,8 @@ use mathlib.Core.Path.{_≡_, refl, sym, ap, _∙_}
 use mathlib.Core.Bool.{Bool, not}
 use mathlib.Core.Option.{Option, none, some}
 use mathlib.Core.List.{List, [], _∷_}
-use Prim.Native.Nat.{ℕ, _*_, _-_, _≤_, _<_}
+use Prim.Native.Nat.{ℕ, _+_, _*_, _-_, _≤_, _<_}
+use native.Mathlib.Omega.{arith}
 use lib.ListN.{length}
 use lib.Dec.{ltb}
 use borrow.Author.Tests.{lt-ltb, le-ltb}
@@ -17,9 +18,9 @@ use Rattle.rendering.specs.Calls.{toState, args, beforeMarks, beforeRun}
 use Rattle.rendering.specs.Whole.{Called, Checked, Passing}
 use Rattle.rendering.specs.declared.RenderState.{RenderState}
 use Rattle.rendering.specs.declared.Rendering.the-variants as rendering
-use Rattle.rendering.proofs.Tests.{stop-within}
+use Rattle.rendering.proofs.Tests.{stop-within, few-rows}
 use Rattle.rendering.proofs.Table.{row-within}
-use Rattle.rendering.proofs.Accepted.{second-none, third-none}
+use Rattle.rendering.proofs.Accepted.{second-none, third-none, pen-limits}
 use Rattle.rendering.proofs.Whole.{ends-early}
 
 three-then : (a b c d : Option Refusal) → first (a ∷ b ∷ c ∷ d ∷ []) ≡ orElse (first (a ∷ b ∷ c ∷ [])) (first (d ∷ []))
@@ -59,6 +60,22 @@ module _ (source image : List ℕ) (state : RenderState) (stop : ℕ) (store mar
           (ap not (third-none (renderImage source image) (whenFound found 11) tests none none-of-three)),
       stop-within source image store (state .row) stop (second-none (renderImage source image) found (when tests 12 0) none none-of-three),
     )
+
+    small-margin : (state .indent ≤ 64) × (state .«next_indent» ≤ 64)
+    small-margin =
+        pen-limits source image state stop store marks (third-none (renderImage source image) (whenFound found 11) tests none none-of-three)
+
+    pub small-sum : state .indent + state .«next_indent» ≤ 128
+    small-sum = let l = small-margin .0 in let m = small-margin .1 in omega arith
+
+    -- what the pass over the rows asks for
+    pub needs-within : (margin : ℕ) → margin ≡ state .indent + state .«next_indent»
+        → (state .row ≤ stop) × ((stop * 9 ≤ length store) × ((stop ≤ 2097152) × (margin ≤ 128)))
+    needs-within margin e =
+        let l = small-sum in (
+          rows-ahead .0,
+          (rows-ahead .1, (few-rows source image store (state .row) stop (second-none (renderImage source image) found (when tests 12 0) none none-of-three), omega arith)),
+        )
 
     by-nine : (t : Bool) (n : ℕ) → n ≡ needed → ltb (length marks) n ≡ t
         → beforeRun source image stop (toState state) store marks ≡ first (when t 9 n ∷ [])

@@ -1,32 +1,21 @@
 -- A call that nothing refuses before its run may run.
 -- Assumes nothing.
 use mathlib.Core.Path.{_≡_, refl, sym, _∙_}
-use mathlib.Core.Bool.{Bool, true, false, cond, _&&_}
-use mathlib.Core.Option.{Option, none, some}
 use mathlib.Core.List.{List}
 use Prim.Native.Nat.{ℕ, _*_, _≤_}
 use native.Mathlib.Omega.{arith}
 use lib.ListN.{length}
-use lib.Dec.{leb}
-use borrow.Author.Tests.{leb-true}
 use Rattle.rows.specs.View.{viewOf}
 use Rattle.rows.specs.Nesting.{Nested}
-use Rattle.renderer.specs.Check.{placesFit, wrongPlace}
+use Rattle.renderer.specs.Check.{placesFit}
 use Rattle.renderer.proofs.Checked.{accepted-nests}
 use Rattle.rowcheck.proofs.Pending.{stop-fits}
 use Rattle.render.specs.Run.{Starting}
 use Rattle.render.specs.declared.pen.Pen.{Pen}
 use Rattle.rendering.specs.Whole.{Takes}
 use Rattle.rendering.specs.declared.RenderState.{RenderState}
+use Rattle.rendering.proofs.Tests.{few-rows}
 use Rattle.rendering.proofs.Accepted.{Accepted}
-
-few-rows : (s b store : List ℕ) (from stop : ℕ) → wrongPlace s b store from stop ≡ none → stop ≤ 2097152
-unfolding wrongPlace
-few-rows s b store from stop e = leb-true stop 2097152 (go (leb stop 2097152) (leb (stop * 9) (length store)) _ e)
-  where
-    go : (t u : Bool) (x : Option ℕ) → cond (t && u) x (some 0) ≡ none → t ≡ true
-    go true u x e = refl
-    go false u x e = let z : _≡_ {A = ℕ} 0 1 = cc in absurd (omega arith)
 
 module _ (source image : List ℕ) (state : RenderState) (stop : ℕ) (store marks : List ℕ) (a : Accepted source image state stop store marks) where
   pub nested : Nested store (state .row) stop

@@ -10,7 +10,6 @@ use Rattle.rows.specs.View.{viewOf, nodesAt}
 use Rattle.rows.specs.declared.store.Bytes.{Bytes}
 use Rattle.renderer.specs.Renderer.{renders}
 use Rattle.renderer.specs.Page.{pageOf}
-use Rattle.renderer.specs.Most.{rowsMost}
 use Rattle.renderer.proofs.Most.{text-most}
 use Rattle.render.specs.Run.{Starting, Rendered, stateOf}
 use Rattle.render.specs.declared.pen.Pen.{Pen}
@@ -18,7 +17,7 @@ use Rattle.cut.specs.Parts as cut
 use Rattle.marks.specs.Marks.{marksNeeded, clearFrom, held, putAside, putBack}
 use Rattle.format.specs.Parts.{rendererOf}
 use Rattle.rendering.specs.Calls.{toState, refusalOf, beforeMarks}
-use Rattle.rendering.specs.Whole.{Called, Checked, Counted, Passing, Fitting, Takes}
+use Rattle.rendering.specs.Whole.{Called, Checked, Counted, Passing, Fitting, Takes, mostOf}
 use Rattle.rendering.specs.declared.RenderState.{RenderState}
 use Rattle.rendering.specs.declared.Rendering.{Rendering}
 use Rattle.rendering.specs.declared.Rendering.the-variants as rendering
@@ -40,27 +39,15 @@ module _ (source image : List ℕ) (state : RenderState) (stop : ℕ) (store mar
   rows-within = may .within
 
   -- ---- a sum over the rows shows that the text has room
-  pub small-margin : (state .indent ≤ 64) × (state .«next_indent» ≤ 64)
-  small-margin = (may .indent, may .next)
-
-  pub sums-within : (margin : ℕ) → margin ≡ state .indent + state .«next_indent»
-      → (state .row ≤ stop) × ((stop * 9 ≤ length store) × ((stop ≤ 2097152) × (margin ≤ 128)))
-  sums-within margin e =
-      let i = may .indent in
-      let n = may .next in
-      (may .ahead, (may .within, (nested source image state stop store marks may .few, omega arith)))
-
-  pub fits-most : (out : List ℕ) (margin n : ℕ) → margin ≡ state .indent + state .«next_indent»
-      → n ≡ 4 * margin + rowsMost (stop - state .row) margin store (state .row) → n ≤ length out
-      → Fitting source image state stop store marks out
-  fits-most out margin n e f l =
+  pub fits-most : (out : List ℕ) (n : ℕ) → n ≡ mostOf state stop store → n ≤ length out → Fitting source image state stop store marks out
+  fits-most out n f l =
       let m =
-      text-most 80 source image store (state .row) stop 0 margin
+      text-most 80 source image store (state .row) stop 0 (state .indent + state .«next_indent»)
       (nested source image state stop store marks may .nests)
       true
       (rendererOf (toState state .pen) (inUse source image state stop store marks (may .ahead)))
       refl
-      (sym e)
+      refl
       in
       record { passing = h; room = below m f l }
     where

@@ -1,4 +1,4 @@
--- The loop of `most_bytes`: the sum so far, and what the rows ahead add at most, make the answer.
+-- The bytes that rows give at most, summed row by row: the sum so far, and what the rows ahead add at most, make the answer.
 -- Assumes nothing.
 use mathlib.Core.Path.{_≡_, refl, ap, sym, _∙_}
 use Prim.Native.Nat.{ℕ, zero, suc, _+_, _*_, _-_, _≤_, _<_, max}

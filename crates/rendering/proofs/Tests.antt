@@ -114,3 +114,11 @@ stop-within s b store from stop e = leb-true (stop * 9) (length store) (go (leb 
     go true true x e = refl
     go true false x e = let z : _≡_ {A = ℕ} 0 1 = cc in absurd (omega arith)
     go false u x e = let z : _≡_ {A = ℕ} 0 1 = cc in absurd (omega arith)
+
+pub few-rows : (s b store : List ℕ) (from stop : ℕ) → wrongPlace s b store from stop ≡ none → stop ≤ 2097152
+unfolding wrongPlace
+few-rows s b store from stop e = leb-true stop 2097152 (go (leb stop 2097152) (leb (stop * 9) (length store)) _ e)
+  where
+    go : (t u : Bool) (x : Option ℕ) → cond (t && u) x (some 0) ≡ none → t ≡ true
+    go true u x e = refl
+    go false u x e = let z : _≡_ {A = ℕ} 0 1 = cc in absurd (omega arith)

@@ -2,10 +2,11 @@
 use mathlib.Core.Path.{_≡_}
 use mathlib.Core.Option.{none}
 use mathlib.Core.List.{List}
-use Prim.Native.Nat.{ℕ, _≤_}
+use Prim.Native.Nat.{ℕ, _+_, _*_, _-_, _≤_}
 use lib.ListN.{length}
 use Rattle.rows.specs.declared.store.Bytes.{Bytes}
 use Rattle.render.specs.declared.pen.Pen.{Pen}
+use Rattle.renderer.specs.Most.{rowsMost}
 use Rattle.cut.specs.Entries.{renderAnswer, renderMarks, renderOutput}
 use Rattle.cut.specs.Parts.{bytesNeeded}
 use Rattle.format.specs.Parts.{parts}
@@ -40,6 +41,11 @@ pub record Passing (source image : List ℕ) (state : RenderState) (stop : ℕ) 
 pub record Fitting (source image : List ℕ) (state : RenderState) (stop : ℕ) (store marks out : List ℕ) : Type 0 where
   pub passing : Passing source image state stop store marks
   pub room : bytesNeeded (parts source image) (args stop (length out)) (toState state) store marks ≤ length out
+
+-- the bytes that the rows give at most, with the start of the first line
+abbrev pub mostOf : RenderState → ℕ → List ℕ → ℕ
+mostOf state stop store =
+    4 * (state .indent + state .«next_indent») + rowsMost (stop - state .row) (state .indent + state .«next_indent») store (state .row)
 
 -- p has the state's numbers, and wrote nothing yet
 pub record Takes (state : RenderState) (p : Pen) : Type 0 where

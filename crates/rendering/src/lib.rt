@@ -11,13 +11,12 @@ ghost use Rattle.cut.specs.Parts.{Parts, any, first, oddMark, renderTests, rend
 ghost use Rattle.format.specs.Parts.{parts};
 ghost use Rattle.marks.specs.Marks.{marksNeeded};
 ghost use Rattle.rendering.specs.Calls.{toState, args, refusalOf, beforeMarks};
-ghost use Rattle.rendering.specs.Whole.{Called, Checked, Counted, Passing, Fitting, Takes};
-use crate::room::most_bytes;
+ghost use Rattle.rendering.specs.Whole.{Called, Checked, Counted, Passing, Fitting, Takes, mostOf};
+use crate::room::rows_need;
 use image::header_fits;
 use image::source_fits;
 use marks::clear_marks;
 use marks::larger;
-use marks::marks_needed;
 use marks::put_aside;
 use marks::put_back;
 use render::machine::run_rows;
@@ -229,7 +228,7 @@ fn render_counted(
     write_rows(source, image, store, marks, out, state, stop, needed)
 }
 
-// Renders what nothing refuses before the run, or refuses it with 10. Where a sum over the rows shows that the text has room, nothing is
+// Renders what nothing refuses before the run, or refuses it with 10. Where the output has as many bytes as the rows give at most, nothing is
 // counted.
 fn render_accepted(
     source: &[u8],
@@ -240,12 +239,11 @@ fn render_accepted(
     state: RenderState,
     stop: usize,
     needed: usize,
+    most: usize,
 ) -> Rendering
-    requires { ⌜ Passing (now source) (now image) state stop (now store) (now marks) × (needed ≡ marksNeeded (stop - state .row) (now store) (state .row)) ⌝ }
+    requires { ⌜ Passing (now source) (now image) state stop (now store) (now marks) × ((needed ≡ marksNeeded (stop - state .row) (now store) (state .row)) × (most ≡ mostOf state stop (now store))) ⌝ }
     ensures { λ r. ⌜ Called (now (source .entry)) (now (image .entry)) state stop (now (store .entry)) (now (marks .entry)) (now (out .entry)) r (now (store .exit)) (now (marks .exit)) (now (out .exit)) ⌝ }
 {
-    let from = state.row;
-    let most = most_bytes(store, from, stop, state.indent + state.next_indent);
     if most <= out.len() {
         return write_rows(source, image, store, marks, out, state, stop, needed);
     }
@@ -266,11 +264,22 @@ pub fn render_checked(
     ensures { λ r. ⌜ Called (now (source .entry)) (now (image .entry)) state stop (now (store .entry)) (now (marks .entry)) (now (out .entry)) r (now (store .exit)) (now (marks .exit)) (now (out .exit)) ⌝ }
 {
     let from = state.row;
-    let needed = marks_needed(store, from, stop);
+    let n = rows_need(store, from, stop, state.indent + state.next_indent);
+    let needed = n.marks;
     if marks.len() < needed {
         return Rendering::Refused(9, needed);
     }
-    render_accepted(source, image, store, marks, out, state, stop, needed)
+    render_accepted(
+        source,
+        image,
+        store,
+        marks,
+        out,
+        state,
+        stop,
+        needed,
+        n.bytes,
+    )
 }
 
 // A rendering call: renders the rows from the state's next row up to `stop`.

@@ -1,20 +1,12 @@
--- The sum over the rows, and then the true run or the dry run first.
+-- The true run, or the dry run first.
 -- Assumes nothing.
-use mathlib.Core.Path.{refl}
-use native.Mathlib.Omega.{arith}
-use Rattle.rendering.proofs.Steps.{small-margin, sums-within, fits-most}
+use Rattle.rendering.proofs.Steps.{fits-most}
 use borrow.Author.Needs.{needs}
 use Rattle.rendering.proofs.render_accepted.Statement.{statement}
 use Rattle.rendering.proofs.render_accepted.Tie as tie
 
-add-most-bytes : tie.Need-add-most-bytes
-add-most-bytes c = let w = small-margin _ _ _ _ _ _ (c .before .before .before .before .before .before .before .pre .0) in omega (arith, w .0, w .1)
-
-most-bytes-requires : tie.Need-most-bytes-requires
-most-bytes-requires c κs = sums-within _ _ _ _ _ _ (c .before .before .before .before .before .before .before .pre .0) _ refl
-
 write-rows-requires : tie.Need-write-rows-requires
-write-rows-requires c κs = (fits-most _ _ _ _ _ _ (c .before .before .before .before .before .before .before .before .before .before .before .before .pre .0) _ _ _ refl (c .before .before .before .before .most-bytes .ensures) (c .before .before .before .if1 .taken), c .before .before .before .before .before .before .before .before .before .before .before .before .pre .1)
+write-rows-requires c κs = (fits-most _ _ _ _ _ _ (c .before .before .before .before .before .before .before .before .before .pre .0) _ _ (c .before .before .before .before .before .before .before .before .before .pre .1 .1) (c .before .before .before .if1 .taken), c .before .before .before .before .before .before .before .before .before .pre .1 .0)
 
 same-length : tie.Need-same-length
 same-length c = search needs
@@ -47,8 +39,6 @@ pub render-accepted-spec : {M : Type 1} → statement M
 render-accepted-spec =
     tie.close
     (tie.spec
-    add-most-bytes
-    most-bytes-requires
     write-rows-requires
     same-length
     same-length-2

@@ -1,21 +1,26 @@
 -- 9 by the marks that the rows need.
 -- Assumes nothing.
-use Rattle.rendering.proofs.Early.{rows-ahead, marks-short, marks-enough}
+use mathlib.Core.Path.{refl}
+use native.Mathlib.Omega.{arith}
+use Rattle.rendering.proofs.Early.{small-sum, needs-within, marks-short, marks-enough}
 use borrow.Author.Needs.{needs}
 use Rattle.rendering.proofs.render_checked.Statement.{statement}
 use Rattle.rendering.proofs.render_checked.Tie as tie
 
-marks-needed-requires : tie.Need-marks-needed-requires
-marks-needed-requires c κs = rows-ahead _ _ _ _ _ _ (c .before .before .before .before .before .before .pre)
+add-rows-need : tie.Need-add-rows-need
+add-rows-need c = omega (arith, small-sum _ _ _ _ _ _ (c .before .before .before .before .before .before .before .pre))
+
+rows-need-requires : tie.Need-rows-need-requires
+rows-need-requires c κs = needs-within _ _ _ _ _ _ (c .before .before .before .before .before .before .before .pre) _ refl
 
 same-length : tie.Need-same-length
 same-length c = search needs
 
 returns : tie.Need-returns
-returns c = marks-short _ _ _ _ _ _ (c .before .before .before .before .before .before .before .before .pre) _ (c .before .marks-needed .ensures) _ (c .if1 .taken)
+returns c = marks-short _ _ _ _ _ _ (c .before .before .before .before .before .before .before .before .before .pre) _ (c .before .rows-need .ensures .0) _ (c .if1 .taken)
 
 render-accepted-requires : tie.Need-render-accepted-requires
-render-accepted-requires c κs = (marks-enough _ _ _ _ _ _ (c .before .before .before .before .before .before .before .before .before .before .before .pre) _ (c .before .before .before .before .marks-needed .ensures) (c .before .before .before .if1 .left), c .before .before .before .before .marks-needed .ensures)
+render-accepted-requires c κs = (marks-enough _ _ _ _ _ _ (c .before .before .before .before .before .before .before .before .before .before .before .before .pre) _ (c .before .before .before .before .rows-need .ensures .0) (c .before .before .before .if1 .left), (c .before .before .before .before .rows-need .ensures .0, c .before .before .before .before .rows-need .ensures .1))
 
 same-length-2 : tie.Need-same-length-2
 same-length-2 c = search needs
@@ -33,7 +38,8 @@ pub render-checked-spec : {M : Type 1} → statement M
 render-checked-spec =
     tie.close
     (tie.spec
-    marks-needed-requires
+    add-rows-need
+    rows-need-requires
     same-length
     returns
     render-accepted-requires
