@@ -39,18 +39,16 @@ fn fresh_pieces(
     pieces(d, at, frame, store, marks, out)
 }
 
-// A frame by the whole run, in fresh buffers.
+// A frame by the whole run, in a fresh output.
 fn fresh_whole(
     d: &[u8],
     at: usize,
     frame: &[u8],
-    store: &mut [u32],
-    marks: &mut [u8],
-    out: &mut [u8],
+    out: &mut [u8; 65536],
     counts: &mut [usize],
 ) -> Found {
-    clear(store, marks, out);
-    whole(d, at, frame, store, marks, out, counts)
+    clear_bytes(out);
+    whole(d, at, frame, out, counts)
 }
 
 // A frame, both ways; the answer is stored at `at`.
@@ -60,11 +58,11 @@ fn both(
     frame: &[u8],
     store: &mut [u32],
     marks: &mut [u8],
-    out: &mut [u8],
+    out: &mut [u8; 65536],
     counts: &mut [usize],
 ) -> Found {
     let one = fresh_pieces(d, at, frame, store, marks, out);
-    let two = fresh_whole(d, at, frame, store, marks, out, counts);
+    let two = fresh_whole(d, at, frame, out, counts);
     first(one, two)
 }
 
@@ -74,7 +72,7 @@ fn replay_frame(
     at: usize,
     store: &mut [u32],
     marks: &mut [u8],
-    out: &mut [u8],
+    out: &mut [u8; 65536],
     counts: &mut [usize],
 ) -> Frame {
     let from = start(d, at);
@@ -91,7 +89,7 @@ pub(crate) fn replay_frames(
     d: &[u8],
     store: &mut [u32],
     marks: &mut [u8],
-    out: &mut [u8],
+    out: &mut [u8; 65536],
     counts: &mut [usize],
 ) -> Compared {
     let mut at: usize = 0;

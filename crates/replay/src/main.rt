@@ -9,6 +9,7 @@ mod cases;
 mod compare;
 mod frames;
 mod hash;
+mod line;
 mod numbers;
 mod pieces;
 mod report;

@@ -23,6 +23,8 @@ pub(crate) enum Found {
     // the state of rendering after the calls
     Rendering,
     Text,
+    // what the program writes
+    Reply,
     // a buffer of the replay is too small
     Room,
 }
@@ -73,6 +75,7 @@ fn write_found(f: Found) {
         Found::Layout => write(b"layout state"),
         Found::Rendering => write(b"rendering state"),
         Found::Text => write(b"text"),
+        Found::Reply => write(b"what the program writes"),
         Found::Room => write(b"room of the replay"),
     }
 }

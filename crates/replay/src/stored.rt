@@ -3,7 +3,9 @@ ghost use Prim.Native.Nat.{_<_};
 use crate::compare::bytes_found;
 use crate::hash::of_bytes;
 use crate::hash::of_numbers;
+use crate::line::line_found;
 use crate::numbers::byte;
+use crate::numbers::eight;
 use crate::numbers::long;
 use crate::numbers::past;
 use crate::numbers::short;
@@ -85,6 +87,32 @@ fn text_found(d: &[u8], at: usize, out: &[u8], bytes: usize) -> Found {
         return Found::Text;
     }
     bytes_found(&out[..bytes], d, text_at(d, at), Found::Text)
+}
+
+// What a whole run told, and its text, against the answer at `at`.
+pub(crate) fn told_found(d: &[u8], at: usize, out: &[u8], o: Output) -> Found {
+    let rows = unless(long(d, past(at, ROWS)) == o.rows, Found::Rows);
+    let numbers = unless(long(d, past(at, NUMBERS)) == o.numbers, Found::Marks);
+    let left = unless(long(d, past(at, LEFT)) == o.left, Found::Count);
+    let text = text_found(d, at, out, o.bytes);
+    first(first(rows, numbers), first(left, text))
+}
+
+// The text, or the line with its number and place, against the answer at `at`.
+fn written_found(d: &[u8], at: usize, b: &[u8]) -> Found {
+    let number = byte(d, at);
+    if number == 0 {
+        return bytes_found(b, d, text_at(d, at), Found::Reply);
+    }
+    line_found(b, number, eight(d, past(at, 1)))
+}
+
+// What the program writes, the first n bytes of its output, against the answer at `at`.
+pub(crate) fn reply_found(d: &[u8], at: usize, out: &[u8], n: usize) -> Found {
+    if out.len() < n {
+        return Found::Reply;
+    }
+    written_found(d, at, &out[..n])
 }
 
 // What a run left in the buffers against the answer at `at`.

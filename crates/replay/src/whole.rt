@@ -1,23 +1,24 @@
-// A frame by the whole run, in one layout call and one rendering call.
+// A frame by the whole run: what it answers, and what the program writes.
+use crate::compare::clear_bytes;
 use crate::compare::refusal_found;
 use crate::report::Found;
 use crate::report::count;
 use crate::report::first;
 use crate::stored::Output;
-use crate::stored::output_found;
+use crate::stored::reply_found;
+use crate::stored::told_found;
 use file::Formatted;
 use file::format_frame;
+use reply::reply;
 
 fn wide(x: u8) -> usize {
     x as usize
 }
 
-// What the run answers, with its buffers, against the answer at `at`.
+// What the run answers, with its output, against the answer at `at`.
 fn formatted_found(
     d: &[u8],
     at: usize,
-    store: &[u32],
-    marks: &[u8],
     out: &[u8],
     counts: &mut [usize],
     answer: Formatted,
@@ -41,23 +42,26 @@ fn formatted_found(
                 left: left,
                 bytes: bytes.0,
             };
-            first(
-                refusal_found(d, at, 0, 0),
-                output_found(d, at, store, marks, out, o),
-            )
+            first(refusal_found(d, at, 0, 0), told_found(d, at, out, o))
         }
     }
+}
+
+// The bytes that the frame is answered with against the answer at `at`.
+fn replied_found(d: &[u8], at: usize, frame: &[u8], out: &mut [u8; 65536]) -> Found {
+    let n = reply(frame, out);
+    reply_found(d, at, out, n)
 }
 
 pub(crate) fn whole(
     d: &[u8],
     at: usize,
     frame: &[u8],
-    store: &mut [u32],
-    marks: &mut [u8],
-    out: &mut [u8],
+    out: &mut [u8; 65536],
     counts: &mut [usize],
 ) -> Found {
-    let answer = format_frame(frame, store, marks, out);
-    formatted_found(d, at, store, marks, out, counts, answer)
+    let answer = format_frame(frame, out);
+    let one = formatted_found(d, at, out, counts, answer);
+    clear_bytes(out);
+    first(one, replied_found(d, at, frame, out))
 }

@@ -1,3 +1,4 @@
+-- Each case ends further on.
 use mathlib.Core.Path.{_≡_}
 use Prim.Native.Nat.{_-_, _≤_}
 use lib.ListN.{length}
@@ -6,49 +7,10 @@ use Rattle.replay.proofs.frames.replay_frames.Statement.{statement}
 use Rattle.replay.proofs.frames.replay_frames.Tie as tie
 
 abbrev Inv-loop : tie.InvT-loop
-Inv-loop d store₀ marks₀ out₀ counts₀ at₀ cases₀ differ₀ store marks out counts at cases differ = (length store ≡ length store₀) × (length marks ≡ length marks₀) × (length out ≡ length out₀) × (length counts ≡ length counts₀) × (cases ≤ at) × (differ ≤ cases)
+Inv-loop d store₀ marks₀ out₀ counts₀ at₀ cases₀ differ₀ store marks out counts at cases differ = (length store ≡ length store₀) × (length marks ≡ length marks₀) × (length counts ≡ length counts₀) × (cases ≤ at) × (differ ≤ cases)
 
 abbrev μ-loop : tie.MeasureT-loop
 μ-loop d store₀ marks₀ out₀ counts₀ at₀ cases₀ differ₀ store marks out counts at cases differ = length d - at
-
-loop-holds : tie.Need-loop-holds Inv-loop μ-loop
-loop-holds c = search needs
-
-replay-frame-requires : tie.Need-replay-frame-requires Inv-loop μ-loop
-replay-frame-requires c κs = search needs
-
-add-cases : tie.Need-add-cases Inv-loop μ-loop
-add-cases c = search needs
-
-told-requires : tie.Need-told-requires Inv-loop μ-loop
-told-requires c κs = search needs
-
-add-differ : tie.Need-add-differ Inv-loop μ-loop
-add-differ c = search needs
-
-forward-requires : tie.Need-forward-requires Inv-loop μ-loop
-forward-requires c κs = search needs
-
-loop-less : tie.Need-loop-less Inv-loop μ-loop
-loop-less c = search needs
-
-loop-again : tie.Need-loop-again Inv-loop μ-loop
-loop-again c = search needs
-
-same-length : tie.Need-same-length Inv-loop μ-loop
-same-length c = search needs
-
-same-length-2 : tie.Need-same-length-2 Inv-loop μ-loop
-same-length-2 c = search needs
-
-same-length-3 : tie.Need-same-length-3 Inv-loop μ-loop
-same-length-3 c = search needs
-
-same-length-4 : tie.Need-same-length-4 Inv-loop μ-loop
-same-length-4 c = search needs
-
-returns : tie.Need-returns Inv-loop μ-loop
-returns c = search needs
 
 pub replay-frames-spec : {M : Type 1} → statement M
 replay-frames-spec =
@@ -56,16 +18,15 @@ replay-frames-spec =
     (tie.spec
     Inv-loop
     μ-loop
-    loop-holds
-    replay-frame-requires
-    add-cases
-    told-requires
-    add-differ
-    forward-requires
-    loop-less
-    loop-again
-    same-length
-    same-length-2
-    same-length-3
-    same-length-4
-    returns)
+    (λ c. search needs)
+    (λ c κs. search needs)
+    (λ c. search needs)
+    (λ c κs. search needs)
+    (λ c. search needs)
+    (λ c κs. search needs)
+    (λ c. search needs)
+    (λ c. search needs)
+    (λ c. search needs)
+    (λ c. search needs)
+    (λ c. search needs)
+    (λ c. search needs))

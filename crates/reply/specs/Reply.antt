@@ -1,0 +1,51 @@
+-- What the program writes for the frame that it reads: "It writes the text alone, or one line `refused N at P`, both decimal."
+use mathlib.Core.Path.{_≡_}
+use mathlib.Core.Bool.{cond}
+use mathlib.Core.Option.{Option, none, some}
+use mathlib.Core.List.{List, [], _∷_, _++_}
+use Prim.Native.Nat.{ℕ, zero, suc, _+_, _/_, _%_}
+use lib.Dec.{ltb}
+use lib.ListN.{length}
+use Rattle.refusals.specs.Refusals.{Refusal, first}
+use Rattle.rows.specs.Ascii.{bytes}
+use Rattle.cut.specs.Run.{onto}
+use Rattle.format.specs.File.{drawnDue, fileRefusal}
+use Rattle.file.specs.Whole.{sourceOf, imageOf, frameRefusal}
+
+-- a digit as a byte
+abbrev pub digit : ℕ → ℕ
+digit d = 0x30 + d
+
+-- a number in decimal, where it has k digits at most
+unfoldable pub decimalIn : ℕ → ℕ → List ℕ
+decimalIn zero n = []
+decimalIn (suc k) n = cond (ltb n 10) (digit n ∷ []) (decimalIn k (n / 10) ++ (digit (n % 10) ∷ []))
+
+-- a number of 64 bits has 20 digits at most
+abbrev pub decimal : ℕ → List ℕ
+decimal n = decimalIn 20 n
+
+-- "one line `refused N at P`, both decimal"
+abbrev pub refusedLine : Refusal → List ℕ
+refusedLine r = bytes "refused " ++ decimal (r .number) ++ bytes " at " ++ decimal (r .place) ++ bytes "\n"
+
+-- "65,536 output bytes"
+abbrev pub programRoom : ℕ
+programRoom = 65536
+
+-- 13 before all else, then what refuses the frame's file
+abbrev pub programRefusal : List ℕ → Option Refusal
+programRefusal frame = first (frameRefusal frame ∷ fileRefusal (sourceOf frame) (imageOf frame) programRoom ∷ [])
+
+abbrev pub replyBy : Option Refusal → List ℕ → List ℕ
+replyBy (some r) text = refusedLine r
+replyBy none text = text
+
+-- the bytes that a frame is answered with: the text of its file, as `Renderer` renders what `fmt_parsed` builds, or the refusal
+unfoldable pub reply : List ℕ → List ℕ
+reply frame = replyBy (programRefusal frame) (drawnDue (sourceOf frame) (imageOf frame) .text)
+
+-- n bytes are the reply, at the start of the output; behind them it is as it was
+pub record Replies (frame out : List ℕ) (n : ℕ) (out2 : List ℕ) : Type 0 where
+  pub bytes-due : n ≡ length (reply frame)
+  pub output-left : out2 ≡ onto (reply frame) out
