@@ -60,6 +60,9 @@ fn is_split(store: &[u32], row: usize, after: usize) -> bool
     ensures { λ r. ⌜ r ≡ isSplit (viewOf (now (store .entry))) row ⌝ }
 {
     let second = place(store, row, 3);
+    if second == after {
+        return true;
+    }
     if second <= row {
         return false;
     }
