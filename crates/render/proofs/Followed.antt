@@ -9,14 +9,15 @@ use mathlib.Core.List.{List, [], _++_}
 use lib.ListN.{length, set, length-append}
 use lib.Dec.{ltb, eqb}
 use Rattle.rows.specs.Node.{Nodes, wrapped}
-use Rattle.rows.specs.View.{View, viewOf, cell, nodesAt}
-use Rattle.rows.proofs.Decode.{nodeAt}
+use Rattle.rows.specs.View.{View, viewOf, cell, nodesAt, nodeAt}
 use Rattle.renderer.specs.declared.Frame.{Frame}
 use Rattle.renderer.specs.Page.{pageOf}
 use Rattle.renderer.specs.Renderer.{Page, Renderer, render, wraps, virtualColumn, groupWraps, trailing, calleeWraps, insert, indented, outdented}
 use Rattle.renderer.specs.Renderer.{nextIndented, nextOutdented}
-use Rattle.renderer.proofs.Meaning.{frameAt, partEnd, closing, wrapAt}
-use Rattle.renderer.proofs.Machine.{Machine, frame, opened, second, enter, enterGroup, enterIndent, enterNext, enterLeaf, enterIf, enterCall, leave, turn, enter-0, enter-1, enter-2, enter-leaf, enter-10, enter-11, turn-leave}
+use Rattle.renderer.specs.Frames.{frameAt, partEnd, wrapAt}
+use Rattle.renderer.specs.Machine.{closing}
+use Rattle.renderer.specs.Machine.{Machine, frame, opened, second, enter, enterGroup, enterIndent, enterNext, enterLeaf, enterIf, enterCall, leave, turn}
+use Rattle.renderer.proofs.Machine.{enter-0, enter-1, enter-2, enter-leaf, enter-10, enter-11, turn-leave}
 use Rattle.render.specs.declared.pen.Pen.{Pen}
 use Rattle.render.specs.Output.{over}
 use Rattle.render.specs.Pen.{shown, penAfter, withMargin, Drawn}

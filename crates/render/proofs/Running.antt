@@ -14,10 +14,13 @@ use Rattle.rows.proofs.Nested.{nests-le}
 use Rattle.renderer.specs.declared.Frame.{Frame}
 use Rattle.renderer.specs.Page.{pageOf}
 use Rattle.renderer.specs.Renderer.{Page, Renderer, renders}
-use Rattle.renderer.proofs.Meaning.{limit as partLimit, meaning, rest, wrapAt}
-use Rattle.renderer.proofs.Opened.{Under, limit-zero}
-use Rattle.renderer.proofs.Machine.{Machine, Fine, left, weight, means, turn, isDone, turned, done-means}
-use Rattle.renderer.proofs.Safe.{Safe, Small, steps, ins, turn-safe}
+use Rattle.renderer.specs.Frames.{limit as partLimit, wrapAt, Under}
+use Rattle.renderer.proofs.Meaning.{meaning, rest}
+use Rattle.renderer.proofs.Opened.{limit-zero}
+use Rattle.renderer.specs.Machine.{Machine, turn}
+use Rattle.renderer.proofs.Machine.{Fine, left, weight, means, isDone, turned, done-means}
+use Rattle.renderer.specs.Safe.{Safe, Small, steps, ins}
+use Rattle.renderer.proofs.Safe.{turn-safe}
 use Rattle.render.specs.declared.pen.Pen.{Pen}
 use Rattle.render.specs.Output.{over}
 use Rattle.render.specs.Run.{Running, stateOf, machineOf, Wrote, Shows, Follows, Ready, Starting, Rendered}

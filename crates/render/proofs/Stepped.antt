@@ -15,10 +15,12 @@ use Rattle.rows.proofs.Nested.{nests-le, nests-deep, nests-block, nests-pair, n
 use Rattle.renderer.specs.declared.Frame.{Frame}
 use Rattle.renderer.specs.Page.{pageOf}
 use Rattle.renderer.specs.Renderer.{Page, Renderer, indented, outdented, nextIndented, nextOutdented}
-use Rattle.renderer.proofs.Meaning.{frameAt, partEnd, closing, limit as partLimit, wrapAt}
-use Rattle.renderer.proofs.Opened.{Open, at-top, limit-zero, limit-pos, wrapAt-zero, wrapAt-pos}
-use Rattle.renderer.proofs.Machine.{frame, enter, turn, turn-enter, and-two}
-use Rattle.renderer.proofs.Safe.{steps, ins, stepOf, insOf, steps-le, closing-plain, closing-indent, closing-next, closing-call, indent-steps, next-steps, call-steps}
+use Rattle.renderer.specs.Frames.{frameAt, partEnd, limit as partLimit, wrapAt, Open}
+use Rattle.renderer.specs.Machine.{closing, frame, enter, turn}
+use Rattle.renderer.proofs.Opened.{at-top, limit-zero, limit-pos, wrapAt-zero, wrapAt-pos}
+use Rattle.renderer.proofs.Machine.{turn-enter, and-two}
+use Rattle.renderer.specs.Safe.{steps, ins, stepOf, insOf}
+use Rattle.renderer.proofs.Safe.{steps-le, closing-plain, closing-indent, closing-next, closing-call, indent-steps, next-steps, call-steps}
 use Rattle.render.specs.declared.pen.Pen.{Pen}
 use Rattle.render.specs.Pen.{shown, withMargin, Room}
 use Rattle.render.specs.declared.machine.Run.{Run}

@@ -10,10 +10,9 @@ use Rattle.rows.specs.Nesting.{Nested}
 use Rattle.renderer.specs.declared.Frame.{Frame}
 use Rattle.renderer.specs.Renderer.{Renderer, groupWraps, trailing, calleeWraps, outdented, nextIndented, nextOutdented}
 use Rattle.renderer.specs.Page.{pageOf}
-use Rattle.renderer.proofs.Meaning.{limit as partLimit}
-use Rattle.renderer.proofs.Opened.{At}
-use Rattle.renderer.proofs.Machine.{Machine, frame}
-use Rattle.renderer.proofs.Safe.{Safe, Small}
+use Rattle.renderer.specs.Frames.{limit as partLimit, At}
+use Rattle.renderer.specs.Machine.{Machine, frame}
+use Rattle.renderer.specs.Safe.{Safe, Small}
 use Rattle.render.specs.declared.pen.Pen.{Pen}
 use Rattle.render.specs.declared.machine.Run.{Run}
 use Rattle.render.specs.Output.{over}

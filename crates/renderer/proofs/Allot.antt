@@ -9,8 +9,9 @@ use lib.Dec.{ltb, leb, eqb}
 use borrow.Author.Tests.{lt-leb, leb-false}
 use Rattle.rows.specs.View.{View, nodesAt}
 use Rattle.renderer.specs.Renderer.{Page, groupWraps, insert}
-use Rattle.renderer.proofs.Meaning.{frameAt, closing, limit}
-use Rattle.renderer.proofs.Machine.{Machine, Fine, left, turn, leave, isDone, turned, spent, frame}
+use Rattle.renderer.specs.Frames.{frameAt, limit}
+use Rattle.renderer.specs.Machine.{Machine, frame, closing, leave, turn}
+use Rattle.renderer.proofs.Machine.{Fine, left, isDone, turned, spent}
 
 module _ (v : View) (pg : Page) (stop : ℕ) where
   -- rows entered, and allotments: n rows, then the closing of what they finished

@@ -11,23 +11,18 @@ use lib.ListN.{length, getD, set}
 use lib.Dec.{eqb}
 use borrow.Author.Tests.{ne-eqb, eq-eqb, eqb-true, eqb-false}
 use Rattle.rows.specs.Node.{Nodes, wrapped}
-use Rattle.rows.specs.View.{View, nodesAt}
+use Rattle.rows.specs.View.{View, nodesAt, nodeAt}
 use Rattle.rows.specs.Nesting.{Nests}
-use Rattle.rows.proofs.Decode.{nodeAt, nodes-none}
+use Rattle.rows.proofs.Decode.{nodes-none}
 use Rattle.rows.proofs.Nested.{nests-le, nests-two, nests-pair, nests-kind, nests-after, nests-deep}
 use Rattle.renderer.specs.declared.Frame.{Frame}
 use Rattle.renderer.specs.Renderer.{Page, Renderer, render, renders, groupWraps, insert, indented, nextIndented, trailing, calleeWraps}
-use Rattle.renderer.proofs.Meaning.{frameAt, partEnd, closing, limit, wrapAt, rest, meaning, pop, frame-other, frame-same, open-group}
+use Rattle.renderer.specs.Frames.{frameAt, partEnd, limit, wrapAt, Under, At}
+use Rattle.renderer.specs.Machine.{Machine, frame, opened, closing, enterGroup, enterIndent, enterNext, enterLeaf, enterIf, enterCall, enter, leave, turnAt, turn}
+use Rattle.renderer.specs.Safe.{bit}
+use Rattle.renderer.proofs.Meaning.{rest, meaning, pop, frame-other, frame-same, open-group}
 use Rattle.renderer.proofs.Meaning.{open-indent, open-next, open-if-first, open-if-second, open-call, call-on}
-use Rattle.renderer.proofs.Opened.{bit, At, Under, at-leaf, at-block, at-pop-suc, at-top-suc, advance-leaf, at-first, at-second, at-call, at-on}
-
--- open rows, how many, the next row, the state, the rows entered
-pub record Machine : Type 0 where
-  pub frames : List Frame
-  pub depth : ℕ
-  pub next : ℕ
-  pub state : Renderer
-  pub entered : ℕ
+use Rattle.renderer.proofs.Opened.{at-leaf, at-block, at-pop-suc, at-top-suc, advance-leaf, at-first, at-second, at-call, at-on}
 
 -- how many turns the open rows can still take
 unfoldable pub weight : List Frame → ℕ → ℕ
@@ -63,63 +58,7 @@ and-two false b e = absurd (let z : _≡_ {A = ℕ} 0 1 = cc in omega arith)
 abbrev pub left : ℕ → Machine → ℕ
 left stop m = (stop - m .next) * 3 + weight (m .frames) (m .depth)
 
-abbrev pub frame : ℕ → Bool → Bool → Bool → Frame
-frame i w e p = record { row = i; wrap = w; early = e; deep = p }
-
-abbrev pub opened : Machine → Frame → ℕ → Renderer → Machine
-opened m f k t = record { frames = set (m .frames) (m .depth) f; depth = suc (m .depth); next = k; state = t; entered = suc (m .entered) }
-
 module _ (v : View) (pg : Page) (stop : ℕ) where
-  -- row k's parts
-  abbrev pub first : ℕ → Nodes
-  first k = nodesAt v (suc k) (v .second k)
-
-  abbrev pub second : ℕ → Nodes
-  second k = nodesAt v (v .second k) (v .after k)
-
-  unfoldable pub enterGroup : Machine → Machine
-  enterGroup m =
-      let b = groupWraps pg (nodesAt v (suc (m .next)) (v .after (m .next))) (m .state) in
-      opened m (frame (m .next) b false false) (suc (m .next)) (insert b (v .number (m .next)) (m .state))
-
-  unfoldable pub enterIndent : Machine → Machine
-  enterIndent m = let w = wrapAt v pg stop (m .frames) (m .depth) in opened m (frame (m .next) w false false) (suc (m .next)) (indented w (m .state))
-
-  unfoldable pub enterNext : Machine → Machine
-  enterNext m = let w = wrapAt v pg stop (m .frames) (m .depth) in opened m (frame (m .next) w false false) (suc (m .next)) (nextIndented w (m .state))
-
-  unfoldable pub enterLeaf : Machine → Machine
-  enterLeaf m = record { frames = m .frames; depth = m .depth; next = suc (m .next); state = render pg (nodeAt v (m .next)) (wrapAt v pg stop (m .frames) (m .depth)) (m .state); entered = suc (m .entered) }
-
-  unfoldable pub enterIf : Machine → Machine
-  enterIf m =
-      let w = wrapAt v pg stop (m .frames) (m .depth) in
-      cond (wrapped (m .state .marks) (v .number (m .next)))
-      (opened m (frame (m .next) w true false) (suc (m .next)) (m .state))
-      (opened m (frame (m .next) w false false) (v .second (m .next)) (m .state))
-
-  unfoldable pub enterCall : Machine → Machine
-  enterCall m =
-      let t = trailing pg (first (m .next)) (second (m .next)) (m .state) in
-      let b = calleeWraps pg t (first (m .next)) (second (m .next)) (m .state) in
-      opened m (frame (m .next) b true (not t && b)) (suc (m .next)) (nextIndented (not t && b) (insert b (v .number (m .next)) (m .state)))
-
-  unfoldable pub enter : Machine → Machine
-  enter m =
-      getD
-      (enterGroup m ∷ enterIndent m ∷ enterNext m ∷ enterLeaf m ∷ enterLeaf m ∷ enterLeaf m ∷ enterLeaf m ∷ enterLeaf m ∷ enterLeaf m ∷ enterLeaf m ∷ enterIf m ∷ enterCall m ∷ [])
-      (v .kind (m .next))
-      m
-
-  -- frame k is the innermost: its row is closed, or a call's arguments are opened
-  unfoldable pub leave : Machine → ℕ → Machine
-  leave m k =
-      let f = frameAt (m .frames) k in
-      let c = groupWraps pg (nodesAt v (m .next) (v .after (f .row))) (m .state) in
-      cond (eqb (v .kind (f .row)) 11 && f .early)
-      (record { frames = set (m .frames) k (frame (f .row) c false (f .deep)); depth = suc k; next = m .next; state = insert c (v .number2 (f .row)) (m .state); entered = m .entered })
-      (record { frames = m .frames; depth = k; next = v .after (f .row); state = closing v pg f (m .state); entered = m .entered })
-
   abbrev pub means : Machine → Renderer
   means m = meaning v pg stop (m .frames) (m .depth) (m .next) (m .state)
 
@@ -130,11 +69,11 @@ module _ (v : View) (pg : Page) (stop : ℕ) where
     roomy : m .depth < length (m .frames)
     roomy = rw (a .size) (nests-deep (a .good) h)
 
-    leaf-same : 3 ≤ v .kind (m .next) → v .kind (m .next) ≤ 9 → means (enterLeaf m) ≡ means m
+    leaf-same : 3 ≤ v .kind (m .next) → v .kind (m .next) ≤ 9 → means (enterLeaf v pg stop m) ≡ means m
     unfolding enterLeaf
     leaf-same k l = ap (λ (j : ℕ). meaning v pg stop (m .frames) (m .depth) j (render pg (nodeAt v (m .next)) (wrapAt v pg stop (m .frames) (m .depth)) (m .state))) (sym (add-one (m .next))) ∙ advance-leaf v pg stop (m .frames) (m .depth) (m .next) (m .state) a h k l
 
-    if-same : v .kind (m .next) ≡ 10 → means (enterIf m) ≡ means m
+    if-same : v .kind (m .next) ≡ 10 → means (enterIf v pg stop m) ≡ means m
     unfolding enterIf
     if-same k = go (wrapped (m .state .marks) (v .number (m .next))) refl
       where
@@ -142,23 +81,23 @@ module _ (v : View) (pg : Page) (stop : ℕ) where
         go true e = open-if-first v pg stop (m .frames) (m .depth) (m .next) (m .state) roomy (nests-after (a .good) h) k (nests-two (a .good) h k .0) e
         go false e = open-if-second v pg stop (m .frames) (m .depth) (m .next) (m .state) roomy (nests-after (a .good) h) k (nests-two (a .good) h k .0) e
 
-    group-same : v .kind (m .next) ≡ 0 → means (enterGroup m) ≡ means m
+    group-same : v .kind (m .next) ≡ 0 → means (enterGroup v pg stop m) ≡ means m
     unfolding enterGroup
     group-same k = open-group v pg stop (m .frames) (m .depth) (m .next) (m .state) _ roomy (nests-after (a .good) h) k refl
 
-    indent-same : v .kind (m .next) ≡ 1 → means (enterIndent m) ≡ means m
+    indent-same : v .kind (m .next) ≡ 1 → means (enterIndent v pg stop m) ≡ means m
     unfolding enterIndent
     indent-same k = open-indent v pg stop (m .frames) (m .depth) (m .next) (m .state) roomy (nests-after (a .good) h) k
 
-    next-same : v .kind (m .next) ≡ 2 → means (enterNext m) ≡ means m
+    next-same : v .kind (m .next) ≡ 2 → means (enterNext v pg stop m) ≡ means m
     unfolding enterNext
     next-same k = open-next v pg stop (m .frames) (m .depth) (m .next) (m .state) roomy (nests-after (a .good) h) k
 
-    call-same : v .kind (m .next) ≡ 11 → means (enterCall m) ≡ means m
+    call-same : v .kind (m .next) ≡ 11 → means (enterCall v pg stop m) ≡ means m
     unfolding enterCall
     call-same k = open-call v pg stop (m .frames) (m .depth) (m .next) (m .state) _ _ roomy (nests-after (a .good) h) k (nests-pair (a .good) h k .split) refl refl
 
-    enter-same : (k : ℕ) → v .kind (m .next) ≡ k → means (enter m) ≡ means m
+    enter-same : (k : ℕ) → v .kind (m .next) ≡ k → means (enter v pg stop m) ≡ means m
     unfolding enter
     enter-same zero e = rw e (group-same e)
     enter-same (suc zero) e = rw e (indent-same e)
@@ -190,26 +129,26 @@ module _ (v : View) (pg : Page) (stop : ℕ) where
         let x = at-block v pg stop (m .frames) (m .depth) (m .next) f a h k e y in
         (subst (λ (n : ℕ). At v pg stop (set (m .frames) (m .depth) f) n (suc (m .next))) (add-one (m .depth)) (subst (λ (n : ℕ). At v pg stop (set (m .frames) (m .depth) f) (m .depth + 1) n) (add-one (m .next)) x), less-open f (suc (m .next)) (omega arith))
 
-    group-fine : v .kind (m .next) ≡ 0 → Fine (enterGroup m) × (left stop (enterGroup m) < left stop m)
+    group-fine : v .kind (m .next) ≡ 0 → Fine (enterGroup v pg stop m) × (left stop (enterGroup v pg stop m) < left stop m)
     unfolding enterGroup
     group-fine k = block-fine _ (m .state) (omega arith) refl refl
 
-    indent-fine : v .kind (m .next) ≡ 1 → Fine (enterIndent m) × (left stop (enterIndent m) < left stop m)
+    indent-fine : v .kind (m .next) ≡ 1 → Fine (enterIndent v pg stop m) × (left stop (enterIndent v pg stop m) < left stop m)
     unfolding enterIndent
     indent-fine k = block-fine _ (m .state) (omega arith) refl refl
 
-    next-fine : v .kind (m .next) ≡ 2 → Fine (enterNext m) × (left stop (enterNext m) < left stop m)
+    next-fine : v .kind (m .next) ≡ 2 → Fine (enterNext v pg stop m) × (left stop (enterNext v pg stop m) < left stop m)
     unfolding enterNext
     next-fine k = block-fine _ (m .state) (omega arith) refl refl
 
-    leaf-fine : 3 ≤ v .kind (m .next) → v .kind (m .next) ≤ 9 → Fine (enterLeaf m) × (left stop (enterLeaf m) < left stop m)
+    leaf-fine : 3 ≤ v .kind (m .next) → v .kind (m .next) ≤ 9 → Fine (enterLeaf v pg stop m) × (left stop (enterLeaf v pg stop m) < left stop m)
     unfolding enterLeaf
     leaf-fine k l =
         let x = at-leaf v pg stop (m .frames) (m .depth) (m .next) a h k l in
         let z = a .low in
         (subst (λ (n : ℕ). At v pg stop (m .frames) (m .depth) n) (add-one (m .next)) x, omega arith)
 
-    if-fine : v .kind (m .next) ≡ 10 → Fine (enterIf m) × (left stop (enterIf m) < left stop m)
+    if-fine : v .kind (m .next) ≡ 10 → Fine (enterIf v pg stop m) × (left stop (enterIf v pg stop m) < left stop m)
     unfolding enterIf
     if-fine k = go (wrapped (m .state .marks) (v .number (m .next)))
       where
@@ -221,11 +160,11 @@ module _ (v : View) (pg : Page) (stop : ℕ) where
         go true = (at-first v pg stop (m .frames) (m .depth) (m .next) (frame (m .next) w true false) a h k refl refl, less-open (frame (m .next) w true false) (suc (m .next)) (omega arith))
         go false = (at-second v pg stop (m .frames) (m .depth) (m .next) (frame (m .next) w false false) a h k refl refl, less-open (frame (m .next) w false false) (v .second (m .next)) (let u = nests-two (a .good) h k .0 .up in omega arith))
 
-    call-fine : v .kind (m .next) ≡ 11 → Fine (enterCall m) × (left stop (enterCall m) < left stop m)
+    call-fine : v .kind (m .next) ≡ 11 → Fine (enterCall v pg stop m) × (left stop (enterCall v pg stop m) < left stop m)
     unfolding enterCall
     call-fine k = (at-call v pg stop (m .frames) (m .depth) (m .next) _ a h k refl refl, less-open _ (suc (m .next)) (omega arith))
 
-    enter-fine : (k : ℕ) → v .kind (m .next) ≡ k → Fine (enter m) × (left stop (enter m) < left stop m)
+    enter-fine : (k : ℕ) → v .kind (m .next) ≡ k → Fine (enter v pg stop m) × (left stop (enter v pg stop m) < left stop m)
     unfolding enter
     enter-fine zero e = rw e (group-fine e)
     enter-fine (suc zero) e = rw e (indent-fine e)
@@ -246,7 +185,7 @@ module _ (v : View) (pg : Page) (stop : ℕ) where
     roomy-top : k < length (m .frames)
     roomy-top = let d = a .deep in rw (a .size) (omega arith)
 
-    leave-same : means (leave m k) ≡ meaning v pg stop (m .frames) (suc k) (m .next) (m .state)
+    leave-same : means (leave v pg stop m k) ≡ meaning v pg stop (m .frames) (suc k) (m .next) (m .state)
     unfolding leave partEnd
     leave-same = go (eqb (v .kind (frameAt (m .frames) k .row)) 11 && frameAt (m .frames) k .early) refl
       where
@@ -265,7 +204,7 @@ module _ (v : View) (pg : Page) (stop : ℕ) where
             call-on v pg stop (m .frames) k (m .next) (m .state) c roomy-top (eqb-true (v .kind (frameAt (m .frames) k .row)) 11 (x .0)) (x .1) (e ∙ rw (x .1)) refl
         go false q = sym (pop v pg stop (m .frames) k (m .next) (m .state) (omega arith))
 
-    leave-fine : Fine (leave m k) × (left stop (leave m k) < (stop - m .next) * 3 + weight (m .frames) (suc k))
+    leave-fine : Fine (leave v pg stop m k) × (left stop (leave v pg stop m k) < (stop - m .next) * 3 + weight (m .frames) (suc k))
     unfolding leave partEnd
     leave-fine = go (eqb (v .kind (frameAt (m .frames) k .row)) 11 && frameAt (m .frames) k .early) refl
       where
@@ -290,14 +229,6 @@ module _ (v : View) (pg : Page) (stop : ℕ) where
             let g = nests-le (at-top-suc v pg stop (m .frames) k (m .next) a .later) in
             (at-pop-suc v pg stop (m .frames) k (m .next) a, omega arith)
 
-  -- ONE TURN
-  unfoldable pub turnAt : ℕ → Machine → Machine
-  turnAt zero m = enter m
-  turnAt (suc k) m = cond (eqb (m .next) (partEnd v (frameAt (m .frames) k))) (leave m k) (enter m)
-
-  unfoldable pub turn : Machine → Machine
-  turn m = turnAt (m .depth) m
-
   unfoldable pub isDone : Machine → Bool
   isDone m = eqb (m .depth) 0 && eqb (m .next) stop
 
@@ -314,7 +245,7 @@ module _ (v : View) (pg : Page) (stop : ℕ) where
   unfolding limit
   limit-none fs = refl
 
-  entered : (m : Machine) → Fine m → m .next < limit v pg stop (m .frames) (m .depth) → Turned m (enter m)
+  entered : (m : Machine) → Fine m → m .next < limit v pg stop (m .frames) (m .depth) → Turned m (enter v pg stop m)
   entered m a h =
       let x = enter-fine m a h (v .kind (m .next)) refl in
       record { fine = x .0; less = x .1; same = enter-same m a h (v .kind (m .next)) refl }
@@ -336,7 +267,7 @@ module _ (v : View) (pg : Page) (stop : ℕ) where
       let l : limit v pg stop (m .frames) (m .depth) ≡ partEnd v (frameAt (m .frames) k) = ap (limit v pg stop (m .frames)) e ∙ limit-suc (m .frames) k in
       ne-lt (m .next) (limit v pg stop (m .frames) (m .depth)) (nests-le (a .good)) (λ z. n (z ∙ l))
 
-  turned-at : (d : ℕ) (m : Machine) → m .depth ≡ d → Fine m → isDone m ≡ false → Turned m (turnAt d m)
+  turned-at : (d : ℕ) (m : Machine) → m .depth ≡ d → Fine m → isDone m ≡ false → Turned m (turnAt v pg stop d m)
   unfolding turnAt
   turned-at zero m e a n = entered m a (not-done m a n e)
   turned-at (suc k) m e a n = go (eqb (m .next) (partEnd v (frameAt (m .frames) k))) refl
@@ -344,25 +275,25 @@ module _ (v : View) (pg : Page) (stop : ℕ) where
       a2 : At v pg stop (m .frames) (suc k) (m .next)
       a2 = subst (λ (d : ℕ). At v pg stop (m .frames) d (m .next)) e a
 
-      go : (b : Bool) → eqb (m .next) (partEnd v (frameAt (m .frames) k)) ≡ b → Turned m (cond b (leave m k) (enter m))
+      go : (b : Bool) → eqb (m .next) (partEnd v (frameAt (m .frames) k)) ≡ b → Turned m (cond b (leave v pg stop m k) (enter v pg stop m))
       go true q =
           let i = eqb-true (m .next) (partEnd v (frameAt (m .frames) k)) q in
           let x = leave-fine m k a2 i in
           record {
             fine = x .0;
-            less = subst (λ (d : ℕ). left stop (leave m k) < (stop - m .next) * 3 + weight (m .frames) d) (sym e) (x .1);
+            less = subst (λ (d : ℕ). left stop (leave v pg stop m k) < (stop - m .next) * 3 + weight (m .frames) d) (sym e) (x .1);
             same = leave-same m k a2 i ∙ ap (λ (d : ℕ). meaning v pg stop (m .frames) d (m .next) (m .state)) (sym e);
           }
       go false q = entered m a (in-part m k e a (eqb-false (m .next) (partEnd v (frameAt (m .frames) k)) q))
 
-  pub turned : (m : Machine) → Fine m → isDone m ≡ false → Turned m (turn m)
+  pub turned : (m : Machine) → Fine m → isDone m ≡ false → Turned m (turn v pg stop m)
   unfolding turn
   turned m a n = turned-at (m .depth) m refl a n
 
   -- turned to the end
   unfoldable pub run : ℕ → Machine → Machine
   run zero m = m
-  run (suc f) m = cond (isDone m) m (run f (turn m))
+  run (suc f) m = cond (isDone m) m (run f (turn v pg stop m))
 
   pub done-means : (m : Machine) → isDone m ≡ true → means m ≡ m .state
   unfolding isDone meaning rest limit renders
@@ -380,8 +311,8 @@ module _ (v : View) (pg : Page) (stop : ℕ) where
       let i : m .next ≡ stop = omega arith in
       rw (eq-eqb (m .depth) 0 d, eq-eqb (m .next) stop i)
 
-  run-step : (m : Machine) (f : ℕ) (b : Bool) → isDone m ≡ b → Fine m → left stop m ≤ suc f → (Fine (turn m) → left stop (turn m) ≤ f → run f (turn m) .state ≡ means (turn m))
-      → cond b m (run f (turn m)) .state ≡ means m
+  run-step : (m : Machine) (f : ℕ) (b : Bool) → isDone m ≡ b → Fine m → left stop m ≤ suc f → (Fine (turn v pg stop m) → left stop (turn v pg stop m) ≤ f → run f (turn v pg stop m) .state ≡ means (turn v pg stop m))
+      → cond b m (run f (turn v pg stop m)) .state ≡ means m
   run-step m f true q a l rec = sym (done-means m q)
   run-step m f false q a l rec = let t = turned m a q in let y = t .less in rec (t .fine) (omega arith) ∙ t .same
 
@@ -389,7 +320,7 @@ module _ (v : View) (pg : Page) (stop : ℕ) where
   pub run-means : (f : ℕ) (m : Machine) → Fine m → left stop m ≤ f → run f m .state ≡ means m
   unfolding run
   run-means zero m a l = sym (done-means m (spent m a l))
-  run-means (suc f) m a l = run-step m f (isDone m) refl a l (λ x y. run-means f (turn m) x y)
+  run-means (suc f) m a l = run-step m f (isDone m) refl a l (λ x y. run-means f (turn v pg stop m) x y)
 
 -- rows that nest, from any state: the machine's text, marks and numbers are those of the recursive rules on the tree of the rows
 pub machine-renders : (v : View) (pg : Page) (from stop : ℕ) (fs : List Frame) (st : Renderer) → Nests v from stop 0 → length fs ≡ 256
