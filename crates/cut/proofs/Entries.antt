@@ -7,8 +7,9 @@ use mathlib.Core.List.{List, _++_, append-nil}
 use Prim.Native.Nat.{ℕ, _*_}
 use lib.ListN.{length, drop}
 use lib.Seq.{take-append-seam}
-use Rattle.cut.specs.Rules.{Refusal, LayoutArgs, RenderArgs, Rules}
-use Rattle.cut.specs.Run.{onto, over, unless, Call, layoutCall, renderCall, Carried, accepted, call, answerBy, laidOut, written}
+use Rattle.refusals.specs.Refusals.{Refusal, unless}
+use Rattle.cut.specs.Rules.{LayoutArgs, RenderArgs, Rules}
+use Rattle.cut.specs.Run.{onto, over, Call, layoutCall, renderCall, Carried, accepted, call, answerBy, laidOut, written}
 use Rattle.cut.specs.Entries.{layoutNext, renderNext, leftNext, writtenOf, renderGives, entryCall}
 
 module _ (R : Rules) (w : Carried R) (out : List ℕ) where

@@ -11,7 +11,8 @@ use native.Mathlib.Omega.{arith}
 use lib.ListN.{length, length-append}
 use Rattle.cut.specs.Rules.{LayoutArgs, Laid}
 use Rattle.cut.specs.Laws.{LayoutAfter, thenLaid, LayoutLaws}
-use Rattle.cut.specs.Parts.{Cursor, LayoutState, layoutFresh, Piece, Parts, first, still, andThen}
+use Rattle.refusals.specs.Refusals.{first}
+use Rattle.cut.specs.Parts.{Cursor, LayoutState, layoutFresh, Piece, Parts, still, andThen}
 use Rattle.cut.specs.Parts.{begin, several, end, pieceOf, laidOf, layoutTable, rules}
 use Rattle.cut.specs.PartLaws.{Counts, LayoutPartLaws}
 use Rattle.cut.proofs.Table.{layout-told}

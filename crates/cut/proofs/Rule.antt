@@ -7,8 +7,9 @@ use mathlib.Core.List.{List, [], _∷_}
 use Prim.Native.Nat.{ℕ, _*_}
 use native.Mathlib.Omega.{arith}
 use lib.ListN.{length, drop}
-use Rattle.cut.specs.Rules.{Refusal, LayoutArgs, Rules}
-use Rattle.cut.specs.Run.{unless, Call, layoutCall, renderCall, Carried, start, refusal, rendered, accepted, call, run}
+use Rattle.refusals.specs.Refusals.{Refusal, unless}
+use Rattle.cut.specs.Rules.{LayoutArgs, Rules}
+use Rattle.cut.specs.Run.{Call, layoutCall, renderCall, Carried, start, refusal, rendered, accepted, call, run}
 use Rattle.cut.specs.Run.{Answer, answer, answers}
 use Rattle.cut.specs.Plain.{RenderedTo, Progress, atFirst, layoutDue, leftDue, due, plainCall, plain, answersDue, Accepted, AllReadLaid}
 use Rattle.cut.specs.Plain.{AllReadDue}

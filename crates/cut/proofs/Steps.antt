@@ -8,8 +8,9 @@ use Prim.Native.Nat.{ℕ, _-_, _*_, _≤_, _<_}
 use native.Mathlib.Omega.{arith}
 use native.Mathlib.Decide.{decLt}
 use lib.ListN.{length, take, drop, length-append}
-use Rattle.cut.specs.Rules.{Refusal, LayoutArgs, RenderArgs, Laid, Rendered, Rules}
-use Rattle.cut.specs.Run.{onto, unless, Call, layoutCall, renderCall, Carried, refusal, rendered, accepted, call}
+use Rattle.refusals.specs.Refusals.{Refusal, unless}
+use Rattle.cut.specs.Rules.{LayoutArgs, RenderArgs, Laid, Rendered, Rules}
+use Rattle.cut.specs.Run.{onto, Call, layoutCall, renderCall, Carried, refusal, rendered, accepted, call}
 use Rattle.cut.specs.Plain.{RenderedTo, Progress, layoutDue, renderDue, leftDue, laidDue, renderedDue, due, onward, plainCall, Accepted}
 use Rattle.cut.specs.Plain.{ReadsLaid}
 use Rattle.cut.specs.Laws.{thenLaid, LayoutLaws, SameBefore, thenRendered, RenderLaws}

@@ -9,8 +9,9 @@ use native.Mathlib.Omega.{arith}
 use borrow.Author.Tests.{ltb-false}
 use lib.Dec.{ltb}
 use lib.ListN.{length, getD}
-use Rattle.cut.specs.Rules.{Refusal, LayoutArgs, RenderArgs}
-use Rattle.cut.specs.Parts.{LayoutState, RenderState, Parts, first, when, whenFound, any, rowsIn}
+use Rattle.refusals.specs.Refusals.{Refusal, first, when, whenFound, any}
+use Rattle.cut.specs.Rules.{LayoutArgs, RenderArgs}
+use Rattle.cut.specs.Parts.{LayoutState, RenderState, Parts, rowsIn}
 use Rattle.cut.specs.Parts.{layoutTests, rowsNeeded, layoutTable, renderTests, marksNeeded, renderTable}
 
 -- line i of a table that refuses nothing

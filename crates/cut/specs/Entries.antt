@@ -5,7 +5,8 @@ use mathlib.Core.List.{List, [], _++_}
 use Prim.Native.Nat.{ℕ, _*_}
 use lib.ListN.{length, take}
 use Rattle.cut.specs.Rules.{LayoutArgs, RenderArgs, Rendered, Rules}
-use Rattle.cut.specs.Run.{onto, over, unless, Call, layoutCall, renderCall, Carried, Answer, refused, laidOut, written, answerBy}
+use Rattle.refusals.specs.Refusals.{unless}
+use Rattle.cut.specs.Run.{onto, over, Call, layoutCall, renderCall, Carried, Answer, refused, laidOut, written, answerBy}
 
 module _ (R : Rules) where
   -- a layout call's answer, and the store at exit

@@ -6,7 +6,8 @@ use mathlib.Core.List.{List, [], _∷_, _++_}
 use Prim.Native.Nat.{ℕ, zero, suc, _+_, _-_, _/_, max}
 use lib.Dec.{ltb, eqb}
 use lib.ListN.{length, take, replicate}
-use Rattle.cut.specs.Rules.{Refusal, LayoutArgs, RenderArgs, Laid, Rendered, Rules}
+use Rattle.refusals.specs.Refusals.{Refusal, when, whenFound, any, first}
+use Rattle.cut.specs.Rules.{LayoutArgs, RenderArgs, Laid, Rendered, Rules}
 
 -- the numbers that a step of layout changes
 pub record Cursor : Type 0 where
@@ -70,28 +71,6 @@ pub record Parts : Type 0 where
   pub needed : List ℕ → ℕ → ℕ → ℕ
   -- `Renderer` with its three numbers and marks enough, over the rows of a store from one up to a stop
   pub draw : Pen → List ℕ → List ℕ → ℕ → ℕ → Drawn
-
--- "Checked top to bottom": the first that refuses
-abbrev pub orElse : Option Refusal → Option Refusal → Option Refusal
-orElse (some r) rest = some r
-orElse none rest = rest
-
-abbrev pub first : List (Option Refusal) → Option Refusal
-first [] = none
-first (o ∷ os) = orElse o (first os)
-
--- a refusal with its number and place, where a test holds or a place is found
-abbrev pub when : Bool → ℕ → ℕ → Option Refusal
-when true n p = some (record { number = n; place = p })
-when false n p = none
-
-abbrev pub whenFound : Option ℕ → ℕ → Option Refusal
-whenFound (some p) n = some (record { number = n; place = p })
-whenFound none n = none
-
-abbrev pub any : List Bool → Bool
-any [] = false
-any (b ∷ bs) = b || any bs
 
 -- "A store has length / 9 rows, rounded down."
 abbrev pub rowsIn : List ℕ → ℕ

@@ -4,7 +4,8 @@ use mathlib.Core.Option.{Option, none, some}
 use mathlib.Core.List.{List, [], _∷_}
 use Prim.Native.Nat.{ℕ, _≤_, _<_}
 use Rattle.cut.specs.Rules.{LayoutArgs, Laid, Rendered, Rules}
-use Rattle.cut.specs.Run.{onto, unless, Call, layoutCall, renderCall, Carried, refusal, call, Answer, answer}
+use Rattle.refusals.specs.Refusals.{unless}
+use Rattle.cut.specs.Run.{onto, Call, layoutCall, renderCall, Carried, refusal, call, Answer, answer}
 
 -- How far rendering came: its stop, and "what else the accepted calls of a kind chose".
 pub record RenderedTo (Choice : Type 0) : Type 0 where

@@ -4,11 +4,7 @@ use mathlib.Core.Bool.{Bool}
 use mathlib.Core.Option.{Option}
 use mathlib.Core.List.{List}
 use Prim.Native.Nat.{ℕ}
-
--- "Number and place are all that comes back."
-pub record Refusal : Type 0 where
-  pub number : ℕ
-  pub place : ℕ
+use Rattle.refusals.specs.Refusals.{Refusal}
 
 -- "A layout call names the declaration to stop before and whether to close." `choice` is what "later tickets add".
 pub record LayoutArgs (Choice : Type 0) : Type 0 where

@@ -3,7 +3,8 @@ use mathlib.Core.Option.{Option, none, some}
 use mathlib.Core.List.{List, [], _∷_, _++_}
 use Prim.Native.Nat.{ℕ, _*_}
 use lib.ListN.{length, take, drop}
-use Rattle.cut.specs.Rules.{Refusal, LayoutArgs, RenderArgs, Rendered, Rules}
+use Rattle.refusals.specs.Refusals.{Refusal, unless}
+use Rattle.cut.specs.Rules.{LayoutArgs, RenderArgs, Rendered, Rules}
 
 -- xs written over the front of a memory: "Memory past what is written is untouched."
 abbrev pub onto : List ℕ → List ℕ → List ℕ
@@ -12,11 +13,6 @@ onto xs memory = xs ++ drop (length xs) memory
 -- xs written over a memory from place n on
 abbrev pub over : ℕ → List ℕ → List ℕ → List ℕ
 over n xs memory = take n memory ++ onto xs (drop n memory)
-
--- the first if the call is refused, the second if it is accepted
-abbrev pub unless : {A : Type 0} → Option Refusal → A → A → A
-unless (some r) same new = same
-unless none same new = new
 
 module _ (R : Rules) where
   pub data Call : Type 0 where

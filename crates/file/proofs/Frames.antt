@@ -11,9 +11,8 @@ use lib.Seq.{take-all}
 use borrow.Author.Tests.{le-leb, lt-leb}
 use Rattle.rows.specs.declared.store.Bytes.{Bytes}
 use Rattle.image.specs.Bytes.{be32}
-use Rattle.cut.specs.Rules.{Refusal}
-use Rattle.cut.specs.Run.{onto, unless}
-use Rattle.cut.specs.Parts.{when}
+use Rattle.refusals.specs.Refusals.{Refusal, unless, when}
+use Rattle.cut.specs.Run.{onto}
 use Rattle.format.specs.File.{drawnDue, fileRefusal, fileStore, fileMarks, fileOutput, formatted, fileAnswerBy, fileAnswer}
 use Rattle.file.specs.Whole.{answerOf, Formats, sourceOf, imageOf, frameFits, frameRefusal, FormatsFrame}
 use Rattle.file.specs.declared.Formatted.{Formatted}

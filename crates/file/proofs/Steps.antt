@@ -13,11 +13,11 @@ use Rattle.image.specs.declared.Answer.the-variants as checked
 use Rattle.rows.specs.Rows.{rows}
 use Rattle.rows.specs.declared.store.Bytes.{Bytes}
 use Rattle.comments.specs.Listed.{commentsOf}
-use Rattle.cut.specs.Rules.{Refusal}
-use Rattle.cut.specs.Run.{Answer, refused, laidOut, written, answerBy, unless, onto}
+use Rattle.refusals.specs.Refusals.{Refusal, unless, first, when}
+use Rattle.cut.specs.Run.{Answer, refused, laidOut, written, answerBy, onto}
 use Rattle.cut.specs.Entries.{layoutAnswer, layoutStore, renderAnswer, renderMarks, renderOutput}
 use Rattle.cut.specs.Parts as cut
-use Rattle.cut.specs.Parts.{first, when, layoutFresh, renderFresh, renderTable}
+use Rattle.cut.specs.Parts.{layoutFresh, renderFresh, renderTable}
 use Rattle.format.specs.Parts.{parts, refusalOf}
 use Rattle.format.specs.Demands.{rulesOf}
 use Rattle.format.specs.File.{built, rowsDue, marksDue, drawnDue, laidRefusal, fileRefusal, fileStore, fileMarks, fileOutput, formatted, fileAnswerBy}

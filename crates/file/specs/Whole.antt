@@ -7,9 +7,7 @@ use Prim.Native.Nat.{ℕ, _+_}
 use lib.Dec.{leb}
 use lib.ListN.{length, take, drop}
 use Rattle.image.specs.Bytes.{be32}
-use Rattle.cut.specs.Rules.{Refusal}
-use Rattle.cut.specs.Run.{unless}
-use Rattle.cut.specs.Parts.{when}
+use Rattle.refusals.specs.Refusals.{Refusal, unless, when}
 use Rattle.format.specs.File.{fileStore, fileMarks, fileOutput, FileAnswer, refused, formatted, fileAnswerBy, fileAnswer}
 use Rattle.file.specs.declared.Formatted.{Formatted}
 use Rattle.file.specs.declared.Formatted.the-variants as answer

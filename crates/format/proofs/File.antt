@@ -20,11 +20,12 @@ use Rattle.rows.proofs.Sizes.{length-rows}
 use Rattle.marks.specs.Marks.{marksNeeded}
 use Rattle.comments.specs.Listed.{commentsOf}
 use Rattle.renderer.specs.Check.{wrongPlace}
-use Rattle.cut.specs.Rules.{Refusal, LayoutArgs, RenderArgs, Laid, Rendered}
+use Rattle.refusals.specs.Refusals.{Refusal, unless, first, when, whenFound, any}
+use Rattle.cut.specs.Rules.{LayoutArgs, RenderArgs, Laid, Rendered}
 use Rattle.cut.specs.Laws.{SameBefore}
-use Rattle.cut.specs.Run.{onto, unless, answerBy, laidOut, written}
+use Rattle.cut.specs.Run.{onto, answerBy, laidOut, written}
 use Rattle.cut.specs.Entries.{layoutAnswer, layoutStore, renderGives, renderAnswer, renderMarks, renderOutput}
-use Rattle.cut.specs.Parts.{LayoutState, RenderState, layoutFresh, renderFresh, first, when, whenFound, any, rowsIn, layoutTests, rowsNeeded, drawnOf}
+use Rattle.cut.specs.Parts.{LayoutState, RenderState, layoutFresh, renderFresh, rowsIn, layoutTests, rowsNeeded, drawnOf}
 use Rattle.cut.specs.Parts.{renderTests, renderTable}
 use Rattle.format.specs.Parts.{refusalOf, renderImage, treeOf, drawn, parts}
 use Rattle.format.specs.Demands.{rulesOf, laidTo}

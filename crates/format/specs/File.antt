@@ -14,9 +14,9 @@ use Rattle.comments.specs.Listed.{commentsOf, given}
 use Rattle.layout.specs.Layout.{fmtParsed}
 use Rattle.facts.specs.Accepted.{fresh}
 use Rattle.renderer.specs.Renderer.{renders}
-use Rattle.cut.specs.Rules.{Refusal}
-use Rattle.cut.specs.Run.{onto, unless}
-use Rattle.cut.specs.Parts.{Drawn, renderFresh, first, when, rowsIn}
+use Rattle.refusals.specs.Refusals.{Refusal, unless, first, when}
+use Rattle.cut.specs.Run.{onto}
+use Rattle.cut.specs.Parts.{Drawn, renderFresh, rowsIn}
 use Rattle.format.specs.Parts.{refusalOf, treeOf, rendererOf, drawnBy, page}
 
 module _ (s b : List ℕ) where

@@ -21,9 +21,9 @@ use Rattle.layout.specs.Layout.{shebangRule, declaration}
 use Rattle.renderer.specs.Renderer.{Page, Renderer, renders}
 use Rattle.renderer.specs.Page.{pageOf}
 use Rattle.renderer.specs.Check.{wrongPlace}
-use Rattle.cut.specs.Rules.{Refusal}
+use Rattle.refusals.specs.Refusals.{Refusal, first, when}
 use Rattle.cut.specs.CutRule.{Text}
-use Rattle.cut.specs.Parts.{Cursor, Piece, Pen, Drawn, Parts, first, when}
+use Rattle.cut.specs.Parts.{Cursor, Piece, Pen, Drawn, Parts}
 
 -- ---- source and image
 -- 1 to 7

@@ -21,10 +21,10 @@ use Rattle.state.specs.declared.Cursor.{Cursor}
 use Rattle.comments.specs.Listed.{given}
 use Rattle.facts.proofs.InOrder.{places-call}
 use Rattle.cut.specs.Rules as cut
-use Rattle.cut.specs.Rules.{Refusal}
-use Rattle.cut.specs.Run.{over, onto, unless, Answer, refused, laidOut, answerBy}
+use Rattle.refusals.specs.Refusals.{Refusal, unless, any, first, when}
+use Rattle.cut.specs.Run.{over, onto, Answer, refused, laidOut, answerBy}
 use Rattle.cut.specs.Parts as states
-use Rattle.cut.specs.Parts.{Piece, any, first, when, rowsIn, layoutTests, layoutTable, rowsNeeded, pieceOf as callPiece, laidOf}
+use Rattle.cut.specs.Parts.{Piece, rowsIn, layoutTests, layoutTable, rowsNeeded, pieceOf as callPiece, laidOf}
 use Rattle.format.specs.Parts.{refusalOf, parts, pieceOf}
 use Rattle.format.specs.Demands.{rulesOf}
 use Rattle.format.proofs.Whole.{call-piece}

@@ -8,7 +8,8 @@ use native.Mathlib.Omega.{arith}
 use native.Mathlib.Decide.{decLe}
 use lib.Dec.{ltb, leb, eqb}
 use borrow.Author.Tests.{lt-ltb, le-ltb, le-leb, lt-leb, ltb-false, not-true, not-false}
-use Rattle.cut.specs.Parts.{Parts, any, allZero, rowsIn, layoutTests}
+use Rattle.refusals.specs.Refusals.{any}
+use Rattle.cut.specs.Parts.{Parts, allZero, rowsIn, layoutTests}
 use Rattle.laying.specs.Calls.{toState, args}
 use Rattle.laying.specs.declared.LayoutState.{LayoutState}
 

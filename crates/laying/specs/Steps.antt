@@ -13,7 +13,8 @@ use Rattle.state.specs.Act.{Act}
 use Rattle.comments.specs.Listed.{given}
 use Rattle.facts.specs.Accepted.{callRule}
 use Rattle.state.specs.declared.Cursor.{Cursor}
-use Rattle.cut.specs.Parts.{any, rowsIn, layoutTests, rowsNeeded}
+use Rattle.refusals.specs.Refusals.{any}
+use Rattle.cut.specs.Parts.{rowsIn, layoutTests, rowsNeeded}
 use Rattle.format.specs.Parts.{treeOf, parts}
 use Rattle.laying.specs.Calls.{toState, args}
 use Rattle.laying.specs.declared.LayoutState.{LayoutState}

@@ -5,7 +5,8 @@ ghost use mathlib.Core.List.{List, [], _∷_};
 ghost use Prim.Native.Nat.{ℕ};
 ghost use lib.Dec.{ltb, eqb};
 ghost use lib.ListN.{take, drop};
-ghost use Rattle.cut.specs.Parts.{Parts, any, allZero, rowsIn, layoutTests};
+ghost use Rattle.refusals.specs.Refusals.{any};
+ghost use Rattle.cut.specs.Parts.{Parts, allZero, rowsIn, layoutTests};
 ghost use Rattle.laying.specs.Calls.{toState, args};
 use crate::LayoutState;
 

@@ -11,8 +11,8 @@ use lib.Dec.{ltb}
 use borrow.Author.Tests.{ltb-false}
 use Rattle.rows.specs.View.{viewOf}
 use Rattle.renderer.specs.Check.{wrongPlace}
-use Rattle.cut.specs.Rules.{Refusal}
-use Rattle.cut.specs.Parts.{any, first, when, whenFound, oddMark, renderTests}
+use Rattle.refusals.specs.Refusals.{Refusal, any, first, when, whenFound}
+use Rattle.cut.specs.Parts.{oddMark, renderTests}
 use Rattle.marks.specs.Marks.{marksNeeded}
 use Rattle.format.specs.Parts.{parts, renderImage}
 use Rattle.rendering.specs.Calls.{toState, args, beforeRun}

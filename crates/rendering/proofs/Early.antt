@@ -10,8 +10,8 @@ use lib.ListN.{length}
 use lib.Dec.{ltb}
 use borrow.Author.Tests.{lt-ltb, le-ltb}
 use Rattle.renderer.specs.Check.{wrongPlace}
-use Rattle.cut.specs.Rules.{Refusal}
-use Rattle.cut.specs.Parts.{any, first, orElse, when, whenFound, renderTests}
+use Rattle.refusals.specs.Refusals.{Refusal, any, first, orElse, when, whenFound}
+use Rattle.cut.specs.Parts.{renderTests}
 use Rattle.marks.specs.Marks.{marksNeeded}
 use Rattle.format.specs.Parts.{parts, renderImage}
 use Rattle.rendering.specs.Calls.{toState, args, beforeMarks, beforeRun}

@@ -8,8 +8,8 @@ use Prim.Native.Nat.{ℕ, _/_, _≤_, _<_}
 use lib.ListN.{length, take, drop}
 use lib.Dec.{ltb}
 use borrow.Author.Tests.{lt-ltb, le-ltb, not-true, not-false}
-use Rattle.cut.specs.Rules.{Refusal}
-use Rattle.cut.specs.Parts.{Parts, any, first, when, oddMark, renderTests, renderTable}
+use Rattle.refusals.specs.Refusals.{Refusal, any, first, when}
+use Rattle.cut.specs.Parts.{Parts, oddMark, renderTests, renderTable}
 use Rattle.format.specs.Parts.{parts}
 use Rattle.rendering.specs.Calls.{toState, args, refusalOf}
 use Rattle.rendering.specs.declared.RenderState.{RenderState}

@@ -14,7 +14,8 @@ use borrow.Author.Tests.{lt-ltb, le-ltb, le-leb, lt-leb, ltb-false, leb-true}
 use Rattle.renderer.specs.Check.{wrongPlace}
 use Rattle.rowcheck.specs.Found.{foundOf}
 use Rattle.rowcheck.specs.declared.Found.the-variants.{Right, Wrong}
-use Rattle.cut.specs.Parts.{any, oddMark}
+use Rattle.refusals.specs.Refusals.{any}
+use Rattle.cut.specs.Parts.{oddMark}
 
 -- ---- marks in use
 odd-next : (i n : ℕ) (m : List ℕ) → i < length m → oddMark (take (suc n) (drop i m)) ≡ (ltb 1 (getD m i 0) || oddMark (take n (drop (suc i) m)))

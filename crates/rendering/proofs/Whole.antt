@@ -7,12 +7,13 @@ use Prim.Native.Nat.{ℕ, _≤_, _<_}
 use lib.ListN.{length}
 use lib.Dec.{ltb}
 use borrow.Author.Tests.{lt-ltb, le-ltb}
-use Rattle.cut.specs.Rules.{Refusal, Rendered}
-use Rattle.cut.specs.Run.{onto, unless, Answer, refused, written, answerBy}
+use Rattle.refusals.specs.Refusals.{Refusal, unless, first, orElse, when, any, whenFound}
+use Rattle.cut.specs.Rules.{Rendered}
+use Rattle.cut.specs.Run.{onto, Answer, refused, written, answerBy}
 use Rattle.cut.specs.Entries.{renderGives}
 use Rattle.cut.specs.Parts as cut
 use Rattle.rows.specs.declared.store.Bytes.{Bytes}
-use Rattle.cut.specs.Parts.{first, orElse, when, bytesNeeded, renderTable}
+use Rattle.cut.specs.Parts.{bytesNeeded, renderTable}
 use Rattle.renderer.specs.Check.{wrongPlace}
 use Rattle.format.specs.Parts.{parts, renderImage}
 use Rattle.format.specs.Demands.{rulesOf}
@@ -42,8 +43,8 @@ module _ (s b : List ℕ) (state : RenderState) (stop : ℕ) (store marks out : 
   split =
       four-then
       (renderImage s b)
-      (cut.whenFound (wrongPlace s b store (state .row) stop) 11)
-      (when (cut.any (cut.renderTests (parts s b) (args stop 0) (toState state) store marks)) 12 0)
+      (whenFound (wrongPlace s b store (state .row) stop) 11)
+      (when (any (cut.renderTests (parts s b) (args stop 0) (toState state) store marks)) 12 0)
       (when (ltb (length marks) (cut.marksNeeded (parts s b) (args stop 0) (toState state) store)) 9 (cut.marksNeeded (parts s b) (args stop 0) (toState state) store))
       (when (ltb (length out) bytes) 10 bytes)
 

@@ -4,7 +4,8 @@ use mathlib.Core.Option.{Option, none, some}
 use mathlib.Core.List.{List}
 use Prim.Native.Nat.{ℕ}
 use lib.ListN.{take}
-use Rattle.cut.specs.Rules.{Refusal, RenderArgs}
+use Rattle.refusals.specs.Refusals.{Refusal, first}
+use Rattle.cut.specs.Rules.{RenderArgs}
 use Rattle.cut.specs.Run.{Answer, refused, written}
 use Rattle.cut.specs.Parts as cut
 use Rattle.format.specs.Parts.{parts}
@@ -39,8 +40,8 @@ refusalOf (verdict.Refused n p) = some (record { number = n; place = p })
 
 -- "rendering 1, 3 by the same tests, then 11, 12": the first entries of the table
 abbrev pub beforeMarks : List ℕ → List ℕ → ℕ → cut.RenderState → List ℕ → List ℕ → Option Refusal
-beforeMarks s b stop state store marks = cut.first (take 3 (cut.renderTable (parts s b) (args stop 0) state store marks))
+beforeMarks s b stop state store marks = first (take 3 (cut.renderTable (parts s b) (args stop 0) state store marks))
 
 -- "rendering 1, 3 by the same tests, then 11, 12, 9": the table but for its last entry, 10, which alone reads the room
 abbrev pub beforeRun : List ℕ → List ℕ → ℕ → cut.RenderState → List ℕ → List ℕ → Option Refusal
-beforeRun s b stop state store marks = cut.first (take 4 (cut.renderTable (parts s b) (args stop 0) state store marks))
+beforeRun s b stop state store marks = first (take 4 (cut.renderTable (parts s b) (args stop 0) state store marks))

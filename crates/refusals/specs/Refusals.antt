@@ -1,0 +1,38 @@
+-- Document 01, "When a call is turned down": a refusal, and the table's order.
+use mathlib.Core.Bool.{Bool, true, false, _||_}
+use mathlib.Core.Option.{Option, none, some}
+use mathlib.Core.List.{List, [], _∷_}
+use Prim.Native.Nat.{ℕ}
+
+-- "Number and place are all that comes back."
+pub record Refusal : Type 0 where
+  pub number : ℕ
+  pub place : ℕ
+
+-- a refusal with its number and place, where a test holds or a place is found
+abbrev pub when : Bool → ℕ → ℕ → Option Refusal
+when true n p = some (record { number = n; place = p })
+when false n p = none
+
+abbrev pub whenFound : Option ℕ → ℕ → Option Refusal
+whenFound (some p) n = some (record { number = n; place = p })
+whenFound none n = none
+
+-- a cause with several tests: one of them holds
+abbrev pub any : List Bool → Bool
+any [] = false
+any (b ∷ bs) = b || any bs
+
+-- "Checked top to bottom": the first that refuses
+abbrev pub orElse : Option Refusal → Option Refusal → Option Refusal
+orElse (some r) rest = some r
+orElse none rest = rest
+
+abbrev pub first : List (Option Refusal) → Option Refusal
+first [] = none
+first (o ∷ os) = orElse o (first os)
+
+-- "Left as it was: all": the first where a call is refused, the second where it is accepted
+abbrev pub unless : {A : Type 0} → Option Refusal → A → A → A
+unless (some r) same new = same
+unless none same new = new
