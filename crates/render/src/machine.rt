@@ -20,16 +20,18 @@ use crate::measure::width_past;
 use crate::pen::Pen;
 use crate::pen::comment;
 use crate::pen::empty_line;
+use crate::pen::margin_columns;
 use crate::pen::new_line;
 use crate::pen::numbers;
 use crate::pen::pen_of;
 use crate::pen::space;
 use crate::pen::text;
 use renderer::Frame;
-use rows::store::Bytes;
 use rows::store::Columns;
 use rows::store::ascii_columns;
 use rows::store::place;
+use rows::store::str_width;
+use rows::store::text_size;
 use rows::store::wide;
 use rows::width::is_wrapped;
 use rows::width::must_wrap;
@@ -49,7 +51,7 @@ fn virtual_column(p: Pen) -> Columns
     if 0 < p.column.0 {
         return p.column;
     }
-    Columns(4 * p.indent)
+    margin_columns(p.indent)
 }
 
 // Whether the group of the rows from `from` up to `to` wraps.
@@ -128,7 +130,8 @@ fn with_margin(p: Pen, indent: usize, next_indent: usize) -> Pen
     ensures { λ r. ⌜ r ≡ record { indent = indent; «next_indent» = «next_indent»; column = p .column; at = p .at } ⌝ }
 {
     let n = crate::lent::with_margin(numbers(p), indent, next_indent);
-    pen_of(n, p.at.0)
+    let at = p.at;
+    pen_of(n, at)
 }
 
 // `indent` one more, where `wrap` holds.
@@ -377,23 +380,13 @@ fn text_leaf(
 {
     let origin = place(store, row, 5);
     let start = place(store, row, 6);
-    let size = place(store, row, 7);
+    let size = text_size(store, row);
     if kind == 4 {
         return comment(p, out, limit, source, image, origin, start, size);
     }
     if kind == 5 {
-        let w = place(store, row, 8);
-        return text(
-            p,
-            out,
-            limit,
-            source,
-            image,
-            origin,
-            start,
-            size,
-            Columns(w),
-        );
+        let w = str_width(store, row);
+        return text(p, out, limit, source, image, origin, start, size, w);
     }
     text(
         p,
@@ -404,7 +397,7 @@ fn text_leaf(
         origin,
         start,
         size,
-        ascii_columns(Bytes(size)),
+        ascii_columns(size),
     )
 }
 

@@ -17,7 +17,8 @@ use Rattle.rows.proofs.Decode.{nodes-none, nodes-some, node-group, node-indent,
 use Rattle.rows.proofs.Decode.{node-line, node-empty, node-space, node-if, node-call}
 use Rattle.rows.proofs.Nested.{nests-le, leaf-within}
 use Rattle.renderer.specs.Most.{rowMost, rowsMost}
-use Rattle.renderer.specs.Page.{originText, textBytes, pageOf}
+use Rattle.rows.specs.Texts.{originText}
+use Rattle.renderer.specs.Page.{textBytes, pageOf}
 use Rattle.renderer.specs.Renderer.{Page, Renderer, push, atColumn, newLine, margin, remark, text, insert, indented, outdented, nextIndented}
 use Rattle.renderer.specs.Renderer.{nextOutdented, groupWraps, trailing, calleeWraps, render, renders}
 use Rattle.renderer.proofs.Margin.{render-kept, renders-kept}

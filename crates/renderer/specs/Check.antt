@@ -7,7 +7,7 @@ use mathlib.Core.Option.{Option, some, none}
 use lib.ListN.{length, getD}
 use lib.Dec.{ltb, leb, eqb}
 use Rattle.rows.specs.View.{View, cell, viewOf}
-use Rattle.renderer.specs.Page.{originText}
+use Rattle.rows.specs.Texts.{originText}
 
 -- row b is reached from row a, row after row, in f steps at most
 unfoldable pub reaches : ℕ → View → ℕ → ℕ → Bool

@@ -12,7 +12,7 @@ use borrow.Author.Tests.{lt-ltb, le-ltb, le-leb, lt-leb, eq-eqb, ne-eqb}
 use Rattle.rows.specs.View.{View, cell, viewOf}
 use Rattle.renderer.specs.Check.{reaches, isLeaf, hasTwo, isSplit, partsFit, usesNumber, usesNumber2, usesSecond, usesText, textFits, noTextFits}
 use Rattle.renderer.specs.Check.{placesFit, rowFits}
-use Rattle.renderer.specs.Page.{originText}
+use Rattle.rows.specs.Texts.{originText}
 
 pub and-false : (a b : Bool) → b ≡ false → (a && b) ≡ false
 and-false true b e = e
