@@ -5,7 +5,7 @@ use mathlib.Core.Bool.{Bool, true, false, cond}
 use Rattle.rows.specs.Node.{Nodes, group, indentNext, call, none, _then_, join}
 use Rattle.renderer.specs.Renderer.{Page, Renderer, render, trailing}
 
--- the two branches: callee and arguments as a group each, or as one group whose parts are the callee's and then the group of the arguments
+-- the two branches: callee and arguments are a group each, or one group, an `IndentNext` of the callee's nodes and the group of the arguments
 unfoldable pub callOfRust : Page → ℕ → Nodes → ℕ → Nodes → Bool → Renderer → Renderer
 callOfRust p n e k a wrap r =
     cond (trailing p e a r)
