@@ -58,7 +58,7 @@ module _ (store source image : List ℕ) (max limit stop : ℕ) where
     pub entered : ℕ
     pub wrote : Wrote limit out0 out (r .pen .at .0) text
     pub fine : Fine v pg stop (machineOf r marks text entered)
-    pub safe : Safe v pg stop base (machineOf r marks text entered)
+    pub safe : Safe v base (machineOf r marks text entered)
     pub mean : means v pg stop (machineOf r marks text entered) ≡ final
 
   pub going-start : (out marks : List ℕ) (p : Pen) (from : ℕ) (fs : List Frame) → length fs ≡ 256 → Small v pg → Starting store limit from stop out p
@@ -117,11 +117,11 @@ module _ (store source image : List ℕ) (max limit stop : ℕ) where
         go true e = e
         go false e = refl
 
-    module _ (marks2 out2 : List ℕ) (q : Running) (f : Follows limit (turn v pg stop) marks out r marks2 out2 q) (n : (0 < r .depth) ⊎ (r .next < stop)) where
+    module _ (marks2 out2 : List ℕ) (q : Running) (f : Follows limit (turn v pg) marks out r marks2 out2 q) (n : (0 < r .depth) ⊎ (r .next < stop)) where
       m : Machine
-      m = turn v pg stop (machineOf r marks (g .text) (g .entered))
+      m = turn v pg (machineOf r marks (g .text) (g .entered))
 
-      shown : Shows limit out0 marks2 out2 q (turn v pg stop (machineOf r marks (g .text) (g .entered)))
+      shown : Shows limit out0 marks2 out2 q (turn v pg (machineOf r marks (g .text) (g .entered)))
       shown = f .goes out0 (g .text) (g .entered) (g .wrote)
 
       pub going-on : Going final out0 marks2 out2 q
@@ -135,11 +135,11 @@ module _ (store source image : List ℕ) (max limit stop : ℕ) where
             small = g .small;
             base = g .base;
             low = g .low;
-            text = turn v pg stop (machineOf r marks (g .text) (g .entered)) .state .buf;
-            entered = turn v pg stop (machineOf r marks (g .text) (g .entered)) .entered;
+            text = turn v pg (machineOf r marks (g .text) (g .entered)) .state .buf;
+            entered = turn v pg (machineOf r marks (g .text) (g .entered)) .entered;
             wrote = s .wrote;
             fine = subst (λ (x : Machine). Fine v pg stop x) (s .same) (t .fine);
-            safe = subst (λ (x : Machine). Safe v pg stop (g .base) x) (s .same) (turn-safe v pg stop (g .base) (machineOf r marks (g .text) (g .entered)) (g .fine) (not-done n) (g .small) (g .low) (g .safe));
+            safe = subst (λ (x : Machine). Safe v (g .base) x) (s .same) (turn-safe v pg stop (g .base) (machineOf r marks (g .text) (g .entered)) (g .fine) (not-done n) (g .small) (g .low) (g .safe));
             mean = ap (means v pg stop) (sym (s .same)) ∙ t .same ∙ g .mean;
           }
 

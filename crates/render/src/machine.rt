@@ -477,8 +477,8 @@ fn enter(
     max: usize,
     stop: usize,
 ) -> Run
-    requires { ⌜ Entering (now store) (now source) (now image) max limit stop (now marks) (now out) (whole (now frames) r) × (wrap ≡ wrapAt (viewOf (now store)) (pageOf max (now source) (now image)) stop (map unpacked (now frames)) (r .depth)) ⌝ }
-    ensures { λ q. ⌜ Follows limit (enter (viewOf (now (store .entry))) (pageOf max (now (source .entry)) (now (image .entry))) stop) (now (marks .entry)) (now (out .entry)) (whole (now (frames .entry)) r) (now (marks .exit)) (now (out .exit)) (whole (now (frames .exit)) q) ⌝ }
+    requires { ⌜ Entering (now store) (now source) (now image) max limit stop (now marks) (now out) (whole (now frames) r) × (wrap ≡ wrapAt (map unpacked (now frames)) (r .depth)) ⌝ }
+    ensures { λ q. ⌜ Follows limit (enter (viewOf (now (store .entry))) (pageOf max (now (source .entry)) (now (image .entry)))) (now (marks .entry)) (now (out .entry)) (whole (now (frames .entry)) r) (now (marks .exit)) (now (out .exit)) (whole (now (frames .exit)) q) ⌝ }
 {
     let i = r.next;
     let p = r.pen;
@@ -563,7 +563,7 @@ fn step(
     stop: usize,
 ) -> Run
     requires { ⌜ Ready (now store) (now source) (now image) max limit stop (now marks) (now out) (whole (now frames) r) × (r .depth ≡ 0 → r .next < stop) ⌝ }
-    ensures { λ q. ⌜ Follows limit (turn (viewOf (now (store .entry))) (pageOf max (now (source .entry)) (now (image .entry))) stop) (now (marks .entry)) (now (out .entry)) (whole (now (frames .entry)) r) (now (marks .exit)) (now (out .exit)) (whole (now (frames .exit)) q) ⌝ }
+    ensures { λ q. ⌜ Follows limit (turn (viewOf (now (store .entry))) (pageOf max (now (source .entry)) (now (image .entry)))) (now (marks .entry)) (now (out .entry)) (whole (now (frames .entry)) r) (now (marks .exit)) (now (out .exit)) (whole (now (frames .exit)) q) ⌝ }
 {
     let f = innermost(frames, r.depth);
     if is_done(store, f, r.depth, r.next) {

@@ -7,7 +7,6 @@ use lib.ListN.{length, getD}
 use Rattle.rows.specs.View.{View}
 use Rattle.rows.specs.Nesting.{Nests}
 use Rattle.renderer.specs.declared.Frame.{Frame}
-use Rattle.renderer.specs.Renderer.{Page}
 
 -- what is read where no row is open
 abbrev pub noFrame : Frame
@@ -21,15 +20,16 @@ frameAt fs d = getD fs d noFrame
 unfoldable pub partEnd : View → Frame → ℕ
 partEnd v f = cond (f .early) (v .second (f .row)) (v .after (f .row))
 
-module _ (v : View) (pg : Page) (stop : ℕ) where
-  -- where the open part of the innermost of d open rows ends, and whether it wraps
+-- whether the open part of the innermost of d open rows wraps
+unfoldable pub wrapAt : List Frame → ℕ → Bool
+wrapAt fs zero = true
+wrapAt fs (suc d) = frameAt fs d .wrap
+
+module _ (v : View) (stop : ℕ) where
+  -- where that part ends
   unfoldable pub limit : List Frame → ℕ → ℕ
   limit fs zero = stop
   limit fs (suc d) = partEnd v (frameAt fs d)
-
-  unfoldable pub wrapAt : List Frame → ℕ → Bool
-  wrapAt fs zero = true
-  wrapAt fs (suc d) = frameAt fs d .wrap
 
   -- the row that frame d has open, with d rows around it
   pub record Open (fs : List Frame) (d : ℕ) : Type 0 where

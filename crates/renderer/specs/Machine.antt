@@ -47,14 +47,14 @@ closing v pg f s =
     (v .kind (f .row))
     s
 
-module _ (v : View) (pg : Page) (stop : ℕ) where
-  -- row k's parts
-  abbrev pub first : ℕ → Nodes
-  first k = nodesAt v (suc k) (v .second k)
+-- the first part of row k, and the second
+abbrev pub first : View → ℕ → Nodes
+first v k = nodesAt v (suc k) (v .second k)
 
-  abbrev pub second : ℕ → Nodes
-  second k = nodesAt v (v .second k) (v .after k)
+abbrev pub second : View → ℕ → Nodes
+second v k = nodesAt v (v .second k) (v .after k)
 
+module _ (v : View) (pg : Page) where
   -- row `next` is entered, by its kind: the branches of `render_node`
   unfoldable pub enterGroup : Machine → Machine
   enterGroup m =
@@ -62,25 +62,25 @@ module _ (v : View) (pg : Page) (stop : ℕ) where
       opened m (frame (m .next) b false false) (suc (m .next)) (insert b (v .number (m .next)) (m .state))
 
   unfoldable pub enterIndent : Machine → Machine
-  enterIndent m = let w = wrapAt v pg stop (m .frames) (m .depth) in opened m (frame (m .next) w false false) (suc (m .next)) (indented w (m .state))
+  enterIndent m = let w = wrapAt (m .frames) (m .depth) in opened m (frame (m .next) w false false) (suc (m .next)) (indented w (m .state))
 
   unfoldable pub enterNext : Machine → Machine
-  enterNext m = let w = wrapAt v pg stop (m .frames) (m .depth) in opened m (frame (m .next) w false false) (suc (m .next)) (nextIndented w (m .state))
+  enterNext m = let w = wrapAt (m .frames) (m .depth) in opened m (frame (m .next) w false false) (suc (m .next)) (nextIndented w (m .state))
 
   unfoldable pub enterLeaf : Machine → Machine
-  enterLeaf m = record { frames = m .frames; depth = m .depth; next = suc (m .next); state = render pg (nodeAt v (m .next)) (wrapAt v pg stop (m .frames) (m .depth)) (m .state); entered = suc (m .entered) }
+  enterLeaf m = record { frames = m .frames; depth = m .depth; next = suc (m .next); state = render pg (nodeAt v (m .next)) (wrapAt (m .frames) (m .depth)) (m .state); entered = suc (m .entered) }
 
   unfoldable pub enterIf : Machine → Machine
   enterIf m =
-      let w = wrapAt v pg stop (m .frames) (m .depth) in
+      let w = wrapAt (m .frames) (m .depth) in
       cond (wrapped (m .state .marks) (v .number (m .next)))
       (opened m (frame (m .next) w true false) (suc (m .next)) (m .state))
       (opened m (frame (m .next) w false false) (v .second (m .next)) (m .state))
 
   unfoldable pub enterCall : Machine → Machine
   enterCall m =
-      let t = trailing pg (first (m .next)) (second (m .next)) (m .state) in
-      let b = calleeWraps pg t (first (m .next)) (second (m .next)) (m .state) in
+      let t = trailing pg (first v (m .next)) (second v (m .next)) (m .state) in
+      let b = calleeWraps pg t (first v (m .next)) (second v (m .next)) (m .state) in
       opened m (frame (m .next) b true (not t && b)) (suc (m .next)) (nextIndented (not t && b) (insert b (v .number (m .next)) (m .state)))
 
   unfoldable pub enter : Machine → Machine

@@ -40,10 +40,9 @@ pub record Small (v : View) (pg : Page) : Type 0 where
   pub columns : (i : ℕ) → pg .columns (v .text i) < 4294967296
   pub width : (i : ℕ) → v .width i < 4294967296
 
-module _ (v : View) (pg : Page) (stop : ℕ) where
-  -- the numbers of a machine, which began with `indent` and `next_indent` at base together
-  pub record Safe (base : ℕ) (m : Machine) : Type 0 where
-    pub sum : m .state .indent + m .state .nextIndent ≡ base + steps v (m .frames) (m .depth)
-    pub low : ins v (m .frames) (m .depth) ≤ m .state .indent
-    pub column : m .state .column ≤ 72057594037927936 + m .next * 17179869184
-    pub bytes : length (m .state .buf) ≤ m .next * 17179869184
+-- the numbers of a machine, which began with `indent` and `next_indent` at base together
+pub record Safe (v : View) (base : ℕ) (m : Machine) : Type 0 where
+  pub sum : m .state .indent + m .state .nextIndent ≡ base + steps v (m .frames) (m .depth)
+  pub low : ins v (m .frames) (m .depth) ≤ m .state .indent
+  pub column : m .state .column ≤ 72057594037927936 + m .next * 17179869184
+  pub bytes : length (m .state .buf) ≤ m .next * 17179869184
