@@ -11,7 +11,7 @@ use Rattle.image.specs.Bytes.{be32}
 use Rattle.tree.specs.Syntax.{Span, Ident, Idents, noTypes, _∷ᵗ_, Fields, Variants, noVariants, variant, Declaration, filterMap, const, recordDecl}
 use Rattle.tree.specs.Syntax.{enumDecl, function, test, importDecl, SyntaxTree}
 use Rattle.tree.specs.At.{Head, past, IdentAt, ListAt, Maybe, TypesAt, FieldsAt, VariantsAt, DeclarationAt, DeclarationsAt, TreeAt}
-use Rattle.rows.specs.Words.{placeIn}
+use Rattle.rows.specs.Words.{among}
 use Rattle.state.specs.Act.{Given, Act}
 use Rattle.comments.specs.Comments.{popWhitespace}
 use Rattle.layout.specs.declared.kinds.WrapStyle.the-variants.{Tight, Wrap}
@@ -21,7 +21,7 @@ use Rattle.facts.specs.Sound.{Ranged, Commented, Sounds}
 use Rattle.facts.specs.Height.{fieldsHeight, variantsHeight, declarationHeight, declarationsHeight, treeHeight}
 use Rattle.facts.proofs.Steps.{_⨾_, fewer, sound-skip, sound-line, sound-emptyLine, sound-str, sound-when, sound-asks}
 use Rattle.facts.proofs.Gaps.{trimEnd-le, sound-gap}
-use Rattle.facts.proofs.Parts.{sound-says, ranged, from-start, sound-ident, All, none, also, sound-separated, sound-idents, sound-type}
+use Rattle.facts.proofs.Parts.{no-word, sound-says, ranged, from-start, sound-ident, All, none, also, sound-separated, sound-idents, sound-type}
 use Rattle.facts.proofs.Parts.{all-types, all-fields, last-ranged, import-ranged, import-long, sound-import}
 use Rattle.facts.proofs.Exprs.{sound-expr, sound-block}
 
@@ -35,7 +35,7 @@ module _ {g : Given} (commented : Commented g) where
   sound-params : (fs : Fields) (s : Span) (at : ℕ) {d : ℕ} → Head (g .source) (g .image) 3 s at
       → FieldsAt (g .source) (g .image) fs (at + 13) (past (g .source) (g .image) at) → 2 * (2 + fieldsHeight fs) ≤ d
       → Sounds g (4 + be32 (g .image) at) d (params g fs s)
-  unfolding params placeIn
+  unfolding params among
   sound-params fs s at {d} l a h =
       fewer
       (sound-separated commented "(" ")" "," refl refl refl
@@ -49,7 +49,7 @@ module _ {g : Given} (commented : Commented g) where
 
   sound-typeParams : (is : Idents) (at : ℕ) {d : ℕ} → 3 ≤ d → ListAt (g .source) (g .image) is at
       → Sounds g (4 + be32 (g .image) at) d (typeParams g is)
-  unfolding typeParams placeIn
+  unfolding typeParams among
   sound-typeParams is at h a = sound-idents commented "[" "]" refl refl is at h a
 
   some-params : (ps : Option Idents) (at : ℕ) {d : ℕ} → 3 ≤ d → Maybe (g .source) (g .image) (ListAt (g .source) (g .image)) ps at
@@ -60,7 +60,7 @@ module _ {g : Given} (commented : Commented g) where
 
   all-variants : (vs : Variants) (at end : ℕ) {d : ℕ} → VariantsAt (g .source) (g .image) vs at end → 2 * variantsHeight vs ≤ d
       → All g (end - at) d (variantElems g vs)
-  unfolding variantElems VariantsAt variantsHeight TypesAt placeIn
+  unfolding variantElems VariantsAt variantsHeight TypesAt among
   all-variants noVariants at end a h = none
   all-variants (variant s i noTypes vs) at end a h =
       also (from-start (ranged (a .0))) (sound-ident (a .1) ⨾ sound-skip)
@@ -82,7 +82,7 @@ module _ {g : Given} (commented : Commented g) where
   -- ---- each declaration
   pub sound-declaration : (x : Declaration) (at : ℕ) {d : ℕ} (first : Bool) → DeclarationAt (g .source) (g .image) x at
       → 2 * declarationHeight x ≤ d → Sounds g (be32 (g .image) at) d (declaration g x first)
-  unfolding declaration declares recordTypeRule DeclarationAt declarationHeight Maybe placeIn
+  unfolding declaration declares recordTypeRule DeclarationAt declarationHeight Maybe among
   sound-declaration (filterMap i s fs b) at first a h =
       let v : ℕ = past (g .source) (g .image) (at + 13) in
       fewer
@@ -176,7 +176,11 @@ module _ {g : Given} (commented : Commented g) where
   sound-shebang nothing at a = fewer sound-skip (omega arith)
   sound-shebang (some i) at a =
       sound-str
-      (record { origin = omega arith; fits = omega (arith, trimEnd-le (g .image) (i .start) (i .start + i .size), a .ends, a .head .fits) })
+      (record {
+        origin = omega arith;
+        fits = omega (arith, trimEnd-le (g .image) (i .start) (i .start + i .size), a .ends, a .head .fits);
+        due = no-word (omega arith);
+      })
       ⨾ sound-emptyLine
 
   pub sound-fmtParsed : (t : SyntaxTree) (at : ℕ) {d : ℕ} → TreeAt (g .source) (g .image) t at → 2 * treeHeight t ≤ d + 2

@@ -18,7 +18,7 @@ use Rattle.tree.specs.Syntax.{MaybeBlock, noBlock, someBlock, Stmts, noStmts, _
 use Rattle.tree.specs.At.{past, Maybe, ExprAt, FormAt, ExprsAt, MaybeExprAt, EntriesAt, ArmsAt, PartsAt, BlockAt, MaybeBlockAt, StmtsAt, StmtAt}
 use Rattle.tree.specs.At.{StmtFormAt}
 use Rattle.rows.specs.Node.{ascii}
-use Rattle.rows.specs.Words.{table, placeIn}
+use Rattle.rows.specs.Words.{among, isWord}
 use Rattle.state.specs.Act.{Given, Act, _⨟_, push, grouped, content, indentedNext, called}
 use Rattle.comments.specs.Comments.{popWhitespace, popTrailingComment}
 use Rattle.layout.specs.declared.kinds.WrapStyle.the-variants.{Tight, Spaced, Wrap}
@@ -32,30 +32,30 @@ use Rattle.facts.specs.Height.{maybeBlockHeight, stmtsHeight, stmtHeight
 use Rattle.facts.proofs.Steps.{_⨾_, deeper, fewer, sound-skip, sound-line, sound-lineOrSpace, sound-wrapParent, sound-ascii, sound-when}
 use Rattle.facts.proofs.Steps.{sound-cond, sound-grouped, sound-indented, sound-indentedNext, sound-called, sound-asks}
 use Rattle.facts.proofs.Gaps.{sound-gap, sound-trailing}
-use Rattle.facts.proofs.Parts.{Fits, sound-says, ranged, from-start, sound-ident, All, none, also, sound-separated, sound-path, sound-type}
+use Rattle.facts.proofs.Parts.{Fits, no-word, sound-says, ranged, from-start, sound-ident, All, none, also, sound-separated, sound-path, sound-type}
 use Rattle.facts.proofs.Parts.{sound-import, sound-pattern}
 
 -- ---- the words chosen by a number: each of a list fits, and so does the one that stands for none
 abbrev allFit : List String → Bool
-allFit [] = leb (placeIn table 0 "" + len "") 178
-allFit (w ∷ ws) = leb (placeIn table 0 w + len w) 178 && allFit ws
+allFit [] = isWord ""
+allFit (w ∷ ws) = isWord w && allFit ws
 
 chosen-fits : (ws : List String) (n : ℕ) → allFit ws ≡ true → Fits (getD ws n "")
 chosen-fits [] n e = e
 chosen-fits (w ∷ ws) zero e = and-left _ (allFit ws) e
-chosen-fits (w ∷ ws) (suc n) e = chosen-fits ws n (and-right (leb (placeIn table 0 w + len w) 178) (allFit ws) e)
+chosen-fits (w ∷ ws) (suc n) e = chosen-fits ws n (and-right (isWord w) (allFit ws) e)
 
 symbol-fits : (op : ℕ) → Fits (symbol op)
-unfolding placeIn
+unfolding among
 symbol-fits op =
     chosen-fits ("&&" ∷ "||" ∷ "==" ∷ "!=" ∷ "<" ∷ "<=" ∷ ">" ∷ ">=" ∷ "+" ∷ "-" ∷ "*" ∷ "/" ∷ "%" ∷ "**" ∷ []) op refl
 
 assign-fits : (op : ℕ) → Fits (assignSymbol op)
-unfolding placeIn
+unfolding among
 assign-fits op = chosen-fits (" += " ∷ " -= " ∷ " *= " ∷ " /= " ∷ " %= " ∷ []) op refl
 
 return-fits : (kind : ℕ) → Fits (returnWord kind)
-unfolding placeIn
+unfolding among
 return-fits kind = chosen-fits ("return" ∷ "accept" ∷ "reject" ∷ []) kind refl
 
 module _ {g : Given} (commented : Commented g) where
@@ -72,10 +72,10 @@ module _ {g : Given} (commented : Commented g) where
     under : (p : ℕ) → SoundSpine n d (l .under p)
 
   sound-content : {d : ℕ} {p : Span} → Ranged (g .source) p → Sounds g 1 d (push (ascii (content p)))
-  sound-content r = sound-ascii (record { origin = omega arith; fits = omega (arith, r .ordered, r .fits) })
+  sound-content r = sound-ascii (record { origin = omega arith; fits = omega (arith, r .ordered, r .fits); due = no-word (omega arith) })
 
   sound-operator : {d : ℕ} (first : Bool) (s : Span) (op : ℕ) → s .start ≤ length (g .source) → Sounds g 4 d (operator g first s op)
-  unfolding operator placeIn
+  unfolding operator among
   sound-operator first s op h =
       sound-asks (popWhitespace g (s .start) true true false) (sound-gap commented (s .start) true true false h)
       (λ whitespace. sound-when (not first && not whitespace) sound-lineOrSpace)
@@ -118,7 +118,7 @@ module _ {g : Given} (commented : Commented g) where
 
   -- ---- literals
   sound-literal : (n : ℕ) {d : ℕ} (s : Span) → Ranged (g .source) s → Sounds g 2 d (literalRule g s n)
-  unfolding literalRule placeIn
+  unfolding literalRule among
   sound-literal zero s r = sound-gap commented (s .end) true true false (r .fits) ⨾ sound-content r
   sound-literal (suc zero) s r = sound-gap commented (s .end) true true false (r .fits) ⨾ sound-says "true" refl
   sound-literal (suc (suc zero)) s r = sound-gap commented (s .end) true true false (r .fits) ⨾ sound-says "false" refl
@@ -128,7 +128,7 @@ module _ {g : Given} (commented : Commented g) where
   -- ---- conditions, and what comes before and after a statement
   sound-clause : (w : String) → Fits w → {a b : Act} {m n e d : ℕ} → e + 2 ≤ d → Sounds g m e a → Sounds g n d b
       → Sounds g (4 + (m + n)) d (clause w a b)
-  unfolding clause placeIn
+  unfolding clause among
   sound-clause w f {e = e} h p q =
       fewer
       (sound-says w f
@@ -173,7 +173,7 @@ module _ {g : Given} (commented : Commented g) where
   height-least (expr s f) = omega arith
 
   mutual
-    unfolding look placeholder blockStart ExprAt Maybe exprHeight placeIn
+    unfolding look placeholder blockStart ExprAt Maybe exprHeight among
 
     sound-look : (e : Expr) (at d : ℕ) → ExprAt (g .source) (g .image) e at → 2 * exprHeight e ≤ d
         → SoundLook (be32 (g .image) at) d (look g e)

@@ -43,7 +43,12 @@ trimEnd-le s from to = trim-le (to - from) s from to
 
 module _ {g : Given} (commented : Commented g) where
   inside-comment : {c : Span} → Ranged (g .source) c → Inside g (trimmed g c)
-  inside-comment {c} r = record { origin = omega arith; fits = omega (arith, trimEnd-le (g .source) (c .start) (c .end), r .ordered, r .fits) }
+  inside-comment {c} r =
+      record {
+        origin = omega arith;
+        fits = omega (arith, trimEnd-le (g .source) (c .start) (c .end), r .ordered, r .fits);
+        due = λ e. absurd (omega arith);
+      }
 
   sound-newlines : {d : ℕ} (p : ℕ) → p ≤ length (g .source) → Sounds g 1 d (told (newlines g p))
   unfolding newlines

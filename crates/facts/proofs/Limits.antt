@@ -29,7 +29,7 @@ use Rattle.layout.specs.Layout.{fmtParsed}
 use Rattle.facts.specs.Placing.{Places}
 use Rattle.facts.specs.Sound.{Commented, Sounds}
 use Rattle.facts.specs.Height.{declarationsHeight, treeHeight}
-use Rattle.facts.specs.Accepted.{Stands, fresh, upTo, callRule, Within}
+use Rattle.facts.specs.Accepted.{WordsDue, Stands, fresh, upTo, callRule, Within}
 use Rattle.facts.proofs.Placing.{places-then}
 use Rattle.facts.proofs.InOrder.{places-shebang, places-declarations, places-fmtParsed, places-call}
 use Rattle.facts.proofs.Steps.{_⨾_, fewer, sound-when, sound-line}
@@ -187,3 +187,6 @@ module _ {g : Given} {t : SyntaxTree} {at : ℕ} (a : Stands g t at) where
       let r = call-sound xs ys zs begins first closes e .from z in
       let w = places-call g t begins ys first closes .from z h in
       omega (arith, r .rows, w .within)
+
+pub words-due : WordsDue
+words-due g t at a xs ys zs e begins first closes s = call-sound a xs ys zs begins first closes e .from s .texts

@@ -1,16 +1,14 @@
 -- The rules without expressions are sound: a part whose record has n bytes takes n rows at most, and goes two rows deeper with each record.
 -- Assumes nothing.
 use Prim.Native.Nat.{ℕ, _+_, _*_, _-_, _≤_}
-use Prim.Native.String.{String, len}
+use Prim.Native.String.{String}
 use mathlib.Core.Path.{_≡_, refl}
 use mathlib.Core.Bool.{Bool, true, false, not, _&&_}
 use mathlib.Core.List.{List, [], _∷_}
 use mathlib.Core.Option.{none as nothing, some}
 use native.Mathlib.Omega.{arith}
 use lib.ListN.{length}
-use lib.Dec.{leb}
 use lib.Text.{eqt}
-use borrow.Author.Tests.{leb-true}
 use Rattle.text.proofs.Counts.{range-inside}
 use Rattle.image.specs.Bytes.{be32}
 use Rattle.tree.specs.Syntax.{Span, Ident, Path, Idents, TypeExpr, type, TypeForm, option, typePath, never, unit, recordType, TypeArgs, noArgs, args}
@@ -18,33 +16,34 @@ use Rattle.tree.specs.Syntax.{Types, noTypes, _∷ᵗ_, Fields, noFields, field
 use Rattle.tree.specs.Syntax.{Pattern, underscore, enumVariant}
 use Rattle.tree.specs.At.{Head, past, IdentAt, IdentsAt, PathAt, ListAt, Maybe, TypeAt, TypeFormAt, TypeArgsAt, TypesAt, FieldsAt, ImportAt}
 use Rattle.tree.specs.At.{ImportGroupAt, ImportsAt, PatternAt}
-use Rattle.rows.specs.Ascii.{bytes}
-use Rattle.rows.specs.Words.{table, words, joined, placeIn, word}
+use Rattle.rows.specs.Node.{Text}
+use Rattle.rows.specs.Words.{among, word, isWord}
+use Rattle.rows.proofs.Table.{words-there, word-inside}
 use Rattle.state.specs.Act.{Given, Act, says}
 use Rattle.layout.specs.declared.kinds.WrapStyle.{WrapStyle}
 use Rattle.layout.specs.declared.kinds.WrapStyle.the-variants.{Tight, Spaced, Wrap}
 use Rattle.layout.specs.Layout.{edge, isWrap, opens, ends, inside, beforeElem, pathNext, Elem, elements, separated, pathMore, pathRule, ident}
 use Rattle.layout.specs.Layout.{identElems, typeExpr, typeForm, typeArgs, typeElems, fieldElems, lastSpan, importPath, importGroup, importItems}
 use Rattle.layout.specs.Layout.{importElems, pattern, typeSpan, importSpan, isGroup, oneOr}
-use Rattle.facts.specs.Sound.{Inside, Ranged, Commented, Sounds}
+use Rattle.facts.specs.Sound.{Worded, Inside, Ranged, Commented, Sounds}
 use Rattle.facts.specs.Height.{typeHeight, typeFormHeight, argsHeight, typesHeight, fieldsHeight, importHeight, groupHeight, importsHeight}
 use Rattle.facts.proofs.Steps.{_⨾_, fewer, sound-skip, sound-line, sound-lineOrSpace, sound-wrapParent, sound-ascii, sound-str, sound-ifWrap}
 use Rattle.facts.proofs.Steps.{sound-when, sound-grouped, sound-indented}
 use Rattle.facts.proofs.Gaps.{sound-gap, sound-trailing}
 
 -- ---- the fixed words
-words-size : length words ≡ 178
-unfolding words joined bytes
-words-size = refl
-
--- a word stands among the fixed words, by computation
+-- a word that the rules may say, by computation
 abbrev pub Fits : String → Type 0
-Fits w = leb (placeIn table 0 w + len w) 178 ≡ true
+Fits w = isWord w ≡ true
 
 pub inside-word : {g : Given} (w : String) → Fits w → Inside g (word w)
 unfolding word
 inside-word w e =
-    record { origin = omega arith; fits = omega (arith, leb-true (placeIn table 0 w + len w) 178 e, words-size) }
+    record { origin = omega arith; fits = word-inside w e; due = λ i. record { letters = w; same = refl; there = words-there w e } }
+
+-- a text of the source or the image is no word
+pub no-word : {t : Text} → t .origin ≤ 1 → t .origin ≡ 2 → Worded t
+no-word l e = absurd (omega arith)
 
 pub sound-says : {g : Given} {d : ℕ} (w : String) → Fits w → Sounds g 1 d (says w)
 sound-says w e = sound-ascii (inside-word w e)
@@ -59,7 +58,7 @@ pub from-start : {s : List ℕ} {p : Span} → Ranged s p → p .start ≤ lengt
 from-start r = omega (arith, r .ordered, r .fits)
 
 pub sound-ident : {g : Given} {d at : ℕ} {i : Ident} → IdentAt (g .source) (g .image) i at → Sounds g 1 d (ident g i)
-sound-ident {i = i} a = sound-str (record { origin = omega arith; fits = omega (arith, a .ends, a .head .fits) })
+sound-ident {i = i} a = sound-str (record { origin = omega arith; fits = omega (arith, a .ends, a .head .fits); due = no-word (omega arith) })
 
 module _ (g : Given) where
   -- elements of `separated` in n bytes, at most d deep
@@ -93,7 +92,7 @@ module _ {g : Given} (commented : Commented g) where
 
   pub sound-separated : (start end w : String) → Fits start → Fits end → Fits w → {es : List Elem} {n c d : ℕ} → All g n c es → (s : Span)
       → s .end ≤ length (g .source) → (style : WrapStyle) → c + 2 ≤ d → 1 ≤ c → Sounds g (11 + n) d (separated g start end w es s style)
-  unfolding separated inside opens ends placeIn
+  unfolding separated inside opens ends among
   sound-separated start end w f₁ f₂ f₃ {n = n} {c} {d} none s h style i j =
       fewer
       (sound-grouped {c = c + 1} (omega arith)
@@ -122,7 +121,7 @@ module _ {g : Given} (commented : Commented g) where
   -- ---- paths and lists of texts
   sound-pathMore : (is : List Ident) (at end : ℕ) {d : ℕ} (t : Bool) → IdentsAt (g .source) (g .image) is at end
       → Sounds g (end - at) d (pathMore g t is)
-  unfolding pathMore pathNext IdentsAt placeIn
+  unfolding pathMore pathNext IdentsAt among
   sound-pathMore [] at end t a = fewer sound-skip (omega arith)
   sound-pathMore (i ∷ is) at end t a =
       fewer
@@ -159,7 +158,7 @@ module _ {g : Given} (commented : Commented g) where
   pub sound-idents : (start end : String) → Fits start → Fits end → (is : Idents) (at : ℕ) {d : ℕ} → 3 ≤ d
       → ListAt (g .source) (g .image) is at
       → Sounds g (4 + be32 (g .image) at) d (separated g start end "," (identElems g (is .elems)) (is .span) Tight)
-  unfolding placeIn
+  unfolding among
   sound-idents start end f₁ f₂ is at {d} h a =
       fewer
       (sound-separated start end "," f₁ f₂ refl (all-idents (is .elems) (at + 13) (past (g .source) (g .image) at) {d = 1} (a .elems)) (is .span)
@@ -172,7 +171,7 @@ module _ {g : Given} (commented : Commented g) where
   type-ranged (type s f) at a = ranged (a .0)
 
   mutual
-    unfolding typeExpr TypeAt typeHeight placeIn
+    unfolding typeExpr TypeAt typeHeight among
 
     pub sound-type : (t : TypeExpr) (at : ℕ) {d : ℕ} → TypeAt (g .source) (g .image) t at → 2 * typeHeight t ≤ d
         → Sounds g (be32 (g .image) at) d (typeExpr g t)
@@ -242,7 +241,7 @@ module _ {g : Given} (commented : Commented g) where
   sound-oneOr (i ∷ⁱ is) p q = q
 
   mutual
-    unfolding importPath ImportAt Maybe importHeight placeIn
+    unfolding importPath ImportAt Maybe importHeight among
 
     -- four bytes are left, for what a declaration adds
     pub sound-import : (i : Import) (at : ℕ) {d : ℕ} → ImportAt (g .source) (g .image) i at → 2 * importHeight i ≤ d
@@ -290,7 +289,7 @@ module _ {g : Given} (commented : Commented g) where
   -- ---- patterns
   pub sound-pattern : (p : Pattern) (at : ℕ) {d : ℕ} → 3 ≤ d → PatternAt (g .source) (g .image) p at
       → Sounds g (be32 (g .image) at) d (pattern g p)
-  unfolding pattern PatternAt Maybe placeIn
+  unfolding pattern PatternAt Maybe among
   sound-pattern underscore at h a = fewer (sound-says "_" refl) (omega (arith, a .0 .head .long))
   sound-pattern (enumVariant i nothing) at h a = fewer (sound-ident (a .1)) (omega (arith, a .0 .head .long))
   sound-pattern (enumVariant i (some is)) at h a =

@@ -16,7 +16,7 @@ use Rattle.rows.specs.Rows.{sizes, depths, row, rows}
 use Rattle.rows.specs.View.{viewOf}
 use Rattle.rows.proofs.Sizes.{length-rows}
 use Rattle.rows.proofs.Flatten.{Holds, all-nest}
-use Rattle.renderer.specs.Page.{originText}
+use Rattle.rows.specs.Texts.{originText}
 use Rattle.renderer.specs.Check.{usesNumber, usesNumber2, usesSecond, usesText, usesWidth, wrongRow, placesFit, wrongPlace}
 use Rattle.renderer.proofs.Checked.{nested-accepted}
 use Rattle.state.specs.Act.{Given}

@@ -2,7 +2,7 @@
 use Prim.Native.Nat.{ℕ, _+_, _*_, _≤_}
 use mathlib.Core.Path.{_≡_}
 use mathlib.Core.Bool.{Bool, true}
-use mathlib.Core.List.{List}
+use mathlib.Core.List.{List, _++_}
 use lib.ListN.{length}
 use Rattle.tree.specs.Syntax.{Declaration, SyntaxTree}
 use Rattle.tree.specs.At.{TreeAt}
@@ -45,3 +45,10 @@ pub record Within (g : Given) (o : Out) : Type 0 where
   pub texts : TextsIn g (o .nodes)
   pub position : o .pos ≤ length (g .source)
   pub placed : o .placed ≤ length (g .comments)
+
+-- "The layout rules pick the start of fixed words (origin 2); the word due is there": so it is of all that a layout call lays, from any state.
+abbrev pub WordsDue : Type 0
+WordsDue =
+    (g : Given) (t : SyntaxTree) (at : ℕ) → Stands g t at → (xs ys zs : List Declaration) → xs ++ (ys ++ zs) ≡ t .declarations
+    → (begins first closes : Bool) (s : St)
+    → TextsIn g (callRule g t begins ys first closes s .nodes)

@@ -1,5 +1,6 @@
 -- What the layout rules keep to: how many rows and numbers they need, how deep the rows are, where the texts lie, where the position is.
 use Prim.Native.Nat.{ℕ, _+_, _*_, _-_, _≤_}
+use Prim.Native.String.{String}
 use mathlib.Core.Path.{_≡_}
 use mathlib.Core.List.{List, [], _∷_}
 use mathlib.Core.Option.{some}
@@ -8,14 +9,21 @@ use Rattle.tree.specs.Syntax.{Span}
 use Rattle.rows.specs.Node.{Text, Node, Nodes, group, indent, indentNext, wrapParent, comment, str, ascii, line, emptyLine, lineOrSpace, ifWrap, call}
 use Rattle.rows.specs.Node.{none, _then_}
 use Rattle.rows.specs.Rows.{sizes, depths}
-use Rattle.rows.specs.Words.{words}
+use Rattle.rows.specs.Words.{words, word, There}
 use Rattle.state.specs.Act.{Given, St, Out, Act}
 use Rattle.comments.specs.Comments.{nth}
 
--- a text lies inside its origin: the source, the image or the fixed words
+-- a text is that of a word, whose letters stand there
+pub record Worded (t : Text) : Type 0 where
+  pub letters : String
+  pub same : t ≡ word letters
+  pub there : There letters
+
+-- a text lies inside its origin, the source, the image or the fixed words; of these, it is a word
 pub record Inside (g : Given) (t : Text) : Type 0 where
   pub origin : t .origin ≤ 2
   pub fits : t .start + t .size ≤ length (getD (g .source ∷ g .image ∷ words ∷ []) (t .origin) [])
+  pub due : t .origin ≡ 2 → Worded t
 
 -- each text of a node and of nodes does
 unfoldable mutual

@@ -24,7 +24,8 @@ use Rattle.layout.specs.Layout.{shebangRule, declaration, declares, opening, ty
 use Rattle.layout.specs.Layout.{literalRule}
 use Rattle.renderer.specs.Renderer.{push, atColumn, newLine, margin, remark, text, virtualColumn, insert, indented, outdented, nextIndented}
 use Rattle.renderer.specs.Renderer.{nextOutdented, wraps, groupWraps, trailing, calleeWraps, render, renders}
-use Rattle.renderer.specs.Page.{originText, textBytes}
+use Rattle.rows.specs.Texts.{originText}
+use Rattle.renderer.specs.Page.{textBytes}
 use Rattle.renderer.specs.Check.{reaches, partsFit, rowFits, firstWrong, wrongRow, placesFit, wrongPlace}
 use Rattle.marks.specs.Marks.{marksNeeded}
 use Rattle.format.specs.Edges.{EdgesHold}

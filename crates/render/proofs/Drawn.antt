@@ -24,16 +24,14 @@ pub put-drawn : (limit : ℕ) (t : List ℕ) (c : ℕ) (out : List ℕ) (p : Pen
 unfolding atColumn push shown penAfter
 put-drawn limit t c out p out2 n e w = record { pen = rw e; written = w }
 
-pub margin-drawn : (limit : ℕ) (out : List ℕ) (p : Pen) (out2 : List ℕ) → out2 ≡ over limit out (p .at .0) (replicate (4 * p .indent) 0x20)
+-- a margin of n bytes and c columns
+pub margin-drawn : (limit : ℕ) (out : List ℕ) (p : Pen) (out2 : List ℕ) (n c : ℕ) → n ≡ 4 * p .indent → c ≡ 4 * p .indent
+    → out2 ≡ over limit out (p .at .0) (replicate n 0x20)
     → Drawn limit (margin (shown p [])) out p out2
-    (record {
-      indent = p .indent;
-      «next_indent» = p .«next_indent»;
-      column = record { 0 = 4 * p .indent };
-      at = record { 0 = p .at .0 + 4 * p .indent };
-    })
+    (record { indent = p .indent; «next_indent» = p .«next_indent»; column = record { 0 = c }; at = record { 0 = p .at .0 + n } })
 unfolding margin atColumn push shown penAfter
-margin-drawn limit out p out2 w = record { pen = rw (length-replicate {A = ℕ} (4 * p .indent) 0x20); written = w }
+margin-drawn limit out p out2 n c e f w =
+    rw (e, f) (record { pen = rw (length-replicate {A = ℕ} (4 * p .indent) 0x20); written = rw e at w })
 
 pub line-drawn : (limit : ℕ) (out : List ℕ) (p : Pen) (out2 : List ℕ) → 0 < p .column .0 → out2 ≡ over limit out (p .at .0) (0x0A ∷ [])
     → Drawn limit (newLine (shown p [])) out p out2

@@ -9,14 +9,15 @@ use mathlib.Core.List.{List, [], _++_}
 use lib.ListN.{length, set, length-append}
 use lib.Dec.{ltb, eqb}
 use Rattle.rows.specs.Node.{Nodes, wrapped}
-use Rattle.rows.specs.View.{View, viewOf, cell, nodesAt}
-use Rattle.rows.proofs.Decode.{nodeAt}
+use Rattle.rows.specs.View.{View, viewOf, cell, nodesAt, nodeAt}
 use Rattle.renderer.specs.declared.Frame.{Frame}
 use Rattle.renderer.specs.Page.{pageOf}
 use Rattle.renderer.specs.Renderer.{Page, Renderer, render, wraps, virtualColumn, groupWraps, trailing, calleeWraps, insert, indented, outdented}
 use Rattle.renderer.specs.Renderer.{nextIndented, nextOutdented}
-use Rattle.renderer.proofs.Meaning.{frameAt, partEnd, closing, wrapAt}
-use Rattle.renderer.proofs.Machine.{Machine, frame, opened, second, enter, enterGroup, enterIndent, enterNext, enterLeaf, enterIf, enterCall, leave, turn, enter-0, enter-1, enter-2, enter-leaf, enter-10, enter-11, turn-leave}
+use Rattle.renderer.specs.Frames.{frameAt, partEnd, wrapAt}
+use Rattle.renderer.specs.Machine.{closing}
+use Rattle.renderer.specs.Machine.{Machine, frame, opened, second, enter, enterGroup, enterIndent, enterNext, enterLeaf, enterIf, enterCall, leave, turn}
+use Rattle.renderer.proofs.Machine.{enter-0, enter-1, enter-2, enter-leaf, enter-10, enter-11, turn-leave}
 use Rattle.render.specs.declared.pen.Pen.{Pen}
 use Rattle.render.specs.Output.{over}
 use Rattle.render.specs.Pen.{shown, penAfter, withMargin, Drawn}
@@ -139,7 +140,7 @@ unfolding viewOf
 kind-cell s i = refl
 
 -- The ways to enter a row.
-module _ (store source image : List ℕ) (max limit stop : ℕ) (marks out : List ℕ) (r : Running) where
+module _ (store source image : List ℕ) (max limit : ℕ) (marks out : List ℕ) (r : Running) where
   abbrev v : View
   v = viewOf store
 
@@ -147,10 +148,10 @@ module _ (store source image : List ℕ) (max limit stop : ℕ) (marks out : Lis
   pg = pageOf max source image
 
   abbrev wrap : Bool
-  wrap = wrapAt v pg stop (r .frames) (r .depth)
+  wrap = wrapAt (r .frames) (r .depth)
 
   group-goes : (marks2 : List ℕ) (q : Running) → GroupOpened store max marks r marks2 q
-      → (o b : List ℕ) (n : ℕ) → Wrote limit o out (r .pen .at .0) b → Shows limit o marks2 out q (enterGroup v pg stop (machineOf r marks b n))
+      → (o b : List ℕ) (n : ℕ) → Wrote limit o out (r .pen .at .0) b → Shows limit o marks2 out q (enterGroup v pg (machineOf r marks b n))
   unfolding enterGroup machineOf viewOf
   group-goes marks2 q g o b n w =
       let c : groupWraps pg (nodesAt v (suc (r .next)) (v .after (r .next))) (stateOf (r .pen) marks b) ≡ g .wraps =
@@ -163,14 +164,14 @@ module _ (store source image : List ℕ) (max limit stop : ℕ) (marks out : Lis
       refl)
 
   pub group-follows : (marks2 : List ℕ) (q : Running) → cell store (r .next) 0 ≡ 0 → GroupOpened store max marks r marks2 q
-      → Follows limit (enter v pg stop) marks out r marks2 out q
+      → Follows limit (enter v pg) marks out r marks2 out q
   unfolding machineOf viewOf
   group-follows marks2 q k g =
-      record { goes = λ o b n w. shows-as limit o marks2 out q _ _ (enter-0 v pg stop (machineOf r marks b n) k) (group-goes marks2 q g o b n w) }
+      record { goes = λ o b n w. shows-as limit o marks2 out q _ _ (enter-0 v pg (machineOf r marks b n) k) (group-goes marks2 q g o b n w) }
 
   indent-goes : (q : Running) (x : Bool) → x ≡ wrap
       → q ≡ openedRun r (frame (r .next) x false false) (r .next + 1) (withMargin (r .pen) (indented x (shown (r .pen) [])))
-      → (o b : List ℕ) (n : ℕ) → Wrote limit o out (r .pen .at .0) b → Shows limit o marks out q (enterIndent v pg stop (machineOf r marks b n))
+      → (o b : List ℕ) (n : ℕ) → Wrote limit o out (r .pen .at .0) b → Shows limit o marks out q (enterIndent v pg (machineOf r marks b n))
   unfolding enterIndent machineOf
   indent-goes q x e g o b n w =
       rw (← e)
@@ -181,14 +182,14 @@ module _ (store source image : List ℕ) (max limit stop : ℕ) (marks out : Lis
 
   pub indent-follows : (q : Running) (x : Bool) → cell store (r .next) 0 ≡ 1 → x ≡ wrap
       → q ≡ openedRun r (frame (r .next) x false false) (r .next + 1) (withMargin (r .pen) (indented x (shown (r .pen) [])))
-      → Follows limit (enter v pg stop) marks out r marks out q
+      → Follows limit (enter v pg) marks out r marks out q
   unfolding machineOf viewOf
   indent-follows q x k e g =
-      record { goes = λ o b n w. shows-as limit o marks out q _ _ (enter-1 v pg stop (machineOf r marks b n) k) (indent-goes q x e g o b n w) }
+      record { goes = λ o b n w. shows-as limit o marks out q _ _ (enter-1 v pg (machineOf r marks b n) k) (indent-goes q x e g o b n w) }
 
   next-goes : (q : Running) (x : Bool) → x ≡ wrap
       → q ≡ openedRun r (frame (r .next) x false false) (r .next + 1) (withMargin (r .pen) (nextIndented x (shown (r .pen) [])))
-      → (o b : List ℕ) (n : ℕ) → Wrote limit o out (r .pen .at .0) b → Shows limit o marks out q (enterNext v pg stop (machineOf r marks b n))
+      → (o b : List ℕ) (n : ℕ) → Wrote limit o out (r .pen .at .0) b → Shows limit o marks out q (enterNext v pg (machineOf r marks b n))
   unfolding enterNext machineOf
   next-goes q x e g o b n w =
       rw (← e)
@@ -199,17 +200,17 @@ module _ (store source image : List ℕ) (max limit stop : ℕ) (marks out : Lis
 
   pub next-follows : (q : Running) (x : Bool) → cell store (r .next) 0 ≡ 2 → x ≡ wrap
       → q ≡ openedRun r (frame (r .next) x false false) (r .next + 1) (withMargin (r .pen) (nextIndented x (shown (r .pen) [])))
-      → Follows limit (enter v pg stop) marks out r marks out q
+      → Follows limit (enter v pg) marks out r marks out q
   unfolding machineOf viewOf
   next-follows q x k e g =
-      record { goes = λ o b n w. shows-as limit o marks out q _ _ (enter-2 v pg stop (machineOf r marks b n) k) (next-goes q x e g o b n w) }
+      record { goes = λ o b n w. shows-as limit o marks out q _ _ (enter-2 v pg (machineOf r marks b n) k) (next-goes q x e g o b n w) }
 
   if-goes : (q : Running) (x : Bool) → x ≡ wrap
       → q
       ≡ cond (wrapped marks (cell store (r .next) 1))
       (openedRun r (frame (r .next) x true false) (r .next + 1) (r .pen))
       (openedRun r (frame (r .next) x false false) (cell store (r .next) 3) (r .pen))
-      → (o b : List ℕ) (n : ℕ) → Wrote limit o out (r .pen .at .0) b → Shows limit o marks out q (enterIf v pg stop (machineOf r marks b n))
+      → (o b : List ℕ) (n : ℕ) → Wrote limit o out (r .pen .at .0) b → Shows limit o marks out q (enterIf v pg (machineOf r marks b n))
   unfolding enterIf machineOf viewOf
   if-goes q x e g o b n w = rw (← e) (go (wrapped marks (cell store (r .next) 1)) g)
     where
@@ -232,13 +233,13 @@ module _ (store source image : List ℕ) (max limit stop : ℕ) (marks out : Lis
       ≡ cond (wrapped marks (cell store (r .next) 1))
       (openedRun r (frame (r .next) x true false) (r .next + 1) (r .pen))
       (openedRun r (frame (r .next) x false false) (cell store (r .next) 3) (r .pen))
-      → Follows limit (enter v pg stop) marks out r marks out q
+      → Follows limit (enter v pg) marks out r marks out q
   unfolding machineOf viewOf
   if-follows q x k e g =
-      record { goes = λ o b n w. shows-as limit o marks out q _ _ (enter-10 v pg stop (machineOf r marks b n) k) (if-goes q x e g o b n w) }
+      record { goes = λ o b n w. shows-as limit o marks out q _ _ (enter-10 v pg (machineOf r marks b n) k) (if-goes q x e g o b n w) }
 
   call-goes : (marks2 : List ℕ) (q : Running) → CallOpened store max marks r marks2 q
-      → (o b : List ℕ) (n : ℕ) → Wrote limit o out (r .pen .at .0) b → Shows limit o marks2 out q (enterCall v pg stop (machineOf r marks b n))
+      → (o b : List ℕ) (n : ℕ) → Wrote limit o out (r .pen .at .0) b → Shows limit o marks2 out q (enterCall v pg (machineOf r marks b n))
   unfolding enterCall machineOf viewOf
   call-goes marks2 q g o b n w =
       let e = nodesAt v (suc (r .next)) (v .second (r .next)) in
@@ -261,10 +262,10 @@ module _ (store source image : List ℕ) (max limit stop : ℕ) (marks out : Lis
       (margin-at (r .pen) (nextIndented (not (g .trails) && g .wraps) (shown (r .pen) []))))
 
   pub call-follows : (marks2 : List ℕ) (q : Running) → cell store (r .next) 0 ≡ 11 → CallOpened store max marks r marks2 q
-      → Follows limit (enter v pg stop) marks out r marks2 out q
+      → Follows limit (enter v pg) marks out r marks2 out q
   unfolding machineOf viewOf
   call-follows marks2 q k g =
-      record { goes = λ o b n w. shows-as limit o marks2 out q _ _ (enter-11 v pg stop (machineOf r marks b n) k) (call-goes marks2 q g o b n w) }
+      record { goes = λ o b n w. shows-as limit o marks2 out q _ _ (enter-11 v pg (machineOf r marks b n) k) (call-goes marks2 q g o b n w) }
 
   -- a row without parts
   leaf-state : (x : Bool) → 3 ≤ v .kind (r .next) → v .kind (r .next) ≤ 9 → (b : List ℕ)
@@ -288,20 +289,20 @@ module _ (store source image : List ℕ) (max limit stop : ℕ) (marks out : Lis
   leaf-goes : (x : Bool) (out2 : List ℕ) (p : Pen) → x ≡ wrap → 3 ≤ v .kind (r .next) → v .kind (r .next) ≤ 9
       → Drawn limit (render pg (nodeAt v (r .next)) x (shown (r .pen) [])) out (r .pen) out2 p
       → (o b : List ℕ) (n : ℕ) → Wrote limit o out (r .pen .at .0) b
-      → Shows limit o marks out2 (record { frames = r .frames; depth = r .depth; next = r .next + 1; pen = p }) (enterLeaf v pg stop (machineOf r marks b n))
+      → Shows limit o marks out2 (record { frames = r .frames; depth = r .depth; next = r .next + 1; pen = p }) (enterLeaf v pg (machineOf r marks b n))
   unfolding enterLeaf machineOf
   leaf-goes x out2 p e k l d o b n w =
       rw (← e, leaf-state x k l b) (leaf-shows (render pg (nodeAt v (r .next)) x (shown (r .pen) [])) out2 p d o b n w)
 
   pub leaf-follows : (x : Bool) (out2 : List ℕ) (p : Pen) → 3 ≤ cell store (r .next) 0 → cell store (r .next) 0 ≤ 9 → x ≡ wrap
       → Drawn limit (render pg (nodeAt v (r .next)) x (shown (r .pen) [])) out (r .pen) out2 p
-      → Follows limit (enter v pg stop) marks out r marks out2 (record { frames = r .frames; depth = r .depth; next = r .next + 1; pen = p })
+      → Follows limit (enter v pg) marks out r marks out2 (record { frames = r .frames; depth = r .depth; next = r .next + 1; pen = p })
   unfolding machineOf viewOf
   leaf-follows x out2 p k l e d =
       record {
         goes =
             λ o b n w.
-            shows-as limit o marks out2 _ _ _ (enter-leaf v pg stop (machineOf r marks b n) (cell store (r .next) 0) refl k l)
+            shows-as limit o marks out2 _ _ _ (enter-leaf v pg (machineOf r marks b n) (cell store (r .next) 0) refl k l)
             (leaf-goes x out2 p e k l d o b n w);
       }
 
@@ -310,13 +311,13 @@ module _ (store source image : List ℕ) (max limit stop : ℕ) (marks out : Lis
     deep : r .depth ≡ suc (r .depth - 1)
     deep = omega arith
 
-    turned : (b : List ℕ) (n : ℕ) → turn v pg stop (machineOf r marks b n) ≡ leave v pg stop (machineOf r marks b n) (r .depth - 1)
+    turned : (b : List ℕ) (n : ℕ) → turn v pg (machineOf r marks b n) ≡ leave v pg (machineOf r marks b n) (r .depth - 1)
     unfolding machineOf
-    turned b n = turn-leave v pg stop (machineOf r marks b n) (r .depth - 1) deep (z ∙ ap (partEnd v) i)
+    turned b n = turn-leave v pg (machineOf r marks b n) (r .depth - 1) deep (z ∙ ap (partEnd v) i)
 
     on-goes : (marks2 : List ℕ) (q : Running) → cell store (f .row) 0 ≡ 11 → f .early ≡ true → ArgumentsOpened store max marks r f marks2 q
         → (o b : List ℕ) (n : ℕ) → Wrote limit o out (r .pen .at .0) b
-        → Shows limit o marks2 out q (leave v pg stop (machineOf r marks b n) (r .depth - 1))
+        → Shows limit o marks2 out q (leave v pg (machineOf r marks b n) (r .depth - 1))
     unfolding leave machineOf viewOf insert
     on-goes marks2 q k y g o b n w =
         let c : groupWraps pg (nodesAt v (r .next) (v .after (f .row))) (stateOf (r .pen) marks b) ≡ g .wraps =
@@ -338,7 +339,7 @@ module _ (store source image : List ℕ) (max limit stop : ℕ) (marks out : Lis
         })
 
     pub arguments-follows : (marks2 : List ℕ) (q : Running) → cell store (f .row) 0 ≡ 11 → f .early ≡ true → ArgumentsOpened store max marks r f marks2 q
-        → Follows limit (turn v pg stop) marks out r marks2 out q
+        → Follows limit (turn v pg) marks out r marks2 out q
     arguments-follows marks2 q k y g = record { goes = λ o b n w. shows-as limit o marks2 out q _ _ (turned b n) (on-goes marks2 q k y g o b n w) }
 
     -- the row is closed, its last step being s
@@ -348,7 +349,7 @@ module _ (store source image : List ℕ) (max limit stop : ℕ) (marks out : Lis
         → p .at .0 ≡ r .pen .at .0
         → q ≡ record { frames = r .frames; depth = r .depth - 1; next = v .after (f .row); pen = p }
         → (o b : List ℕ) (n : ℕ) → Wrote limit o out (r .pen .at .0) b
-        → Shows limit o marks out q (leave v pg stop (machineOf r marks b n) (r .depth - 1))
+        → Shows limit o marks out q (leave v pg (machineOf r marks b n) (r .depth - 1))
     unfolding leave machineOf
     off-goes s p q e c u a g o b n w = rw (← i, e, c (stateOf (r .pen) marks b), u b, g) (record { same = refl; wrote = rw a w })
 
@@ -357,5 +358,5 @@ module _ (store source image : List ℕ) (max limit stop : ℕ) (marks out : Lis
         → ((b : List ℕ) → s (stateOf (r .pen) marks b) ≡ stateOf p marks b)
         → p .at .0 ≡ r .pen .at .0
         → q ≡ record { frames = r .frames; depth = r .depth - 1; next = v .after (f .row); pen = p }
-        → Follows limit (turn v pg stop) marks out r marks out q
+        → Follows limit (turn v pg) marks out r marks out q
     closed-follows s p q e c u a g = record { goes = λ o b n w. shows-as limit o marks out q _ _ (turned b n) (off-goes s p q e c u a g o b n w) }

@@ -7,8 +7,8 @@ use mathlib.Core.Bool.{Bool, true, false, cond}
 use mathlib.Core.List.{List, [], _∷_, _++_, append-assoc, append-nil}
 use lib.ListN.{replicate}
 use lib.Dec.{ltb}
-use Rattle.rows.specs.View.{View}
-use Rattle.rows.proofs.Decode.{nodeAt, node-parent, node-comment, node-str, node-ascii, node-line, node-empty, node-space}
+use Rattle.rows.specs.View.{View, nodeAt}
+use Rattle.rows.proofs.Decode.{node-parent, node-comment, node-str, node-ascii, node-line, node-empty, node-space}
 use Rattle.renderer.specs.Renderer.{Page, Renderer, render, push, atColumn, newLine, margin, remark, text}
 use Rattle.render.specs.declared.pen.Pen.{Pen}
 use Rattle.render.specs.Pen.{shown}

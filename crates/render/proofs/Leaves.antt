@@ -5,8 +5,8 @@ use Prim.Native.Nat.{ℕ, _+_}
 use native.Mathlib.Omega.{arith}
 use mathlib.Core.Bool.{Bool, true, false, cond}
 use mathlib.Core.List.{List, [], _∷_}
-use Rattle.rows.specs.View.{viewOf, cell}
-use Rattle.rows.proofs.Decode.{nodeAt, node-parent, node-comment, node-str, node-ascii, node-line, node-empty, node-space}
+use Rattle.rows.specs.View.{viewOf, cell, nodeAt}
+use Rattle.rows.proofs.Decode.{node-parent, node-comment, node-str, node-ascii, node-line, node-empty, node-space}
 use Rattle.renderer.specs.Page.{pageOf, textBytes, textOf}
 use Rattle.renderer.specs.Renderer.{Renderer, render, push, newLine, remark, text}
 use Rattle.render.specs.declared.pen.Pen.{Pen}

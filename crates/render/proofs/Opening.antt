@@ -11,7 +11,7 @@ use Rattle.rows.specs.Nesting.{Nested}
 use Rattle.renderer.specs.declared.Frame.{Frame}
 use Rattle.renderer.specs.Page.{pageOf}
 use Rattle.renderer.specs.Renderer.{groupWraps, trailing, calleeWraps, nextIndented}
-use Rattle.renderer.proofs.Machine.{frame}
+use Rattle.renderer.specs.Machine.{frame}
 use Rattle.render.specs.declared.pen.Pen.{Pen}
 use Rattle.render.specs.Pen.{shown, withMargin}
 use Rattle.render.specs.Run.{Running, openedRun, inserted, GroupOpened, CallOpened, ArgumentsOpened}

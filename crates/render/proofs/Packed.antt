@@ -9,7 +9,7 @@ use lib.ListN.{length, getD, set}
 use lib.Dec.{eqb}
 use borrow.Author.Tests.{ne-eqb, eq-eqb}
 use Rattle.renderer.specs.declared.Frame.{Frame}
-use Rattle.renderer.proofs.Meaning.{noFrame, frameAt}
+use Rattle.renderer.specs.Frames.{noFrame, frameAt}
 use Rattle.render.specs.declared.pen.Pen.{Pen}
 use Rattle.render.specs.declared.machine.Run.{Run}
 use Rattle.render.specs.Run.{unpacked, framed, whole, openedRun}

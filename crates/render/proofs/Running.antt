@@ -14,10 +14,13 @@ use Rattle.rows.proofs.Nested.{nests-le}
 use Rattle.renderer.specs.declared.Frame.{Frame}
 use Rattle.renderer.specs.Page.{pageOf}
 use Rattle.renderer.specs.Renderer.{Page, Renderer, renders}
-use Rattle.renderer.proofs.Meaning.{limit as partLimit, meaning, rest, wrapAt}
-use Rattle.renderer.proofs.Opened.{Under, limit-zero}
-use Rattle.renderer.proofs.Machine.{Machine, Fine, left, weight, means, turn, isDone, turned, done-means}
-use Rattle.renderer.proofs.Safe.{Safe, Small, steps, ins, turn-safe}
+use Rattle.renderer.specs.Frames.{limit as partLimit, wrapAt, Under}
+use Rattle.renderer.proofs.Meaning.{meaning, rest}
+use Rattle.renderer.proofs.Opened.{limit-zero}
+use Rattle.renderer.specs.Machine.{Machine, turn}
+use Rattle.renderer.proofs.Machine.{Fine, left, weight, means, isDone, turned, done-means}
+use Rattle.renderer.specs.Safe.{Safe, Small, steps, ins}
+use Rattle.renderer.proofs.Safe.{turn-safe}
 use Rattle.render.specs.declared.pen.Pen.{Pen}
 use Rattle.render.specs.Output.{over}
 use Rattle.render.specs.Run.{Running, stateOf, machineOf, Wrote, Shows, Follows, Ready, Starting, Rendered}
@@ -55,7 +58,7 @@ module _ (store source image : List ℕ) (max limit stop : ℕ) where
     pub entered : ℕ
     pub wrote : Wrote limit out0 out (r .pen .at .0) text
     pub fine : Fine v pg stop (machineOf r marks text entered)
-    pub safe : Safe v pg stop base (machineOf r marks text entered)
+    pub safe : Safe v base (machineOf r marks text entered)
     pub mean : means v pg stop (machineOf r marks text entered) ≡ final
 
   pub going-start : (out marks : List ℕ) (p : Pen) (from : ℕ) (fs : List Frame) → length fs ≡ 256 → Small v pg → Starting store limit from stop out p
@@ -114,11 +117,11 @@ module _ (store source image : List ℕ) (max limit stop : ℕ) where
         go true e = e
         go false e = refl
 
-    module _ (marks2 out2 : List ℕ) (q : Running) (f : Follows limit (turn v pg stop) marks out r marks2 out2 q) (n : (0 < r .depth) ⊎ (r .next < stop)) where
+    module _ (marks2 out2 : List ℕ) (q : Running) (f : Follows limit (turn v pg) marks out r marks2 out2 q) (n : (0 < r .depth) ⊎ (r .next < stop)) where
       m : Machine
-      m = turn v pg stop (machineOf r marks (g .text) (g .entered))
+      m = turn v pg (machineOf r marks (g .text) (g .entered))
 
-      shown : Shows limit out0 marks2 out2 q (turn v pg stop (machineOf r marks (g .text) (g .entered)))
+      shown : Shows limit out0 marks2 out2 q (turn v pg (machineOf r marks (g .text) (g .entered)))
       shown = f .goes out0 (g .text) (g .entered) (g .wrote)
 
       pub going-on : Going final out0 marks2 out2 q
@@ -132,11 +135,11 @@ module _ (store source image : List ℕ) (max limit stop : ℕ) where
             small = g .small;
             base = g .base;
             low = g .low;
-            text = turn v pg stop (machineOf r marks (g .text) (g .entered)) .state .buf;
-            entered = turn v pg stop (machineOf r marks (g .text) (g .entered)) .entered;
+            text = turn v pg (machineOf r marks (g .text) (g .entered)) .state .buf;
+            entered = turn v pg (machineOf r marks (g .text) (g .entered)) .entered;
             wrote = s .wrote;
             fine = subst (λ (x : Machine). Fine v pg stop x) (s .same) (t .fine);
-            safe = subst (λ (x : Machine). Safe v pg stop (g .base) x) (s .same) (turn-safe v pg stop (g .base) (machineOf r marks (g .text) (g .entered)) (g .fine) (not-done n) (g .small) (g .low) (g .safe));
+            safe = subst (λ (x : Machine). Safe v (g .base) x) (s .same) (turn-safe v pg stop (g .base) (machineOf r marks (g .text) (g .entered)) (g .fine) (not-done n) (g .small) (g .low) (g .safe));
             mean = ap (means v pg stop) (sym (s .same)) ∙ t .same ∙ g .mean;
           }
 

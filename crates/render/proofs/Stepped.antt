@@ -15,10 +15,12 @@ use Rattle.rows.proofs.Nested.{nests-le, nests-deep, nests-block, nests-pair, n
 use Rattle.renderer.specs.declared.Frame.{Frame}
 use Rattle.renderer.specs.Page.{pageOf}
 use Rattle.renderer.specs.Renderer.{Page, Renderer, indented, outdented, nextIndented, nextOutdented}
-use Rattle.renderer.proofs.Meaning.{frameAt, partEnd, closing, limit as partLimit, wrapAt}
-use Rattle.renderer.proofs.Opened.{Open, at-top, limit-zero, limit-pos, wrapAt-zero, wrapAt-pos}
-use Rattle.renderer.proofs.Machine.{frame, enter, turn, turn-enter, and-two}
-use Rattle.renderer.proofs.Safe.{steps, ins, stepOf, insOf, steps-le, closing-plain, closing-indent, closing-next, closing-call, indent-steps, next-steps, call-steps}
+use Rattle.renderer.specs.Frames.{frameAt, partEnd, limit as partLimit, wrapAt, Open}
+use Rattle.renderer.specs.Machine.{closing, frame, enter, turn}
+use Rattle.renderer.proofs.Opened.{at-top, limit-zero, limit-pos, wrapAt-zero, wrapAt-pos}
+use Rattle.renderer.proofs.Machine.{turn-enter, and-two}
+use Rattle.renderer.specs.Safe.{steps, ins, stepOf, insOf}
+use Rattle.renderer.proofs.Safe.{steps-le, closing-plain, closing-indent, closing-next, closing-call, indent-steps, next-steps, call-steps}
 use Rattle.render.specs.declared.pen.Pen.{Pen}
 use Rattle.render.specs.Pen.{shown, withMargin, Room}
 use Rattle.render.specs.declared.machine.Run.{Run}
@@ -192,20 +194,20 @@ module _ (store source image : List ℕ) (max limit stop : ℕ) (marks out : Lis
 
   -- an `Indent` or an `IndentNext`
   pub indents-follow : (kind : ℕ) (q : Running) (w : Bool) → kind ≡ cell store (r .next) 0 → (kind ≡ 0 → ⊥) → kind < 3
-      → w ≡ wrapAt v pg stop (r .frames) (r .depth)
+      → w ≡ wrapAt (r .frames) (r .depth)
       → q
       ≡ openedRun r (frame (r .next) w false false) (r .next + 1)
       (withMargin (r .pen) (cond (eqb kind 1) (indented w (shown (r .pen) [])) (nextIndented w (shown (r .pen) []))))
-      → Follows limit (enter v pg stop) marks out r marks out q
+      → Follows limit (enter v pg) marks out r marks out q
   indents-follow zero q w k a b e o = absurd (a refl)
-  indents-follow (suc zero) q w k a b e o = indent-follows store source image max limit stop marks out r q w (sym k) e o
-  indents-follow (suc (suc zero)) q w k a b e o = next-follows store source image max limit stop marks out r q w (sym k) e o
+  indents-follow (suc zero) q w k a b e o = indent-follows store source image max limit marks out r q w (sym k) e o
+  indents-follow (suc (suc zero)) q w k a b e o = next-follows store source image max limit marks out r q w (sym k) e o
   indents-follow (suc (suc (suc n))) q w k a b e o = absurd (omega arith)
 
   -- A turn that enters a row.
   pub turns : (marks2 out2 : List ℕ) (q : Running) → Entering store source image max limit stop marks out r
-      → Follows limit (enter v pg stop) marks out r marks2 out2 q
-      → Follows limit (turn v pg stop) marks out r marks2 out2 q
+      → Follows limit (enter v pg) marks out r marks2 out2 q
+      → Follows limit (turn v pg) marks out r marks2 out2 q
   unfolding machineOf
   turns marks2 out2 q n g =
       record { goes = λ o b k w. shows-as limit o marks2 out2 q _ _ (turn-enter v pg stop (machineOf r marks b k) (n .inside)) (g .goes o b k w) }
@@ -214,24 +216,24 @@ module _ (store source image : List ℕ) (max limit stop : ℕ) (marks out : Lis
     pub top-entering : r .depth ≡ 0 → r .next < stop → Entering store source image max limit stop marks out r
     top-entering e h = record { ready = y; inside = let l = limit-zero v pg stop (r .frames) (r .depth) e in omega arith }
 
-    pub top-wrap : r .depth ≡ 0 → true ≡ wrapAt v pg stop (r .frames) (r .depth)
+    pub top-wrap : r .depth ≡ 0 → true ≡ wrapAt (r .frames) (r .depth)
     top-wrap e = sym (wrapAt-zero v pg stop (r .frames) (r .depth) e)
 
     module _ (f : Frame) (h : 0 < r .depth) (i : f ≡ frameAt (r .frames) (r .depth - 1)) where
-      opened-row : Open v pg stop (r .frames) (r .depth - 1)
+      opened-row : Open v stop (r .frames) (r .depth - 1)
       opened-row = at-top v pg stop (r .frames) (r .depth) (r .next) h (y .at)
 
-      limit-is : partLimit v pg stop (r .frames) (r .depth) ≡ partEnd v f
+      limit-is : partLimit v stop (r .frames) (r .depth) ≡ partEnd v f
       limit-is = limit-pos v pg stop (r .frames) (r .depth) h ∙ ap (partEnd v) (sym i)
 
       pub in-entering : (e : ℕ) → e ≡ partEnd v f → (r .next ≡ e → ⊥) → Entering store source image max limit stop marks out r
       in-entering e k n =
-          record { ready = y; inside = lt-of (r .next) e (partLimit v pg stop (r .frames) (r .depth)) (k ∙ sym limit-is) (nests-le (y .at .good)) n }
+          record { ready = y; inside = lt-of (r .next) e (partLimit v stop (r .frames) (r .depth)) (k ∙ sym limit-is) (nests-le (y .at .good)) n }
         where
           lt-of : (a b c : ℕ) → b ≡ c → a ≤ c → (a ≡ b → ⊥) → a < c
           lt-of a b c e l n = omega arith
 
-      pub in-wrap : f .wrap ≡ wrapAt v pg stop (r .frames) (r .depth)
+      pub in-wrap : f .wrap ≡ wrapAt (r .frames) (r .depth)
       in-wrap = ap (λ (x : Frame). x .wrap) i ∙ sym (wrapAt-pos v pg stop (r .frames) (r .depth) h)
 
       in-depth : (d : ℕ) → r .depth ≡ d → (insOf v f ≤ r .pen .indent) × (stepOf v f ≤ r .pen .indent + r .pen .«next_indent»)
@@ -316,12 +318,12 @@ module _ (store source image : List ℕ) (max limit stop : ℕ) (marks out : Lis
 
       -- A turn that leaves the innermost row.
       pub left-follows : (marks2 : List ℕ) (q : Running) → r .next ≡ partEnd v f → Left store max marks r f marks2 q
-          → Follows limit (turn v pg stop) marks out r marks2 out q
+          → Follows limit (turn v pg) marks out r marks2 out q
       unfolding viewOf
-      left-follows marks2 q z (goesOn k e a) = arguments-follows store source image max limit stop marks out r h f i z marks2 q k e a
+      left-follows marks2 q z (goesOn k e a) = arguments-follows store source image max limit marks out r h f i z marks2 q k e a
       left-follows marks2 q z (ends e m o) =
-          subst (λ (x : List ℕ). Follows limit (turn v pg stop) marks out r x out q) (sym m)
-          (closed-follows store source image max limit stop marks out r h f i z
+          subst (λ (x : List ℕ). Follows limit (turn v pg) marks out r x out q) (sym m)
+          (closed-follows store source image max limit marks out r h f i z
           (closes (cell store (f .row) 0) f)
           (withMargin (r .pen) (closes (cell store (f .row) 0) f (shown (r .pen) [])))
           q
@@ -342,10 +344,10 @@ module _ (store source image : List ℕ) (max limit stop : ℕ) (marks out : Lis
       turn-leaves e = let b = and-two _ _ e in (ltb-true _ _ (b .0), eqb-true _ _ (b .1))
 
       pub turn-enters : (ltb 0 (r .depth) && eqb (r .next) (partEnd v f)) ≡ false
-          → Entering store source image max limit stop marks out r × (f .wrap ≡ wrapAt v pg stop (r .frames) (r .depth))
+          → Entering store source image max limit stop marks out r × (f .wrap ≡ wrapAt (r .frames) (r .depth))
       turn-enters e = go (r .depth) refl
         where
-          go : (d : ℕ) → r .depth ≡ d → Entering store source image max limit stop marks out r × (f .wrap ≡ wrapAt v pg stop (r .frames) (r .depth))
+          go : (d : ℕ) → r .depth ≡ d → Entering store source image max limit stop marks out r × (f .wrap ≡ wrapAt (r .frames) (r .depth))
           go zero q =
               let a : f ≡ frame 0 true false false = i ∙ rw q in
               (top-entering y q (n q), ap (λ (x : Frame). x .wrap) a ∙ top-wrap y q)

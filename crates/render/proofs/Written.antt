@@ -12,7 +12,8 @@ use lib.Dec.{ltb}
 use borrow.Author.Tests.{lt-ltb, le-ltb}
 use Rattle.rows.specs.Ascii.{bytes}
 use Rattle.rows.specs.Words.{words, joined}
-use Rattle.renderer.specs.Page.{originText, textBytes, textOf}
+use Rattle.rows.specs.Texts.{originText}
+use Rattle.renderer.specs.Page.{textBytes, textOf}
 use Rattle.render.specs.Output.{over}
 
 cond-length : (b : Bool) (out : List ℕ) (at x : ℕ) → length (cond b (set out at x) out) ≡ length out
@@ -161,39 +162,6 @@ text-below limit out at source image origin start size n k r e h =
     let l = length-take size (drop start (originText source image origin)) in
     ap (over (length out) out at) (sym (take-take k size (drop start (originText source image origin)) (omega arith)))
     ∙ over-below limit (length out) out at (take size (drop start (originText source image origin))) k r (omega arith)
-
-pub origin-source : (source image : List ℕ) (origin : ℕ) → origin ≡ 0 → originText source image origin ≡ source
-unfolding originText
-origin-source source image origin e = rw e
-
-pub origin-image : (source image : List ℕ) (origin : ℕ) → origin ≡ 1 → originText source image origin ≡ image
-unfolding originText
-origin-image source image origin e = rw e
-
-pub origin-words : (source image : List ℕ) (origin : ℕ) → origin ≡ 2 → originText source image origin ≡ words
-unfolding originText
-origin-words source image origin e = rw e
-
-pub origin-none : (source image : List ℕ) (origin : ℕ) → (origin ≡ 0 → ⊥) → (origin ≡ 1 → ⊥) → (origin ≡ 2 → ⊥) → originText source image origin ≡ []
-unfolding originText
-origin-none source image zero a b c = absurd (a refl)
-origin-none source image (suc zero) a b c = absurd (b refl)
-origin-none source image (suc (suc zero)) a b c = absurd (c refl)
-origin-none source image (suc (suc (suc n))) a b c = refl
-
--- an origin that has bytes, and is neither the source nor the image
-pub origin-rest : (source image : List ℕ) (origin start n : ℕ) → (n ≡ 0 → ⊥) → (origin ≡ 0 → ⊥) → (origin ≡ 1 → ⊥)
-    → n ≤ length (originText source image origin) - start
-    → originText source image origin ≡ words
-unfolding originText
-origin-rest source image zero start n m a b h = absurd (a refl)
-origin-rest source image (suc zero) start n m a b h = absurd (b refl)
-origin-rest source image (suc (suc zero)) start n m a b h = refl
-origin-rest source image (suc (suc (suc k))) start n m a b h = absurd (m (omega arith))
-
-pub words-size : length words ≡ 178
-unfolding words joined bytes
-words-size = refl
 
 pub text-fits : (source image : List ℕ) (origin start size : ℕ) → length (textBytes source image (textOf origin start size)) ≤ size
 text-fits source image origin start size = let e = text-size source image origin start size in omega arith

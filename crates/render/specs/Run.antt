@@ -10,10 +10,9 @@ use Rattle.rows.specs.Nesting.{Nested}
 use Rattle.renderer.specs.declared.Frame.{Frame}
 use Rattle.renderer.specs.Renderer.{Renderer, groupWraps, trailing, calleeWraps, outdented, nextIndented, nextOutdented}
 use Rattle.renderer.specs.Page.{pageOf}
-use Rattle.renderer.proofs.Meaning.{limit as partLimit}
-use Rattle.renderer.proofs.Opened.{At}
-use Rattle.renderer.proofs.Machine.{Machine, frame}
-use Rattle.renderer.proofs.Safe.{Safe, Small}
+use Rattle.renderer.specs.Frames.{limit as partLimit, At}
+use Rattle.renderer.specs.Machine.{Machine, frame}
+use Rattle.renderer.specs.Safe.{Safe, Small}
 use Rattle.render.specs.declared.pen.Pen.{Pen}
 use Rattle.render.specs.declared.machine.Run.{Run}
 use Rattle.render.specs.Output.{over}
@@ -71,13 +70,13 @@ pub record Ready (store source image : List ℕ) (max limit stop : ℕ) (marks o
   pub few : stop ≤ 2097152
   pub fits : limit ≤ length out
   pub small : Small (viewOf store) (pageOf max source image)
-  pub at : At (viewOf store) (pageOf max source image) stop (r .frames) (r .depth) (r .next)
+  pub at : At (viewOf store) stop (r .frames) (r .depth) (r .next)
   pub base : ℕ
   pub low : base ≤ 128
   pub before : List ℕ
   pub text : List ℕ
   pub wrote : Wrote limit before out (r .pen .at .0) text
-  pub safe : Safe (viewOf store) (pageOf max source image) stop base (machineOf r marks text 0)
+  pub safe : Safe (viewOf store) base (machineOf r marks text 0)
 
 -- a run with one more row open, at row k
 abbrev pub openedRun : Running → Frame → ℕ → Pen → Running
@@ -94,7 +93,7 @@ pub record Enters (store : List ℕ) (r : Run) : Type 0 where
 -- a row is ahead in the open part
 pub record Entering (store source image : List ℕ) (max limit stop : ℕ) (marks out : List ℕ) (r : Running) : Type 0 where
   pub ready : Ready store source image max limit stop marks out r
-  pub inside : r .next < partLimit (viewOf store) (pageOf max source image) stop (r .frames) (r .depth)
+  pub inside : r .next < partLimit (viewOf store) stop (r .frames) (r .depth)
 
 -- the marks once group `number` wraps or not
 abbrev pub inserted : Bool → ℕ → List ℕ → List ℕ

@@ -6,13 +6,12 @@ ghost use mathlib.Core.List.{[], _∷_, map};
 ghost use lib.ListN.{length, set};
 ghost use lib.Dec.{ltb, eqb};
 ghost use Rattle.rows.specs.Node.{wrapped};
-ghost use Rattle.rows.specs.View.{cell, viewOf, nodesAt};
+ghost use Rattle.rows.specs.View.{cell, viewOf, nodesAt, nodeAt};
 ghost use Rattle.rows.specs.Nesting.{Nested};
-ghost use Rattle.rows.proofs.Decode.{nodeAt};
 ghost use Rattle.renderer.specs.Page.{pageOf};
 ghost use Rattle.renderer.specs.Renderer.{render, renders, groupWraps, trailing, calleeWraps, indented, outdented, newLine, nextIndented, nextOutdented, text, virtualColumn};
-ghost use Rattle.renderer.proofs.Meaning.{frameAt, partEnd, wrapAt};
-ghost use Rattle.renderer.proofs.Machine.{frame, enter, turn};
+ghost use Rattle.renderer.specs.Frames.{frameAt, partEnd, wrapAt};
+ghost use Rattle.renderer.specs.Machine.{frame, enter, turn};
 ghost use Rattle.render.specs.Pen.{shown, withMargin, Drawn, Room};
 ghost use Rattle.render.specs.Run.{unpacked, whole, openedRun, closedRun, closes, Backs, Enters, Leaves, Left, GroupOpened, CallOpened, ArgumentsOpened, Follows, Ready, Entering, Starting, Rendered, stateOf};
 use crate::frames::pack;
@@ -21,16 +20,18 @@ use crate::measure::width_past;
 use crate::pen::Pen;
 use crate::pen::comment;
 use crate::pen::empty_line;
+use crate::pen::margin_columns;
 use crate::pen::new_line;
 use crate::pen::numbers;
 use crate::pen::pen_of;
 use crate::pen::space;
 use crate::pen::text;
 use renderer::Frame;
-use rows::store::Bytes;
 use rows::store::Columns;
 use rows::store::ascii_columns;
 use rows::store::place;
+use rows::store::str_width;
+use rows::store::text_size;
 use rows::store::wide;
 use rows::width::is_wrapped;
 use rows::width::must_wrap;
@@ -50,7 +51,7 @@ fn virtual_column(p: Pen) -> Columns
     if 0 < p.column.0 {
         return p.column;
     }
-    Columns(4 * p.indent)
+    margin_columns(p.indent)
 }
 
 // Whether the group of the rows from `from` up to `to` wraps.
@@ -129,7 +130,8 @@ fn with_margin(p: Pen, indent: usize, next_indent: usize) -> Pen
     ensures { λ r. ⌜ r ≡ record { indent = indent; «next_indent» = «next_indent»; column = p .column; at = p .at } ⌝ }
 {
     let n = crate::lent::with_margin(numbers(p), indent, next_indent);
-    pen_of(n, p.at.0)
+    let at = p.at;
+    pen_of(n, at)
 }
 
 // `indent` one more, where `wrap` holds.
@@ -378,23 +380,13 @@ fn text_leaf(
 {
     let origin = place(store, row, 5);
     let start = place(store, row, 6);
-    let size = place(store, row, 7);
+    let size = text_size(store, row);
     if kind == 4 {
         return comment(p, out, limit, source, image, origin, start, size);
     }
     if kind == 5 {
-        let w = place(store, row, 8);
-        return text(
-            p,
-            out,
-            limit,
-            source,
-            image,
-            origin,
-            start,
-            size,
-            Columns(w),
-        );
+        let w = str_width(store, row);
+        return text(p, out, limit, source, image, origin, start, size, w);
     }
     text(
         p,
@@ -405,7 +397,7 @@ fn text_leaf(
         origin,
         start,
         size,
-        ascii_columns(Bytes(size)),
+        ascii_columns(size),
     )
 }
 
@@ -485,8 +477,8 @@ fn enter(
     max: usize,
     stop: usize,
 ) -> Run
-    requires { ⌜ Entering (now store) (now source) (now image) max limit stop (now marks) (now out) (whole (now frames) r) × (wrap ≡ wrapAt (viewOf (now store)) (pageOf max (now source) (now image)) stop (map unpacked (now frames)) (r .depth)) ⌝ }
-    ensures { λ q. ⌜ Follows limit (enter (viewOf (now (store .entry))) (pageOf max (now (source .entry)) (now (image .entry))) stop) (now (marks .entry)) (now (out .entry)) (whole (now (frames .entry)) r) (now (marks .exit)) (now (out .exit)) (whole (now (frames .exit)) q) ⌝ }
+    requires { ⌜ Entering (now store) (now source) (now image) max limit stop (now marks) (now out) (whole (now frames) r) × (wrap ≡ wrapAt (map unpacked (now frames)) (r .depth)) ⌝ }
+    ensures { λ q. ⌜ Follows limit (enter (viewOf (now (store .entry))) (pageOf max (now (source .entry)) (now (image .entry)))) (now (marks .entry)) (now (out .entry)) (whole (now (frames .entry)) r) (now (marks .exit)) (now (out .exit)) (whole (now (frames .exit)) q) ⌝ }
 {
     let i = r.next;
     let p = r.pen;
@@ -571,7 +563,7 @@ fn step(
     stop: usize,
 ) -> Run
     requires { ⌜ Ready (now store) (now source) (now image) max limit stop (now marks) (now out) (whole (now frames) r) × (r .depth ≡ 0 → r .next < stop) ⌝ }
-    ensures { λ q. ⌜ Follows limit (turn (viewOf (now (store .entry))) (pageOf max (now (source .entry)) (now (image .entry))) stop) (now (marks .entry)) (now (out .entry)) (whole (now (frames .entry)) r) (now (marks .exit)) (now (out .exit)) (whole (now (frames .exit)) q) ⌝ }
+    ensures { λ q. ⌜ Follows limit (turn (viewOf (now (store .entry))) (pageOf max (now (source .entry)) (now (image .entry)))) (now (marks .entry)) (now (out .entry)) (whole (now (frames .entry)) r) (now (marks .exit)) (now (out .exit)) (whole (now (frames .exit)) q) ⌝ }
 {
     let f = innermost(frames, r.depth);
     if is_done(store, f, r.depth, r.next) {

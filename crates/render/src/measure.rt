@@ -11,13 +11,13 @@ use rows::width::own_width;
 use rows::width::width;
 
 // A width that is past the room is one column past it.
-fn clip(w: usize, room: usize) -> Columns
-    ensures { λ r. ⌜ r .0 ≡ min (room + 1) w ⌝ }
+fn clip(w: Columns, room: usize) -> Columns
+    ensures { λ r. ⌜ r .0 ≡ min (room + 1) (w .0) ⌝ }
 {
-    if room < w {
+    if room < w.0 {
         return Columns(room + 1);
     }
-    Columns(w)
+    w
 }
 
 // The width of the rows from `from` up to `to`, or one column more than there is room for. No row is read once that is passed.
@@ -29,7 +29,7 @@ pub fn width_past(store: &[u32], marks: &[u8], from: usize, to: usize, room: usi
     let mut sum: usize = 0;
     while row < to {
         if room < sum {
-            return clip(sum, room);
+            return clip(Columns(sum), room);
         }
         let kind = place(store, row, 0);
         if kind != 10 {
@@ -37,10 +37,10 @@ pub fn width_past(store: &[u32], marks: &[u8], from: usize, to: usize, room: usi
             row += 1;
         } else {
             if is_wrapped(marks, place(store, row, 1)) {
-                return clip(sum + width(store, marks, row, to).0, room);
+                return clip(Columns(sum + width(store, marks, row, to).0), room);
             }
             row = place(store, row, 3);
         }
     }
-    clip(sum, room)
+    clip(Columns(sum), room)
 }

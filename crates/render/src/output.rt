@@ -4,8 +4,11 @@ ghost use Prim.Native.Nat.{_-_, _≤_, min};
 ghost use mathlib.Core.List.{[], _∷_};
 ghost use lib.ListN.{length, take, drop, replicate};
 ghost use Rattle.rows.specs.Words.{words};
-ghost use Rattle.renderer.specs.Page.{originText, textBytes, textOf};
+ghost use Rattle.rows.specs.Texts.{originText};
+ghost use Rattle.renderer.specs.Page.{textBytes, textOf};
 ghost use Rattle.render.specs.Output.{over};
+use rows::origins::origin_size;
+use rows::store::Bytes;
 use rows::words::WORDS;
 
 // Writes a byte at a place below the limit.
@@ -32,27 +35,11 @@ fn put_blanks(out: &mut [u8], at: usize, n: usize)
 }
 
 // Writes n blanks.
-pub fn spaces(out: &mut [u8], limit: usize, at: usize, n: usize)
+pub fn spaces(out: &mut [u8], limit: usize, at: usize, n: Bytes)
     requires { ⌜ limit ≤ length (now out) ⌝ }
-    ensures { λ r. ⌜ now (out .exit) ≡ over limit (now (out .entry)) at (replicate n 0x20) ⌝ }
+    ensures { λ r. ⌜ now (out .exit) ≡ over limit (now (out .entry)) at (replicate (n .0) 0x20) ⌝ }
 {
-    put_blanks(out, at, clipped(limit, at, n));
-}
-
-// The length of the text of an origin.
-pub fn origin_size(source: &[u8], image: &[u8], origin: usize) -> usize
-    ensures { λ r. ⌜ r ≡ length (originText (now (source .entry)) (now (image .entry)) origin) ⌝ }
-{
-    if origin == 0 {
-        return source.len();
-    }
-    if origin == 1 {
-        return image.len();
-    }
-    if origin == 2 {
-        return 178;
-    }
-    0
+    put_blanks(out, at, clipped(limit, at, n.0));
 }
 
 // How many of the `size` bytes from `start` on a text of `len` bytes has. (All, in rows that were checked.)
@@ -124,12 +111,12 @@ pub fn copy(
     image: &[u8],
     origin: usize,
     start: usize,
-    size: usize,
-) -> usize
+    size: Bytes,
+) -> Bytes
     requires { ⌜ limit ≤ length (now out) ⌝ }
-    ensures { λ r. ⌜ (now (out .exit) ≡ over limit (now (out .entry)) at (textBytes (now (source .entry)) (now (image .entry)) (textOf origin start size))) × (r ≡ length (textBytes (now (source .entry)) (now (image .entry)) (textOf origin start size))) ⌝ }
+    ensures { λ r. ⌜ (now (out .exit) ≡ over limit (now (out .entry)) at (textBytes (now (source .entry)) (now (image .entry)) (textOf origin start (size .0)))) × (r .0 ≡ length (textBytes (now (source .entry)) (now (image .entry)) (textOf origin start (size .0)))) ⌝ }
 {
-    let n = clipped(origin_size(source, image, origin), start, size);
+    let n = clipped(origin_size(source, image, origin).0, start, size.0);
     put_origin(out, at, source, image, origin, start, clipped(limit, at, n));
-    n
+    Bytes(n)
 }

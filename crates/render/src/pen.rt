@@ -34,14 +34,14 @@ pub fn numbers(p: Pen) -> Numbers
 }
 
 // The pen with these numbers, once `at` bytes are written.
-pub fn pen_of(n: Numbers, at: usize) -> Pen
-    ensures { λ r. ⌜ r ≡ penOf n at ⌝ }
+pub fn pen_of(n: Numbers, at: Bytes) -> Pen
+    ensures { λ r. ⌜ r ≡ penOf n (at .0) ⌝ }
 {
     Pen {
         indent: n.indent,
         next_indent: n.next_indent,
         column: Columns(n.column.0),
-        at: Bytes(at),
+        at: Bytes(at.0),
     }
 }
 
@@ -69,11 +69,11 @@ fn put_text(
     image: &[u8],
     origin: usize,
     start: usize,
-    size: usize,
+    size: Bytes,
     w: Columns,
 ) -> Pen
-    requires { ⌜ Room 2305843009213693952 limit (now out) p × ((start < 4294967296) × ((size < 4294967296) × (w .0 < 4294967296))) ⌝ }
-    ensures { λ r. ⌜ Drawn limit (atColumn (p .column .0 + w .0) (push (textBytes (now (source .entry)) (now (image .entry)) (textOf origin start size)) (shown p []))) (now (out .entry)) p (now (out .exit)) r ⌝ }
+    requires { ⌜ Room 2305843009213693952 limit (now out) p × ((start < 4294967296) × ((size .0 < 4294967296) × (w .0 < 4294967296))) ⌝ }
+    ensures { λ r. ⌜ Drawn limit (atColumn (p .column .0 + w .0) (push (textBytes (now (source .entry)) (now (image .entry)) (textOf origin start (size .0))) (shown p []))) (now (out .entry)) p (now (out .exit)) r ⌝ }
 {
     let at = p.at.0;
     let n = copy(out, limit, at, source, image, origin, start, size);
@@ -81,8 +81,24 @@ fn put_text(
         indent: p.indent,
         next_indent: p.next_indent,
         column: Columns(p.column.0 + w.0),
-        at: Bytes(at + n),
+        at: Bytes(at + n.0),
     }
+}
+
+// A line's margin, four blanks a step, in bytes.
+pub fn margin_bytes(indent: usize) -> Bytes
+    requires { ⌜ indent ≤ 384 ⌝ }
+    ensures { λ r. ⌜ r .0 ≡ 4 * indent ⌝ }
+{
+    Bytes(4 * indent)
+}
+
+// The same margin in columns.
+pub fn margin_columns(indent: usize) -> Columns
+    requires { ⌜ indent ≤ 384 ⌝ }
+    ensures { λ r. ⌜ r .0 ≡ 4 * indent ⌝ }
+{
+    Columns(4 * indent)
 }
 
 // The indent of a line that starts here.
@@ -91,13 +107,14 @@ fn start_line(p: Pen, out: &mut [u8], limit: usize) -> Pen
     ensures { λ r. ⌜ Drawn limit (margin (shown p [])) (now (out .entry)) p (now (out .exit)) r ⌝ }
 {
     let at = p.at.0;
-    let n = 4 * p.indent;
+    let n = margin_bytes(p.indent);
+    let column = margin_columns(p.indent);
     spaces(out, limit, at, n);
     Pen {
         indent: p.indent,
         next_indent: p.next_indent,
-        column: Columns(n),
-        at: Bytes(at + n),
+        column: column,
+        at: Bytes(at + n.0),
     }
 }
 
@@ -110,9 +127,9 @@ pub fn new_line(p: Pen, out: &mut [u8], limit: usize) -> Pen
     let n = on_new_line(numbers(p));
     if 0 < p.column.0 {
         emit(out, limit, at, 0x0A);
-        return pen_of(n, at + 1);
+        return pen_of(n, Bytes(at + 1));
     }
-    pen_of(n, at)
+    pen_of(n, Bytes(at))
 }
 
 // An `EmptyLine`.
@@ -143,11 +160,11 @@ pub fn text(
     image: &[u8],
     origin: usize,
     start: usize,
-    size: usize,
+    size: Bytes,
     w: Columns,
 ) -> Pen
-    requires { ⌜ Room 1152921504606846976 limit (now out) p × ((start < 4294967296) × ((size < 4294967296) × (w .0 < 4294967296))) ⌝ }
-    ensures { λ r. ⌜ Drawn limit (text (textBytes (now (source .entry)) (now (image .entry)) (textOf origin start size)) (w .0) (shown p [])) (now (out .entry)) p (now (out .exit)) r ⌝ }
+    requires { ⌜ Room 1152921504606846976 limit (now out) p × ((start < 4294967296) × ((size .0 < 4294967296) × (w .0 < 4294967296))) ⌝ }
+    ensures { λ r. ⌜ Drawn limit (text (textBytes (now (source .entry)) (now (image .entry)) (textOf origin start (size .0))) (w .0) (shown p [])) (now (out .entry)) p (now (out .exit)) r ⌝ }
 {
     if 0 < p.column.0 {
         return put_text(p, out, limit, source, image, origin, start, size, w);
@@ -174,19 +191,19 @@ fn end_line(
     image: &[u8],
     origin: usize,
     start: usize,
-    size: usize,
+    size: Bytes,
 ) -> Pen
-    requires { ⌜ Room 2305843009213693952 limit (now out) p × ((start < 4294967296) × (size < 4294967296)) ⌝ }
-    ensures { λ r. ⌜ Drawn limit (atColumn 0 (push (textBytes (now (source .entry)) (now (image .entry)) (textOf origin start size) ++ (0x0A ∷ [])) (shown p []))) (now (out .entry)) p (now (out .exit)) r ⌝ }
+    requires { ⌜ Room 2305843009213693952 limit (now out) p × ((start < 4294967296) × (size .0 < 4294967296)) ⌝ }
+    ensures { λ r. ⌜ Drawn limit (atColumn 0 (push (textBytes (now (source .entry)) (now (image .entry)) (textOf origin start (size .0)) ++ (0x0A ∷ [])) (shown p []))) (now (out .entry)) p (now (out .exit)) r ⌝ }
 {
     let at = p.at.0;
     let n = copy(out, limit, at, source, image, origin, start, size);
-    emit(out, limit, at + n, 0x0A);
+    emit(out, limit, at + n.0, 0x0A);
     Pen {
         indent: p.indent,
         next_indent: p.next_indent,
         column: Columns(0),
-        at: Bytes(at + n + 1),
+        at: Bytes(at + n.0 + 1),
     }
 }
 
@@ -199,10 +216,10 @@ pub fn comment(
     image: &[u8],
     origin: usize,
     start: usize,
-    size: usize,
+    size: Bytes,
 ) -> Pen
-    requires { ⌜ Room 1152921504606846976 limit (now out) p × ((start < 4294967296) × (size < 4294967296)) ⌝ }
-    ensures { λ r. ⌜ Drawn limit (remark (textBytes (now (source .entry)) (now (image .entry)) (textOf origin start size)) (shown p [])) (now (out .entry)) p (now (out .exit)) r ⌝ }
+    requires { ⌜ Room 1152921504606846976 limit (now out) p × ((start < 4294967296) × (size .0 < 4294967296)) ⌝ }
+    ensures { λ r. ⌜ Drawn limit (remark (textBytes (now (source .entry)) (now (image .entry)) (textOf origin start (size .0))) (shown p [])) (now (out .entry)) p (now (out .exit)) r ⌝ }
 {
     let column = p.column.0;
     if 0 < column {

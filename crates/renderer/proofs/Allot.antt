@@ -9,13 +9,14 @@ use lib.Dec.{ltb, leb, eqb}
 use borrow.Author.Tests.{lt-leb, leb-false}
 use Rattle.rows.specs.View.{View, nodesAt}
 use Rattle.renderer.specs.Renderer.{Page, groupWraps, insert}
-use Rattle.renderer.proofs.Meaning.{frameAt, closing, limit}
-use Rattle.renderer.proofs.Machine.{Machine, Fine, left, turn, leave, isDone, turned, spent, frame}
+use Rattle.renderer.specs.Frames.{frameAt, limit}
+use Rattle.renderer.specs.Machine.{Machine, frame, closing, leave, turn}
+use Rattle.renderer.proofs.Machine.{Fine, left, isDone, turned, spent}
 
 module _ (v : View) (pg : Page) (stop : ℕ) where
   -- rows entered, and allotments: n rows, then the closing of what they finished
   -- a turn that closes enters no row
-  pub leave-seen : (m : Machine) (k : ℕ) → leave v pg stop m k .entered ≡ m .entered
+  pub leave-seen : (m : Machine) (k : ℕ) → leave v pg m k .entered ≡ m .entered
   unfolding leave
   leave-seen m k = go (eqb (v .kind (frameAt (m .frames) k .row)) 11 && frameAt (m .frames) k .early)
     where
@@ -25,11 +26,11 @@ module _ (v : View) (pg : Page) (stop : ℕ) where
 
   -- the allotment n from m on: turns until n more rows are entered and all that they finished is closed
   unfoldable pub wantsRow : Machine → Bool
-  wantsRow m = ltb (m .next) (limit v pg stop (m .frames) (m .depth))
+  wantsRow m = ltb (m .next) (limit v stop (m .frames) (m .depth))
 
   unfoldable pub allot : ℕ → ℕ → Machine → Machine
   allot zero n m = m
-  allot (suc f) n m = cond (isDone v pg stop m) m (cond (wantsRow m && leb n (m .entered)) m (allot f n (turn v pg stop m)))
+  allot (suc f) n m = cond (isDone v pg stop m) m (cond (wantsRow m && leb n (m .entered)) m (allot f n (turn v pg m)))
 
   -- enough turns are enough
   enough-step : (n : ℕ) (m : Machine) (b c : Bool) (x y : Machine) → (isDone v pg stop m ≡ b) → (b ≡ false → x ≡ y) → cond b m (cond c m x) ≡ cond b m (cond c m y)
@@ -50,24 +51,24 @@ module _ (v : View) (pg : Page) (stop : ℕ) where
   allot-enough zero g n m a p q = sym (stopped g n m (spent-done m a p))
   allot-enough (suc f) zero n m a p q = stopped (suc f) n m (spent-done m a q)
   allot-enough (suc f) (suc g) n m a p q =
-      enough-step n m (isDone v pg stop m) (wantsRow m && leb n (m .entered)) (allot f n (turn v pg stop m)) (allot g n (turn v pg stop m)) refl
-      (λ e. let t = turned v pg stop m a e in let l = t .less in allot-enough f g n (turn v pg stop m) (t .fine) (omega arith) (omega arith))
+      enough-step n m (isDone v pg stop m) (wantsRow m && leb n (m .entered)) (allot f n (turn v pg m)) (allot g n (turn v pg m)) refl
+      (λ e. let t = turned v pg stop m a e in let l = t .less in allot-enough f g n (turn v pg m) (t .fine) (omega arith) (omega arith))
 
   sooner : (w : Bool) (n k s : ℕ) → n ≤ k → (w && leb n s) ≡ false → (w && leb k s) ≡ false
   sooner true n k s h e = lt-leb k s (let l = leb-false n s e in omega arith)
   sooner false n k s h e = refl
 
   -- one turn more, where the stop is not yet
-  allot-turn : (f n : ℕ) (m : Machine) → Fine v pg stop m → left stop m ≤ f → isDone v pg stop m ≡ false → (wantsRow m && leb n (m .entered)) ≡ false → allot f n (turn v pg stop m) ≡ allot f n m
+  allot-turn : (f n : ℕ) (m : Machine) → Fine v pg stop m → left stop m ≤ f → isDone v pg stop m ≡ false → (wantsRow m && leb n (m .entered)) ≡ false → allot f n (turn v pg m) ≡ allot f n m
   unfolding allot
   allot-turn zero n m a l e c = absurd (let z : isDone v pg stop m ≡ true = spent-done m a l in let y : _≡_ {A = ℕ} 0 1 = cc in omega arith)
   allot-turn (suc f) n m a l e c =
       let t = turned v pg stop m a e in
       let s = t .less in
-      allot-enough (suc f) f n (turn v pg stop m) (t .fine) (omega arith) (omega arith) ∙ rw (e, c)
+      allot-enough (suc f) f n (turn v pg m) (t .fine) (omega arith) (omega arith) ∙ rw (e, c)
 
   join-step : (F n k : ℕ) (m r : Machine) (b c : Bool) → n ≤ k → isDone v pg stop m ≡ b → (wantsRow m && leb n (m .entered)) ≡ c → Fine v pg stop m → left stop m ≤ F
-      → (b ≡ false → c ≡ false → allot F k r ≡ allot F k (turn v pg stop m)) → allot F k (cond b m (cond c m r)) ≡ allot F k m
+      → (b ≡ false → c ≡ false → allot F k r ≡ allot F k (turn v pg m)) → allot F k (cond b m (cond c m r)) ≡ allot F k m
   join-step F n k m r true c h e d a l rec = refl
   join-step F n k m r false true h e d a l rec = refl
   join-step F n k m r false false h e d a l rec = rec refl refl ∙ allot-turn F k m a l e (sooner (wantsRow m) n k (m .entered) h d)
@@ -77,5 +78,5 @@ module _ (v : View) (pg : Page) (stop : ℕ) where
   unfolding allot
   allot-join zero F n k m h a p q = refl
   allot-join (suc f) F n k m h a p q =
-      join-step F n k m (allot f n (turn v pg stop m)) (isDone v pg stop m) (wantsRow m && leb n (m .entered)) h refl refl a q
-      (λ e d. let t = turned v pg stop m a e in let l = t .less in allot-join f F n k (turn v pg stop m) h (t .fine) (omega arith) (omega arith))
+      join-step F n k m (allot f n (turn v pg m)) (isDone v pg stop m) (wantsRow m && leb n (m .entered)) h refl refl a q
+      (λ e d. let t = turned v pg stop m a e in let l = t .less in allot-join f F n k (turn v pg m) h (t .fine) (omega arith) (omega arith))

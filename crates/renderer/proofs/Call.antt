@@ -9,6 +9,7 @@ use Rattle.rows.specs.Node.{Text, Node, Nodes, group, indentNext, call, none, _
 use Rattle.rows.proofs.Widths.{widths-join}
 use Rattle.renderer.specs.Renderer.{Page, Renderer, render, renders, trailing, calleeWraps, groupWraps, wraps, insert, nextIndented}
 use Rattle.renderer.specs.Renderer.{nextOutdented}
+use Rattle.renderer.specs.Call.{callOfRust, CallAsRust}
 
 -- nodes and one more: `nodes.push`
 renders-last : (p : Page) (ns : Nodes) (x : Node) (w : Bool) (s : Renderer) → renders p (join ns (x then none)) w s ≡ render p x w (renders p ns w s)
@@ -35,12 +36,8 @@ made-up-wraps : (p : Page) (e : Nodes) (k : ℕ) (a : Nodes) (s : Renderer)
 unfolding groupWraps mustWraps
 made-up-wraps p e k a s = ap (λ (x : ℕ). wraps p false x s) (last-width (p .columns) (s .marks) e k a)
 
-pub call-as-rust : (p : Page) (n : ℕ) (e : Nodes) (k : ℕ) (a : Nodes) (w : Bool) (s : Renderer)
-    → render p (call n e k a) w s
-    ≡ cond (trailing p e a s)
-    (render p (group k a) true (render p (group n e) false s))
-    (render p (group n (indentNext (join e (group k a then none)) then none)) w s)
-unfolding render calleeWraps groupWraps
+pub call-as-rust : CallAsRust
+unfolding callOfRust render calleeWraps groupWraps
 call-as-rust p n e k a w s = go (trailing p e a s)
   where
     outer : Bool → Bool

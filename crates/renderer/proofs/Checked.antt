@@ -1,16 +1,16 @@
 -- The check of rows is right: it finds nothing wrong exactly where the rows nest and each row's places are right.
 -- Assumes nothing.
-use mathlib.Core.Path.{_≡_, refl, sym, subst}
+use mathlib.Core.Path.{_≡_, refl, sym, subst, _∙_}
 use Prim.Native.Nat.{ℕ, zero, suc, _-_, _≤_, _<_}
 use native.Mathlib.Omega.{arith}
-use mathlib.Core.Bool.{Bool, true, false, cond, _&&_}
+use mathlib.Core.Bool.{Bool, true, false, cond, _&&_, _||_}
 use mathlib.Core.Option.{Option, some, none}
 use lib.Dec.{ltb, leb, eqb}
 use borrow.Author.Tests.{lt-ltb, le-leb, eq-eqb, ltb-true, ltb-false, leb-true, eqb-true, eqb-false}
-use Rattle.rows.specs.View.{View}
+use Rattle.rows.specs.View.{View, viewOf}
 use Rattle.rows.specs.Nesting.{Within, Split, TwoParts, Nests, over, leaf, block, two, pair}
 use Rattle.rows.proofs.Nested.{nests-le, nests-leaf, nests-two, nests-pair, nests-kind, nests-after, nests-rest, nests-deep, nests-join}
-use Rattle.renderer.specs.Check.{reaches, isLeaf, hasTwo, isSplit, partsFit, rowFits, orElse, firstWrong, wrongRow}
+use Rattle.renderer.specs.Check.{reaches, isLeaf, hasTwo, isSplit, partsFit, rowFits, orElse, firstWrong, wrongRow, placesFit, wrongPlace, FaultOfPart}
 
 pub both : (a b : Bool) → (a && b) ≡ true → (a ≡ true) × (b ≡ true)
 both true b e = (refl, e)
@@ -87,14 +87,24 @@ module _ (v : View) (end d i : ℕ) (w : Within v i end) (m : d < 256) (g : Nest
       let p : Nests v (suc i) (v .second i) (suc d) = narrow (v .second i) g n (omega arith) (over a) in
       two e w (record { first = a; second = b; up = c; to = k }) m p q h
 
-  row-call : v .kind i ≡ 11 → isSplit v i ≡ true → Nests v i end d
-  row-call e r =
-      let x = both (ltb i (v .second i) && leb (v .second i) (v .after i)) (reaches (v .after i - i) v (suc i) (v .second i)) r in
-      let y = both (ltb i (v .second i)) (leb (v .second i) (v .after i)) (x .0) in
+  row-pair : v .kind i ≡ 11 → (t r : Bool) → eqb (v .second i) (v .after i) ≡ t → (reaches (v .after i - i) v (suc i) (v .second i)) ≡ r
+      → (t || ((ltb i (v .second i) && ltb (v .second i) (v .after i)) && r)) ≡ true
+      → Nests v i end d
+  row-pair e true r p q x =
+      let n : v .after i ≡ v .second i = sym (eqb-true (v .second i) (v .after i) p) in
+      let up : i < v .second i = let k = w .up in omega arith in
+      pair e w (record { up = up; to = omega arith }) m (subst (λ (x : ℕ). Nests v (suc i) x (suc d)) n g) (over (sym n)) h
+  row-pair e false r p q f =
+      let x = both (ltb i (v .second i) && ltb (v .second i) (v .after i)) r f in
+      let y = both (ltb i (v .second i)) (ltb (v .second i) (v .after i)) (x .0) in
       let a = ltb-true i (v .second i) (y .0) in
-      let b = leb-true (v .second i) (v .after i) (y .1) in
-      let z = nests-split (v .after i - i) v (suc i) (v .second i) (v .after i) (suc d) (x .1) g b in
-      pair e w (record { up = a; to = b }) m (z .0) (z .1) h
+      let b = ltb-true (v .second i) (v .after i) (y .1) in
+      let to : v .second i ≤ v .after i = omega arith in
+      let z = nests-split (v .after i - i) v (suc i) (v .second i) (v .after i) (suc d) (q ∙ x .1) g to in
+      pair e w (record { up = a; to = to }) m (z .0) (z .1) h
+
+  row-call : v .kind i ≡ 11 → isSplit v i ≡ true → Nests v i end d
+  row-call e r = row-pair e (eqb (v .second i) (v .after i)) (reaches (v .after i - i) v (suc i) (v .second i)) refl refl r
 
   row-kind : (k : ℕ) → v .kind i ≡ k → partsFit v i k ≡ true → Nests v i end d
   unfolding partsFit
@@ -169,6 +179,9 @@ accepted-nests places v end d i e l = sound (end - i) places v end d i e l (omeg
 
 -- What nests, with right places, is accepted.
 
+lt-of : (x y : ℕ) → x ≤ y → (x ≡ y → ⊥) → x < y
+lt-of x y p q = omega arith
+
 reach-step : (v : View) (a b d : ℕ) (t r : Bool) → eqb a b ≡ t → Nests v a b d → (a < b → r ≡ true)
     → cond t true (ltb a (v .after a) && (leb (v .after a) b && r)) ≡ true
 reach-step v a b d true r e g h = refl
@@ -176,9 +189,6 @@ reach-step v a b d false r e g h =
     let n : a < b = lt-of a b (nests-le g) (eqb-false a b e) in
     let w = nests-after g n in
     rw (lt-ltb a (v .after a) (w .up), le-leb (v .after a) b (w .to)) (h n)
-  where
-    lt-of : (x y : ℕ) → x ≤ y → (x ≡ y → ⊥) → x < y
-    lt-of x y p q = omega arith
 
 reached : (f : ℕ) (v : View) (a b d : ℕ) → Nests v a b d → b - a ≤ f → reaches f v a b ≡ true
 unfolding reaches
@@ -201,9 +211,15 @@ two-fits v i t =
     )
 
 call-fits : (v : View) (i d : ℕ) → Split v i → Nests v (suc i) (v .second i) (suc d) → isSplit v i ≡ true
-call-fits v i d t g =
-    rw (lt-ltb i (v .second i) (t .up), le-leb (v .second i) (v .after i) (t .to))
-    (reached (v .after i - i) v (suc i) (v .second i) (suc d) g (let a = t .to in let b = t .up in omega arith))
+call-fits v i d t g = go (eqb (v .second i) (v .after i)) refl
+  where
+    go : (x : Bool) → eqb (v .second i) (v .after i) ≡ x
+        → (x || ((ltb i (v .second i) && ltb (v .second i) (v .after i)) && reaches (v .after i - i) v (suc i) (v .second i))) ≡ true
+    go true e = refl
+    go false e =
+        let n : v .second i < v .after i = let a = t .to in let b = eqb-false (v .second i) (v .after i) e in lt-of (v .second i) (v .after i) a b in
+        rw (lt-ltb i (v .second i) (t .up), lt-ltb (v .second i) (v .after i) n)
+        (reached (v .after i - i) v (suc i) (v .second i) (suc d) g (let a = t .to in let b = t .up in omega arith))
 
 kind-fits : (v : View) (i end d k : ℕ) → v .kind i ≡ k → Nests v i end d → i < end → partsFit v i k ≡ true
 unfolding partsFit
@@ -272,3 +288,7 @@ pub nested-accepted : (places : ℕ → Bool) (v : View) (end d i : ℕ) → Nes
     → wrongRow places v end d i ≡ none
 unfolding wrongRow
 nested-accepted places v end d i g q = complete (end - i) places v end d i g q
+
+pub fault-of-part : FaultOfPart
+unfolding reaches partsFit rowFits firstWrong wrongRow placesFit wrongPlace viewOf
+fault-of-part = refl

@@ -11,23 +11,18 @@ use lib.ListN.{length, getD, set}
 use lib.Dec.{eqb}
 use borrow.Author.Tests.{ne-eqb, eq-eqb, eqb-true, eqb-false}
 use Rattle.rows.specs.Node.{Nodes, wrapped}
-use Rattle.rows.specs.View.{View, nodesAt}
+use Rattle.rows.specs.View.{View, nodesAt, nodeAt}
 use Rattle.rows.specs.Nesting.{Nests}
-use Rattle.rows.proofs.Decode.{nodeAt, nodes-none}
+use Rattle.rows.proofs.Decode.{nodes-none}
 use Rattle.rows.proofs.Nested.{nests-le, nests-two, nests-pair, nests-kind, nests-after, nests-deep}
 use Rattle.renderer.specs.declared.Frame.{Frame}
 use Rattle.renderer.specs.Renderer.{Page, Renderer, render, renders, groupWraps, insert, indented, nextIndented, trailing, calleeWraps}
-use Rattle.renderer.proofs.Meaning.{frameAt, partEnd, closing, limit, wrapAt, rest, meaning, pop, frame-other, frame-same, open-group}
+use Rattle.renderer.specs.Frames.{frameAt, partEnd, limit, wrapAt, Under, At}
+use Rattle.renderer.specs.Machine.{Machine, frame, opened, closing, enterGroup, enterIndent, enterNext, enterLeaf, enterIf, enterCall, enter, leave, turnAt, turn}
+use Rattle.renderer.specs.Safe.{bit}
+use Rattle.renderer.proofs.Meaning.{rest, meaning, pop, frame-other, frame-same, open-group}
 use Rattle.renderer.proofs.Meaning.{open-indent, open-next, open-if-first, open-if-second, open-call, call-on}
-use Rattle.renderer.proofs.Opened.{bit, At, Under, at-leaf, at-block, at-pop-suc, at-top-suc, advance-leaf, at-first, at-second, at-call, at-on}
-
--- open rows, how many, the next row, the state, the rows entered
-pub record Machine : Type 0 where
-  pub frames : List Frame
-  pub depth : ℕ
-  pub next : ℕ
-  pub state : Renderer
-  pub entered : ℕ
+use Rattle.renderer.proofs.Opened.{at-leaf, at-block, at-pop-suc, at-top-suc, advance-leaf, at-first, at-second, at-call, at-on}
 
 -- how many turns the open rows can still take
 unfoldable pub weight : List Frame → ℕ → ℕ
@@ -63,102 +58,46 @@ and-two false b e = absurd (let z : _≡_ {A = ℕ} 0 1 = cc in omega arith)
 abbrev pub left : ℕ → Machine → ℕ
 left stop m = (stop - m .next) * 3 + weight (m .frames) (m .depth)
 
-abbrev pub frame : ℕ → Bool → Bool → Bool → Frame
-frame i w e p = record { row = i; wrap = w; early = e; deep = p }
-
-abbrev pub opened : Machine → Frame → ℕ → Renderer → Machine
-opened m f k t = record { frames = set (m .frames) (m .depth) f; depth = suc (m .depth); next = k; state = t; entered = suc (m .entered) }
-
 module _ (v : View) (pg : Page) (stop : ℕ) where
-  -- row k's parts
-  abbrev pub first : ℕ → Nodes
-  first k = nodesAt v (suc k) (v .second k)
-
-  abbrev pub second : ℕ → Nodes
-  second k = nodesAt v (v .second k) (v .after k)
-
-  unfoldable pub enterGroup : Machine → Machine
-  enterGroup m =
-      let b = groupWraps pg (nodesAt v (suc (m .next)) (v .after (m .next))) (m .state) in
-      opened m (frame (m .next) b false false) (suc (m .next)) (insert b (v .number (m .next)) (m .state))
-
-  unfoldable pub enterIndent : Machine → Machine
-  enterIndent m = let w = wrapAt v pg stop (m .frames) (m .depth) in opened m (frame (m .next) w false false) (suc (m .next)) (indented w (m .state))
-
-  unfoldable pub enterNext : Machine → Machine
-  enterNext m = let w = wrapAt v pg stop (m .frames) (m .depth) in opened m (frame (m .next) w false false) (suc (m .next)) (nextIndented w (m .state))
-
-  unfoldable pub enterLeaf : Machine → Machine
-  enterLeaf m = record { frames = m .frames; depth = m .depth; next = suc (m .next); state = render pg (nodeAt v (m .next)) (wrapAt v pg stop (m .frames) (m .depth)) (m .state); entered = suc (m .entered) }
-
-  unfoldable pub enterIf : Machine → Machine
-  enterIf m =
-      let w = wrapAt v pg stop (m .frames) (m .depth) in
-      cond (wrapped (m .state .marks) (v .number (m .next)))
-      (opened m (frame (m .next) w true false) (suc (m .next)) (m .state))
-      (opened m (frame (m .next) w false false) (v .second (m .next)) (m .state))
-
-  unfoldable pub enterCall : Machine → Machine
-  enterCall m =
-      let t = trailing pg (first (m .next)) (second (m .next)) (m .state) in
-      let b = calleeWraps pg t (first (m .next)) (second (m .next)) (m .state) in
-      opened m (frame (m .next) b true (not t && b)) (suc (m .next)) (nextIndented (not t && b) (insert b (v .number (m .next)) (m .state)))
-
-  unfoldable pub enter : Machine → Machine
-  enter m =
-      getD
-      (enterGroup m ∷ enterIndent m ∷ enterNext m ∷ enterLeaf m ∷ enterLeaf m ∷ enterLeaf m ∷ enterLeaf m ∷ enterLeaf m ∷ enterLeaf m ∷ enterLeaf m ∷ enterIf m ∷ enterCall m ∷ [])
-      (v .kind (m .next))
-      m
-
-  -- frame k is the innermost: its row is closed, or a call's arguments are opened
-  unfoldable pub leave : Machine → ℕ → Machine
-  leave m k =
-      let f = frameAt (m .frames) k in
-      let c = groupWraps pg (nodesAt v (m .next) (v .after (f .row))) (m .state) in
-      cond (eqb (v .kind (f .row)) 11 && f .early)
-      (record { frames = set (m .frames) k (frame (f .row) c false (f .deep)); depth = suc k; next = m .next; state = insert c (v .number2 (f .row)) (m .state); entered = m .entered })
-      (record { frames = m .frames; depth = k; next = v .after (f .row); state = closing v pg f (m .state); entered = m .entered })
-
   abbrev pub means : Machine → Renderer
   means m = meaning v pg stop (m .frames) (m .depth) (m .next) (m .state)
 
   abbrev pub Fine : Machine → Type 0
-  Fine m = At v pg stop (m .frames) (m .depth) (m .next)
+  Fine m = At v stop (m .frames) (m .depth) (m .next)
 
-  module _ (m : Machine) (a : Fine m) (h : m .next < limit v pg stop (m .frames) (m .depth)) where
+  module _ (m : Machine) (a : Fine m) (h : m .next < limit v stop (m .frames) (m .depth)) where
     roomy : m .depth < length (m .frames)
     roomy = rw (a .size) (nests-deep (a .good) h)
 
-    leaf-same : 3 ≤ v .kind (m .next) → v .kind (m .next) ≤ 9 → means (enterLeaf m) ≡ means m
+    leaf-same : 3 ≤ v .kind (m .next) → v .kind (m .next) ≤ 9 → means (enterLeaf v pg m) ≡ means m
     unfolding enterLeaf
-    leaf-same k l = ap (λ (j : ℕ). meaning v pg stop (m .frames) (m .depth) j (render pg (nodeAt v (m .next)) (wrapAt v pg stop (m .frames) (m .depth)) (m .state))) (sym (add-one (m .next))) ∙ advance-leaf v pg stop (m .frames) (m .depth) (m .next) (m .state) a h k l
+    leaf-same k l = ap (λ (j : ℕ). meaning v pg stop (m .frames) (m .depth) j (render pg (nodeAt v (m .next)) (wrapAt (m .frames) (m .depth)) (m .state))) (sym (add-one (m .next))) ∙ advance-leaf v pg stop (m .frames) (m .depth) (m .next) (m .state) a h k l
 
-    if-same : v .kind (m .next) ≡ 10 → means (enterIf m) ≡ means m
+    if-same : v .kind (m .next) ≡ 10 → means (enterIf v pg m) ≡ means m
     unfolding enterIf
     if-same k = go (wrapped (m .state .marks) (v .number (m .next))) refl
       where
-        go : (b : Bool) → wrapped (m .state .marks) (v .number (m .next)) ≡ b → means (cond b (opened m (frame (m .next) (wrapAt v pg stop (m .frames) (m .depth)) true false) (suc (m .next)) (m .state)) (opened m (frame (m .next) (wrapAt v pg stop (m .frames) (m .depth)) false false) (v .second (m .next)) (m .state))) ≡ means m
+        go : (b : Bool) → wrapped (m .state .marks) (v .number (m .next)) ≡ b → means (cond b (opened m (frame (m .next) (wrapAt (m .frames) (m .depth)) true false) (suc (m .next)) (m .state)) (opened m (frame (m .next) (wrapAt (m .frames) (m .depth)) false false) (v .second (m .next)) (m .state))) ≡ means m
         go true e = open-if-first v pg stop (m .frames) (m .depth) (m .next) (m .state) roomy (nests-after (a .good) h) k (nests-two (a .good) h k .0) e
         go false e = open-if-second v pg stop (m .frames) (m .depth) (m .next) (m .state) roomy (nests-after (a .good) h) k (nests-two (a .good) h k .0) e
 
-    group-same : v .kind (m .next) ≡ 0 → means (enterGroup m) ≡ means m
+    group-same : v .kind (m .next) ≡ 0 → means (enterGroup v pg m) ≡ means m
     unfolding enterGroup
     group-same k = open-group v pg stop (m .frames) (m .depth) (m .next) (m .state) _ roomy (nests-after (a .good) h) k refl
 
-    indent-same : v .kind (m .next) ≡ 1 → means (enterIndent m) ≡ means m
+    indent-same : v .kind (m .next) ≡ 1 → means (enterIndent v pg m) ≡ means m
     unfolding enterIndent
     indent-same k = open-indent v pg stop (m .frames) (m .depth) (m .next) (m .state) roomy (nests-after (a .good) h) k
 
-    next-same : v .kind (m .next) ≡ 2 → means (enterNext m) ≡ means m
+    next-same : v .kind (m .next) ≡ 2 → means (enterNext v pg m) ≡ means m
     unfolding enterNext
     next-same k = open-next v pg stop (m .frames) (m .depth) (m .next) (m .state) roomy (nests-after (a .good) h) k
 
-    call-same : v .kind (m .next) ≡ 11 → means (enterCall m) ≡ means m
+    call-same : v .kind (m .next) ≡ 11 → means (enterCall v pg m) ≡ means m
     unfolding enterCall
     call-same k = open-call v pg stop (m .frames) (m .depth) (m .next) (m .state) _ _ roomy (nests-after (a .good) h) k (nests-pair (a .good) h k .split) refl refl
 
-    enter-same : (k : ℕ) → v .kind (m .next) ≡ k → means (enter m) ≡ means m
+    enter-same : (k : ℕ) → v .kind (m .next) ≡ k → means (enter v pg m) ≡ means m
     unfolding enter
     enter-same zero e = rw e (group-same e)
     enter-same (suc zero) e = rw e (indent-same e)
@@ -188,44 +127,44 @@ module _ (v : View) (pg : Page) (stop : ℕ) where
     block-fine : (f : Frame) (t : Renderer) → v .kind (m .next) ≤ 2 → f .row ≡ m .next → f .early ≡ false → Fine (opened m f (suc (m .next)) t) × (left stop (opened m f (suc (m .next)) t) < left stop m)
     block-fine f t k e y =
         let x = at-block v pg stop (m .frames) (m .depth) (m .next) f a h k e y in
-        (subst (λ (n : ℕ). At v pg stop (set (m .frames) (m .depth) f) n (suc (m .next))) (add-one (m .depth)) (subst (λ (n : ℕ). At v pg stop (set (m .frames) (m .depth) f) (m .depth + 1) n) (add-one (m .next)) x), less-open f (suc (m .next)) (omega arith))
+        (subst (λ (n : ℕ). At v stop (set (m .frames) (m .depth) f) n (suc (m .next))) (add-one (m .depth)) (subst (λ (n : ℕ). At v stop (set (m .frames) (m .depth) f) (m .depth + 1) n) (add-one (m .next)) x), less-open f (suc (m .next)) (omega arith))
 
-    group-fine : v .kind (m .next) ≡ 0 → Fine (enterGroup m) × (left stop (enterGroup m) < left stop m)
+    group-fine : v .kind (m .next) ≡ 0 → Fine (enterGroup v pg m) × (left stop (enterGroup v pg m) < left stop m)
     unfolding enterGroup
     group-fine k = block-fine _ (m .state) (omega arith) refl refl
 
-    indent-fine : v .kind (m .next) ≡ 1 → Fine (enterIndent m) × (left stop (enterIndent m) < left stop m)
+    indent-fine : v .kind (m .next) ≡ 1 → Fine (enterIndent v pg m) × (left stop (enterIndent v pg m) < left stop m)
     unfolding enterIndent
     indent-fine k = block-fine _ (m .state) (omega arith) refl refl
 
-    next-fine : v .kind (m .next) ≡ 2 → Fine (enterNext m) × (left stop (enterNext m) < left stop m)
+    next-fine : v .kind (m .next) ≡ 2 → Fine (enterNext v pg m) × (left stop (enterNext v pg m) < left stop m)
     unfolding enterNext
     next-fine k = block-fine _ (m .state) (omega arith) refl refl
 
-    leaf-fine : 3 ≤ v .kind (m .next) → v .kind (m .next) ≤ 9 → Fine (enterLeaf m) × (left stop (enterLeaf m) < left stop m)
+    leaf-fine : 3 ≤ v .kind (m .next) → v .kind (m .next) ≤ 9 → Fine (enterLeaf v pg m) × (left stop (enterLeaf v pg m) < left stop m)
     unfolding enterLeaf
     leaf-fine k l =
         let x = at-leaf v pg stop (m .frames) (m .depth) (m .next) a h k l in
         let z = a .low in
-        (subst (λ (n : ℕ). At v pg stop (m .frames) (m .depth) n) (add-one (m .next)) x, omega arith)
+        (subst (λ (n : ℕ). At v stop (m .frames) (m .depth) n) (add-one (m .next)) x, omega arith)
 
-    if-fine : v .kind (m .next) ≡ 10 → Fine (enterIf m) × (left stop (enterIf m) < left stop m)
+    if-fine : v .kind (m .next) ≡ 10 → Fine (enterIf v pg m) × (left stop (enterIf v pg m) < left stop m)
     unfolding enterIf
     if-fine k = go (wrapped (m .state .marks) (v .number (m .next)))
       where
         w : Bool
-        w = wrapAt v pg stop (m .frames) (m .depth)
+        w = wrapAt (m .frames) (m .depth)
 
         go : (b : Bool) → Fine (cond b (opened m (frame (m .next) w true false) (suc (m .next)) (m .state)) (opened m (frame (m .next) w false false) (v .second (m .next)) (m .state)))
             × (left stop (cond b (opened m (frame (m .next) w true false) (suc (m .next)) (m .state)) (opened m (frame (m .next) w false false) (v .second (m .next)) (m .state))) < left stop m)
         go true = (at-first v pg stop (m .frames) (m .depth) (m .next) (frame (m .next) w true false) a h k refl refl, less-open (frame (m .next) w true false) (suc (m .next)) (omega arith))
         go false = (at-second v pg stop (m .frames) (m .depth) (m .next) (frame (m .next) w false false) a h k refl refl, less-open (frame (m .next) w false false) (v .second (m .next)) (let u = nests-two (a .good) h k .0 .up in omega arith))
 
-    call-fine : v .kind (m .next) ≡ 11 → Fine (enterCall m) × (left stop (enterCall m) < left stop m)
+    call-fine : v .kind (m .next) ≡ 11 → Fine (enterCall v pg m) × (left stop (enterCall v pg m) < left stop m)
     unfolding enterCall
     call-fine k = (at-call v pg stop (m .frames) (m .depth) (m .next) _ a h k refl refl, less-open _ (suc (m .next)) (omega arith))
 
-    enter-fine : (k : ℕ) → v .kind (m .next) ≡ k → Fine (enter m) × (left stop (enter m) < left stop m)
+    enter-fine : (k : ℕ) → v .kind (m .next) ≡ k → Fine (enter v pg m) × (left stop (enter v pg m) < left stop m)
     unfolding enter
     enter-fine zero e = rw e (group-fine e)
     enter-fine (suc zero) e = rw e (indent-fine e)
@@ -242,11 +181,11 @@ module _ (v : View) (pg : Page) (stop : ℕ) where
     enter-fine (suc (suc (suc (suc (suc (suc (suc (suc (suc (suc (suc (suc k)))))))))))) e = absurd (let z = nests-kind (a .good) h in omega arith)
 
   -- the innermost row's open part is done
-  module _ (m : Machine) (k : ℕ) (a : At v pg stop (m .frames) (suc k) (m .next)) (e : m .next ≡ partEnd v (frameAt (m .frames) k)) where
+  module _ (m : Machine) (k : ℕ) (a : At v stop (m .frames) (suc k) (m .next)) (e : m .next ≡ partEnd v (frameAt (m .frames) k)) where
     roomy-top : k < length (m .frames)
     roomy-top = let d = a .deep in rw (a .size) (omega arith)
 
-    leave-same : means (leave m k) ≡ meaning v pg stop (m .frames) (suc k) (m .next) (m .state)
+    leave-same : means (leave v pg m k) ≡ meaning v pg stop (m .frames) (suc k) (m .next) (m .state)
     unfolding leave partEnd
     leave-same = go (eqb (v .kind (frameAt (m .frames) k .row)) 11 && frameAt (m .frames) k .early) refl
       where
@@ -265,7 +204,7 @@ module _ (v : View) (pg : Page) (stop : ℕ) where
             call-on v pg stop (m .frames) k (m .next) (m .state) c roomy-top (eqb-true (v .kind (frameAt (m .frames) k .row)) 11 (x .0)) (x .1) (e ∙ rw (x .1)) refl
         go false q = sym (pop v pg stop (m .frames) k (m .next) (m .state) (omega arith))
 
-    leave-fine : Fine (leave m k) × (left stop (leave m k) < (stop - m .next) * 3 + weight (m .frames) (suc k))
+    leave-fine : Fine (leave v pg m k) × (left stop (leave v pg m k) < (stop - m .next) * 3 + weight (m .frames) (suc k))
     unfolding leave partEnd
     leave-fine = go (eqb (v .kind (frameAt (m .frames) k .row)) 11 && frameAt (m .frames) k .early) refl
       where
@@ -290,14 +229,6 @@ module _ (v : View) (pg : Page) (stop : ℕ) where
             let g = nests-le (at-top-suc v pg stop (m .frames) k (m .next) a .later) in
             (at-pop-suc v pg stop (m .frames) k (m .next) a, omega arith)
 
-  -- ONE TURN
-  unfoldable pub turnAt : ℕ → Machine → Machine
-  turnAt zero m = enter m
-  turnAt (suc k) m = cond (eqb (m .next) (partEnd v (frameAt (m .frames) k))) (leave m k) (enter m)
-
-  unfoldable pub turn : Machine → Machine
-  turn m = turnAt (m .depth) m
-
   unfoldable pub isDone : Machine → Bool
   isDone m = eqb (m .depth) 0 && eqb (m .next) stop
 
@@ -306,15 +237,15 @@ module _ (v : View) (pg : Page) (stop : ℕ) where
     pub less : left stop n < left stop m
     pub same : means n ≡ means m
 
-  limit-suc : (fs : List Frame) (k : ℕ) → limit v pg stop fs (suc k) ≡ partEnd v (frameAt fs k)
+  limit-suc : (fs : List Frame) (k : ℕ) → limit v stop fs (suc k) ≡ partEnd v (frameAt fs k)
   unfolding limit
   limit-suc fs k = refl
 
-  limit-none : (fs : List Frame) → limit v pg stop fs zero ≡ stop
+  limit-none : (fs : List Frame) → limit v stop fs zero ≡ stop
   unfolding limit
   limit-none fs = refl
 
-  entered : (m : Machine) → Fine m → m .next < limit v pg stop (m .frames) (m .depth) → Turned m (enter m)
+  entered : (m : Machine) → Fine m → m .next < limit v stop (m .frames) (m .depth) → Turned m (enter v pg m)
   entered m a h =
       let x = enter-fine m a h (v .kind (m .next)) refl in
       record { fine = x .0; less = x .1; same = enter-same m a h (v .kind (m .next)) refl }
@@ -323,46 +254,46 @@ module _ (v : View) (pg : Page) (stop : ℕ) where
   ne-lt a b h n = omega arith
 
   -- a row is ahead in the open part
-  pub not-done : (m : Machine) → Fine m → isDone m ≡ false → m .depth ≡ 0 → m .next < limit v pg stop (m .frames) (m .depth)
+  pub not-done : (m : Machine) → Fine m → isDone m ≡ false → m .depth ≡ 0 → m .next < limit v stop (m .frames) (m .depth)
   unfolding isDone
   not-done m a n e =
-      let l : limit v pg stop (m .frames) (m .depth) ≡ stop = rw e (limit-none (m .frames)) in
+      let l : limit v stop (m .frames) (m .depth) ≡ stop = rw e (limit-none (m .frames)) in
       let z : eqb (m .next) stop ≡ false = rw e at n in
-      ne-lt (m .next) (limit v pg stop (m .frames) (m .depth)) (nests-le (a .good)) (λ q. eqb-false (m .next) stop z (q ∙ l))
+      ne-lt (m .next) (limit v stop (m .frames) (m .depth)) (nests-le (a .good)) (λ q. eqb-false (m .next) stop z (q ∙ l))
 
   pub in-part : (m : Machine) (k : ℕ) → m .depth ≡ suc k → Fine m → (m .next ≡ partEnd v (frameAt (m .frames) k) → ⊥)
-      → m .next < limit v pg stop (m .frames) (m .depth)
+      → m .next < limit v stop (m .frames) (m .depth)
   in-part m k e a n =
-      let l : limit v pg stop (m .frames) (m .depth) ≡ partEnd v (frameAt (m .frames) k) = ap (limit v pg stop (m .frames)) e ∙ limit-suc (m .frames) k in
-      ne-lt (m .next) (limit v pg stop (m .frames) (m .depth)) (nests-le (a .good)) (λ z. n (z ∙ l))
+      let l : limit v stop (m .frames) (m .depth) ≡ partEnd v (frameAt (m .frames) k) = ap (limit v stop (m .frames)) e ∙ limit-suc (m .frames) k in
+      ne-lt (m .next) (limit v stop (m .frames) (m .depth)) (nests-le (a .good)) (λ z. n (z ∙ l))
 
-  turned-at : (d : ℕ) (m : Machine) → m .depth ≡ d → Fine m → isDone m ≡ false → Turned m (turnAt d m)
+  turned-at : (d : ℕ) (m : Machine) → m .depth ≡ d → Fine m → isDone m ≡ false → Turned m (turnAt v pg d m)
   unfolding turnAt
   turned-at zero m e a n = entered m a (not-done m a n e)
   turned-at (suc k) m e a n = go (eqb (m .next) (partEnd v (frameAt (m .frames) k))) refl
     where
-      a2 : At v pg stop (m .frames) (suc k) (m .next)
-      a2 = subst (λ (d : ℕ). At v pg stop (m .frames) d (m .next)) e a
+      a2 : At v stop (m .frames) (suc k) (m .next)
+      a2 = subst (λ (d : ℕ). At v stop (m .frames) d (m .next)) e a
 
-      go : (b : Bool) → eqb (m .next) (partEnd v (frameAt (m .frames) k)) ≡ b → Turned m (cond b (leave m k) (enter m))
+      go : (b : Bool) → eqb (m .next) (partEnd v (frameAt (m .frames) k)) ≡ b → Turned m (cond b (leave v pg m k) (enter v pg m))
       go true q =
           let i = eqb-true (m .next) (partEnd v (frameAt (m .frames) k)) q in
           let x = leave-fine m k a2 i in
           record {
             fine = x .0;
-            less = subst (λ (d : ℕ). left stop (leave m k) < (stop - m .next) * 3 + weight (m .frames) d) (sym e) (x .1);
+            less = subst (λ (d : ℕ). left stop (leave v pg m k) < (stop - m .next) * 3 + weight (m .frames) d) (sym e) (x .1);
             same = leave-same m k a2 i ∙ ap (λ (d : ℕ). meaning v pg stop (m .frames) d (m .next) (m .state)) (sym e);
           }
       go false q = entered m a (in-part m k e a (eqb-false (m .next) (partEnd v (frameAt (m .frames) k)) q))
 
-  pub turned : (m : Machine) → Fine m → isDone m ≡ false → Turned m (turn m)
+  pub turned : (m : Machine) → Fine m → isDone m ≡ false → Turned m (turn v pg m)
   unfolding turn
   turned m a n = turned-at (m .depth) m refl a n
 
   -- turned to the end
   unfoldable pub run : ℕ → Machine → Machine
   run zero m = m
-  run (suc f) m = cond (isDone m) m (run f (turn m))
+  run (suc f) m = cond (isDone m) m (run f (turn v pg m))
 
   pub done-means : (m : Machine) → isDone m ≡ true → means m ≡ m .state
   unfolding isDone meaning rest limit renders
@@ -376,12 +307,12 @@ module _ (v : View) (pg : Page) (stop : ℕ) where
       let w = weight-ge (m .frames) (m .depth) in
       let d : m .depth ≡ 0 = omega arith in
       let g = nests-le (a .good) in
-      let k : limit v pg stop (m .frames) (m .depth) ≡ stop = rw d (limit-none (m .frames)) in
+      let k : limit v stop (m .frames) (m .depth) ≡ stop = rw d (limit-none (m .frames)) in
       let i : m .next ≡ stop = omega arith in
       rw (eq-eqb (m .depth) 0 d, eq-eqb (m .next) stop i)
 
-  run-step : (m : Machine) (f : ℕ) (b : Bool) → isDone m ≡ b → Fine m → left stop m ≤ suc f → (Fine (turn m) → left stop (turn m) ≤ f → run f (turn m) .state ≡ means (turn m))
-      → cond b m (run f (turn m)) .state ≡ means m
+  run-step : (m : Machine) (f : ℕ) (b : Bool) → isDone m ≡ b → Fine m → left stop m ≤ suc f → (Fine (turn v pg m) → left stop (turn v pg m) ≤ f → run f (turn v pg m) .state ≡ means (turn v pg m))
+      → cond b m (run f (turn v pg m)) .state ≡ means m
   run-step m f true q a l rec = sym (done-means m q)
   run-step m f false q a l rec = let t = turned m a q in let y = t .less in rec (t .fine) (omega arith) ∙ t .same
 
@@ -389,7 +320,7 @@ module _ (v : View) (pg : Page) (stop : ℕ) where
   pub run-means : (f : ℕ) (m : Machine) → Fine m → left stop m ≤ f → run f m .state ≡ means m
   unfolding run
   run-means zero m a l = sym (done-means m (spent m a l))
-  run-means (suc f) m a l = run-step m f (isDone m) refl a l (λ x y. run-means f (turn m) x y)
+  run-means (suc f) m a l = run-step m f (isDone m) refl a l (λ x y. run-means f (turn v pg m) x y)
 
 -- rows that nest, from any state: the machine's text, marks and numbers are those of the recursive rules on the tree of the rows
 pub machine-renders : (v : View) (pg : Page) (from stop : ℕ) (fs : List Frame) (st : Renderer) → Nests v from stop 0 → length fs ≡ 256
@@ -400,37 +331,37 @@ machine-renders v pg from stop fs st g e =
     (record { good = g; under = tt; low = omega arith; size = e; deep = omega arith }) (omega arith)
 
 -- WHAT A TURN IS, for the code that takes it
-module _ (v : View) (pg : Page) (stop : ℕ) where
-  turn-enter-at : (d : ℕ) (m : Machine) → (m .next < limit v pg stop (m .frames) d) → turnAt v pg stop d m ≡ enter v pg stop m
+module _ (v : View) (pg : Page) where
+  turn-enter-at : (stop d : ℕ) (m : Machine) → (m .next < limit v stop (m .frames) d) → turnAt v pg d m ≡ enter v pg m
   unfolding turnAt limit
-  turn-enter-at zero m h = refl
-  turn-enter-at (suc k) m h = rw (ne-eqb (m .next) (partEnd v (frameAt (m .frames) k)) (λ e. omega arith))
+  turn-enter-at stop zero m h = refl
+  turn-enter-at stop (suc k) m h = rw (ne-eqb (m .next) (partEnd v (frameAt (m .frames) k)) (λ e. omega arith))
 
-  pub turn-enter : (m : Machine) → m .next < limit v pg stop (m .frames) (m .depth) → turn v pg stop m ≡ enter v pg stop m
+  pub turn-enter : (stop : ℕ) (m : Machine) → m .next < limit v stop (m .frames) (m .depth) → turn v pg m ≡ enter v pg m
   unfolding turn
-  turn-enter m h = turn-enter-at (m .depth) m h
+  turn-enter stop m h = turn-enter-at stop (m .depth) m h
 
-  pub turn-leave : (m : Machine) (k : ℕ) → m .depth ≡ suc k → m .next ≡ partEnd v (frameAt (m .frames) k) → turn v pg stop m ≡ leave v pg stop m k
+  pub turn-leave : (m : Machine) (k : ℕ) → m .depth ≡ suc k → m .next ≡ partEnd v (frameAt (m .frames) k) → turn v pg m ≡ leave v pg m k
   unfolding turn turnAt
   turn-leave m k e h = rw (e, eq-eqb (m .next) (partEnd v (frameAt (m .frames) k)) h)
 
-  pub enter-0 : (m : Machine) → v .kind (m .next) ≡ 0 → enter v pg stop m ≡ enterGroup v pg stop m
+  pub enter-0 : (m : Machine) → v .kind (m .next) ≡ 0 → enter v pg m ≡ enterGroup v pg m
   unfolding enter
   enter-0 m e = rw e
 
-  pub enter-1 : (m : Machine) → v .kind (m .next) ≡ 1 → enter v pg stop m ≡ enterIndent v pg stop m
+  pub enter-1 : (m : Machine) → v .kind (m .next) ≡ 1 → enter v pg m ≡ enterIndent v pg m
   unfolding enter
   enter-1 m e = rw e
 
-  pub enter-2 : (m : Machine) → v .kind (m .next) ≡ 2 → enter v pg stop m ≡ enterNext v pg stop m
+  pub enter-2 : (m : Machine) → v .kind (m .next) ≡ 2 → enter v pg m ≡ enterNext v pg m
   unfolding enter
   enter-2 m e = rw e
 
-  pub enter-10 : (m : Machine) → v .kind (m .next) ≡ 10 → enter v pg stop m ≡ enterIf v pg stop m
+  pub enter-10 : (m : Machine) → v .kind (m .next) ≡ 10 → enter v pg m ≡ enterIf v pg m
   unfolding enter
   enter-10 m e = rw e
 
-  pub enter-leaf : (m : Machine) (k : ℕ) → v .kind (m .next) ≡ k → 3 ≤ k → k ≤ 9 → enter v pg stop m ≡ enterLeaf v pg stop m
+  pub enter-leaf : (m : Machine) (k : ℕ) → v .kind (m .next) ≡ k → 3 ≤ k → k ≤ 9 → enter v pg m ≡ enterLeaf v pg m
   unfolding enter
   enter-leaf m zero e a b = absurd (omega arith)
   enter-leaf m (suc zero) e a b = absurd (omega arith)
@@ -444,6 +375,6 @@ module _ (v : View) (pg : Page) (stop : ℕ) where
   enter-leaf m (suc (suc (suc (suc (suc (suc (suc (suc (suc zero))))))))) e a b = rw e
   enter-leaf m (suc (suc (suc (suc (suc (suc (suc (suc (suc (suc n)))))))))) e a b = absurd (omega arith)
 
-  pub enter-11 : (m : Machine) → v .kind (m .next) ≡ 11 → enter v pg stop m ≡ enterCall v pg stop m
+  pub enter-11 : (m : Machine) → v .kind (m .next) ≡ 11 → enter v pg m ≡ enterCall v pg m
   unfolding enter
   enter-11 m e = rw e

@@ -9,63 +9,25 @@ use mathlib.Core.List.{List, [], _∷_}
 use lib.ListN.{length, getD, set}
 use lib.Seq.{getD-set-same, getD-set-other}
 use Rattle.rows.specs.Node.{group, wrapped}
-use Rattle.rows.specs.View.{View, nodesAt, firstOf}
+use Rattle.rows.specs.View.{View, nodesAt, firstOf, nodeAt}
 use Rattle.rows.specs.Nesting.{Within, Split, TwoParts}
-use Rattle.rows.proofs.Decode.{nodeAt, nodes-some, nodes-none, node-group, node-indent, node-next, node-if, node-call}
+use Rattle.rows.proofs.Decode.{nodes-some, nodes-none, node-group, node-indent, node-next, node-if, node-call}
 use Rattle.renderer.specs.declared.Frame.{Frame}
 use Rattle.renderer.specs.Renderer.{Page, Renderer, render, renders, trailing, calleeWraps, groupWraps, insert, indented, outdented}
 use Rattle.renderer.specs.Renderer.{nextIndented, nextOutdented}
-
-abbrev pub noFrame : Frame
-noFrame = record { row = 0; wrap = false; early = false; deep = false }
-
-abbrev pub frameAt : List Frame → ℕ → Frame
-frameAt fs d = getD fs d noFrame
-
--- where the open part of f ends
-unfoldable pub partEnd : View → Frame → ℕ
-partEnd v f = cond (f .early) (v .second (f .row)) (v .after (f .row))
-
--- what follows of f's row once the open part is rendered
-unfoldable pub closing : View → Page → Frame → Renderer → Renderer
-closing v pg f s =
-    getD
-    (s
-    ∷ outdented (f .wrap) s
-    ∷ nextOutdented (f .wrap) s
-    ∷ s
-    ∷ s
-    ∷ s
-    ∷ s
-    ∷ s
-    ∷ s
-    ∷ s
-    ∷ s
-    ∷ nextOutdented (f .deep)
-    (cond (f .early) (render pg (group (v .number2 (f .row)) (nodesAt v (v .second (f .row)) (v .after (f .row)))) true s) s)
-    ∷ [])
-    (v .kind (f .row))
-    s
+use Rattle.renderer.specs.Frames.{noFrame, frameAt, partEnd, limit, wrapAt}
+use Rattle.renderer.specs.Machine.{closing}
 
 module _ (v : View) (pg : Page) (stop : ℕ) where
-  -- where the open part of the innermost of d open rows ends, and whether it wraps
-  unfoldable pub limit : List Frame → ℕ → ℕ
-  limit fs zero = stop
-  limit fs (suc d) = partEnd v (frameAt fs d)
-
-  unfoldable pub wrapAt : List Frame → ℕ → Bool
-  wrapAt fs zero = true
-  wrapAt fs (suc d) = frameAt fs d .wrap
-
   -- what follows the open part of the innermost of d open rows
   unfoldable pub rest : List Frame → ℕ → Renderer → Renderer
   rest fs zero s = s
   rest fs (suc d) s =
-      rest fs d (renders pg (nodesAt v (v .after (frameAt fs d .row)) (limit fs d)) (wrapAt fs d) (closing v pg (frameAt fs d) s))
+      rest fs d (renders pg (nodesAt v (v .after (frameAt fs d .row)) (limit v stop fs d)) (wrapAt fs d) (closing v pg (frameAt fs d) s))
 
   -- what is rendered from row i on, with d rows open
   unfoldable pub meaning : List Frame → ℕ → ℕ → Renderer → Renderer
-  meaning fs d i s = rest fs d (renders pg (nodesAt v i (limit fs d)) (wrapAt fs d) s)
+  meaning fs d i s = rest fs d (renders pg (nodesAt v i (limit v stop fs d)) (wrapAt fs d) s)
 
   pub frame-same : (fs : List Frame) (k : ℕ) (f : Frame) → k < length fs → frameAt (set fs k f) k ≡ f
   frame-same fs k f h = getD-set-same fs k f noFrame h
@@ -73,7 +35,7 @@ module _ (v : View) (pg : Page) (stop : ℕ) where
   pub frame-other : (fs : List Frame) (k d : ℕ) (f : Frame) → d < k → frameAt (set fs k f) d ≡ frameAt fs d
   frame-other fs k d f h = getD-set-other fs k d f noFrame (λ e. omega arith)
 
-  pub limit-set : (fs : List Frame) (k d : ℕ) (f : Frame) → d ≤ k → limit (set fs k f) d ≡ limit fs d
+  pub limit-set : (fs : List Frame) (k d : ℕ) (f : Frame) → d ≤ k → limit v stop (set fs k f) d ≡ limit v stop fs d
   unfolding limit
   limit-set fs k zero f h = refl
   limit-set fs k (suc d) f h = ap (partEnd v) (frame-other fs k d f h)
@@ -97,10 +59,10 @@ module _ (v : View) (pg : Page) (stop : ℕ) where
       ∙ rw (limit-set fs k d f h, wrapAt-set fs k d f h)
 
   -- a row is rendered whole
-  pub advance : (fs : List Frame) (d i : ℕ) (s : Renderer) → Within v i (limit fs d)
+  pub advance : (fs : List Frame) (d i : ℕ) (s : Renderer) → Within v i (limit v stop fs d)
       → meaning fs d i s ≡ meaning fs d (v .after i) (render pg (nodeAt v i) (wrapAt fs d) s)
   unfolding meaning renders
-  advance fs d i s w = rw (nodes-some v i (limit fs d) w)
+  advance fs d i s w = rw (nodes-some v i (limit v stop fs d) w)
 
   -- the innermost row's open part is done
   pub pop : (fs : List Frame) (d i : ℕ) (s : Renderer) → partEnd v (frameAt fs d) ≤ i
@@ -112,7 +74,7 @@ module _ (v : View) (pg : Page) (stop : ℕ) where
   unfolding wrapAt
   wrap-same fs d f h = ap (λ (x : Frame). x .wrap) (frame-same fs d f h)
 
-  pub limit-same : (fs : List Frame) (d : ℕ) (f : Frame) → d < length fs → limit (set fs d f) (suc d) ≡ partEnd v f
+  pub limit-same : (fs : List Frame) (d : ℕ) (f : Frame) → d < length fs → limit v stop (set fs d f) (suc d) ≡ partEnd v f
   unfolding limit
   limit-same fs d f h = ap (partEnd v) (frame-same fs d f h)
 
@@ -127,13 +89,13 @@ module _ (v : View) (pg : Page) (stop : ℕ) where
       ∙ rw (limit-set fs d d f (omega arith), wrapAt-set fs d d f (omega arith)))
 
   -- a row is opened
-  pub push : (fs : List Frame) (d i k : ℕ) (f : Frame) (s t : Renderer) → d < length fs → f .row ≡ i → Within v i (limit fs d)
+  pub push : (fs : List Frame) (d i k : ℕ) (f : Frame) (s t : Renderer) → d < length fs → f .row ≡ i → Within v i (limit v stop fs d)
       → closing v pg f (renders pg (nodesAt v k (partEnd v f)) (f .wrap) t) ≡ render pg (nodeAt v i) (wrapAt fs d) s
       → meaning (set fs d f) (suc d) k t ≡ meaning fs d i s
   push fs d i k f s t h e w q = opened fs d k f t h ∙ rw (q, e) (sym (advance fs d i s w))
 
   -- Each way that a turn goes.
-  pub open-group : (fs : List Frame) (d i : ℕ) (s : Renderer) (b : Bool) → d < length fs → Within v i (limit fs d) → v .kind i ≡ 0
+  pub open-group : (fs : List Frame) (d i : ℕ) (s : Renderer) (b : Bool) → d < length fs → Within v i (limit v stop fs d) → v .kind i ≡ 0
       → b ≡ groupWraps pg (nodesAt v (suc i) (v .after i)) s
       → meaning (set fs d (record { row = i; wrap = b; early = false; deep = false })) (suc d) (suc i) (insert b (v .number i) s) ≡ meaning fs d i s
   unfolding closing partEnd render
@@ -141,14 +103,14 @@ module _ (v : View) (pg : Page) (stop : ℕ) where
       push fs d i (suc i) (record { row = i; wrap = b; early = false; deep = false }) s (insert b (v .number i) s) h refl w
       (rw (node-group v i k, k, e))
 
-  pub open-indent : (fs : List Frame) (d i : ℕ) (s : Renderer) → d < length fs → Within v i (limit fs d) → v .kind i ≡ 1
+  pub open-indent : (fs : List Frame) (d i : ℕ) (s : Renderer) → d < length fs → Within v i (limit v stop fs d) → v .kind i ≡ 1
       → meaning (set fs d (record { row = i; wrap = wrapAt fs d; early = false; deep = false })) (suc d) (suc i) (indented (wrapAt fs d) s) ≡ meaning fs d i s
   unfolding closing partEnd render
   open-indent fs d i s h w k =
       push fs d i (suc i) (record { row = i; wrap = wrapAt fs d; early = false; deep = false }) s (indented (wrapAt fs d) s) h refl w
       (rw (node-indent v i k, k))
 
-  pub open-next : (fs : List Frame) (d i : ℕ) (s : Renderer) → d < length fs → Within v i (limit fs d) → v .kind i ≡ 2
+  pub open-next : (fs : List Frame) (d i : ℕ) (s : Renderer) → d < length fs → Within v i (limit v stop fs d) → v .kind i ≡ 2
       → meaning (set fs d (record { row = i; wrap = wrapAt fs d; early = false; deep = false })) (suc d) (suc i) (nextIndented (wrapAt fs d) s) ≡ meaning fs d i s
   unfolding closing partEnd render
   open-next fs d i s h w k =
@@ -160,7 +122,7 @@ module _ (v : View) (pg : Page) (stop : ℕ) where
   unfolding renders
   single i h w s = rw (nodes-some v i (v .after i) h, nodes-none v (v .after i) (v .after i) (omega arith))
 
-  pub open-if-first : (fs : List Frame) (d i : ℕ) (s : Renderer) → d < length fs → Within v i (limit fs d) → v .kind i ≡ 10 → TwoParts v i
+  pub open-if-first : (fs : List Frame) (d i : ℕ) (s : Renderer) → d < length fs → Within v i (limit v stop fs d) → v .kind i ≡ 10 → TwoParts v i
       → wrapped (s .marks) (v .number i) ≡ true
       → meaning (set fs d (record { row = i; wrap = wrapAt fs d; early = true; deep = false })) (suc d) (suc i) s ≡ meaning fs d i s
   unfolding closing partEnd render
@@ -168,7 +130,7 @@ module _ (v : View) (pg : Page) (stop : ℕ) where
       push fs d i (suc i) (record { row = i; wrap = wrapAt fs d; early = true; deep = false }) s s h refl w
       (rw (node-if v i k (record { up = omega arith; to = omega arith }), k, m) (rw (← t .first) (single (suc i) (record { up = omega arith; to = omega arith }) (wrapAt fs d) s)))
 
-  pub open-if-second : (fs : List Frame) (d i : ℕ) (s : Renderer) → d < length fs → Within v i (limit fs d) → v .kind i ≡ 10 → TwoParts v i
+  pub open-if-second : (fs : List Frame) (d i : ℕ) (s : Renderer) → d < length fs → Within v i (limit v stop fs d) → v .kind i ≡ 10 → TwoParts v i
       → wrapped (s .marks) (v .number i) ≡ false
       → meaning (set fs d (record { row = i; wrap = wrapAt fs d; early = false; deep = false })) (suc d) (v .second i) s ≡ meaning fs d i s
   unfolding closing partEnd render
@@ -176,7 +138,7 @@ module _ (v : View) (pg : Page) (stop : ℕ) where
       push fs d i (v .second i) (record { row = i; wrap = wrapAt fs d; early = false; deep = false }) s s h refl w
       (rw (node-if v i k (record { up = omega arith; to = omega arith }), k, m) (rw (← t .second) (single (v .second i) (record { up = omega arith; to = omega arith }) (wrapAt fs d) s)))
 
-  pub open-call : (fs : List Frame) (d i : ℕ) (s : Renderer) (t b : Bool) → d < length fs → Within v i (limit fs d) → v .kind i ≡ 11 → Split v i
+  pub open-call : (fs : List Frame) (d i : ℕ) (s : Renderer) (t b : Bool) → d < length fs → Within v i (limit v stop fs d) → v .kind i ≡ 11 → Split v i
       → t ≡ trailing pg (nodesAt v (suc i) (v .second i)) (nodesAt v (v .second i) (v .after i)) s
       → b ≡ calleeWraps pg t (nodesAt v (suc i) (v .second i)) (nodesAt v (v .second i) (v .after i)) s
       → meaning (set fs d (record { row = i; wrap = b; early = true; deep = not t && b })) (suc d) (suc i) (nextIndented (not t && b) (insert b (v .number i) s)) ≡ meaning fs d i s

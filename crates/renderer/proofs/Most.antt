@@ -11,13 +11,14 @@ use borrow.Author.Tests.{ltb-true, ltb-false}
 use Rattle.rows.specs.Node.{Text, Node, Nodes, group, indent, indentNext, wrapParent, comment, str, ascii, line, emptyLine, lineOrSpace, ifWrap, call, none}
 use Rattle.rows.specs.Node.{_then_, wrapped}
 use Rattle.rows.specs.Rows.{size, sizes}
-use Rattle.rows.specs.View.{View, cell, viewOf, firstOf, nodesAt}
+use Rattle.rows.specs.View.{View, cell, viewOf, firstOf, nodesAt, nodeAt}
 use Rattle.rows.specs.Nesting.{Within, Split, Nests, over, leaf, block, two, pair}
-use Rattle.rows.proofs.Decode.{nodeAt, nodes-none, nodes-some, node-group, node-indent, node-next, node-parent, node-comment, node-str, node-ascii}
+use Rattle.rows.proofs.Decode.{nodes-none, nodes-some, node-group, node-indent, node-next, node-parent, node-comment, node-str, node-ascii}
 use Rattle.rows.proofs.Decode.{node-line, node-empty, node-space, node-if, node-call}
 use Rattle.rows.proofs.Nested.{nests-le, leaf-within}
 use Rattle.renderer.specs.Most.{rowMost, rowsMost}
-use Rattle.renderer.specs.Page.{originText, textBytes, pageOf}
+use Rattle.rows.specs.Texts.{originText}
+use Rattle.renderer.specs.Page.{textBytes, pageOf}
 use Rattle.renderer.specs.Renderer.{Page, Renderer, push, atColumn, newLine, margin, remark, text, insert, indented, outdented, nextIndented}
 use Rattle.renderer.specs.Renderer.{nextOutdented, groupWraps, trailing, calleeWraps, render, renders}
 use Rattle.renderer.proofs.Margin.{render-kept, renders-kept}

@@ -10,38 +10,23 @@ use lib.ListN.{length, set, replicate, length-append, length-replicate}
 use lib.Dec.{ltb, eqb}
 use borrow.Author.Tests.{eqb-true, eqb-false, ne-eqb, ltb-true, ltb-false}
 use Rattle.rows.specs.Node.{wrapped}
-use Rattle.rows.specs.View.{View, nodesAt}
-use Rattle.rows.proofs.Decode.{nodeAt, node-parent, node-comment, node-str, node-ascii, node-line, node-empty, node-space}
+use Rattle.rows.specs.View.{View, nodesAt, nodeAt}
+use Rattle.rows.proofs.Decode.{node-parent, node-comment, node-str, node-ascii, node-line, node-empty, node-space}
 use Rattle.rows.proofs.Nested.{nests-le, nests-two, nests-kind, nests-deep}
 use Rattle.renderer.specs.declared.Frame.{Frame}
 use Rattle.renderer.specs.Renderer.{Page, Renderer, push, atColumn, newLine, margin, remark, text, insert, indented, outdented, nextIndented}
 use Rattle.renderer.specs.Renderer.{nextOutdented, groupWraps, trailing, calleeWraps, render}
 use Rattle.renderer.proofs.Margin.{render-kept}
-use Rattle.renderer.proofs.Meaning.{frameAt, partEnd, closing, limit, wrapAt, frame-other, frame-same}
-use Rattle.renderer.proofs.Opened.{bit, At, at-top-suc}
-use Rattle.renderer.proofs.Machine.{Machine, Fine, frame, opened, first, second, enter, enterGroup, enterIndent, enterNext, enterLeaf, enterIf}
-use Rattle.renderer.proofs.Machine.{enterCall, leave, turn, turnAt, isDone, and-two, not-done, in-part}
+use Rattle.renderer.specs.Frames.{frameAt, partEnd, limit, wrapAt, At}
+use Rattle.renderer.specs.Machine.{Machine, frame, opened, closing, first, second, enterGroup, enterIndent, enterNext, enterLeaf, enterIf, enterCall, enter, leave, turnAt, turn}
+use Rattle.renderer.specs.Safe.{bit, stepOf, insOf, steps, ins, Small, Safe}
+use Rattle.renderer.proofs.Meaning.{frame-other, frame-same}
+use Rattle.renderer.proofs.Opened.{at-top-suc}
+use Rattle.renderer.proofs.Machine.{Fine, isDone, and-two, not-done, in-part}
 
 pub bit-le : (b : Bool) → bit b ≤ 1
 bit-le true = omega arith
 bit-le false = omega arith
-
--- the steps that the end of f takes back; those that went into `indent` at once
-unfoldable pub stepOf : View → Frame → ℕ
-stepOf v f =
-    bit
-    ((eqb (v .kind (f .row)) 1 && f .wrap) || ((eqb (v .kind (f .row)) 2 && f .wrap) || (eqb (v .kind (f .row)) 11 && f .deep)))
-
-unfoldable pub insOf : View → Frame → ℕ
-insOf v f = bit (eqb (v .kind (f .row)) 1 && f .wrap)
-
-unfoldable pub steps : View → List Frame → ℕ → ℕ
-steps v fs zero = 0
-steps v fs (suc d) = stepOf v (frameAt fs d) + steps v fs d
-
-unfoldable pub ins : View → List Frame → ℕ → ℕ
-ins v fs zero = 0
-ins v fs (suc d) = insOf v (frameAt fs d) + ins v fs d
 
 step-le : (v : View) (f : Frame) → stepOf v f ≤ 1
 unfolding stepOf
@@ -170,12 +155,6 @@ cond-grows : (k : ℕ) (b : Bool) (s t u : Renderer) → Grows k s t → Grows k
 cond-grows k true s t u p q = p
 cond-grows k false s t u p q = q
 
--- texts and widths are below 2 ^ 32
-pub record Small (v : View) (pg : Page) : Type 0 where
-  pub bytes : (i : ℕ) → length (pg .bytes (v .text i)) < 4294967296
-  pub columns : (i : ℕ) → pg .columns (v .text i) < 4294967296
-  pub width : (i : ℕ) → v .width i < 4294967296
-
 leaf-grows : (v : View) (pg : Page) (i : ℕ) (w : Bool) (s : Renderer) (k : ℕ) → Small v pg → v .kind i ≡ k → 3 ≤ k → k ≤ 9
     → Grows 8589934592 s (render pg (nodeAt v i) w s)
 unfolding render
@@ -248,14 +227,7 @@ module _ (v : View) (pg : Page) (stop : ℕ) where
   unfolding ins
   ins-suc fs d = refl
 
-  -- the numbers of a machine, which began with `indent` and `next_indent` at base together
-  pub record Safe (base : ℕ) (m : Machine) : Type 0 where
-    pub sum : m .state .indent + m .state .nextIndent ≡ base + steps v (m .frames) (m .depth)
-    pub low : ins v (m .frames) (m .depth) ≤ m .state .indent
-    pub column : m .state .column ≤ 72057594037927936 + m .next * 17179869184
-    pub bytes : length (m .state .buf) ≤ m .next * 17179869184
-
-  opened-safe : (base : ℕ) (m : Machine) (f : Frame) (k : ℕ) (t : Renderer) (x z : ℕ) → Safe base m → m .depth < length (m .frames)
+  opened-safe : (base : ℕ) (m : Machine) (f : Frame) (k : ℕ) (t : Renderer) (x z : ℕ) → Safe v base m → m .depth < length (m .frames)
       → stepOf v f ≡ x
       → insOf v f ≡ z
       → m .next ≤ k
@@ -263,7 +235,7 @@ module _ (v : View) (pg : Page) (stop : ℕ) where
       → m .state .indent + z ≤ t .indent
       → t .column ≡ m .state .column
       → t .buf ≡ m .state .buf
-      → Safe base (opened m f k t)
+      → Safe v base (opened m f k t)
   opened-safe base m f k t x z s h a b n c e p q =
       let u = steps-top (m .frames) (m .depth) f h in
       let w = ins-top (m .frames) (m .depth) f h in
@@ -274,11 +246,11 @@ module _ (v : View) (pg : Page) (stop : ℕ) where
       let j = ap length q in
       record { sum = omega arith; low = omega arith; column = omega arith; bytes = omega arith }
 
-  module _ (base : ℕ) (m : Machine) (a : Fine v pg stop m) (h : m .next < limit v pg stop (m .frames) (m .depth)) (s : Safe base m) where
+  module _ (base : ℕ) (m : Machine) (a : Fine v pg stop m) (h : m .next < limit v stop (m .frames) (m .depth)) (s : Safe v base m) where
     roomy : m .depth < length (m .frames)
     roomy = rw (a .size) (nests-deep (a .good) h)
 
-    group-safe : v .kind (m .next) ≡ 0 → Safe base (enterGroup v pg stop m)
+    group-safe : v .kind (m .next) ≡ 0 → Safe v base (enterGroup v pg m)
     unfolding enterGroup insert stepOf insOf
     group-safe k =
         opened-safe base m _ _ _ 0 0 s roomy (rw k) (rw k) (omega arith) (omega arith) (omega arith) refl refl
@@ -325,10 +297,10 @@ module _ (v : View) (pg : Page) (stop : ℕ) where
     next-sum true t = omega arith
     next-sum false t = omega arith
 
-    indent-safe : v .kind (m .next) ≡ 1 → Safe base (enterIndent v pg stop m)
+    indent-safe : v .kind (m .next) ≡ 1 → Safe v base (enterIndent v pg m)
     unfolding enterIndent indented
     indent-safe k =
-        let w = wrapAt v pg stop (m .frames) (m .depth) in
+        let w = wrapAt (m .frames) (m .depth) in
         opened-safe base m (frame (m .next) w false false) (suc (m .next)) (indented w (m .state)) (bit w) (bit w) s roomy
         (indent-step w k)
         (in-indent w k)
@@ -338,10 +310,10 @@ module _ (v : View) (pg : Page) (stop : ℕ) where
         refl
         refl
 
-    next-safe : v .kind (m .next) ≡ 2 → Safe base (enterNext v pg stop m)
+    next-safe : v .kind (m .next) ≡ 2 → Safe v base (enterNext v pg m)
     unfolding enterNext nextIndented
     next-safe k =
-        let w = wrapAt v pg stop (m .frames) (m .depth) in
+        let w = wrapAt (m .frames) (m .depth) in
         opened-safe base m (frame (m .next) w false false) (suc (m .next)) (nextIndented w (m .state)) (bit w) 0 s roomy
         (next-step w k)
         (no-ins (frame (m .next) w false false) refl (λ e. omega arith))
@@ -351,15 +323,15 @@ module _ (v : View) (pg : Page) (stop : ℕ) where
         refl
         refl
 
-    if-safe : v .kind (m .next) ≡ 10 → Safe base (enterIf v pg stop m)
+    if-safe : v .kind (m .next) ≡ 10 → Safe v base (enterIf v pg m)
     unfolding enterIf
     if-safe k = go (wrapped (m .state .marks) (v .number (m .next)))
       where
         w : Bool
-        w = wrapAt v pg stop (m .frames) (m .depth)
+        w = wrapAt (m .frames) (m .depth)
 
         go : (b : Bool)
-            → Safe base
+            → Safe v base
             (cond b (opened m (frame (m .next) w true false) (suc (m .next)) (m .state)) (opened m (frame (m .next) w false false) (v .second (m .next)) (m .state)))
         go true =
             opened-safe base m (frame (m .next) w true false) (suc (m .next)) (m .state) 0 0 s roomy (if-step w true k)
@@ -379,11 +351,11 @@ module _ (v : View) (pg : Page) (stop : ℕ) where
             refl
             refl
 
-    call-safe : v .kind (m .next) ≡ 11 → Safe base (enterCall v pg stop m)
+    call-safe : v .kind (m .next) ≡ 11 → Safe v base (enterCall v pg m)
     unfolding enterCall nextIndented insert
     call-safe k =
-        let t = trailing pg (first v pg stop (m .next)) (second v pg stop (m .next)) (m .state) in
-        let b = calleeWraps pg t (first v pg stop (m .next)) (second v pg stop (m .next)) (m .state) in
+        let t = trailing pg (first v (m .next)) (second v (m .next)) (m .state) in
+        let b = calleeWraps pg t (first v (m .next)) (second v (m .next)) (m .state) in
         opened-safe base m (frame (m .next) b true (not t && b)) (suc (m .next)) (nextIndented (not t && b) (insert b (v .number (m .next)) (m .state))) (bit (not t && b)) 0 s roomy
         (call-step b (not t && b) k)
         (no-ins (frame (m .next) b true (not t && b)) refl (λ e. omega arith))
@@ -393,10 +365,10 @@ module _ (v : View) (pg : Page) (stop : ℕ) where
         refl
         refl
 
-    leaf-safe : Small v pg → base ≤ 128 → 3 ≤ v .kind (m .next) → v .kind (m .next) ≤ 9 → Safe base (enterLeaf v pg stop m)
+    leaf-safe : Small v pg → base ≤ 128 → 3 ≤ v .kind (m .next) → v .kind (m .next) ≤ 9 → Safe v base (enterLeaf v pg m)
     unfolding enterLeaf
     leaf-safe z y k l =
-        let w = wrapAt v pg stop (m .frames) (m .depth) in
+        let w = wrapAt (m .frames) (m .depth) in
         let r = render-kept (nodeAt v (m .next)) pg w (m .state) in
         let g = leaf-grows v pg (m .next) w (m .state) (v .kind (m .next)) z refl k l in
         let b = steps-le v (m .frames) (m .depth) in
@@ -411,7 +383,7 @@ module _ (v : View) (pg : Page) (stop : ℕ) where
         let g2 = g .bytes in
         record { sum = omega arith; low = omega arith; column = omega arith; bytes = omega arith }
 
-    enter-safe : Small v pg → base ≤ 128 → (k : ℕ) → v .kind (m .next) ≡ k → Safe base (enter v pg stop m)
+    enter-safe : Small v pg → base ≤ 128 → (k : ℕ) → v .kind (m .next) ≡ k → Safe v base (enter v pg m)
     unfolding enter
     enter-safe z y zero e = rw e (group-safe e)
     enter-safe z y (suc zero) e = rw e (indent-safe e)
@@ -430,11 +402,11 @@ module _ (v : View) (pg : Page) (stop : ℕ) where
 
   -- the state is closed: a step is taken back from `indent`, or from `next_indent` where that is over 0
   outdented-safe : (base k n : ℕ) (fs : List Frame) (s : Renderer) (e : ℕ) (b : Bool)
-      → Safe base (record { frames = fs; depth = suc k; next = n; state = s; entered = e })
+      → Safe v base (record { frames = fs; depth = suc k; next = n; state = s; entered = e })
       → (n2 : ℕ)
       → n ≤ n2
       → (stepOf v (frameAt fs k) ≡ bit b) × (insOf v (frameAt fs k) ≡ bit b)
-      → Safe base (record { frames = fs; depth = k; next = n2; state = outdented b s; entered = e })
+      → Safe v base (record { frames = fs; depth = k; next = n2; state = outdented b s; entered = e })
   unfolding outdented
   outdented-safe base k n fs s e true g n2 h x =
       let a = x .0 in
@@ -458,16 +430,16 @@ module _ (v : View) (pg : Page) (stop : ℕ) where
       record { sum = omega arith; low = omega arith; column = omega arith; bytes = omega arith }
 
   nextOutdented-safe : (base k n : ℕ) (fs : List Frame) (s : Renderer) (e : ℕ) (b : Bool)
-      → Safe base (record { frames = fs; depth = suc k; next = n; state = s; entered = e })
+      → Safe v base (record { frames = fs; depth = suc k; next = n; state = s; entered = e })
       → (n2 : ℕ)
       → n ≤ n2
       → (stepOf v (frameAt fs k) ≡ bit b) × (insOf v (frameAt fs k) ≡ 0)
-      → Safe base (record { frames = fs; depth = k; next = n2; state = nextOutdented b s; entered = e })
+      → Safe v base (record { frames = fs; depth = k; next = n2; state = nextOutdented b s; entered = e })
   unfolding nextOutdented outdented
   nextOutdented-safe base k n fs s e true g n2 h x = go (ltb 0 (s .nextIndent)) refl
     where
       go : (b : Bool) → ltb 0 (s .nextIndent) ≡ b
-          → Safe base
+          → Safe v base
           (record {
             frames = fs;
             depth = k;
@@ -510,8 +482,8 @@ module _ (v : View) (pg : Page) (stop : ℕ) where
       let g4 = g .bytes in
       record { sum = omega arith; low = omega arith; column = omega arith; bytes = omega arith }
 
-  module _ (base : ℕ) (m : Machine) (k : ℕ) (a : At v pg stop (m .frames) (suc k) (m .next)) (e : m .next ≡ partEnd v (frameAt (m .frames) k))
-      (s : Safe base (record { frames = m .frames; depth = suc k; next = m .next; state = m .state; entered = m .entered }))
+  module _ (base : ℕ) (m : Machine) (k : ℕ) (a : At v stop (m .frames) (suc k) (m .next)) (e : m .next ≡ partEnd v (frameAt (m .frames) k))
+      (s : Safe v base (record { frames = m .frames; depth = suc k; next = m .next; state = m .state; entered = m .entered }))
     where
       f : Frame
       f = frameAt (m .frames) k
@@ -520,7 +492,7 @@ module _ (v : View) (pg : Page) (stop : ℕ) where
       later = let g = nests-le (at-top-suc v pg stop (m .frames) k (m .next) a .later) in omega arith
 
       off-plain : (n : ℕ) → v .kind (frameAt (m .frames) k .row) ≡ n → (n ≡ 1 → ⊥) → (n ≡ 2 → ⊥) → (n ≡ 11 → ⊥)
-          → Safe base
+          → Safe v base
           (record {
             frames = m .frames;
             depth = k;
@@ -542,7 +514,7 @@ module _ (v : View) (pg : Page) (stop : ℕ) where
           record { sum = omega arith; low = omega arith; column = omega arith; bytes = omega arith })
 
       off-indent : v .kind (frameAt (m .frames) k .row) ≡ 1
-          → Safe base
+          → Safe v base
           (record {
             frames = m .frames;
             depth = k;
@@ -558,7 +530,7 @@ module _ (v : View) (pg : Page) (stop : ℕ) where
           (indent-steps v (frameAt (m .frames) k) (frameAt (m .frames) k .wrap) q refl))
 
       off-next : v .kind (frameAt (m .frames) k .row) ≡ 2
-          → Safe base
+          → Safe v base
           (record {
             frames = m .frames;
             depth = k;
@@ -574,7 +546,7 @@ module _ (v : View) (pg : Page) (stop : ℕ) where
           (next-steps v (frameAt (m .frames) k) (frameAt (m .frames) k .wrap) q refl))
 
       off-call : v .kind (frameAt (m .frames) k .row) ≡ 11 → frameAt (m .frames) k .early ≡ false
-          → Safe base
+          → Safe v base
           (record {
             frames = m .frames;
             depth = k;
@@ -592,7 +564,7 @@ module _ (v : View) (pg : Page) (stop : ℕ) where
       off-safe : (x y z : Bool) → eqb (v .kind (frameAt (m .frames) k .row)) 1 ≡ x → eqb (v .kind (frameAt (m .frames) k .row)) 2 ≡ y
           → eqb (v .kind (frameAt (m .frames) k .row)) 11 ≡ z
           → (z && frameAt (m .frames) k .early) ≡ false
-          → Safe base
+          → Safe v base
           (record {
             frames = m .frames;
             depth = k;
@@ -608,7 +580,7 @@ module _ (v : View) (pg : Page) (stop : ℕ) where
 
       -- the arguments of a `Call` are opened: the same steps
       on-safe : (c : Bool) → v .kind (frameAt (m .frames) k .row) ≡ 11
-          → Safe base
+          → Safe v base
           (record {
             frames = set (m .frames) k (frame (frameAt (m .frames) k .row) c false (frameAt (m .frames) k .deep));
             depth = suc k;
@@ -635,7 +607,7 @@ module _ (v : View) (pg : Page) (stop : ℕ) where
           let g2 = s .low in
           record { sum = omega arith; low = omega arith; column = s .column; bytes = s .bytes }
 
-      leave-safe : Safe base (leave v pg stop m k)
+      leave-safe : Safe v base (leave v pg m k)
       unfolding leave
       leave-safe = go (eqb (v .kind (frameAt (m .frames) k .row)) 11 && frameAt (m .frames) k .early) refl
         where
@@ -662,24 +634,24 @@ module _ (v : View) (pg : Page) (stop : ℕ) where
                 entered = m .entered;
               }
 
-          go : (b : Bool) → (eqb (v .kind (frameAt (m .frames) k .row)) 11 && frameAt (m .frames) k .early) ≡ b → Safe base (cond b on off)
+          go : (b : Bool) → (eqb (v .kind (frameAt (m .frames) k .row)) 11 && frameAt (m .frames) k .early) ≡ b → Safe v base (cond b on off)
           go true q = on-safe c (eqb-true _ 11 (and-two (eqb (v .kind (frameAt (m .frames) k .row)) 11) (frameAt (m .frames) k .early) q .0))
           go false q = off-safe _ _ _ refl refl refl q
 
-  turn-safe-at : (base d : ℕ) (m : Machine) → m .depth ≡ d → Fine v pg stop m → isDone v pg stop m ≡ false → Small v pg → base ≤ 128 → Safe base m
-      → Safe base (turnAt v pg stop d m)
+  turn-safe-at : (base d : ℕ) (m : Machine) → m .depth ≡ d → Fine v pg stop m → isDone v pg stop m ≡ false → Small v pg → base ≤ 128 → Safe v base m
+      → Safe v base (turnAt v pg d m)
   unfolding turnAt
   turn-safe-at base zero m e a n z y s = enter-safe base m a (not-done v pg stop m a n (omega arith)) s z y (v .kind (m .next)) refl
   turn-safe-at base (suc k) m e a n z y s = go (eqb (m .next) (partEnd v (frameAt (m .frames) k))) refl
     where
-      go : (b : Bool) → eqb (m .next) (partEnd v (frameAt (m .frames) k)) ≡ b → Safe base (cond b (leave v pg stop m k) (enter v pg stop m))
+      go : (b : Bool) → eqb (m .next) (partEnd v (frameAt (m .frames) k)) ≡ b → Safe v base (cond b (leave v pg m k) (enter v pg m))
       go true q =
-          leave-safe base m k (subst (λ (d : ℕ). At v pg stop (m .frames) d (m .next)) e a) (eqb-true (m .next) _ q)
+          leave-safe base m k (subst (λ (d : ℕ). At v stop (m .frames) d (m .next)) e a) (eqb-true (m .next) _ q)
           (record { sum = subst (λ (d : ℕ). m .state .indent + m .state .nextIndent ≡ base + steps v (m .frames) d) e (s .sum); low = subst (λ (d : ℕ). ins v (m .frames) d ≤ m .state .indent) e (s .low); column = s .column; bytes = s .bytes })
       go false q = enter-safe base m a (in-part v pg stop m k e a (eqb-false (m .next) _ q)) s z y (v .kind (m .next)) refl
 
   -- a turn keeps the numbers in range
-  pub turn-safe : (base : ℕ) (m : Machine) → Fine v pg stop m → isDone v pg stop m ≡ false → Small v pg → base ≤ 128 → Safe base m
-      → Safe base (turn v pg stop m)
+  pub turn-safe : (base : ℕ) (m : Machine) → Fine v pg stop m → isDone v pg stop m ≡ false → Small v pg → base ≤ 128 → Safe v base m
+      → Safe v base (turn v pg m)
   unfolding turn
   turn-safe base m a n z y s = turn-safe-at base (m .depth) m refl a n z y s

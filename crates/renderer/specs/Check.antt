@@ -1,4 +1,5 @@
 -- Refusal 11: the first row that does not nest, or has a place that is wrong.
+use mathlib.Core.Path.{_≡_}
 use Prim.Native.Nat.{ℕ, zero, suc, _+_, _*_, _-_}
 use mathlib.Core.Bool.{Bool, true, false, cond, _&&_, _||_}
 use mathlib.Core.List.{List, [], _∷_}
@@ -6,7 +7,7 @@ use mathlib.Core.Option.{Option, some, none}
 use lib.ListN.{length, getD}
 use lib.Dec.{ltb, leb, eqb}
 use Rattle.rows.specs.View.{View, cell, viewOf}
-use Rattle.renderer.specs.Page.{originText}
+use Rattle.rows.specs.Texts.{originText}
 
 -- row b is reached from row a, row after row, in f steps at most
 unfoldable pub reaches : ℕ → View → ℕ → ℕ → Bool
@@ -22,9 +23,11 @@ abbrev pub hasTwo : View → ℕ → Bool
 hasTwo v i =
     (ltb (suc i) (v .second i) && ltb (v .second i) (v .after i)) && (eqb (v .after (suc i)) (v .second i) && eqb (v .after (v .second i)) (v .after i))
 
--- the second part of a `Call` starts at a part or at the end
+-- the second part of a `Call` starts at the end, or at a part: at a row before the end that is reached from the first part
 abbrev pub isSplit : View → ℕ → Bool
-isSplit v i = (ltb i (v .second i) && leb (v .second i) (v .after i)) && reaches (v .after i - i) v (suc i) (v .second i)
+isSplit v i =
+    eqb (v .second i) (v .after i)
+    || ((ltb i (v .second i) && ltb (v .second i) (v .after i)) && reaches (v .after i - i) v (suc i) (v .second i))
 
 -- the parts of row i are right for its kind; there is no kind over 11
 unfoldable pub partsFit : View → ℕ → ℕ → Bool
@@ -103,3 +106,8 @@ placesFit source image store i =
 unfoldable pub wrongPlace : List ℕ → List ℕ → List ℕ → ℕ → ℕ → Option ℕ
 wrongPlace source image store from stop =
     cond (leb stop 2097152 && leb (stop * 9) (length store)) (wrongRow (placesFit source image store) (viewOf store) stop 0 from) (some 0)
+
+-- Where a `Call`'s second part is its end, a part that goes past that end is at fault, and not the `Call`.
+abbrev pub FaultOfPart : Type 0
+FaultOfPart =
+    wrongPlace [] [] (11 ∷ 0 ∷ 1 ∷ 2 ∷ 2 ∷ 0 ∷ 0 ∷ 0 ∷ 0 ∷ 6 ∷ 0 ∷ 0 ∷ 0 ∷ 3 ∷ 0 ∷ 0 ∷ 0 ∷ 0 ∷ []) 0 2 ≡ some 1

@@ -1,14 +1,10 @@
 -- What the port renders by: the texts that rows refer to.
 use Prim.Native.Nat.{ℕ}
-use mathlib.Core.List.{List, [], _∷_}
-use lib.ListN.{getD, take, drop}
+use mathlib.Core.List.{List}
+use lib.ListN.{take, drop}
 use Rattle.rows.specs.Node.{Text, byteColumns}
-use Rattle.rows.specs.Words.{words}
+use Rattle.rows.specs.Texts.{originText}
 use Rattle.renderer.specs.Renderer.{Page}
-
--- the text of an origin: the source, the image, the fixed words
-unfoldable pub originText : List ℕ → List ℕ → ℕ → List ℕ
-originText source image origin = getD (source ∷ image ∷ words ∷ []) origin []
 
 -- the bytes of a row's text
 unfoldable pub textBytes : List ℕ → List ℕ → Text → List ℕ

@@ -111,7 +111,7 @@ module _ (p : Page) where
   unfoldable pub calleeWraps : Bool → Nodes → Nodes → Renderer → Bool
   calleeWraps trails e a r = cond trails (groupWraps e r) (wraps false (wide e r + wide a r) r)
 
-  -- `render_node`. Of a `Call` the groups that the Rust makes up are written out; that this is the Rust's text, proofs/Call.antt shows.
+  -- `render_node`. Of a `Call` the groups that the Rust makes up are written out; Call.antt has the Rust's own form, and claims that the two are equal.
   unfoldable mutual
     pub render : Node → Bool → Renderer → Renderer
     render (group n ns) w r = renders ns (groupWraps ns r) (insert (groupWraps ns r) n r)

@@ -13,8 +13,8 @@ pub record Summing (s : List ℕ) (from stop m sum row : ℕ) : Type 0 where
   pub same : sum + rowsMost (stop - row) m s row ≡ 4 * m + rowsMost (stop - from) m s from
   pub few : sum ≤ 4 * m + row * 17179869184
 
-pub summing-start : (s : List ℕ) (from stop m : ℕ) → from ≤ stop → Summing s from stop m (4 * m) from
-summing-start s from stop m h = record { high = h; same = refl; few = omega arith }
+pub summing-start : (s : List ℕ) (from stop m w : ℕ) → w ≡ 4 * m → from ≤ stop → Summing s from stop m w from
+summing-start s from stop m w e h = rw e (record { high = h; same = refl; few = omega arith })
 
 most-some : (n m : ℕ) (s : List ℕ) (i : ℕ) → rowsMost (suc n) m s i ≡ rowMost m s i (cell s i 0) + rowsMost n m s (suc i)
 unfolding rowsMost
@@ -54,8 +54,8 @@ module _ (m : ℕ) (s : List ℕ) (i k : ℕ) (e : k ≡ cell s i 0) where
   known : (x : ℕ) → x ≡ rowMost m s i k → Is m s i x
   known x f = rw (← e) f
 
-  pub is-comment : (t : ℕ) → t ≡ cell s i 7 → k ≡ 4 → Is m s i (t + (2 + 4 * m))
-  is-comment t f g = known _ (rw (g, f))
+  pub is-comment : (t w : ℕ) → t ≡ cell s i 7 → w ≡ 4 * m → k ≡ 4 → Is m s i (t + (2 + w))
+  is-comment t w f h g = known _ (rw (g, f, h))
 
   pub is-text : (t : ℕ) → t ≡ cell s i 7 → 4 ≤ k → k < 7 → (k ≡ 4 → ⊥) → Is m s i t
   is-text t f a b n = known t (f ∙ go k a b n)
@@ -70,8 +70,8 @@ module _ (m : ℕ) (s : List ℕ) (i k : ℕ) (e : k ≡ cell s i 0) where
       go (suc (suc (suc (suc (suc (suc zero)))))) a b n = refl
       go (suc (suc (suc (suc (suc (suc (suc k))))))) a b n = absurd (omega arith)
 
-  pub is-line : 7 ≤ k → k < 10 → Is m s i (2 + 4 * m)
-  is-line a b = known _ (go k a b)
+  pub is-line : (w : ℕ) → w ≡ 4 * m → 7 ≤ k → k < 10 → Is m s i (2 + w)
+  is-line w h a b = known _ (rw h (go k a b))
     where
       go : (k : ℕ) → 7 ≤ k → k < 10 → 2 + 4 * m ≡ rowMost m s i k
       go zero a b = absurd (omega arith)

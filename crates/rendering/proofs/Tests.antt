@@ -12,9 +12,10 @@ use native.Mathlib.Decide.{decLe}
 use lib.Dec.{ltb, leb}
 use borrow.Author.Tests.{lt-ltb, le-ltb, le-leb, lt-leb, ltb-false, leb-true}
 use Rattle.renderer.specs.Check.{wrongPlace}
-use Rattle.rowcheck.specs.Found.{foundOf}
+use Rattle.rowcheck.specs.Found.{refusalOf}
+use Rattle.rowcheck.specs.declared.Found.{Found}
 use Rattle.rowcheck.specs.declared.Found.the-variants.{Right, Wrong}
-use Rattle.refusals.specs.Refusals.{any}
+use Rattle.refusals.specs.Refusals.{Refusal, any, whenFound}
 use Rattle.cut.specs.Parts.{oddMark}
 
 -- ---- marks in use
@@ -98,13 +99,24 @@ second-right false t stop row e = ltb-false stop row (go (ltb stop row) e)
     go false e = refl
 
 -- ---- the check of rows
-pub found-wrong : (o : Option ℕ) (row : ℕ) → foundOf o ≡ Wrong row → o ≡ some row
-found-wrong none row e = let z : _≡_ {A = ℕ} 0 1 = cc in absurd (omega arith)
-found-wrong (some x) row e = cc
+abbrev placeOf : Option Refusal → ℕ
+placeOf none = 0
+placeOf (some r) = r .place
 
-pub found-right : (o : Option ℕ) → foundOf o ≡ Right → o ≡ none
-found-right none e = refl
-found-right (some x) e = let z : _≡_ {A = ℕ} 0 1 = cc in absurd (omega arith)
+module _ (o : Option ℕ) (f : Found) (e : refusalOf f ≡ whenFound o 11) where
+  pub found-wrong : (row : ℕ) → f ≡ Wrong row → o ≡ some row
+  found-wrong row g = go o (sym (ap refusalOf g) ∙ e)
+    where
+      go : (x : Option ℕ) → some (record { number = 11; place = row }) ≡ whenFound x 11 → x ≡ some row
+      go none h = let z : _≡_ {A = ℕ} 0 1 = cc in absurd (omega arith)
+      go (some x) h = ap some (sym (ap placeOf h))
+
+  pub found-right : f ≡ Right → o ≡ none
+  found-right g = go o (sym (ap refusalOf g) ∙ e)
+    where
+      go : (x : Option ℕ) → none ≡ whenFound x 11 → x ≡ none
+      go none h = refl
+      go (some x) h = let z : _≡_ {A = ℕ} 0 1 = cc in absurd (omega arith)
 
 -- rows that are right are in the store
 pub stop-within : (s b store : List ℕ) (from stop : ℕ) → wrongPlace s b store from stop ≡ none → stop * 9 ≤ length store

@@ -44,7 +44,7 @@ pub enum Rendering {
 }
 
 // What the tests before the run say of a call.
-pub enum Verdict {
+enum Verdict {
     Accepted,
     // the number and the place
     Refused(u8, usize),
@@ -89,7 +89,7 @@ fn marks_fit(marks: &[u8], used: usize) -> bool
 }
 
 // Refusal 12: whether the state is one that a call to this stop may have.
-pub fn state_fits(state: RenderState, stop: usize, store: &[u32], marks: &[u8]) -> bool
+fn state_fits(state: RenderState, stop: usize, store: &[u32], marks: &[u8]) -> bool
     ensures { λ r. ⌜ ((P : Parts) → r ≡ not (any (renderTests P (args stop 0) (toState state) (now (store .entry)) (now (marks .entry))))) ⌝ }
 {
     if store.len() / 9 < state.row {
@@ -118,7 +118,7 @@ fn state_refusal(state: RenderState, stop: usize, store: &[u32], marks: &[u8]) -
 }
 
 // Refusals 1, 3, 11 and 12, the first that holds.
-pub fn refusal(
+fn refusal(
     source: &[u8],
     image: &[u8],
     store: &[u32],
@@ -240,12 +240,12 @@ fn render_accepted(
     state: RenderState,
     stop: usize,
     needed: usize,
-    most: usize,
+    most: Bytes,
 ) -> Rendering
-    requires { ⌜ Passing (now source) (now image) state stop (now store) (now marks) × ((needed ≡ marksNeeded (stop - state .row) (now store) (state .row)) × (most ≡ mostOf state stop (now store))) ⌝ }
+    requires { ⌜ Passing (now source) (now image) state stop (now store) (now marks) × ((needed ≡ marksNeeded (stop - state .row) (now store) (state .row)) × (most .0 ≡ mostOf state stop (now store))) ⌝ }
     ensures { λ r. ⌜ Called (now (source .entry)) (now (image .entry)) state stop (now (store .entry)) (now (marks .entry)) (now (out .entry)) r (now (store .exit)) (now (marks .exit)) (now (out .exit)) ⌝ }
 {
-    if most <= out.len() {
+    if most.0 <= out.len() {
         return write_rows(source, image, store, marks, out, state, stop, needed);
     }
     render_counted(source, image, store, marks, out, state, stop, needed)
@@ -267,20 +267,11 @@ pub fn render_checked(
     let from = state.row;
     let n = rows_need(store, from, stop, state.indent + state.next_indent);
     let needed = n.marks;
+    let most = n.bytes;
     if marks.len() < needed {
         return Rendering::Refused(9, needed);
     }
-    render_accepted(
-        source,
-        image,
-        store,
-        marks,
-        out,
-        state,
-        stop,
-        needed,
-        n.bytes,
-    )
+    render_accepted(source, image, store, marks, out, state, stop, needed, most)
 }
 
 // A rendering call: renders the rows from the state's next row up to `stop`.

@@ -12,11 +12,14 @@ use borrow.Author.Tests.{lt-ltb, le-ltb, le-leb, lt-leb, eq-eqb, ne-eqb}
 use Rattle.rows.specs.View.{View, cell, viewOf}
 use Rattle.renderer.specs.Check.{reaches, isLeaf, hasTwo, isSplit, partsFit, usesNumber, usesNumber2, usesSecond, usesText, textFits, noTextFits}
 use Rattle.renderer.specs.Check.{placesFit, rowFits}
-use Rattle.renderer.specs.Page.{originText}
+use Rattle.rows.specs.Texts.{originText}
 
 pub and-false : (a b : Bool) → b ≡ false → (a && b) ≡ false
 and-false true b e = e
 and-false false b e = refl
+
+lt-of : (x y : ℕ) → x ≤ y → (x ≡ y → ⊥) → x < y
+lt-of x y p q = omega arith
 
 -- One row after another.
 reach-next : (l : ℕ) (v : View) (a b n : ℕ) → a < b → n ≡ v .after a → a < n → n ≤ b → reaches (suc l) v a b ≡ reaches l v n b
@@ -93,17 +96,24 @@ module _ (s : List ℕ) (i second after : ℕ) (e : second ≡ cell s i 3) (f : 
         sym (rw (← e, ← f, lt-ltb (suc i) second (omega arith), lt-ltb second after k, ← add-one i, ← q, eq-eqb x second n, ← p))
 
   -- A `Call`.
-  pub split-low : second ≤ i → false ≡ isSplit (viewOf s) i
+  pub split-end : second ≡ after → true ≡ isSplit (viewOf s) i
   unfolding viewOf
-  split-low h = sym (rw (← e, le-ltb i second h))
+  split-end h = sym (rw (← e, ← f, eq-eqb second after h))
 
-  pub split-high : i < second → after < second → false ≡ isSplit (viewOf s) i
-  unfolding viewOf
-  split-high h k = sym (rw (← e, ← f, lt-ltb i second h, lt-leb second after k))
+  module _ (n : second ≡ after → ⊥) where
+    pub split-low : second ≤ i → false ≡ isSplit (viewOf s) i
+    unfolding viewOf
+    split-low h = sym (rw (← e, ← f, ne-eqb second after n, le-ltb i second h))
 
-  pub split-reached : (b : Bool) → i < second → second ≤ after → b ≡ reaches (after - i) (viewOf s) (i + 1) second → b ≡ isSplit (viewOf s) i
-  unfolding viewOf
-  split-reached b h k r = r ∙ sym (rw (← e, ← f, lt-ltb i second h, le-leb second after k, ← add-one i))
+    pub split-high : i < second → after < second → false ≡ isSplit (viewOf s) i
+    unfolding viewOf
+    split-high h k = sym (rw (← e, ← f, ne-eqb second after n, lt-ltb i second h, le-ltb second after (omega arith)))
+
+    pub split-reached : (b : Bool) → i < second → second ≤ after → b ≡ reaches (after - i) (viewOf s) (i + 1) second → b ≡ isSplit (viewOf s) i
+    unfolding viewOf
+    split-reached b h k r =
+        let l : second < after = lt-of second after k n in
+        r ∙ sym (rw (← e, ← f, ne-eqb second after n, lt-ltb i second h, lt-ltb second after l, ← add-one i))
 
 -- The parts, by kind.
 pub parts-block : (v : View) (i k : ℕ) → k < 3 → true ≡ partsFit v i k

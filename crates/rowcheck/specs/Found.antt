@@ -1,9 +1,9 @@
--- The answer of the check.
-use Prim.Native.Nat.{ℕ}
+-- The answer of the check: refusal 11 with its place, or none.
 use mathlib.Core.Option.{Option, some, none}
+use Rattle.refusals.specs.Refusals.{Refusal}
 use Rattle.rowcheck.specs.declared.Found.{Found}
 use Rattle.rowcheck.specs.declared.Found.the-variants.{Right, Wrong}
 
-abbrev pub foundOf : Option ℕ → Found
-foundOf none = Right
-foundOf (some row) = Wrong row
+abbrev pub refusalOf : Found → Option Refusal
+refusalOf Right = none
+refusalOf (Wrong row) = some (record { number = 11; place = row })

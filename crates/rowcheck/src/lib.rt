@@ -6,12 +6,14 @@ ghost use lib.ListN.{length};
 ghost use lib.Dec.{eqb};
 ghost use Rattle.rows.specs.View.{cell, viewOf};
 ghost use Rattle.renderer.specs.Check.{reaches, hasTwo, isSplit, partsFit, usesNumber, usesNumber2, usesSecond, usesText, textFits, noTextFits, placesFit, rowFits, wrongRow, wrongPlace};
-ghost use Rattle.rowcheck.specs.Found.{foundOf};
-use render::output::origin_size;
+ghost use Rattle.refusals.specs.Refusals.{whenFound};
+ghost use Rattle.rowcheck.specs.Found.{refusalOf};
+use rows::origins::origin_size;
 use rows::store::place;
+use rows::store::text_size;
 use rows::store::wide;
 
-// What the check finds: nothing wrong, or the first row that is.
+// What the check finds: nothing wrong, or the first row that is wrong.
 pub enum Found {
     Right,
     Wrong(usize),
@@ -60,6 +62,9 @@ fn is_split(store: &[u32], row: usize, after: usize) -> bool
     ensures { λ r. ⌜ r ≡ isSplit (viewOf (now (store .entry))) row ⌝ }
 {
     let second = place(store, row, 3);
+    if second == after {
+        return true;
+    }
     if second <= row {
         return false;
     }
@@ -99,7 +104,7 @@ fn text_fits(store: &[u32], source: &[u8], image: &[u8], row: usize) -> bool
         return false;
     }
     let size = origin_size(source, image, origin);
-    place(store, row, 6) + place(store, row, 7) <= size
+    place(store, row, 6) + text_size(store, row).0 <= size.0
 }
 
 // Whether the text places of a row without a text are 0.
@@ -216,9 +221,9 @@ fn row_fits(
 }
 
 // The first row from `from` up to `stop` that is not right. `ends` has where the rows around the open part end.
-pub fn wrong_row(store: &[u32], source: &[u8], image: &[u8], from: usize, stop: usize) -> Found
+fn wrong_row(store: &[u32], source: &[u8], image: &[u8], from: usize, stop: usize) -> Found
     requires { ⌜ (stop * 9 ≤ length (now store)) × (stop ≤ 2097152) ⌝ }
-    ensures { λ r. ⌜ r ≡ foundOf (wrongRow (placesFit (now (source .entry)) (now (image .entry)) (now (store .entry))) (viewOf (now (store .entry))) stop 0 from) ⌝ }
+    ensures { λ r. ⌜ refusalOf r ≡ whenFound (wrongRow (placesFit (now (source .entry)) (now (image .entry)) (now (store .entry))) (viewOf (now (store .entry))) stop 0 from) 11 ⌝ }
 {
     let mut ends = [0u32; 256];
     let mut depth: usize = 0;
@@ -246,7 +251,7 @@ pub fn wrong_row(store: &[u32], source: &[u8], image: &[u8], from: usize, stop: 
 
 // Refusal 11: whether the rows from `from` up to `stop` may be rendered; 0 for the stop.
 pub fn check_rows(store: &[u32], source: &[u8], image: &[u8], from: usize, stop: usize) -> Found
-    ensures { λ r. ⌜ r ≡ foundOf (wrongPlace (now (source .entry)) (now (image .entry)) (now (store .entry)) from stop) ⌝ }
+    ensures { λ r. ⌜ refusalOf r ≡ whenFound (wrongPlace (now (source .entry)) (now (image .entry)) (now (store .entry)) from stop) 11 ⌝ }
 {
     if 2097152 < stop {
         return Found::Wrong(0);

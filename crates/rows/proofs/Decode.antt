@@ -8,7 +8,7 @@ use mathlib.Core.Bool.{cond}
 use lib.Dec.{ltb}
 use borrow.Author.Tests.{lt-ltb, le-ltb}
 use Rattle.rows.specs.Node.{Node, Nodes, group, indent, indentNext, wrapParent, comment, str, ascii, line, emptyLine, lineOrSpace, ifWrap, call, none, _then_}
-use Rattle.rows.specs.View.{View, firstOf, nodeOf, endIn, secondIn, decode, nodesAt}
+use Rattle.rows.specs.View.{View, firstOf, nodeOf, endIn, secondIn, decode, nodesAt, nodeAt}
 use Rattle.rows.specs.Nesting.{Within, Split}
 
 -- the nodes from row i on, from those of its parts and of the rows after it
@@ -89,14 +89,6 @@ decode-some (suc f) v i j h p =
     (less-second v i j f p)
     (omega arith))
     (decode-enough f (j - endIn v i j) v (endIn v i j) j (less-rest v i j f p) (omega arith))
-
--- the node of row i, with the parts that end where it says
-unfoldable pub nodeAt : View → ℕ → Node
-nodeAt v i =
-    nodeOf v i
-    (nodesAt v (suc i) (v .after i))
-    (nodesAt v (suc i) (secondIn v i (v .after i)))
-    (nodesAt v (secondIn v i (v .after i)) (v .after i))
 
 end-in : (v : View) (i j : ℕ) → Within v i j → endIn v i j ≡ v .after i
 end-in v i j w = omega arith

@@ -12,9 +12,9 @@ use lib.Seq.{getD-append-add, getD-take, getD-drop}
 use Rattle.rows.specs.Node.{Text, Node, Nodes, group, indent, indentNext, wrapParent, comment, str, ascii, line, emptyLine, lineOrSpace, ifWrap}
 use Rattle.rows.specs.Node.{call, none, _then_}
 use Rattle.rows.specs.Rows.{size, sizes, depth, depths, row, rowsOf, rows, noText}
-use Rattle.rows.specs.View.{cell, viewOf, nodesAt, firstOf}
+use Rattle.rows.specs.View.{cell, viewOf, nodesAt, firstOf, nodeAt}
 use Rattle.rows.specs.Nesting.{Within, Nests, over, leaf, block, two, pair}
-use Rattle.rows.proofs.Decode.{nodeAt, nodes-some, nodes-none, node-group, node-indent, node-next, node-parent, node-comment, node-str}
+use Rattle.rows.proofs.Decode.{nodes-some, nodes-none, node-group, node-indent, node-next, node-parent, node-comment, node-str}
 use Rattle.rows.proofs.Decode.{node-ascii, node-line, node-empty, node-space, node-if, node-call}
 use Rattle.rows.proofs.Nested.{nests-le}
 use Rattle.rows.proofs.Sizes.{size-pos, length-rowsOf, length-rows}

@@ -2,6 +2,7 @@ pub mod Decode
 pub mod Flatten
 pub mod MustWrap
 pub mod Nested
+pub mod OriginText
 pub mod Sizes
 pub mod Sums
 pub mod Table

@@ -9,9 +9,9 @@ use Prim.Native.Nat.{ℕ, zero, suc, _+_, _-_, _≤_, _<_}
 use native.Mathlib.Omega.{arith}
 use native.Mathlib.Numerals.{add-one}
 use Rattle.rows.specs.Node.{Nodes, none, _then_, join, mustWrap, mustWraps}
-use Rattle.rows.specs.View.{View, viewOf, cell, nodesAt, nodeOf}
+use Rattle.rows.specs.View.{View, viewOf, cell, nodesAt, nodeOf, nodeAt}
 use Rattle.rows.specs.Nesting.{Within, Nests}
-use Rattle.rows.proofs.Decode.{nodeAt, nodes-some, nodes-none, node-indent}
+use Rattle.rows.proofs.Decode.{nodes-some, nodes-none, node-indent}
 use Rattle.rows.proofs.Nested.{nodes-join, nests-block, nests-after, nests-kind, nests-rest, nests-join, nests-weaken}
 
 or-assoc : (a b c : Bool) → ((a || b) || c) ≡ (a || (b || c))

@@ -11,9 +11,9 @@ use mathlib.Core.List.{List, [], _∷_}
 use lib.ListN.{length, getD, set, length-set}
 use lib.Seq.{getD-set-same, getD-set-other}
 use Rattle.rows.specs.Node.{Text, Node, Nodes, none, _then_, join, wrapped, width, widths}
-use Rattle.rows.specs.View.{View, nodesAt, nodeOf, firstOf}
+use Rattle.rows.specs.View.{View, nodesAt, nodeOf, firstOf, nodeAt}
 use Rattle.rows.specs.Nesting.{Within, Split, TwoParts, Nests}
-use Rattle.rows.proofs.Decode.{nodeAt, nodes-some, nodes-none, node-group, node-indent, node-next, node-if, node-call}
+use Rattle.rows.proofs.Decode.{nodes-some, nodes-none, node-group, node-indent, node-next, node-if, node-call}
 use Rattle.rows.proofs.Nested.{leaf-within, nodes-join, nests-leaf, nests-block, nests-two, nests-pair, nests-kind, nests-deep, nests-join}
 use Rattle.rows.proofs.Nested.{nests-weaken}
 

@@ -86,3 +86,11 @@ decode (suc f) v i j =
 -- the nodes of the rows from i up to j
 unfoldable pub nodesAt : View → ℕ → ℕ → Nodes
 nodesAt v i j = decode (j - i) v i j
+
+-- the node of row i, with the parts that end where it says
+unfoldable pub nodeAt : View → ℕ → Node
+nodeAt v i =
+    nodeOf v i
+    (nodesAt v (suc i) (v .after i))
+    (nodesAt v (suc i) (secondIn v i (v .after i)))
+    (nodesAt v (secondIn v i (v .after i)) (v .after i))

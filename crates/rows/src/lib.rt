@@ -1,4 +1,5 @@
 // The document as rows.
+pub mod origins;
 pub mod store;
 pub mod width;
 pub mod words;

@@ -25,6 +25,22 @@ pub fn place(store: &[u32], row: usize, k: usize) -> usize
     store[row * 9 + k] as usize
 }
 
+// The length of a row's text.
+pub fn text_size(store: &[u32], row: usize) -> Bytes
+    requires { ⌜ row * 9 + 8 < length (now store) ⌝ }
+    ensures { λ r. ⌜ (r .0 ≡ cell (now (store .entry)) row 7) × (r .0 < 4294967296) ⌝ }
+{
+    Bytes(place(store, row, 7))
+}
+
+// The width of a `Str`.
+pub fn str_width(store: &[u32], row: usize) -> Columns
+    requires { ⌜ row * 9 + 8 < length (now store) ⌝ }
+    ensures { λ r. ⌜ (r .0 ≡ cell (now (store .entry)) row 8) × (r .0 < 4294967296) ⌝ }
+{
+    Columns(place(store, row, 8))
+}
+
 pub fn wide(x: u32) -> usize
     ensures { λ r. ⌜ r ≡ x ⌝ }
 {

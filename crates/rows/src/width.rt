@@ -5,10 +5,11 @@ ghost use lib.ListN.{length, getD};
 ghost use Rattle.rows.specs.Node.{wrapped, widths, mustWraps, byteColumns};
 ghost use Rattle.rows.specs.View.{cell, viewOf, ownWidth, nodesAt};
 ghost use Rattle.rows.specs.Nesting.{Nested};
-use crate::store::Bytes;
 use crate::store::Columns;
 use crate::store::ascii_columns;
 use crate::store::place;
+use crate::store::str_width;
+use crate::store::text_size;
 use crate::store::wide;
 
 // Whether a row from `from` up to `to`, or one in an `Indent` there, wraps what encloses it.
@@ -50,10 +51,10 @@ pub fn own_width(store: &[u32], row: usize, kind: usize) -> Columns
     ensures { λ r. ⌜ (r .0 ≡ ownWidth (now (store .entry)) row kind) × (r .0 < 4294967296) ⌝ }
 {
     if kind == 5 {
-        return Columns(place(store, row, 8));
+        return str_width(store, row);
     }
     if kind == 6 {
-        return ascii_columns(Bytes(place(store, row, 7)));
+        return ascii_columns(text_size(store, row));
     }
     if kind == 9 {
         return Columns(1);

@@ -33,10 +33,10 @@ state-refusal-requires : tie.Need-state-refusal-requires
 state-refusal-requires c κs = search needs
 
 returns-3 : tie.Need-returns-3
-returns-3 c = simp (sym (c .before .before .before .before .before .before .before .source-fits .ensures) ∙ not-false _ (c .before .before .before .before .before .before .if1 .left), sym (c .before .before .before .before .before .header-fits .ensures) ∙ not-false _ (c .before .before .before .before .if2 .left), found-wrong (wrongPlace (c .before .before .before .before .before .before .before .before .before .before .before .before .args .source .now) (c .before .before .before .before .before .before .before .before .before .before .before .before .args .image .now) (c .before .before .before .before .before .before .before .before .before .before .before .before .args .store .now) (c .before .before .before .before .before .before .before .before .before .before .before .before .args .state .row) (c .before .before .before .before .before .before .before .before .before .before .before .before .args .stop)) _ (sym (c .before .before .before .check-rows .ensures) ∙ c .before .row .given .1))
+returns-3 c = simp (sym (c .before .before .before .before .before .before .before .source-fits .ensures) ∙ not-false _ (c .before .before .before .before .before .before .if1 .left), sym (c .before .before .before .before .before .header-fits .ensures) ∙ not-false _ (c .before .before .before .before .if2 .left), found-wrong (wrongPlace (c .before .before .before .before .before .before .before .before .before .before .before .before .args .source .now) (c .before .before .before .before .before .before .before .before .before .before .before .before .args .image .now) (c .before .before .before .before .before .before .before .before .before .before .before .before .args .store .now) (c .before .before .before .before .before .before .before .before .before .before .before .before .args .state .row) (c .before .before .before .before .before .before .before .before .before .before .before .before .args .stop)) _ (c .before .before .before .check-rows .ensures) _ (c .before .row .given .1))
 
 returns-4 : tie.Need-returns-4
-returns-4 c = simp (sym (c .before .before .before .before .before .before .before .source-fits .ensures) ∙ not-false _ (c .before .before .before .before .before .before .if1 .left), sym (c .before .before .before .before .before .header-fits .ensures) ∙ not-false _ (c .before .before .before .before .if2 .left), found-right (wrongPlace (c .before .before .before .before .before .before .before .before .before .before .before .before .args .source .now) (c .before .before .before .before .before .before .before .before .before .before .before .before .args .image .now) (c .before .before .before .before .before .before .before .before .before .before .before .before .args .store .now) (c .before .before .before .before .before .before .before .before .before .before .before .before .args .state .row) (c .before .before .before .before .before .before .before .before .before .before .before .before .args .stop)) (sym (c .before .before .before .check-rows .ensures) ∙ c .before .enum-told .given .1)) (c .state-refusal .ensures (c .before .before .before .before .before .before .before .before .before .before .before .before .args .source .now) (c .before .before .before .before .before .before .before .before .before .before .before .before .args .image .now))
+returns-4 c = simp (sym (c .before .before .before .before .before .before .before .source-fits .ensures) ∙ not-false _ (c .before .before .before .before .before .before .if1 .left), sym (c .before .before .before .before .before .header-fits .ensures) ∙ not-false _ (c .before .before .before .before .if2 .left), found-right (wrongPlace (c .before .before .before .before .before .before .before .before .before .before .before .before .args .source .now) (c .before .before .before .before .before .before .before .before .before .before .before .before .args .image .now) (c .before .before .before .before .before .before .before .before .before .before .before .before .args .store .now) (c .before .before .before .before .before .before .before .before .before .before .before .before .args .state .row) (c .before .before .before .before .before .before .before .before .before .before .before .before .args .stop)) _ (c .before .before .before .check-rows .ensures) (c .before .enum-told .given .1)) (c .state-refusal .ensures (c .before .before .before .before .before .before .before .before .before .before .before .before .args .source .now) (c .before .before .before .before .before .before .before .before .before .before .before .before .args .image .now))
 
 pub refusal-spec : {M : Type 1} → statement M
 refusal-spec =

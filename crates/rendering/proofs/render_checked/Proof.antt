@@ -13,26 +13,11 @@ add-rows-need c = omega (arith, small-sum _ _ _ _ _ _ (c .before .before .before
 rows-need-requires : tie.Need-rows-need-requires
 rows-need-requires c κs = needs-within _ _ _ _ _ _ (c .before .before .before .before .before .before .before .pre) _ refl
 
-same-length : tie.Need-same-length
-same-length c = search needs
-
 returns : tie.Need-returns
-returns c = marks-short _ _ _ _ _ _ (c .before .before .before .before .before .before .before .before .before .pre) _ (c .before .rows-need .ensures .0) _ (c .if1 .taken)
+returns c = marks-short _ _ _ _ _ _ (c .before .before .before .before .before .before .before .before .before .before .pre) _ (c .before .before .rows-need .ensures .0) _ (c .if1 .taken)
 
 render-accepted-requires : tie.Need-render-accepted-requires
-render-accepted-requires c κs = (marks-enough _ _ _ _ _ _ (c .before .before .before .before .before .before .before .before .before .before .before .before .pre) _ (c .before .before .before .before .rows-need .ensures .0) (c .before .before .before .if1 .left), (c .before .before .before .before .rows-need .ensures .0, c .before .before .before .before .rows-need .ensures .1))
-
-same-length-2 : tie.Need-same-length-2
-same-length-2 c = search needs
-
-same-length-3 : tie.Need-same-length-3
-same-length-3 c = search needs
-
-same-length-4 : tie.Need-same-length-4
-same-length-4 c = search needs
-
-returns-2 : tie.Need-returns-2
-returns-2 c = search needs
+render-accepted-requires c κs = (marks-enough _ _ _ _ _ _ (c .before .before .before .before .before .before .before .before .before .before .before .before .before .pre) _ (c .before .before .before .before .before .rows-need .ensures .0) (c .before .before .before .if1 .left), (c .before .before .before .before .before .rows-need .ensures .0, c .before .before .before .before .before .rows-need .ensures .1))
 
 pub render-checked-spec : {M : Type 1} → statement M
 render-checked-spec =
@@ -40,10 +25,10 @@ render-checked-spec =
     (tie.spec
     add-rows-need
     rows-need-requires
-    same-length
+    (λ c. search needs)
     returns
     render-accepted-requires
-    same-length-2
-    same-length-3
-    same-length-4
-    returns-2)
+    (λ c. search needs)
+    (λ c. search needs)
+    (λ c. search needs)
+    (λ c. search needs))

@@ -1,24 +1,23 @@
 use mathlib.Core.Path.{sym, ap, _∙_}
-use Rattle.rowcheck.specs.Found.{foundOf}
-use Rattle.rowcheck.proofs.Pending.{stop-far, stop-past, stop-fits}
+use Rattle.rowcheck.proofs.Pending.{refused, stop-far, stop-past, stop-fits}
 use borrow.Author.Needs.{needs}
 use Rattle.rowcheck.proofs.check_rows.Statement.{statement}
 use Rattle.rowcheck.proofs.check_rows.Tie as tie
 
 returns : tie.Need-returns
-returns c = sym (ap foundOf (stop-far _ _ _ _ _ (c .if1 .taken)))
+returns c = sym (ap refused (stop-far _ _ _ _ _ (c .if1 .taken)))
 
 mul-if2 : tie.Need-mul-if2
 mul-if2 c = search needs
 
 returns-2 : tie.Need-returns-2
-returns-2 c = sym (ap foundOf (stop-past _ _ _ _ _ (c .before .if1 .left) (c .if2 .taken)))
+returns-2 c = sym (ap refused (stop-past _ _ _ _ _ (c .before .if1 .left) (c .if2 .taken)))
 
 wrong-row-requires : tie.Need-wrong-row-requires
 wrong-row-requires c κs = search needs
 
 returns-3 : tie.Need-returns-3
-returns-3 c = c .wrong-row .ensures ∙ sym (ap foundOf (stop-fits _ _ _ _ _ (c .before .before .if1 .left) (c .before .if2 .left)))
+returns-3 c = c .wrong-row .ensures ∙ sym (ap refused (stop-fits _ _ _ _ _ (c .before .before .if1 .left) (c .before .if2 .left)))
 
 pub check-rows-spec : {M : Type 1} → statement M
 check-rows-spec = tie.close (tie.spec returns mul-if2 returns-2 wrong-row-requires returns-3)

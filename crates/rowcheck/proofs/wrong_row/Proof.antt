@@ -7,8 +7,7 @@ use borrow.Author.Tests.{ltb-true, ltb-false, not-true, not-false}
 use Rattle.rows.specs.View.{viewOf}
 use Rattle.renderer.specs.Check.{placesFit, wrongRow}
 use Rattle.renderer.proofs.Checked.{fits-row}
-use Rattle.rowcheck.specs.Found.{foundOf}
-use Rattle.rowcheck.proofs.Pending.{Checking, checkLeft, check-start, check-wrong, check-right, check-out-at, check-in, check-past, check-as}
+use Rattle.rowcheck.proofs.Pending.{refused, Checking, checkLeft, check-start, check-wrong, check-right, check-out-at, check-in, check-past, check-as}
 use Rattle.rowcheck.proofs.wrong_row.Statement.{statement}
 use Rattle.rowcheck.proofs.wrong_row.Tie as tie
 use Rattle.rowcheck.proofs.wrong_row.Reads as reads
@@ -53,7 +52,7 @@ row-fits-requires : tie.Need-row-fits-requires Inv-loop μ-loop
 row-fits-requires c κs = (c .if3 .left, (omega (arith, c .before .before .loop .inv .low, c .before .before .before .before .before .before .pre .0), omega (arith, c .before .before .loop .inv .low, c .before .before .before .before .before .before .pre .1)))
 
 returns : tie.Need-returns Inv-loop μ-loop
-returns c = sym (ap foundOf (check-wrong _ _ _ _ _ _ _ _ (c .before .before .before .before .loop .inv) (c .before .before .if3 .left) (sym (c .before .row-fits .ensures) ∙ not-true _ (c .if4 .taken))))
+returns c = sym (ap refused (check-wrong _ _ _ _ _ _ _ _ (c .before .before .before .before .loop .inv) (c .before .before .if3 .left) (sym (c .before .row-fits .ensures) ∙ not-true _ (c .if4 .taken))))
 
 place-requires : tie.Need-place-requires Inv-loop μ-loop
 place-requires c κs = omega (arith, c .before .before .before .before .loop .inv .low, c .before .before .before .before .before .before .before .before .pre .0, c .before .before .if3 .left)
@@ -88,7 +87,7 @@ loop-again-2 c =
     (c .if5 .came)
 
 returns-2 : tie.Need-returns-2 Inv-loop μ-loop
-returns-2 c = sym (ap foundOf (check-right _ _ _ _ _ _ _ _ (c .before .before .loop .inv) (c .before .if1 .left) (ltb-false _ _ (c .if2 .left))))
+returns-2 c = sym (ap refused (check-right _ _ _ _ _ _ _ _ (c .before .before .loop .inv) (c .before .if1 .left) (ltb-false _ _ (c .if2 .left))))
 
 pub wrong-row-spec : {M : Type 1} → statement M
 wrong-row-spec =

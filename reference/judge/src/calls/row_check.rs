@@ -72,7 +72,10 @@ impl Check<'_> {
                     && (place + 2..after).contains(&second)
                     && self.rows[second].after == row.after
             }
-            rows::CALL => second <= after && self.lands(place + 1, second),
+            rows::CALL => {
+                second == after
+                    || second < after && self.lands(place + 1, second)
+            }
             _ => after == place + 1,
         }
     }

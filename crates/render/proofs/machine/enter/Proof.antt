@@ -17,7 +17,7 @@ same-length : tie.Need-same-length
 same-length c = search needs
 
 returns : tie.Need-returns
-returns c = group-follows _ _ _ _ _ _ _ _ _ _ _ (sym (c .before .before .before .before .before .before .place .ensures .0) ∙ c .before .before .before .before .before .if1 .taken) (c .before .before .enter-group .ensures)
+returns c = group-follows _ _ _ _ _ _ _ _ _ _ (sym (c .before .before .before .before .before .before .place .ensures .0) ∙ c .before .before .before .before .before .if1 .taken) (c .before .before .enter-group .ensures)
 
 enter-call-requires : tie.Need-enter-call-requires
 enter-call-requires c κs = (
@@ -29,7 +29,7 @@ same-length-2 : tie.Need-same-length-2
 same-length-2 c = search needs
 
 returns-2 : tie.Need-returns-2
-returns-2 c = call-follows _ _ _ _ _ _ _ _ _ _ _ (sym (c .before .before .before .before .before .before .before .place .ensures .0) ∙ c .before .before .before .before .before .if2 .taken) (c .before .before .enter-call .ensures)
+returns-2 c = call-follows _ _ _ _ _ _ _ _ _ _ (sym (c .before .before .before .before .before .before .before .place .ensures .0) ∙ c .before .before .before .before .before .if2 .taken) (c .before .before .enter-call .ensures)
 
 enter-if-requires : tie.Need-enter-if-requires
 enter-if-requires c κs = enters _ _ _ _ _ _ _ _ _ (c .before .before .before .before .before .before .before .before .before .before .before .before .pre .0)
@@ -38,7 +38,7 @@ same-length-3 : tie.Need-same-length-3
 same-length-3 c = search needs
 
 returns-3 : tie.Need-returns-3
-returns-3 c = if-follows _ _ _ _ _ _ _ _ _ _ _ (sym (c .before .before .before .before .before .before .place .ensures .0) ∙ c .before .before .before .if3 .taken) (c .before .before .before .before .before .before .before .before .before .before .before .before .before .pre .1) (c .enter-if .ensures)
+returns-3 c = if-follows _ _ _ _ _ _ _ _ _ _ (sym (c .before .before .before .before .before .before .place .ensures .0) ∙ c .before .before .before .if3 .taken) (c .before .before .before .before .before .before .before .before .before .before .before .before .before .pre .1) (c .enter-if .ensures)
 
 enter-indent-requires : tie.Need-enter-indent-requires
 enter-indent-requires c κs =
@@ -46,7 +46,7 @@ enter-indent-requires c κs =
     (e .depth, (e .few, (e .indent, (omega (arith, c .before .before .before .before .if1 .left), c .before .if4 .taken))))
 
 returns-4 : tie.Need-returns-4
-returns-4 c = indents-follow _ _ _ _ _ _ _ _ _ _ _ _ (c .before .before .before .before .before .before .place .ensures .0) (c .before .before .before .before .before .if1 .left) (c .before .before .if4 .taken) (c .before .before .before .before .before .before .before .before .before .before .before .before .before .pre .1) (c .enter-indent .ensures)
+returns-4 c = indents-follow _ _ _ _ _ (c .before .before .before .before .before .before .before .before .before .before .before .before .before .args .stop) _ _ _ _ _ _ (c .before .before .before .before .before .before .place .ensures .0) (c .before .before .before .before .before .if1 .left) (c .before .before .if4 .taken) (c .before .before .before .before .before .before .before .before .before .before .before .before .before .pre .1) (c .enter-indent .ensures)
 
 leaf-requires : tie.Need-leaf-requires
 leaf-requires c κs =
@@ -65,7 +65,7 @@ same-length-4 c = search needs
 returns-5 : tie.Need-returns-5
 returns-5 c =
     let k = kind-low _ _ _ _ _ _ _ _ _ (c .before .before .before .before .before .before .before .before .before .before .before .before .before .before .before .pre .0) in
-    leaf-follows _ _ _ _ _ _ _ _ (whole (c .before .before .before .before .before .before .before .before .before .before .before .before .before .before .before .args .frames .now) (c .before .before .before .before .before .before .before .before .before .before .before .before .before .before .before .args .r)) _ _ _ (omega (arith, c .before .before .before .before .before .before .before .before .place .ensures .0, c .before .before .before .before .if4 .left)) (omega (arith, c .before .before .before .before .before .before .before .before .place .ensures .0, c .before .before .before .before .before .before .if2 .left, c .before .before .before .before .before .if3 .left)) (c .before .before .before .before .before .before .before .before .before .before .before .before .before .before .before .pre .1) (c .before .before .leaf .ensures)
+    leaf-follows _ _ _ _ _ _ _ (whole (c .before .before .before .before .before .before .before .before .before .before .before .before .before .before .before .args .frames .now) (c .before .before .before .before .before .before .before .before .before .before .before .before .before .before .before .args .r)) _ _ _ (omega (arith, c .before .before .before .before .before .before .before .before .place .ensures .0, c .before .before .before .before .if4 .left)) (omega (arith, c .before .before .before .before .before .before .before .before .place .ensures .0, c .before .before .before .before .before .before .if2 .left, c .before .before .before .before .before .if3 .left)) (c .before .before .before .before .before .before .before .before .before .before .before .before .before .before .before .pre .1) (c .before .before .leaf .ensures)
 
 pub enter-spec : {M : Type 1} → statement M
 enter-spec =

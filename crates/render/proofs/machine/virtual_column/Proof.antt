@@ -1,3 +1,4 @@
+use mathlib.Core.Path.{_∙_}
 use Rattle.render.proofs.Decided.{virtual-on, virtual-new}
 use borrow.Author.Needs.{needs}
 use Rattle.render.proofs.machine.virtual_column.Statement.{statement}
@@ -6,11 +7,13 @@ use Rattle.render.proofs.machine.virtual_column.Tie as tie
 returns : tie.Need-returns
 returns c = virtual-on _ (c .before .if1 .taken)
 
-mul-t3 : tie.Need-mul-t3
-mul-t3 c = search needs
-
 returns-2 : tie.Need-returns-2
-returns-2 c = virtual-new _ (c .before .if1 .left)
+returns-2 c = c .margin-columns .ensures ∙ virtual-new _ (c .before .if1 .left)
 
 pub virtual-column-spec : {M : Type 1} → statement M
-virtual-column-spec = tie.close (tie.spec returns mul-t3 returns-2)
+virtual-column-spec =
+    tie.close
+    (tie.spec
+    returns
+    (λ c κs. search needs)
+    returns-2)

@@ -19,9 +19,6 @@ abbrev μ-loop : tie.MeasureT-loop
 loop-holds : tie.Need-loop-holds Inv-loop μ-loop
 loop-holds c = started _ _ _ _ _ (c .before .before .pre) refl
 
-clip-requires : tie.Need-clip-requires Inv-loop μ-loop
-clip-requires c κs = tt
-
 returns : tie.Need-returns Inv-loop μ-loop
 returns c = (clip-past _ _ _ _ (c .clip .ensures) (c .before .if1 .taken) (sum-low _ _ (c .before .before .before .before .before .before .args .from) _ _ _ _ _ (c .before .before .before .loop .inv)), clip-small _ _ _ _ (c .clip .ensures) (omega (arith, capped _ _ _ _ _ _ _ _ _ (c .before .before .before .loop .inv) (c .before .before .before .before .before .before .pre .few))))
 
@@ -46,17 +43,11 @@ loop-again c = passed _ _ _ _ _ _ _ _ _ (c .before .before .before .before .befo
 place-requires-2 : tie.Need-place-requires-2 Inv-loop μ-loop
 place-requires-2 c κs = omega (arith, c .before .before .before .loop-test .taken, c .before .before .before .before .before .before .before .pre .room)
 
-is-wrapped-requires : tie.Need-is-wrapped-requires Inv-loop μ-loop
-is-wrapped-requires c κs = tt
-
 width-requires : tie.Need-width-requires Inv-loop μ-loop
 width-requires c κs = rest-nested _ _ (c .before .before .before .before .before .before .before .before .before .before .args .from) _ _ _ _ _ (c .before .before .before .before .before .before .before .loop .inv) (c .before .before .before .before .before .before .before .before .before .before .pre)
 
-add-clip : tie.Need-add-clip Inv-loop μ-loop
-add-clip c = omega (arith, c .before .before .before .before .before .before .before .before .before .loop .inv .cap, c .before .width .ensures .1, c .before .before .before .before .before .before .before .before .loop-test .taken, c .before .before .before .before .before .before .before .before .before .before .before .before .pre .few)
-
-clip-requires-2 : tie.Need-clip-requires-2 Inv-loop μ-loop
-clip-requires-2 c κs = tt
+add-t15 : tie.Need-add-t15 Inv-loop μ-loop
+add-t15 c = omega (arith, c .before .before .before .before .before .before .before .before .before .loop .inv .cap, c .before .width .ensures .1, c .before .before .before .before .before .before .before .before .loop-test .taken, c .before .before .before .before .before .before .before .before .before .before .before .before .pre .few)
 
 returns-2 : tie.Need-returns-2 Inv-loop μ-loop
 returns-2 c = (clip-all _ _ _ _ (c .clip2 .ensures) (ap (λ (n : ℕ). c .before .before .before .before .before .before .before .before .before .before .loop .sum + n) (c .before .before .width .ensures .0) ∙ rest-sum _ _ (c .before .before .before .before .before .before .before .before .before .before .before .before .before .args .from) _ _ _ _ _ (c .before .before .before .before .before .before .before .before .before .before .loop .inv)), clip-small _ _ _ _ (c .clip2 .ensures) (omega (arith, capped _ _ _ _ _ _ _ _ _ (c .before .before .before .before .before .before .before .before .before .before .loop .inv) (c .before .before .before .before .before .before .before .before .before .before .before .before .before .pre .few), c .before .before .width .ensures .1)))
@@ -70,9 +61,6 @@ loop-less-2 c = let x = second-later _ _ _ _ _ _ _ _ _ (c .before .before .befor
 loop-again-2 : tie.Need-loop-again-2 Inv-loop μ-loop
 loop-again-2 c = second-part _ _ _ _ _ _ _ _ _ (c .before .before .before .before .before .before .before .before .loop .inv) (c .before .before .before .place2 .result) (c .place3 .result) (c .before .before .before .before .before .before .before .loop-test .taken) (sym (c .before .before .before .before .before .place .ensures .0) ∙ c .before .before .before .before .if2 .left) (c .before .before .before .place2 .ensures .0) (c .place3 .ensures .0) (sym (c .before .before .is-wrapped .ensures) ∙ c .before .if3 .left)
 
-clip-requires-3 : tie.Need-clip-requires-3 Inv-loop μ-loop
-clip-requires-3 c κs = tt
-
 returns-3 : tie.Need-returns-3 Inv-loop μ-loop
 returns-3 c = (clip-all _ _ _ _ (c .clip3 .ensures) (done _ _ _ _ _ _ _ _ _ (c .before .before .loop .inv) (omega arith) (c .before .loop-test .left)), clip-small _ _ _ _ (c .clip3 .ensures) (omega (arith, capped _ _ _ _ _ _ _ _ _ (c .before .before .loop .inv) (c .before .before .before .before .before .pre .few))))
 
@@ -83,7 +71,7 @@ width-past-spec =
     Inv-loop
     μ-loop
     loop-holds
-    clip-requires
+    (λ c κs. tt)
     returns
     place-requires
     own-width-requires
@@ -92,13 +80,13 @@ width-past-spec =
     loop-less
     loop-again
     place-requires-2
-    is-wrapped-requires
+    (λ c κs. tt)
     width-requires
-    add-clip
-    clip-requires-2
+    add-t15
+    (λ c κs. tt)
     returns-2
     place-requires-3
     loop-less-2
     loop-again-2
-    clip-requires-3
+    (λ c κs. tt)
     returns-3)

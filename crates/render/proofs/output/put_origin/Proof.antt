@@ -1,5 +1,6 @@
 use Rattle.rows.specs.Words.{words}
-use Rattle.render.proofs.Written.{part-none, room-of, part-of, origin-source, origin-image, origin-rest}
+use Rattle.rows.proofs.OriginText.{origin-source, origin-image, origin-rest}
+use Rattle.render.proofs.Written.{part-none, room-of, part-of}
 use borrow.Author.Needs.{needs}
 use Rattle.render.proofs.output.put_origin.Statement.{statement}
 use Rattle.render.proofs.output.put_origin.Tie as tie

@@ -2,7 +2,7 @@ use native.Mathlib.Omega.{arith}
 use borrow.Author.Needs.{needs}
 use Rattle.rows.specs.Ascii.{bytes}
 use Rattle.rows.specs.Words.{words, joined}
-use Rattle.render.proofs.Written.{words-size}
+use Rattle.rows.proofs.Table.{words-size}
 use Rattle.render.proofs.output.put_words.Statement.{statement}
 use Rattle.render.proofs.output.put_words.Tie as tie
 

@@ -4,17 +4,14 @@ use borrow.Author.Needs.{needs}
 use Rattle.render.proofs.output.spaces.Statement.{statement}
 use Rattle.render.proofs.output.spaces.Tie as tie
 
-clipped-requires : tie.Need-clipped-requires
-clipped-requires c κs = search needs
-
-put-blanks-requires : tie.Need-put-blanks-requires
-put-blanks-requires c κs = search needs
-
-same-length : tie.Need-same-length
-same-length c = search needs
-
 returns : tie.Need-returns
-returns c = c .before .before .put-blanks .ensures ∙ blanks-below (c .before .before .before .before .before .before .args .limit) (c .before .before .before .before .before .before .args .out .now) (c .before .before .before .before .before .before .args .at) (c .before .before .before .before .before .before .args .n) _ (c .before .before .before .before .before .before .pre) (c .before .before .before .clipped .ensures)
+returns c = c .before .before .put-blanks .ensures ∙ blanks-below (c .before .before .before .before .before .before .args .limit) (c .before .before .before .before .before .before .args .out .now) (c .before .before .before .before .before .before .args .at) (c .before .before .before .before .before .before .args .n .0) _ (c .before .before .before .before .before .before .pre) (c .before .before .before .clipped .ensures)
 
 pub spaces-spec : {M : Type 1} → statement M
-spaces-spec = tie.close (tie.spec clipped-requires put-blanks-requires same-length returns)
+spaces-spec =
+    tie.close
+    (tie.spec
+    (λ c κs. search needs)
+    (λ c κs. search needs)
+    (λ c. search needs)
+    returns)

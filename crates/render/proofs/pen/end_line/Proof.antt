@@ -5,36 +5,35 @@ use borrow.Author.Needs.{needs}
 use Rattle.render.proofs.pen.end_line.Statement.{statement}
 use Rattle.render.proofs.pen.end_line.Tie as tie
 
-copy-requires : tie.Need-copy-requires
-copy-requires c κs = search needs
-
 add-emit : tie.Need-add-emit
 add-emit c =
-    let e = c .before .before .before .copy .ensures .1 in
-    let f = text-fits (c .before .before .before .before .before .before .before .before .args .source .now) (c .before .before .before .before .before .before .before .before .args .image .now) (c .before .before .before .before .before .before .before .before .args .origin) (c .before .before .before .before .before .before .before .before .args .start) (c .before .before .before .before .before .before .before .before .args .size) in
-    omega (arith, c .before .before .before .before .before .before .before .before .pre .0 .at, c .before .before .before .before .before .before .before .before .pre .1 .1)
-
-emit-requires : tie.Need-emit-requires
-emit-requires c κs = search needs
+    let e = c .before .before .before .before .copy .ensures .1 in
+    let f = text-fits (c .before .before .before .before .before .before .before .before .before .args .source .now) (c .before .before .before .before .before .before .before .before .before .args .image .now) (c .before .before .before .before .before .before .before .before .before .args .origin) (c .before .before .before .before .before .before .before .before .before .args .start) (c .before .before .before .before .before .before .before .before .before .args .size .0) in
+    omega (arith, c .before .before .before .before .before .before .before .before .before .pre .0 .at, c .before .before .before .before .before .before .before .before .before .pre .1 .1)
 
 add-t16 : tie.Need-add-t16
 add-t16 c =
-    let e = c .before .before .before .before .before .before .copy .ensures .1 in
-    let f = text-fits (c .before .before .before .before .before .before .before .before .before .before .before .args .source .now) (c .before .before .before .before .before .before .before .before .before .before .before .args .image .now) (c .before .before .before .before .before .before .before .before .before .before .before .args .origin) (c .before .before .before .before .before .before .before .before .before .before .before .args .start) (c .before .before .before .before .before .before .before .before .before .before .before .args .size) in
-    omega (arith, c .before .before .before .before .before .before .before .before .before .before .before .pre .0 .at, c .before .before .before .before .before .before .before .before .before .before .before .pre .1 .1)
+    let e = c .before .before .before .before .before .before .before .before .copy .ensures .1 in
+    let f = text-fits (c .before .before .before .before .before .before .before .before .before .before .before .before .before .args .source .now) (c .before .before .before .before .before .before .before .before .before .before .before .before .before .args .image .now) (c .before .before .before .before .before .before .before .before .before .before .before .before .before .args .origin) (c .before .before .before .before .before .before .before .before .before .before .before .before .before .args .start) (c .before .before .before .before .before .before .before .before .before .before .before .before .before .args .size .0) in
+    omega (arith, c .before .before .before .before .before .before .before .before .before .before .before .before .before .pre .0 .at, c .before .before .before .before .before .before .before .before .before .before .before .before .before .pre .1 .1)
 
 add-t18 : tie.Need-add-t18
 add-t18 c =
-    let e = c .before .before .before .before .before .before .copy .ensures .1 in
-    let f = text-fits (c .before .before .before .before .before .before .before .before .before .before .before .args .source .now) (c .before .before .before .before .before .before .before .before .before .before .before .args .image .now) (c .before .before .before .before .before .before .before .before .before .before .before .args .origin) (c .before .before .before .before .before .before .before .before .before .before .before .args .start) (c .before .before .before .before .before .before .before .before .before .before .before .args .size) in
-    omega (arith, c .before .before .before .before .before .before .before .before .before .before .before .pre .0 .at, c .before .before .before .before .before .before .before .before .before .before .before .pre .1 .1)
-
-same-length : tie.Need-same-length
-same-length c = search needs
+    let e = c .before .before .before .before .before .before .before .before .copy .ensures .1 in
+    let f = text-fits (c .before .before .before .before .before .before .before .before .before .before .before .before .before .args .source .now) (c .before .before .before .before .before .before .before .before .before .before .before .before .before .args .image .now) (c .before .before .before .before .before .before .before .before .before .before .before .before .before .args .origin) (c .before .before .before .before .before .before .before .before .before .before .before .before .before .args .start) (c .before .before .before .before .before .before .before .before .before .before .before .before .before .args .size .0) in
+    omega (arith, c .before .before .before .before .before .before .before .before .before .before .before .before .before .pre .0 .at, c .before .before .before .before .before .before .before .before .before .before .before .before .before .pre .1 .1)
 
 returns : tie.Need-returns
-returns c = ended _ _ _ _ _ _ _ (c .before .before .before .before .before .before .copy .ensures .1) (c .before .before .before .before .before .before .copy .ensures .0) (c .before .before .emit .ensures)
+returns c = ended _ _ _ _ _ _ _ (c .before .before .before .before .before .before .before .before .copy .ensures .1) (c .before .before .before .before .before .before .before .before .copy .ensures .0) (c .before .before .before .emit .ensures)
 
 pub end-line-spec : {M : Type 1} → statement M
 end-line-spec =
-    tie.close (tie.spec copy-requires add-emit emit-requires add-t16 add-t18 same-length returns)
+    tie.close
+    (tie.spec
+    (λ c κs. search needs)
+    add-emit
+    (λ c κs. search needs)
+    add-t16
+    add-t18
+    (λ c. search needs)
+    returns)

@@ -5,23 +5,21 @@ use borrow.Author.Needs.{needs}
 use Rattle.render.proofs.pen.put_text.Statement.{statement}
 use Rattle.render.proofs.pen.put_text.Tie as tie
 
-copy-requires : tie.Need-copy-requires
-copy-requires c κs = search needs
-
-add-t14 : tie.Need-add-t14
-add-t14 c = search needs
-
 add-t16 : tie.Need-add-t16
 add-t16 c =
-    let e = c .before .before .before .before .copy .ensures .1 in
-    let f = text-fits (c .before .before .before .before .before .before .before .before .before .args .source .now) (c .before .before .before .before .before .before .before .before .before .args .image .now) (c .before .before .before .before .before .before .before .before .before .args .origin) (c .before .before .before .before .before .before .before .before .before .args .start) (c .before .before .before .before .before .before .before .before .before .args .size) in
-    omega (arith, c .before .before .before .before .before .before .before .before .before .pre .0 .at, c .before .before .before .before .before .before .before .before .before .pre .1 .1 .0)
-
-same-length : tie.Need-same-length
-same-length c = search needs
+    let e = c .before .before .before .before .before .copy .ensures .1 in
+    let f = text-fits (c .before .before .before .before .before .before .before .before .before .before .args .source .now) (c .before .before .before .before .before .before .before .before .before .before .args .image .now) (c .before .before .before .before .before .before .before .before .before .before .args .origin) (c .before .before .before .before .before .before .before .before .before .before .args .start) (c .before .before .before .before .before .before .before .before .before .before .args .size .0) in
+    omega (arith, c .before .before .before .before .before .before .before .before .before .before .pre .0 .at, c .before .before .before .before .before .before .before .before .before .before .pre .1 .1 .0)
 
 returns : tie.Need-returns
-returns c = put-drawn _ _ _ _ _ _ (c .before .before .before .before .copy .result) (c .before .before .before .before .copy .ensures .1) (c .before .before .before .before .copy .ensures .0)
+returns c = put-drawn _ _ _ _ _ _ (c .before .before .before .before .before .copy .result .0) (c .before .before .before .before .before .copy .ensures .1) (c .before .before .before .before .before .copy .ensures .0)
 
 pub put-text-spec : {M : Type 1} → statement M
-put-text-spec = tie.close (tie.spec copy-requires add-t14 add-t16 same-length returns)
+put-text-spec =
+    tie.close
+    (tie.spec
+    (λ c κs. search needs)
+    (λ c. search needs)
+    add-t16
+    (λ c. search needs)
+    returns)

@@ -14,32 +14,29 @@ Inv-loop store from stop margin most₀ sum₀ row₀ most sum row = Needing sto
 abbrev μ-loop : tie.MeasureT-loop
 μ-loop store from stop margin most₀ sum₀ row₀ most sum row = stop - row
 
-mul-sum : tie.Need-mul-sum Inv-loop μ-loop
-mul-sum c = omega (arith, c .before .pre .1 .1 .1)
+margin-bytes-requires : tie.Need-margin-bytes-requires Inv-loop μ-loop
+margin-bytes-requires c κs = omega (arith, c .before .pre .1 .1 .1)
 
 loop-holds : tie.Need-loop-holds Inv-loop μ-loop
-loop-holds c = (needing-start _ _ _ (c .before .pre .0), summing-start _ _ _ _ (c .before .pre .0))
+loop-holds c = (needing-start _ _ _ (c .before .before .pre .0), summing-start _ _ _ _ _ (c .margin-bytes .ensures) (c .before .before .pre .0))
 
 row-marks-requires : tie.Need-row-marks-requires Inv-loop μ-loop
-row-marks-requires c κs = omega (arith, c .before .before .before .pre .1 .0, c .loop-test .taken)
-
-larger-requires : tie.Need-larger-requires Inv-loop μ-loop
-larger-requires c κs = search needs
+row-marks-requires c κs = omega (arith, c .before .before .before .before .pre .1 .0, c .loop-test .taken)
 
 row-most-requires : tie.Need-row-most-requires Inv-loop μ-loop
-row-most-requires c κs = (omega (arith, c .before .before .before .before .before .pre .1 .0, c .before .before .loop-test .taken), c .before .before .before .before .before .pre .1 .1 .1)
+row-most-requires c κs = (omega (arith, c .before .before .before .before .before .before .pre .1 .0, c .before .before .loop-test .taken), c .before .before .before .before .before .before .pre .1 .1 .1)
 
 add-sum : tie.Need-add-sum Inv-loop μ-loop
-add-sum c = omega (arith, c .row-most .ensures .1, c .before .before .before .before .loop .inv .1 .few, c .before .before .before .loop-test .taken, c .before .before .before .before .before .before .pre .1 .1 .0, c .before .before .before .before .before .before .pre .1 .1 .1)
+add-sum c = omega (arith, c .before .row-most .ensures .1, c .before .before .before .before .before .loop .inv .1 .few, c .before .before .before .before .loop-test .taken, c .before .before .before .before .before .before .before .before .pre .1 .1 .0, c .before .before .before .before .before .before .before .before .pre .1 .1 .1)
 
 add-row : tie.Need-add-row Inv-loop μ-loop
-add-row c = omega (arith, c .before .before .before .loop-test .taken)
+add-row c = omega (arith, c .before .before .before .before .loop-test .taken)
 
 loop-less : tie.Need-loop-less Inv-loop μ-loop
-loop-less c = omega (arith, c .before .before .before .loop-test .taken)
+loop-less c = omega (arith, c .before .before .before .before .loop-test .taken)
 
 loop-again : tie.Need-loop-again Inv-loop μ-loop
-loop-again c = (needing-more _ _ _ _ _ _ _ (c .before .before .before .before .loop .inv .0) (c .before .before .before .loop-test .taken) (c .before .before .row-marks .ensures .0) (c .before .larger .ensures), summing-more _ _ _ _ _ _ _ (c .before .before .before .before .loop .inv .1) (c .before .before .before .loop-test .taken) (c .row-most .ensures .0) (c .row-most .ensures .1))
+loop-again c = (needing-more _ _ _ _ _ _ _ (c .before .before .before .before .before .loop .inv .0) (c .before .before .before .before .loop-test .taken) (c .before .before .before .row-marks .ensures .0) (c .before .before .larger .ensures), summing-more _ _ _ _ _ _ _ (c .before .before .before .before .before .loop .inv .1) (c .before .before .before .before .loop-test .taken) (c .before .row-most .ensures .0) (c .before .row-most .ensures .1))
 
 returns : tie.Need-returns Inv-loop μ-loop
 returns c = (needing-end _ _ _ _ _ (c .before .loop .inv .0) (c .loop-test .left), summing-end _ _ _ _ _ _ (c .before .loop .inv .1) (c .loop-test .left))
@@ -50,10 +47,10 @@ rows-need-spec =
     (tie.spec
     Inv-loop
     μ-loop
-    mul-sum
+    margin-bytes-requires
     loop-holds
     row-marks-requires
-    larger-requires
+    (λ c κs. search needs)
     row-most-requires
     add-sum
     add-row

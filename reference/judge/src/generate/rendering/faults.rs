@@ -139,6 +139,10 @@ pub fn calls() -> Vec<CallCase> {
     for edits in edits {
         cases.extend(edited(&parts, edits));
     }
+    // Where the second part is the end, a part past it is at fault itself.
+    let at_end = Part::Call(0, vec![word()], 1, Vec::new());
+    let [alone, _] = edited(&[at_end], &[(1, AFTER, 3)]);
+    cases.push(alone);
     cases
 }
 

@@ -1,8 +1,9 @@
 use mathlib.Core.Path.{sym, ap, _∙_}
 use lib.ListN.{length}
-use Rattle.render.proofs.Written.{origin-source, origin-image, origin-words, origin-none, words-size}
-use Rattle.render.proofs.output.origin_size.Statement.{statement}
-use Rattle.render.proofs.output.origin_size.Tie as tie
+use Rattle.rows.proofs.OriginText.{origin-source, origin-image, origin-words, origin-none}
+use Rattle.rows.proofs.Table.{words-size}
+use Rattle.rows.proofs.origins.origin_size.Statement.{statement}
+use Rattle.rows.proofs.origins.origin_size.Tie as tie
 
 returns : tie.Need-returns
 returns c = sym (ap length (origin-source _ _ _ (c .if1 .taken)))
