@@ -12,10 +12,10 @@ use Rattle.cut.proofs.LayoutParts.{layout-laws}
 use Rattle.cut.proofs.RenderParts.{render-laws, room-laws}
 use Rattle.cut.proofs.CommentParts.{comment-laws}
 
-pub demand-3 : (P : Parts) (listed : List Text) → LayoutPartLaws P → RenderPartLaws P → CommentPartLaws P listed
+pub parts-cut : (P : Parts) (listed : List Text) → LayoutPartLaws P → RenderPartLaws P → CommentPartLaws P listed
     → (store₀ marks₀ : List ℕ) (calls : List (Call (rules P))) → AllReadLaid (rules P) (start (rules P) store₀ marks₀) calls
     → CutRule (rules P) listed store₀ marks₀ calls
-demand-3 P listed L D K store₀ marks₀ calls a = record {
+parts-cut P listed L D K store₀ marks₀ calls a = record {
   same = cut-rule (rules P) (layout-laws P L) (render-laws P D) store₀ marks₀ calls a;
   answered = cut-answers (rules P) (layout-laws P L) (render-laws P D) store₀ marks₀ calls a;
   comments = comments-kept (rules P) (layout-laws P L) (render-laws P D) listed (comment-laws P L listed K) store₀ marks₀ calls a;

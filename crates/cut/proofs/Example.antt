@@ -16,7 +16,7 @@ use Rattle.cut.specs.Plain.{atFirst, due, plain, AllReadLaid}
 use Rattle.cut.specs.CutRule.{Text, commentsIn, CutRule}
 use Rattle.cut.specs.Parts.{Cursor, Piece, Parts, rules}
 use Rattle.cut.specs.PartLaws.{Counts, LayoutPartLaws, Places, CommentPartLaws, RenderPartLaws}
-use Rattle.cut.proofs.Document.{demand-3}
+use Rattle.cut.proofs.Document.{parts-cut}
 
 abbrev listed : List Text
 listed = record { origin = 0; start = 0; size = 1 } ∷ record { origin = 0; start = 1; size = 1 } ∷ []
@@ -131,7 +131,7 @@ render-parts = record {
 -- the rule holds of the instance
 example : (store₀ marks₀ : List ℕ) (calls : List (Call (rules small))) → AllReadLaid (rules small) (start (rules small) store₀ marks₀) calls
     → CutRule (rules small) listed store₀ marks₀ calls
-example = demand-3 small listed layout-parts render-parts comment-parts
+example = parts-cut small listed layout-parts render-parts comment-parts
 
 -- ---- lists of calls
 abbrev layTo : ℕ → Bool → Call (rules small)

@@ -12,7 +12,7 @@ use Rattle.cut.specs.CutRule.{CommentsKept}
 use Rattle.cut.proofs.Entries.{entries-are-calls}
 use Rattle.format.specs.Parts.{listed}
 use Rattle.format.specs.Demands.{rulesOf}
-use Rattle.format.proofs.Demands.{demand-3}
+use Rattle.format.proofs.Demands.{rules-cut}
 use Rattle.laying.specs.declared.Laying.{Laying}
 use Rattle.laying.specs.declared.Laying.the-variants as laying
 use Rattle.laying.specs.Calls as layout
@@ -21,7 +21,7 @@ use Rattle.rendering.specs.declared.Rendering.{Rendering}
 use Rattle.rendering.specs.declared.Rendering.the-variants as rendering
 use Rattle.rendering.specs.Calls as render
 use Rattle.rendering.specs.Whole as renderPromise
-use Rattle.demands.specs.Demand3.{Caller, fresh, Made, laid, rendered, Promised, after, afterAll, AllPromised, callOf, answerOf, held, CutRule, Demand3}
+use Rattle.demands.specs.Demand3.{Caller, fresh, Made, laid, rendered, Promised, after, afterAll, AllPromised, callOf, answerOf, held, Demand3}
 
 module _ (s b : List ℕ) where
   -- one call
@@ -62,10 +62,10 @@ module _ (s b : List ℕ) where
       ap₂ (λ (x : Answer (rulesOf s b)) (xs : List (Answer (rulesOf s b))). x ∷ xs) (one-answer w m (p .0))
       (all-answers (after w m) ms (p .1) ∙ ap (λ (v : Carried (rulesOf s b)). answers (rulesOf s b) v (map (callOf s b) ms)) (one-held w m (p .0)))
 
-pub demand-3-of-calls : Demand3
-demand-3-of-calls s b store₀ marks₀ made p h =
+pub demand-3 : Demand3
+demand-3 s b store₀ marks₀ made p h =
     let w = fresh store₀ marks₀ in
-    let rule = demand-3 s b store₀ marks₀ (map (callOf s b) made) h in
+    let rule = rules-cut s b store₀ marks₀ (map (callOf s b) made) h in
     let e : held s b (afterAll w made) ≡ run (rulesOf s b) (start (rulesOf s b) store₀ marks₀) (map (callOf s b) made) = all-held s b w made p in
     record {
       same = e ∙ rule .same;

@@ -1,8 +1,9 @@
--- Demand 3 of the two public calls, `laying::layout_call` and `rendering::render_call`, by what they promise and nothing else: whatever list of
--- calls a caller makes, refused ones included, what it then holds is what the plain run of document 01 has due. proofs/Demand3.antt proves it.
+-- Demand 3, the cut rule, of the two public calls, `laying::layout_call` and `rendering::render_call`, by what they promise and nothing else:
+-- whatever list of calls a caller makes, refused ones included, in which no accepted call reads rows not yet laid out, what it then holds is what
+-- the plain run of document 01 has due. proofs/Demand3.antt proves it. (Without that condition it is false: crates/cut/proofs/Example.antt.)
 -- What is due: crates/cut/specs/Plain.antt; by which rules and which table: crates/format/specs/Parts.antt.
 use mathlib.Core.Path.{_≡_}
-use mathlib.Core.Bool.{Bool, false}
+use mathlib.Core.Bool.{Bool}
 use mathlib.Core.Option.{Option, none, some}
 use mathlib.Core.List.{List, [], _∷_, _++_, map}
 use Prim.Native.Nat.{ℕ}
@@ -22,6 +23,7 @@ use Rattle.rendering.specs.declared.Rendering.{Rendering}
 use Rattle.rendering.specs.declared.Rendering.the-variants as rendering
 use Rattle.rendering.specs.Calls as render
 use Rattle.rendering.specs.Whole as renderPromise
+use Rattle.demands.specs.Fresh.{freshLayout, freshRender}
 
 -- ---- a caller
 -- what it holds: the buffers that it lends again, both states, the text joined in call order, and the comments left that it was told last
@@ -38,8 +40,8 @@ abbrev pub fresh : List ℕ → List ℕ → Caller
 fresh store₀ marks₀ = record {
   store = store₀;
   marks = marks₀;
-  layout-state = record { begun = false; closed = false; declaration = 0; row = 0; number = 0; placed = 0; position = 0 };
-  render-state = record { indent = 0; «next_indent» = 0; column = record { 0 = 0 }; «in_use» = 0; row = 0 };
+  layout-state = freshLayout;
+  render-state = freshRender;
   text = [];
   left = none;
 }
@@ -117,7 +119,7 @@ held s b w = record {
 -- ---- demand 3
 -- store, marks, both states, joined text and comments left are those due; so is every answer; and the comments in the rows are the first of
 -- the list, in order, each once, the others being left
-pub record CutRule (s b store₀ marks₀ : List ℕ) (made : List Made) : Type 0 where
+pub record CallsCut (s b store₀ marks₀ : List ℕ) (made : List Made) : Type 0 where
   pub same :
       held s b (afterAll (fresh store₀ marks₀) made)
       ≡ due (rulesOf s b) store₀ marks₀ (plain (rulesOf s b) store₀ marks₀ (atFirst (rulesOf s b)) (map (callOf s b) made))
@@ -131,4 +133,4 @@ abbrev pub Demand3 : Type 0
 Demand3 =
     (s b store₀ marks₀ : List ℕ) (made : List Made) → AllPromised s b (fresh store₀ marks₀) made
     → AllReadLaid (rulesOf s b) (start (rulesOf s b) store₀ marks₀) (map (callOf s b) made)
-    → CutRule s b store₀ marks₀ made
+    → CallsCut s b store₀ marks₀ made

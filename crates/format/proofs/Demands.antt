@@ -1,16 +1,16 @@
--- The demands hold. Demand 3: the parts of the real rules keep the laws of crates/cut.
+-- What is claimed holds. The cut rule: the parts of the real rules keep the laws of crates/cut.
 -- Assumes nothing.
 use Rattle.cut.proofs.Document as Document
 use Rattle.format.specs.Parts.{parts, listed}
-use Rattle.format.specs.Demands.{Demand3, DueIsFmtParsed, LaidWithinLimits}
+use Rattle.format.specs.Demands.{RulesCut, DueIsFmtParsed, LaidWithinLimits}
 use Rattle.format.proofs.LayoutParts.{layout-parts, comment-parts}
 use Rattle.format.proofs.RenderParts.{render-parts}
 use Rattle.format.proofs.Whole.{fmt-parsed}
 use Rattle.format.proofs.Limits.{all-limited}
 
-pub demand-3 : Demand3
-demand-3 s b store₀ marks₀ calls h =
-    Document.demand-3 (parts s b) (listed s b) (layout-parts s b) (render-parts s b) (comment-parts s b) store₀ marks₀ calls h
+pub rules-cut : RulesCut
+rules-cut s b store₀ marks₀ calls h =
+    Document.parts-cut (parts s b) (listed s b) (layout-parts s b) (render-parts s b) (comment-parts s b) store₀ marks₀ calls h
 
 pub due-is-fmt-parsed : DueIsFmtParsed
 due-is-fmt-parsed s b = fmt-parsed s b

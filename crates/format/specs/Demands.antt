@@ -1,12 +1,5 @@
--- What is claimed of the whole; proofs/Demands.antt and proofs/File.antt prove it, and nothing is assumed.
---
--- Demand 1: each call is accepted, or refused under a number of document 01: the table is crates/cut/specs/Parts.antt's, by the parts of
--- Parts.antt here, and the calls promise to answer as it says (crates/laying/specs/Whole.antt, crates/rendering/specs/Whole.antt).
--- Demand 2: a whole file's rows, marks, text and comments left are what `fmt_parsed` builds and renders: File.antt; what is due at each stop is
--- what `fmt_parsed` has there: `DueIsFmtParsed`, below.
--- Demand 3: the cut rule: `Demand3`, below, over the run and the plain run of crates/cut (Run.antt, Plain.antt, CutRule.antt); of the two public
--- functions by what they promise: crates/demands/specs/Demand3.antt.
--- The marked edges are in Edges.antt.
+-- What is claimed of the rules; proofs/Demands.antt proves it, and nothing is assumed. The demands of the functions, by what they promise, are
+-- in crates/demands/specs; they rest on these. The marked edges are in Edges.antt, a whole file in File.antt.
 use mathlib.Core.Path.{_≡_}
 use mathlib.Core.Bool.{Bool, true, false}
 use mathlib.Core.List.{List}
@@ -33,11 +26,11 @@ use Rattle.format.specs.Parts.{refusalOf, treeOf, listed, rendererOf, dr
 abbrev pub rulesOf : List ℕ → List ℕ → Rules
 rulesOf s b = rules (parts s b)
 
--- ---- demand 3
+-- ---- the cut rule
 -- The cut rule: for every source and image, whatever store and marks held at first, and every list of calls in which no accepted call reads
 -- rows not yet laid out.
-abbrev pub Demand3 : Type 0
-Demand3 =
+abbrev pub RulesCut : Type 0
+RulesCut =
     (s b store₀ marks₀ : List ℕ) (calls : List (Call (rulesOf s b)))
     → AllReadLaid (rulesOf s b) (start (rulesOf s b) store₀ marks₀) calls
     → CutRule (rulesOf s b) (listed s b) store₀ marks₀ calls

@@ -34,8 +34,11 @@ abbrev pub programRoom : ℕ
 programRoom = 65536
 
 -- 13 before all else, then what refuses the frame's file
+abbrev pub frameTable : List ℕ → ℕ → Option Refusal
+frameTable frame room = first (frameRefusal frame ∷ fileRefusal (sourceOf frame) (imageOf frame) room ∷ [])
+
 abbrev pub programRefusal : List ℕ → Option Refusal
-programRefusal frame = first (frameRefusal frame ∷ fileRefusal (sourceOf frame) (imageOf frame) programRoom ∷ [])
+programRefusal frame = frameTable frame programRoom
 
 abbrev pub replyBy : Option Refusal → List ℕ → List ℕ
 replyBy (some r) text = refusedLine r

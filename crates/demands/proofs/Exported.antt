@@ -1,0 +1,292 @@
+-- The exported functions tell in numbers what the calls answer, so that their callers make the run of the cut rule.
+-- Assumes nothing.
+use mathlib.Core.Path.{_≡_, refl, sym, ap, ap₂, subst, _∙_}
+use mathlib.Core.Bool.{Bool, true, false, cond}
+use mathlib.Core.Option.{Option, none, some}
+use mathlib.Core.List.{List, [], _∷_, _++_, map}
+use Prim.Native.Nat.{ℕ, _+_, _≤_}
+use native.Mathlib.Omega.{arith}
+use lib.Dec.{eqb}
+use lib.ListN.{length, getD, take, drop}
+use lib.Seq.{sets, sets-eq}
+use borrow.Author.Tests.{eqb-true}
+use Rattle.refusals.specs.Refusals.{Refusal, isOneOf}
+use Rattle.image.specs.Read.{Read, got, bad, Image, readAll, readNumbers, outcome}
+use Rattle.cut.specs.Run.{Carried, answerBy, laidOut, written, layoutCall, renderCall, start, call, run}
+use Rattle.cut.specs.Entries.{renderAnswer, layoutNext, renderNext, leftNext, writtenOf, entryCall}
+use Rattle.cut.specs.CutRule.{CommentsKept}
+use Rattle.cut.specs.Parts as cut
+use Rattle.cut.proofs.Entries.{entries-are-calls}
+use Rattle.format.specs.Parts.{refusalOf, listed}
+use Rattle.format.specs.Demands.{rulesOf}
+use Rattle.format.specs.File.{fileRefusal, fileAnswerBy, formatted}
+use Rattle.format.proofs.Demands.{rules-cut}
+use Rattle.laying.specs.Calls as layout
+use Rattle.rendering.specs.Calls as render
+use Rattle.exports.specs.Numbers.{flag, bit, layoutState, renderState, told, toldRead, toldFile}
+use Rattle.exports.specs.Calls.{Lays, Renders}
+use Rattle.demands.specs.Demand1.{layoutNumbers, renderNumbers, fileNumbers}
+use Rattle.demands.specs.Exported.{ToldRefusal, Told, Linked1, Holder, fresh, Made, laid, rendered, Promised, ifAccepted, after, afterAll, AllPromised, callOf, held, Linked3}
+use Rattle.demands.proofs.Demand1.{Under, read-under, layout-under, render-under, file-under, left-same}
+
+-- numbers stored from the start of an array that has room for them stand at its start
+stored : (vs out : List ℕ) → length vs ≤ length out → sets out 0 vs ≡ vs ++ drop (length vs) out
+stored vs out h =
+    let from : 0 + length vs ≡ length vs = omega arith in
+    sets-eq vs out 0 (omega arith) ∙ ap (λ (k : ℕ). vs ++ drop k out) from
+
+-- ---- demand 1
+two : (ns : List ℕ) (table : Option Refusal) (out out2 : List ℕ) (Kept : Type 0) → 2 ≤ length out → Under ns table
+    → (table ≡ none → getD out2 0 0 ≡ 0) → ((r : Refusal) → table ≡ some r → out2 ≡ sets out 0 (r .number ∷ r .place ∷ []))
+    → ((r : Refusal) → table ≡ some r → Kept)
+    → Told ns table out2 Kept
+two ns table out out2 Kept h u zero-first tells kept = record {
+  accepted = zero-first;
+  refused =
+      λ r e.
+      let at : out2 ≡ (r .number ∷ r .place ∷ []) ++ drop 2 out = tells r e ∙ stored (r .number ∷ r .place ∷ []) out h in
+      record {
+        number-told = ap (λ (l : List ℕ). getD l 0 0) at;
+        place-told = ap (λ (l : List ℕ). getD l 1 0) at;
+        listed-one = u .of r e;
+        kept = kept r e;
+      };
+}
+
+read-zero : (x : Read Image) (out : List ℕ) → 3 ≤ length out → refusalOf x ≡ none → getD (toldRead (outcome x) out) 0 0 ≡ 0
+read-zero (got i end) out h e = ap (λ (l : List ℕ). getD l 0 0) (stored (0 ∷ i .comments ∷ i .at ∷ []) out h)
+read-zero (bad n p) out h e = let z : _≡_ {A = ℕ} 0 1 = cc in absurd (omega arith)
+
+read-tells : (x : Read Image) (out : List ℕ) (r : Refusal) → refusalOf x ≡ some r → toldRead (outcome x) out ≡ sets out 0 (r .number ∷ r .place ∷ [])
+read-tells (got i end) out r e = let z : _≡_ {A = ℕ} 0 1 = cc in absurd (omega arith)
+read-tells (bad n p) out r e =
+    let same : _≡_ {A = Refusal} (record { number = n; place = p }) r = cc in
+    ap (λ (x : Refusal). sets out 0 (x .number ∷ x .place ∷ [])) same
+
+file-zero : (o : Option Refusal) (n l k m : ℕ) (out : List ℕ) → 5 ≤ length out → o ≡ none → getD (toldFile (fileAnswerBy o (formatted n l k m)) out) 0 0 ≡ 0
+file-zero none n l k m out h e = ap (λ (x : List ℕ). getD x 0 0) (stored (0 ∷ n ∷ l ∷ k ∷ m ∷ []) out h)
+file-zero (some q) n l k m out h e = let z : _≡_ {A = ℕ} 0 1 = cc in absurd (omega arith)
+
+file-tells : (o : Option Refusal) (n l k m : ℕ) (out : List ℕ) (r : Refusal) → o ≡ some r
+    → toldFile (fileAnswerBy o (formatted n l k m)) out ≡ sets out 0 (r .number ∷ r .place ∷ [])
+file-tells (some q) n l k m out r e =
+    let same : q ≡ r = cc in
+    ap (λ (x : Refusal). sets out 0 (x .number ∷ x .place ∷ [])) same
+file-tells none n l k m out r e = let z : _≡_ {A = ℕ} 0 1 = cc in absurd (omega arith)
+
+module _ (s b : List ℕ) where
+  -- the numbers of an accepted answer
+  abbrev laidNumbers : cut.LayoutState → ℕ → List ℕ
+  laidNumbers t n =
+      0
+      ∷ n
+      ∷ bit (t .begun)
+      ∷ bit (t .closed)
+      ∷ t .declaration
+      ∷ t .cursor .row
+      ∷ t .cursor .number
+      ∷ t .cursor .placed
+      ∷ t .cursor .position
+      ∷ []
+
+  abbrev writtenNumbers : cut.RenderState → ℕ → List ℕ
+  writtenNumbers t n = 0 ∷ n ∷ t .pen .indent ∷ t .pen .next-indent ∷ t .pen .column ∷ t .in-use ∷ t .row ∷ []
+
+  laid-zero : (o : Option Refusal) (t : cut.LayoutState) (n : ℕ) (out : List ℕ) → 9 ≤ length out → o ≡ none
+      → getD (told s b (answerBy (rulesOf s b) o (laidOut t n)) out) 0 0 ≡ 0
+  laid-zero none t n out h e = ap (λ (x : List ℕ). getD x 0 0) (stored (laidNumbers t n) out h)
+  laid-zero (some q) t n out h e = let z : _≡_ {A = ℕ} 0 1 = cc in absurd (omega arith)
+
+  laid-tells : (o : Option Refusal) (t : cut.LayoutState) (n : ℕ) (out : List ℕ) (r : Refusal) → o ≡ some r
+      → told s b (answerBy (rulesOf s b) o (laidOut t n)) out ≡ sets out 0 (r .number ∷ r .place ∷ [])
+  laid-tells (some q) t n out r e =
+      let same : q ≡ r = cc in
+      ap (λ (x : Refusal). sets out 0 (x .number ∷ x .place ∷ [])) same
+  laid-tells none t n out r e = let z : _≡_ {A = ℕ} 0 1 = cc in absurd (omega arith)
+
+  written-zero : (o : Option Refusal) (t : cut.RenderState) (n : ℕ) (out : List ℕ) → 7 ≤ length out → o ≡ none
+      → getD (told s b (answerBy (rulesOf s b) o (written t n)) out) 0 0 ≡ 0
+  written-zero none t n out h e = ap (λ (x : List ℕ). getD x 0 0) (stored (writtenNumbers t n) out h)
+  written-zero (some q) t n out h e = let z : _≡_ {A = ℕ} 0 1 = cc in absurd (omega arith)
+
+  written-tells : (o : Option Refusal) (t : cut.RenderState) (n : ℕ) (out : List ℕ) (r : Refusal) → o ≡ some r
+      → told s b (answerBy (rulesOf s b) o (written t n)) out ≡ sets out 0 (r .number ∷ r .place ∷ [])
+  written-tells (some q) t n out r e =
+      let same : q ≡ r = cc in
+      ap (λ (x : Refusal). sets out 0 (x .number ∷ x .place ∷ [])) same
+  written-tells none t n out r e = let z : _≡_ {A = ℕ} 0 1 = cc in absurd (omega arith)
+
+pub linked-1 : Linked1
+linked-1 = record {
+  check =
+      λ s b out out2 h e.
+      two readNumbers (refusalOf (readAll s b)) out out2 (Unit {0}) (omega arith) (read-under s b)
+      (λ f. ap (λ (l : List ℕ). getD l 0 0) e ∙ read-zero (readAll s b) out (omega arith) f)
+      (λ r f. e ∙ read-tells (readAll s b) out r f)
+      (λ r f. tt);
+  layout =
+      λ s b store state stop close out store2 out2 h p.
+      let o = rulesOf s b .layout-refusal (layout.args stop (flag close)) (layout.toState (layoutState state)) store in
+      two layoutNumbers o out out2 (store2 ≡ store) (omega arith)
+      (layout-under s b stop (flag close) (layout.toState (layoutState state)) store)
+      (λ f. ap (λ (l : List ℕ). getD l 0 0) (p .told-as) ∙ laid-zero s b o _ _ out (omega arith) f)
+      (λ r f. p .told-as ∙ laid-tells s b o _ _ out r f)
+      (λ r f. p .store-left ∙ left-same o r store _ f);
+  render =
+      λ s b store marks output state stop out store2 marks2 output2 out2 h p.
+      let o = rulesOf s b .render-refusal (render.args stop (length output)) (render.toState (renderState state)) store marks in
+      two renderNumbers o out out2 ((store2 ≡ store) × (marks2 ≡ marks) × (output2 ≡ output)) (omega arith)
+      (render-under s b stop (length output) (render.toState (renderState state)) store marks)
+      (λ f. ap (λ (l : List ℕ). getD l 0 0) (p .told-as) ∙ written-zero s b o _ _ out (omega arith) f)
+      (λ r f. p .told-as ∙ written-tells s b o _ _ out r f)
+      (λ r f. (p .store-left, p .marks-left ∙ left-same o r marks _ f, p .output-left ∙ left-same o r output _ f));
+  format =
+      λ s b output out output2 out2 h p.
+      let o = fileRefusal s b (length output) in
+      two fileNumbers o out out2 (output2 ≡ output) (omega arith) (file-under s b (length output))
+      (λ f. ap (λ (l : List ℕ). getD l 0 0) (p .told-as) ∙ file-zero o _ _ _ _ out (omega arith) f)
+      (λ r f. p .told-as ∙ file-tells o _ _ _ _ out r f)
+      (λ r f. p .output-left ∙ left-same o r output _ f);
+}
+
+-- ---- demand 3
+flag-bit : (t : Bool) → flag (bit t) ≡ t
+flag-bit true = refl
+flag-bit false = refl
+
+-- an entry's number is not 0
+not-zero : (ns : List ℕ) (r : Refusal) → isOneOf 0 ns ≡ false → isOneOf (r .number) ns ≡ true → eqb (r .number) 0 ≡ false
+not-zero ns r f e = go (eqb (r .number) 0) refl
+  where
+    go : (t : Bool) → eqb (r .number) 0 ≡ t → t ≡ false
+    go false p = refl
+    go true p =
+        let n : r .number ≡ 0 = eqb-true (r .number) 0 p in
+        let z : _≡_ {A = Bool} true false = sym e ∙ ap (λ (k : ℕ). isOneOf k ns) n ∙ f in
+        absurd (let y : _≡_ {A = ℕ} 0 1 = cc in omega arith)
+
+module _ (s b : List ℕ) where
+  -- the layout state and the comments left that are kept of an answer
+  layout-kept : (o : Option Refusal) (t : cut.LayoutState) (n : ℕ) → Under layoutNumbers o → (out out2 : List ℕ) → 9 ≤ length out
+      → out2 ≡ told s b (answerBy (rulesOf s b) o (laidOut t n)) out
+      → (old : List ℕ)
+      → layout.toState (layoutState (ifAccepted out2 (take 7 (drop 2 out2)) old))
+      ≡ layoutNext (rulesOf s b) (answerBy (rulesOf s b) o (laidOut t n)) (layout.toState (layoutState old))
+  layout-kept (some r) t n u out out2 h e old =
+      let at : out2 ≡ (r .number ∷ r .place ∷ []) ++ drop 2 out = e ∙ stored (r .number ∷ r .place ∷ []) out (omega arith) in
+      ap (λ (l : List ℕ). layout.toState (layoutState (ifAccepted l (take 7 (drop 2 l)) old))) at
+      ∙ ap (λ (x : Bool). layout.toState (layoutState (cond x (take 7 (drop 2 ((r .number ∷ r .place ∷ []) ++ drop 2 out))) old)))
+      (not-zero layoutNumbers r refl (u .of r refl))
+  layout-kept none t n u out out2 h e old =
+      let at : out2 ≡ laidNumbers s b t n ++ drop 9 out = e ∙ stored (laidNumbers s b t n) out h in
+      ap (λ (l : List ℕ). layout.toState (layoutState (ifAccepted l (take 7 (drop 2 l)) old))) at
+      ∙ ap₂ (λ (x y : Bool). record { begun = x; closed = y; declaration = t .declaration; cursor = t .cursor }) (flag-bit (t .begun)) (flag-bit (t .closed))
+
+  left-kept : (o : Option Refusal) (t : cut.LayoutState) (n : ℕ) → Under layoutNumbers o → (out out2 : List ℕ) → 9 ≤ length out
+      → out2 ≡ told s b (answerBy (rulesOf s b) o (laidOut t n)) out
+      → (old : Option ℕ)
+      → ifAccepted out2 (some (getD out2 1 0)) old ≡ leftNext (rulesOf s b) (answerBy (rulesOf s b) o (laidOut t n)) old
+  left-kept (some r) t n u out out2 h e old =
+      let at : out2 ≡ (r .number ∷ r .place ∷ []) ++ drop 2 out = e ∙ stored (r .number ∷ r .place ∷ []) out (omega arith) in
+      ap (λ (l : List ℕ). ifAccepted l (some (getD l 1 0)) old) at
+      ∙ ap (λ (x : Bool). cond x (some (r .place)) old) (not-zero layoutNumbers r refl (u .of r refl))
+  left-kept none t n u out out2 h e old =
+      let at : out2 ≡ laidNumbers s b t n ++ drop 9 out = e ∙ stored (laidNumbers s b t n) out h in
+      ap (λ (l : List ℕ). ifAccepted l (some (getD l 1 0)) old) at
+
+  -- the rendering state and the text that are kept of an answer
+  render-kept : (o : Option Refusal) (t : cut.RenderState) (n : ℕ) → Under renderNumbers o → (out out2 : List ℕ) → 7 ≤ length out
+      → out2 ≡ told s b (answerBy (rulesOf s b) o (written t n)) out
+      → (old : List ℕ)
+      → render.toState (renderState (ifAccepted out2 (take 5 (drop 2 out2)) old))
+      ≡ renderNext (rulesOf s b) (answerBy (rulesOf s b) o (written t n)) (render.toState (renderState old))
+  render-kept (some r) t n u out out2 h e old =
+      let at : out2 ≡ (r .number ∷ r .place ∷ []) ++ drop 2 out = e ∙ stored (r .number ∷ r .place ∷ []) out (omega arith) in
+      ap (λ (l : List ℕ). render.toState (renderState (ifAccepted l (take 5 (drop 2 l)) old))) at
+      ∙ ap (λ (x : Bool). render.toState (renderState (cond x (take 5 (drop 2 ((r .number ∷ r .place ∷ []) ++ drop 2 out))) old)))
+      (not-zero renderNumbers r refl (u .of r refl))
+  render-kept none t n u out out2 h e old =
+      let at : out2 ≡ writtenNumbers s b t n ++ drop 7 out = e ∙ stored (writtenNumbers s b t n) out h in
+      ap (λ (l : List ℕ). render.toState (renderState (ifAccepted l (take 5 (drop 2 l)) old))) at
+
+  text-kept : (o : Option Refusal) (t : cut.RenderState) (n : ℕ) → Under renderNumbers o → (out out2 output2 : List ℕ) → 7 ≤ length out
+      → out2 ≡ told s b (answerBy (rulesOf s b) o (written t n)) out
+      → ifAccepted out2 (take (getD out2 1 0) output2) [] ≡ writtenOf (rulesOf s b) (answerBy (rulesOf s b) o (written t n)) output2
+  text-kept (some r) t n u out out2 output2 h e =
+      let at : out2 ≡ (r .number ∷ r .place ∷ []) ++ drop 2 out = e ∙ stored (r .number ∷ r .place ∷ []) out (omega arith) in
+      ap (λ (l : List ℕ). ifAccepted l (take (getD l 1 0) output2) []) at
+      ∙ ap (λ (x : Bool). cond x (take (r .place) output2) []) (not-zero renderNumbers r refl (u .of r refl))
+  text-kept none t n u out out2 output2 h e =
+      let at : out2 ≡ writtenNumbers s b t n ++ drop 7 out = e ∙ stored (writtenNumbers s b t n) out h in
+      ap (λ (l : List ℕ). ifAccepted l (take (getD l 1 0) output2) []) at
+
+  -- one call
+  layout-held : (w : Holder) (stop close : ℕ) (out store2 out2 : List ℕ) → length out ≡ 9 → Lays s b (w .store) (w .layout-state) stop close out store2 out2
+      → held s b (after w (laid stop close out store2 out2)) ≡ entryCall (rulesOf s b) (held s b w) [] (layoutCall (layout.args stop (flag close)))
+  layout-held w stop close out store2 out2 h p =
+      let q = layout.args stop (flag close) in
+      let z = layout.toState (layoutState (w .layout-state)) in
+      let o = rulesOf s b .layout-refusal q z (w .store) in
+      let u = layout-under s b stop (flag close) z (w .store) in
+      let state = layout-kept o _ _ u out out2 (omega arith) (p .told-as) (w .layout-state) in
+      let left = left-kept o _ _ u out out2 (omega arith) (p .told-as) (w .left) in
+      λ i.
+      record {
+        store = p .store-left i;
+        marks = w .marks;
+        layout-state = state i;
+        render-state = render.toState (renderState (w .render-state));
+        text = w .text;
+        left = left i;
+      }
+
+  render-held : (w : Holder) (stop : ℕ) (output out store2 marks2 output2 out2 : List ℕ) → length out ≡ 7
+      → Renders s b (w .store) (w .marks) output (w .render-state) stop out store2 marks2 output2 out2
+      → held s b (after w (rendered stop output out store2 marks2 output2 out2))
+      ≡ entryCall (rulesOf s b) (held s b w) output (renderCall (render.args stop (length output)))
+  render-held w stop output out store2 marks2 output2 out2 h p =
+      let q = render.args stop (length output) in
+      let z = render.toState (renderState (w .render-state)) in
+      let o = rulesOf s b .render-refusal q z (w .store) (w .marks) in
+      let u = render-under s b stop (length output) z (w .store) (w .marks) in
+      let state = render-kept o _ _ u out out2 (omega arith) (p .told-as) (w .render-state) in
+      let text = text-kept o _ _ u out out2 output2 (omega arith) (p .told-as) in
+      let whole =
+      text ∙ ap (λ (l : List ℕ). writtenOf (rulesOf s b) (renderAnswer (rulesOf s b) q z (w .store) (w .marks)) l) (p .output-left)
+      in
+      λ i.
+      record {
+        store = p .store-left i;
+        marks = p .marks-left i;
+        layout-state = layout.toState (layoutState (w .layout-state));
+        render-state = state i;
+        text = w .text ++ whole i;
+        left = w .left;
+      }
+
+  one-held : (w : Holder) (m : Made) → Promised s b w m → held s b (after w m) ≡ call (rulesOf s b) (held s b w) (callOf s b m)
+  one-held w (laid stop close out store2 out2) p =
+      layout-held w stop close out store2 out2 (p .0) (p .1)
+      ∙ entries-are-calls (rulesOf s b) (held s b w) [] (layoutCall (layout.args stop (flag close)))
+  one-held w (rendered stop output out store2 marks2 output2 out2) p =
+      render-held w stop output out store2 marks2 output2 out2 (p .0) (p .1)
+      ∙ entries-are-calls (rulesOf s b) (held s b w) output (renderCall (render.args stop (length output)))
+
+  -- the list
+  all-held : (w : Holder) (ms : List Made) → AllPromised s b w ms → held s b (afterAll w ms) ≡ run (rulesOf s b) (held s b w) (map (callOf s b) ms)
+  all-held w [] p = refl
+  all-held w (m ∷ ms) p =
+      all-held (after w m) ms (p .1) ∙ ap (λ (v : Carried (rulesOf s b)). run (rulesOf s b) v (map (callOf s b) ms)) (one-held w m (p .0))
+
+pub linked-3 : Linked3
+linked-3 s b store₀ marks₀ made p h =
+    let w = fresh store₀ marks₀ in
+    let rule = rules-cut s b store₀ marks₀ (map (callOf s b) made) h in
+    let e : held s b (afterAll w made) ≡ run (rulesOf s b) (start (rulesOf s b) store₀ marks₀) (map (callOf s b) made) = all-held s b w made p in
+    record {
+      same = e ∙ rule .same;
+      comments =
+          λ n f.
+          subst (λ (v : Carried (rulesOf s b)). CommentsKept (rulesOf s b) (listed s b) v n) (sym e)
+          (rule .comments n (ap (λ (v : Carried (rulesOf s b)). v .left) (sym e) ∙ f));
+    }

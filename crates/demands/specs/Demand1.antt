@@ -1,0 +1,114 @@
+-- Demand 1: "A tree image with its source, comments, carried states and lent buffers of any size is laid out and rendered, or refused under a
+-- number of document 01. .. a refusal gives a number and a place and changes no lent buffer." proofs/Demand1.antt proves it.
+--
+-- Of each entry, by what it promises and nothing else. None of the entries requires anything of its caller, and each of them is total: a function
+-- of Rattle is proved to end, and not to trap, whatever it is called with. The entries for other languages are in Exported.antt.
+use mathlib.Core.Path.{_≡_}
+use mathlib.Core.Bool.{Bool, true}
+use mathlib.Core.Option.{Option, none, some}
+use mathlib.Core.List.{List, [], _∷_, _++_}
+use Prim.Native.Nat.{ℕ}
+use lib.ListN.{length}
+use Rattle.refusals.specs.Refusals.{Refusal, isOneOf}
+use Rattle.image.specs.Read.{readAll, readNumbers, Outcome, outcome, outcomeOf}
+use Rattle.image.specs.Read as image
+use Rattle.image.specs.declared.Answer as check
+use Rattle.cut.specs.Run.{Answer, laidOut, written}
+use Rattle.cut.specs.Run as cut
+use Rattle.format.specs.Parts.{refusalOf}
+use Rattle.format.specs.Demands.{rulesOf}
+use Rattle.format.specs.File.{FileAnswer, formatted, fileRefusal}
+use Rattle.format.specs.File as file
+use Rattle.laying.specs.declared.LayoutState.{LayoutState}
+use Rattle.laying.specs.declared.Laying.{Laying}
+use Rattle.laying.specs.Calls as layout
+use Rattle.laying.specs.Whole as layoutPromise
+use Rattle.rendering.specs.declared.RenderState.{RenderState}
+use Rattle.rendering.specs.declared.Rendering.{Rendering}
+use Rattle.rendering.specs.Calls as render
+use Rattle.rendering.specs.Whole as renderPromise
+use Rattle.file.specs.declared.Formatted.{Formatted}
+use Rattle.file.specs.Whole.{answerOf, Formats, FormatsFrame}
+use Rattle.reply.specs.Reply.{frameTable, programRefusal}
+
+-- ---- the numbers of each entry, in the table's order
+-- "Layout uses 1 to 7, 12, 8"
+abbrev pub layoutNumbers : List ℕ
+layoutNumbers = readNumbers ++ (12 ∷ 8 ∷ [])
+
+-- "rendering 1, 3 by the same tests, then 11, 12, 9, 10"
+abbrev pub renderNumbers : List ℕ
+renderNumbers = 1 ∷ 3 ∷ 11 ∷ 12 ∷ 9 ∷ 10 ∷ []
+
+-- a whole file, which is laid out and rendered from fresh
+abbrev pub fileNumbers : List ℕ
+fileNumbers = readNumbers ++ (8 ∷ 9 ∷ 10 ∷ [])
+
+-- the program's frame: 13, "tested before all else"
+abbrev pub frameNumbers : List ℕ
+frameNumbers = 13 ∷ fileNumbers
+
+-- ---- what an answer tells: the refusal, or none
+abbrev pub readTold : Outcome → Option Refusal
+readTold (image.accepted n at) = none
+readTold (image.refused r) = some r
+
+abbrev pub callTold : (s b : List ℕ) → Answer (rulesOf s b) → Option Refusal
+callTold s b (cut.refused r) = some r
+callTold s b (laidOut t n) = none
+callTold s b (written t n) = none
+
+abbrev pub fileTold : FileAnswer → Option Refusal
+fileTold (file.refused r) = some r
+fileTold (formatted bytes left rows numbers) = none
+
+-- ---- the demand
+-- an entry that refuses under these numbers, for arguments of which the table says `table`, told `told`; `Kept` says that its buffers are as they were
+pub record Answered (numbers : List ℕ) (table told : Option Refusal) (Kept : Type 0) : Type 0 where
+  -- "No other cause refuses, and each listed one does": accepted, or refused with the table's number and place
+  pub as-table : told ≡ table
+  pub listed : (r : Refusal) → told ≡ some r → isOneOf (r .number) numbers ≡ true
+  -- "Left as it was: all"
+  pub kept : (r : Refusal) → told ≡ some r → Kept
+
+-- `image::check`, which is lent nothing to change
+abbrev pub Check : Type 0
+Check = (s b : List ℕ) (r : check.Answer) → outcomeOf r ≡ outcome (readAll s b)
+    → Answered readNumbers (refusalOf (readAll s b)) (readTold (outcomeOf r)) (Unit {0})
+
+-- `laying::layout_call`
+abbrev pub Layout : Type 0
+Layout = (s b : List ℕ) (state : LayoutState) (stop : ℕ) (close : Bool) (store : List ℕ) (r : Laying) (store2 : List ℕ)
+    → layoutPromise.Called s b state stop close store r store2
+    → Answered layoutNumbers (rulesOf s b .layout-refusal (layout.args stop close) (layout.toState state) store) (callTold s b (layout.answerOf s b r))
+    (store2 ≡ store)
+
+-- `rendering::render_call`
+abbrev pub Render : Type 0
+Render = (s b : List ℕ) (state : RenderState) (stop : ℕ) (store marks out : List ℕ) (r : Rendering) (store2 marks2 out2 : List ℕ)
+    → renderPromise.Called s b state stop store marks out r store2 marks2 out2
+    → Answered renderNumbers (rulesOf s b .render-refusal (render.args stop (length out)) (render.toState state) store marks)
+    (callTold s b (render.answerOf s b r))
+    ((store2 ≡ store) × (marks2 ≡ marks) × (out2 ≡ out))
+
+-- `file::format_file`
+abbrev pub File : Type 0
+File = (s b out : List ℕ) (r : Formatted) (out2 : List ℕ) → Formats s b out r out2
+    → Answered fileNumbers (fileRefusal s b (length out)) (fileTold (answerOf r)) (out2 ≡ out)
+
+-- `file::format_frame`
+abbrev pub Frame : Type 0
+Frame = (frame out : List ℕ) (r : Formatted) (out2 : List ℕ) → FormatsFrame frame out r out2
+    → Answered frameNumbers (frameTable frame (length out)) (fileTold (answerOf r)) (out2 ≡ out)
+
+-- `reply::reply`: the number that the program prints
+abbrev pub Program : Type 0
+Program = (frame : List ℕ) (r : Refusal) → programRefusal frame ≡ some r → isOneOf (r .number) frameNumbers ≡ true
+
+pub record Demand1 : Type 0 where
+  pub check : Check
+  pub layout : Layout
+  pub render : Render
+  pub file : File
+  pub frame : Frame
+  pub program : Program

@@ -1,0 +1,10 @@
+-- "Fresh is all 0."
+use mathlib.Core.Bool.{false}
+use Rattle.laying.specs.declared.LayoutState.{LayoutState}
+use Rattle.rendering.specs.declared.RenderState.{RenderState}
+
+abbrev pub freshLayout : LayoutState
+freshLayout = record { begun = false; closed = false; declaration = 0; row = 0; number = 0; placed = 0; position = 0 }
+
+abbrev pub freshRender : RenderState
+freshRender = record { indent = 0; «next_indent» = 0; column = record { 0 = 0 }; «in_use» = 0; row = 0 }
