@@ -142,6 +142,36 @@ pub fn calls() -> Vec<CallCase> {
     cases
 }
 
+/// A `Call` with two rows below: each second part with each range of the two,
+/// right or wrong. Where the second part starts at the end, the call is right
+/// whatever the ranges are.
+pub fn call_ranges() -> Vec<CallCase> {
+    let arguments = vec![group(0, []), group(1, [])];
+    let parts = [Part::Call(0, vec![], 1, arguments), word()];
+    let mut cases = vec![smallest()];
+    for second in 0..=4 {
+        for first in 0..=4 {
+            cases.extend((0..=4).map(|last| {
+                let edits = [
+                    (0, SECOND, second),
+                    (1, AFTER, first),
+                    (2, AFTER, last),
+                ];
+                on_rows(&changed(rows(&parts, 0), &edits, 0))
+            }));
+        }
+    }
+    cases
+}
+
+/// A `Call` of two rows whose second part is its end, and a part that outgrows
+/// it: the part is at fault.
+fn smallest() -> CallCase {
+    let call = [kinds::CALL, 0, 1, 2, 2, 0, 0, 0, 0];
+    let part = [kinds::ASCII, 0, 0, 0, 3, 0, 0, 0, 0];
+    on_rows(&[call, part].map(Row::from_cells))
+}
+
 /// Kinds, origins and texts that there are not.
 pub fn cells() -> Vec<CallCase> {
     let words = kinds::fixed_words().len();
