@@ -288,6 +288,30 @@ fn the_cut_rule_holds_of_the_original() {
     assert!(spoken_of > 200, "{spoken_of}");
 }
 
+/// docs/ARCHITECTURE.md, "The way of one file": the smallest list on which the
+/// cut rule is false, since it renders a row before that is laid out.
+#[test]
+fn the_cut_rule_needs_rows_that_are_laid_out() {
+    let bytes = examples::frame("shebang").unwrap();
+    let frame = frame::split(&bytes).unwrap();
+    let first =
+        Row::from_cells([rows::ASCII, 0, 0, 0, 1, rows::IMAGE, 8, 1, 0]);
+    let mut world = World {
+        store: vec![0; 2 * Row::CELLS],
+        ..World::default()
+    };
+    world.put_rows(0, &[first]);
+    let (store, marks) = (world.store.clone(), world.marks.clone());
+    let calls = [render(1), layout(0, false)];
+    let given = given(&frame);
+    assert!(!calls::reads_laid_rows_alone(given, &store, &marks, &calls));
+    let answers = calls::run(given, &mut world, &calls);
+    let (due_answers, due) = calls::plain_run(given, &store, &marks, &calls);
+    assert!(answers.iter().chain(&due_answers).all(Result::is_ok));
+    assert_eq!(world.text, b"\0");
+    assert_eq!(due.text, b"#!/x");
+}
+
 #[test]
 fn rows_render_as_the_nodes_they_came_from() {
     let words = rows::fixed_words();
