@@ -1,11 +1,13 @@
 -- From a call's promise and the numbers that are put out to what an exported function leaves.
 -- Assumes nothing.
-use mathlib.Core.Path.{_≡_, ap, _∙_}
+use mathlib.Core.Path.{_≡_, sym, ap, _∙_}
 use mathlib.Core.Bool.{Bool}
 use mathlib.Core.List.{List}
 use Prim.Native.Nat.{ℕ}
 use lib.ListN.{length}
-use Rattle.cut.specs.Run.{Answer}
+use Rattle.image.specs.declared.Answer.{Answer}
+use Rattle.image.specs.Read.{Outcome, outcome, outcomeOf, readAll}
+use Rattle.cut.specs.Run as cut
 use Rattle.format.specs.Demands.{rulesOf}
 use Rattle.laying.specs.declared.LayoutState.{LayoutState}
 use Rattle.laying.specs.declared.Laying.{Laying}
@@ -18,7 +20,7 @@ use Rattle.rendering.specs.Whole as render
 use Rattle.format.specs.File.{FileAnswer}
 use Rattle.file.specs.declared.Formatted.{Formatted}
 use Rattle.file.specs.Whole as file
-use Rattle.exports.specs.Numbers.{flag, layoutState, renderState, told, toldFile}
+use Rattle.exports.specs.Numbers.{flag, layoutState, renderState, told, toldFile, toldRead}
 use Rattle.exports.specs.Calls.{Lays, Renders, FormatsFile}
 
 pub lays : (s b store state : List ℕ) (stop close : ℕ) (out store2 out2 : List ℕ) (z : LayoutState) (closing : Bool) (r q : Laying)
@@ -27,7 +29,7 @@ pub lays : (s b store state : List ℕ) (stop close : ℕ) (out store2 out2 : Li
     → Lays s b store state stop close out store2 out2
 lays s b store state stop close out store2 out2 z closing r q e f p g h =
     let c = rw (e, f, g) at p in
-    record { store-left = c .store-left; told-as = h ∙ ap (λ (a : Answer (rulesOf s b)). told s b a out) (c .answer) }
+    record { store-left = c .store-left; told-as = h ∙ ap (λ (a : cut.Answer (rulesOf s b)). told s b a out) (c .answer) }
 
 pub renders : (s b store marks output state : List ℕ) (stop : ℕ) (out store2 marks2 output2 out2 : List ℕ) (z : RenderState) (r q : Rendering)
     → z ≡ renderState state → render.Called s b z stop store marks output r store2 marks2 output2 → r ≡ q
@@ -39,17 +41,16 @@ renders s b store marks output state stop out store2 marks2 output2 out2 z r q e
       store-left = c .store-left;
       marks-left = c .marks-left;
       output-left = c .output-left;
-      told-as = h ∙ ap (λ (a : Answer (rulesOf s b)). told s b a out) (c .answer);
+      told-as = h ∙ ap (λ (a : cut.Answer (rulesOf s b)). told s b a out) (c .answer);
     }
 
-pub formats : (s b store marks output out store2 marks2 output2 out2 : List ℕ) (r q : Formatted)
-    → file.Formats s b store marks output r store2 marks2 output2 → r ≡ q → out2 ≡ toldFile (file.answerOf q) out
-    → FormatsFile s b store marks output out store2 marks2 output2 out2
-formats s b store marks output out store2 marks2 output2 out2 r q p g h =
+pub formats : (s b output out output2 out2 : List ℕ) (r q : Formatted) → file.Formats s b output r output2 → r ≡ q
+    → out2 ≡ toldFile (file.answerOf q) out
+    → FormatsFile s b output out output2 out2
+formats s b output out output2 out2 r q p g h =
     let c = rw g at p in
-    record {
-      store-left = c .store-left;
-      marks-left = c .marks-left;
-      output-left = c .output-left;
-      told-as = h ∙ ap (λ (a : FileAnswer). toldFile a out) (c .answer);
-    }
+    record { output-left = c .output-left; told-as = h ∙ ap (λ (a : FileAnswer). toldFile a out) (c .answer) }
+
+pub reads : (s b out out2 : List ℕ) (r q : Answer) → outcomeOf r ≡ outcome (readAll s b) → r ≡ q → out2 ≡ toldRead (outcomeOf q) out
+    → out2 ≡ toldRead (outcome (readAll s b)) out
+reads s b out out2 r q p g h = h ∙ ap (λ (a : Outcome). toldRead a out) (sym (ap outcomeOf g) ∙ p)

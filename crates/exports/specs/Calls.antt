@@ -5,7 +5,7 @@ use mathlib.Core.List.{List}
 use lib.ListN.{length}
 use Rattle.cut.specs.Entries.{layoutAnswer, layoutStore, renderAnswer, renderMarks, renderOutput}
 use Rattle.format.specs.Demands.{rulesOf}
-use Rattle.format.specs.File.{fileStore, fileMarks, fileOutput, fileAnswer}
+use Rattle.format.specs.File.{fileOutput, fileAnswer}
 use Rattle.laying.specs.Calls as laying
 use Rattle.rendering.specs.Calls as rendering
 use Rattle.exports.specs.Numbers.{flag, layoutState, renderState, told, toldFile}
@@ -22,9 +22,7 @@ pub record Renders (s b store marks output state : List ℕ) (stop : ℕ) (out s
   pub output-left : output2 ≡ renderOutput (rulesOf s b) (rendering.args stop (length output)) (rendering.toState (renderState state)) store marks output
   pub told-as : out2 ≡ told s b (renderAnswer (rulesOf s b) (rendering.args stop (length output)) (rendering.toState (renderState state)) store marks) out
 
--- the run of one file: store, marks, output, and the answer's numbers
-pub record FormatsFile (s b store marks output out store2 marks2 output2 out2 : List ℕ) : Type 0 where
-  pub store-left : store2 ≡ fileStore s b store
-  pub marks-left : marks2 ≡ fileMarks s b store marks output
-  pub output-left : output2 ≡ fileOutput s b store marks output
-  pub told-as : out2 ≡ toldFile (fileAnswer s b store marks output) out
+-- the run of one file: the output, and the answer's numbers
+pub record FormatsFile (s b output out output2 out2 : List ℕ) : Type 0 where
+  pub output-left : output2 ≡ fileOutput s b output
+  pub told-as : out2 ≡ toldFile (fileAnswer s b (length output)) out

@@ -1,12 +1,12 @@
--- The numbers that the exported functions take and leave. A number past the end of what is lent is left out; one that is missing is 0.
+-- The numbers that the exported functions take and leave, in arrays of as many places as an answer or a state has. A refusal takes two places,
+-- and leaves the others as they were.
 use Prim.Native.Nat.{ℕ}
 use mathlib.Core.Bool.{Bool, cond, not}
 use mathlib.Core.List.{List, [], _∷_}
 use lib.Dec.{eqb}
 use lib.ListN.{set, getD}
 use lib.Seq.{sets}
-use Rattle.image.specs.declared.Answer as image
-use Rattle.image.specs.declared.Answer.the-variants.{Accepted, Refused}
+use Rattle.image.specs.Read as image
 use Rattle.cut.specs.Run.{Answer, refused, laidOut, written}
 use Rattle.cut.specs.Parts as cut
 use Rattle.format.specs.Demands.{rulesOf}
@@ -15,11 +15,12 @@ use Rattle.laying.specs.declared.LayoutState.{LayoutState}
 use Rattle.rendering.specs.declared.RenderState.{RenderState}
 
 -- a refusal's number and place; or 0, the number of comments and the tree's offset
-abbrev pub answered : image.Answer → List ℕ → List ℕ
-answered (Refused n p) out = sets out 0 (n ∷ p ∷ [])
-answered (Accepted n at) out = sets out 0 (0 ∷ n ∷ at ∷ [])
+abbrev pub toldRead : image.Outcome → List ℕ → List ℕ
+toldRead (image.refused r) out = sets out 0 (r .number ∷ r .place ∷ [])
+toldRead (image.accepted n at) out = sets out 0 (0 ∷ n ∷ at ∷ [])
 
 -- ---- states, in document 01's order
+-- a flag is yes for every number but 0
 abbrev pub flag : ℕ → Bool
 flag n = not (eqb n 0)
 

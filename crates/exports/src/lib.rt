@@ -2,15 +2,13 @@
 mod numbers;
 
 ghost use mathlib.Core.Path.{_≡_};
-ghost use Rattle.image.specs.Read.{readAll, answerOf};
-ghost use Rattle.exports.specs.Numbers.{answered};
+ghost use Rattle.image.specs.Read.{readAll, outcome};
+ghost use Rattle.exports.specs.Numbers.{toldRead};
 ghost use Rattle.exports.specs.Calls.{Lays, Renders, FormatsFile};
 use crate::numbers::flag;
 use crate::numbers::layout_state;
-use crate::numbers::put;
 use crate::numbers::put_formatted;
 use crate::numbers::put_laid;
-use crate::numbers::put_two;
 use crate::numbers::put_written;
 use crate::numbers::render_state;
 use file::Formatted;
@@ -22,16 +20,20 @@ use rendering::Rendering;
 use rendering::render_call;
 
 // Whether a source and an image are accepted. `out` gets the refusal's number and place, or 0, the number of comments and the tree's
-// offset, as far as it has room.
+// offset.
 #[no_mangle]
-pub extern "C" fn rrufthim_check(source: &[u8], image: &[u8], out: &mut [u64])
-    ensures { λ r. ⌜ now (out .exit) ≡ answered (answerOf (readAll (now (source .entry)) (now (image .entry)))) (now (out .entry)) ⌝ }
+pub extern "C" fn rrufthim_check(source: &[u8], image: &[u8], out: &mut [u64; 3])
+    ensures { λ r. ⌜ now (out .exit) ≡ toldRead (outcome (readAll (now (source .entry)) (now (image .entry)))) (now (out .entry)) ⌝ }
 {
     match image::check(source, image) {
-        Answer::Refused(n, p) => put_two(out, n as usize, p),
+        Answer::Refused(n, p) => {
+            out[0] = n as u64;
+            out[1] = p as u64;
+        }
         Answer::Accepted { comments, tree } => {
-            put_two(out, 0, comments);
-            put(out, 2, tree as u64);
+            out[0] = 0;
+            out[1] = comments as u64;
+            out[2] = tree as u64;
         }
     }
 }
@@ -43,16 +45,19 @@ pub extern "C" fn rrufthim_layout(
     source: &[u8],
     image: &[u8],
     store: &mut [u32],
-    state: &[u64],
+    state: &[u64; 7],
     stop: u64,
     close: u64,
-    out: &mut [u64],
+    out: &mut [u64; 9],
 )
     ensures { λ r. ⌜ Lays (now (source .entry)) (now (image .entry)) (now (store .entry)) (now (state .entry)) stop close (now (out .entry)) (now (store .exit)) (now (out .exit)) ⌝ }
 {
     let from = layout_state(state);
     match layout_call(source, image, store, from, stop as usize, flag(close)) {
-        Laying::Refused(n, p) => put_two(out, n as usize, p),
+        Laying::Refused(n, p) => {
+            out[0] = n as u64;
+            out[1] = p as u64;
+        }
         Laying::Laid(t, left) => put_laid(out, t, left),
     }
 }
@@ -66,34 +71,38 @@ pub extern "C" fn rrufthim_render(
     store: &mut [u32],
     marks: &mut [u8],
     output: &mut [u8],
-    state: &[u64],
+    state: &[u64; 5],
     stop: u64,
-    out: &mut [u64],
+    out: &mut [u64; 7],
 )
     ensures { λ r. ⌜ Renders (now (source .entry)) (now (image .entry)) (now (store .entry)) (now (marks .entry)) (now (output .entry)) (now (state .entry)) stop (now (out .entry)) (now (store .exit)) (now (marks .exit)) (now (output .exit)) (now (out .exit)) ⌝ }
 {
     let from = render_state(state);
     match render_call(source, image, store, marks, output, from, stop as usize) {
-        Rendering::Refused(n, p) => put_two(out, n as usize, p),
+        Rendering::Refused(n, p) => {
+            out[0] = n as u64;
+            out[1] = p as u64;
+        }
         Rendering::Written(t, bytes) => put_written(out, t, bytes),
     }
 }
 
-// The run of one file: all is laid out and rendered. `out` gets the refusal's number and place, or 0, the bytes written, the comments left,
-// the rows and the group numbers.
+// The run of one file: all is laid out and rendered, in rows and marks of its own. `out` gets the refusal's number and place, or 0, the bytes
+// written, the comments left, the rows and the group numbers.
 #[no_mangle]
 pub extern "C" fn rrufthim_format(
     source: &[u8],
     image: &[u8],
-    store: &mut [u32],
-    marks: &mut [u8],
     output: &mut [u8],
-    out: &mut [u64],
+    out: &mut [u64; 5],
 )
-    ensures { λ r. ⌜ FormatsFile (now (source .entry)) (now (image .entry)) (now (store .entry)) (now (marks .entry)) (now (output .entry)) (now (out .entry)) (now (store .exit)) (now (marks .exit)) (now (output .exit)) (now (out .exit)) ⌝ }
+    ensures { λ r. ⌜ FormatsFile (now (source .entry)) (now (image .entry)) (now (output .entry)) (now (out .entry)) (now (output .exit)) (now (out .exit)) ⌝ }
 {
-    match format_file(source, image, store, marks, output) {
-        Formatted::Refused(n, p) => put_two(out, n as usize, p),
+    match format_file(source, image, output) {
+        Formatted::Refused(n, p) => {
+            out[0] = n as u64;
+            out[1] = p as u64;
+        }
         Formatted::Text {
             bytes,
             left,

@@ -20,8 +20,8 @@ use Rattle.cut.specs.Parts as cut
 use Rattle.cut.specs.Parts.{layoutFresh, renderFresh, renderTable}
 use Rattle.format.specs.Parts.{parts, refusalOf}
 use Rattle.format.specs.Demands.{rulesOf}
-use Rattle.format.specs.File.{built, rowsDue, marksDue, drawnDue, laidRefusal, fileRefusal, fileStore, fileMarks, fileOutput, formatted, fileAnswerBy}
-use Rattle.format.proofs.File.{stateDue, renderedDue, layout-answer-due, layout-store-due, render-early-due, render-answer-due, render-marks-due, render-output-due}
+use Rattle.format.specs.File.{fileRows, fileMarks, built, rowsDue, marksDue, drawnDue, laidRefusal, refusalIn, fileRefusal, formatted, fileAnswerBy}
+use Rattle.format.proofs.File.{storeLeft, marksLeft, outputLeft, stateDue, renderedDue, layout-answer-due, layout-store-due, render-early-due, render-answer-due, render-marks-due, render-output-due}
 use Rattle.laying.specs.Calls as layouts
 use Rattle.laying.specs.Steps.{declared}
 use Rattle.laying.specs.Whole.{Called as LayoutCalled}
@@ -69,69 +69,78 @@ module _ (s b : List ℕ) where
   drawn-told none t l u m e = record { passes = refl; bytes = (cc) }
   drawn-told (some r) t l u m e = let z : _≡_ {A = ℕ} 0 1 = cc in absurd (omega arith)
 
-  module _ (store marks out : List ℕ) where
-    abbrev leftDue : ℕ
-    leftDue = length (commentsOf b) - built s b .placed
+  abbrev leftDue : ℕ
+  leftDue = length (commentsOf b) - built s b .placed
 
-    abbrev textDue : ℕ
-    textDue = length (drawnDue s b .text)
+  abbrev textDue : ℕ
+  textDue = length (drawnDue s b .text)
 
+  -- ---- 1 to 7
+  read-refused : (x : Read Image) (n p : ℕ) → answerOf x ≡ checked.Refused n p → refusalOf x ≡ some (at n p)
+  read-refused (got i end) n p e = let z : _≡_ {A = ℕ} 0 1 = cc in absurd (omega arith)
+  read-refused (bad m q) n p e = λ t. some (at (number t) (place t))
+    where
+      number : m ≡ n
+      number = cc
+
+      place : q ≡ p
+      place = cc
+
+  pub check-refused : (out : List ℕ) (n p : ℕ) → answerOf (readAll s b) ≡ checked.Refused n p → Formats s b out (answer.Refused n p) out
+  check-refused out n p e =
+      let r : fileRefusal s b (length out) ≡ some (at n p) =
+      ap (λ (x : Option Refusal).
+      first
+      (first (x ∷ when (ltb fileRows (rowsDue s b)) 8 (rowsDue s b) ∷ [])
+      ∷ when (ltb fileMarks (marksDue s b)) 9 (marksDue s b)
+      ∷ when (ltb (length out) textDue) 10 textDue
+      ∷ []))
+      (read-refused (readAll s b) n p e)
+      in
+      record {
+        answer = sym (ap (λ (x : Option Refusal). fileAnswerBy x (formatted textDue leftDue (rowsDue s b) (built s b .taken))) r);
+        output-left = sym (ap (λ (x : Option Refusal). unless x out (onto (drawnDue s b .text) out)) r);
+      }
+
+  -- ---- the two calls, with rows and marks as many as a whole file has
+  module _ (store marks out : List ℕ) (rowed : cut.rowsIn store ≡ fileRows) (marked : length marks ≡ fileMarks) where
     -- a refusal of layout is one of the run
-    first-refused : (r : Refusal) → laidRefusal s b store ≡ some r → fileRefusal s b store marks out ≡ some r
+    first-refused : (r : Refusal) → laidRefusal s b (cut.rowsIn store) ≡ some r → refusalIn s b (cut.rowsIn store) (length marks) (length out) ≡ some r
     first-refused r e =
         ap (λ (x : Option Refusal).
         first (x ∷ when (ltb (length marks) (marksDue s b)) 9 (marksDue s b) ∷ when (ltb (length out) textDue) 10 textDue ∷ []))
         e
 
+    -- the table for these buffers is a whole file's
+    table-same : refusalIn s b (cut.rowsIn store) (length marks) (length out) ≡ fileRefusal s b (length out)
+    table-same = ap₂ (λ (x y : ℕ). refusalIn s b x y (length out)) rowed marked
+
     -- refused
-    refused-formats : (n p : ℕ) (store2 marks2 out2 : List ℕ) → fileRefusal s b store marks out ≡ some (at n p) → store2 ≡ fileStore s b store
-        → marks2 ≡ fileMarks s b store marks out
-        → out2 ≡ fileOutput s b store marks out
-        → Formats s b store marks out (answer.Refused n p) store2 marks2 out2
-    refused-formats n p store2 marks2 out2 e f g h = record {
-      answer = sym (ap (λ (x : Option Refusal). fileAnswerBy x (formatted textDue leftDue (rowsDue s b) (built s b .taken))) e);
-      store-left = f;
-      marks-left = g;
-      output-left = h;
+    refused-formats : (n p : ℕ) (out2 : List ℕ) → refusalIn s b (cut.rowsIn store) (length marks) (length out) ≡ some (at n p)
+        → out2 ≡ outputLeft s b store marks out
+        → Formats s b out (answer.Refused n p) out2
+    refused-formats n p out2 e h = record {
+      answer =
+          sym (ap (λ (x : Option Refusal). fileAnswerBy x (formatted textDue leftDue (rowsDue s b) (built s b .taken))) (sym table-same ∙ e));
+      output-left = h ∙ ap (λ (x : Option Refusal). unless x out (onto (drawnDue s b .text) out)) table-same;
     }
 
     -- refused by the layout call, or before it
-    laid-refused : (n p : ℕ) (store2 : List ℕ) → laidRefusal s b store ≡ some (at n p) → store2 ≡ fileStore s b store
-        → Formats s b store marks out (answer.Refused n p) store2 marks out
-    laid-refused n p store2 e f =
+    laid-refused : (n p : ℕ) → laidRefusal s b (cut.rowsIn store) ≡ some (at n p) → Formats s b out (answer.Refused n p) out
+    laid-refused n p e =
         let r = first-refused (at n p) e in
-        refused-formats n p store2 marks out r f
-        (sym (ap (λ (x : Option Refusal). unless x marks (onto (drawnDue s b .marks) marks)) r))
-        (sym (ap (λ (x : Option Refusal). unless x out (onto (drawnDue s b .text) out)) r))
-
-    -- ---- 1 to 7
-    read-refused : (x : Read Image) (n p : ℕ) → answerOf x ≡ checked.Refused n p → refusalOf x ≡ some (at n p)
-    read-refused (got i end) n p e = let z : _≡_ {A = ℕ} 0 1 = cc in absurd (omega arith)
-    read-refused (bad m q) n p e = λ t. some (at (number t) (place t))
-      where
-        number : m ≡ n
-        number = cc
-
-        place : q ≡ p
-        place = cc
-
-    pub check-refused : (n p : ℕ) → answerOf (readAll s b) ≡ checked.Refused n p → Formats s b store marks out (answer.Refused n p) store marks out
-    check-refused n p e =
-        let r : laidRefusal s b store ≡ some (at n p) =
-        ap (λ (x : Option Refusal). first (x ∷ when (ltb (cut.rowsIn store) (rowsDue s b)) 8 (rowsDue s b) ∷ [])) (read-refused (readAll s b) n p e)
-        in
-        laid-refused n p store r (sym (ap (λ (x : Option Refusal). unless x store (onto (rows (built s b .nodes) 0) store)) r))
+        refused-formats n p out r (sym (ap (λ (x : Option Refusal). unless x out (onto (drawnDue s b .text) out)) r))
 
     -- ---- the layout call
     module _ (state : LayoutState) (stop : ℕ) (r : Laying) (store2 : List ℕ) (fresh : layouts.toState state ≡ layoutFresh)
         (all : stop ≡ length (declared s b)) (call : LayoutCalled s b state stop true store r store2) where
-      layout-answer : layouts.answerOf s b r ≡ answerBy (rulesOf s b) (laidRefusal s b store) (laidOut (stateDue s b) leftDue)
+      layout-answer : layouts.answerOf s b r ≡ answerBy (rulesOf s b) (laidRefusal s b (cut.rowsIn store)) (laidOut (stateDue s b) leftDue)
       layout-answer =
           call .answer
           ∙ ap₂ (λ (t : cut.LayoutState) (n : ℕ). layoutAnswer (rulesOf s b) (layouts.args n true) t store) fresh all
           ∙ layout-answer-due s b store
 
-      layout-left : store2 ≡ fileStore s b store
+      layout-left : store2 ≡ storeLeft s b store
       layout-left =
           call .store-left
           ∙ ap₂ (λ (t : cut.LayoutState) (n : ℕ). layoutStore (rulesOf s b) (layouts.args n true) t store) fresh all
@@ -140,23 +149,22 @@ module _ (s b : List ℕ) where
       never-laid : (x : Refusal) (t : cut.LayoutState) (l : ℕ) → _≡_ {A = Answer (rulesOf s b)} (refused x) (laidOut t l) → ⊥
       never-laid x t l e = let z : _≡_ {A = ℕ} 0 1 = cc in omega arith
 
-      pub layout-refused : (n p : ℕ) → r ≡ laying.Refused n p → Formats s b store marks out (answer.Refused n p) store2 marks out
+      pub layout-refused : (n p : ℕ) → r ≡ laying.Refused n p → Formats s b out (answer.Refused n p) out
       layout-refused n p e =
-          laid-refused n p store2
-          (refused-told (laidRefusal s b store) (laidOut (stateDue s b) leftDue) (at n p) (ap (layouts.answerOf s b) (sym e) ∙ layout-answer)
+          laid-refused n p
+          (refused-told (laidRefusal s b (cut.rowsIn store)) (laidOut (stateDue s b) leftDue) (at n p) (ap (layouts.answerOf s b) (sym e) ∙ layout-answer)
           (never-laid (at n p) (stateDue s b) leftDue))
-          layout-left
 
       -- ---- the rendering call
       module _ (t : LayoutState) (left : ℕ) (is : r ≡ laying.Laid t left) (pen : RenderState) (blank : renders.toState pen ≡ renderFresh) where
-        told : LaidTold (laidRefusal s b store) (layouts.toState t) left (stateDue s b) leftDue
-        told = laid-told (laidRefusal s b store) (layouts.toState t) left (stateDue s b) leftDue (ap (layouts.answerOf s b) (sym is) ∙ layout-answer)
+        told : LaidTold (laidRefusal s b (cut.rowsIn store)) (layouts.toState t) left (stateDue s b) leftDue
+        told = laid-told (laidRefusal s b (cut.rowsIn store)) (layouts.toState t) left (stateDue s b) leftDue (ap (layouts.answerOf s b) (sym is) ∙ layout-answer)
 
         to-row : t .row ≡ rowsDue s b
         to-row = ap (λ (x : cut.LayoutState). x .cursor .row) (told .state)
 
         -- what the call had is what is due
-        same : {A : Type 0} (f : cut.RenderState → ℕ → List ℕ → A) → f (renders.toState pen) (t .row) store2 ≡ f renderFresh (rowsDue s b) (fileStore s b store)
+        same : {A : Type 0} (f : cut.RenderState → ℕ → List ℕ → A) → f (renders.toState pen) (t .row) store2 ≡ f renderFresh (rowsDue s b) (storeLeft s b store)
         same f = λ i. f (blank i) (to-row i) (layout-left i)
 
         -- the rows that the layout call leaves are right
@@ -168,22 +176,13 @@ module _ (s b : List ℕ) where
         }
 
         module _ (o : Rendering) (store3 marks2 out2 : List ℕ) (drew : RenderCalled s b pen (t .row) store2 marks out o store3 marks2 out2) where
-          drawn-answer : renders.answerOf s b o ≡ answerBy (rulesOf s b) (fileRefusal s b store marks out) (written (renderedDue s b) textDue)
+          drawn-answer : renders.answerOf s b o ≡ answerBy (rulesOf s b) (refusalIn s b (cut.rowsIn store) (length marks) (length out)) (written (renderedDue s b) textDue)
           drawn-answer =
               drew .answer
               ∙ same (λ x n rows. renderAnswer (rulesOf s b) (renders.args n (length out)) x rows marks)
               ∙ render-answer-due s b store marks out (told .passes)
 
-          store-same : store3 ≡ fileStore s b store
-          store-same = drew .store-left ∙ layout-left
-
-          marks-same : marks2 ≡ fileMarks s b store marks out
-          marks-same =
-              drew .marks-left
-              ∙ same (λ x n rows. renderMarks (rulesOf s b) (renders.args n (length out)) x rows marks)
-              ∙ render-marks-due s b store marks out (told .passes)
-
-          output-same : out2 ≡ fileOutput s b store marks out
+          output-same : out2 ≡ outputLeft s b store marks out
           output-same =
               drew .output-left
               ∙ same (λ x n rows. renderOutput (rulesOf s b) (renders.args n (length out)) x rows marks out)
@@ -192,27 +191,23 @@ module _ (s b : List ℕ) where
           never-written : (x : Refusal) (u : cut.RenderState) (l : ℕ) → _≡_ {A = Answer (rulesOf s b)} (refused x) (written u l) → ⊥
           never-written x u l e = let z : _≡_ {A = ℕ} 0 1 = cc in omega arith
 
-          pub drawn-refused : (n p : ℕ) → o ≡ rendering.Refused n p → Formats s b store marks out (answer.Refused n p) store3 marks2 out2
+          pub drawn-refused : (n p : ℕ) → o ≡ rendering.Refused n p → Formats s b out (answer.Refused n p) out2
           drawn-refused n p e =
-              refused-formats n p store3 marks2 out2
-              (refused-told (fileRefusal s b store marks out) (written (renderedDue s b) textDue) (at n p) (ap (renders.answerOf s b) (sym e) ∙ drawn-answer)
+              refused-formats n p out2
+              (refused-told (refusalIn s b (cut.rowsIn store) (length marks) (length out)) (written (renderedDue s b) textDue) (at n p) (ap (renders.answerOf s b) (sym e) ∙ drawn-answer)
               (never-written (at n p) (renderedDue s b) textDue))
-              store-same
-              marks-same
               output-same
 
           pub drawn-formats : (u : RenderState) (bytes : Bytes) → o ≡ rendering.Written u bytes
-              → Formats s b store marks out (answer.Text bytes left (t .row) (t .number)) store3 marks2 out2
+              → Formats s b out (answer.Text bytes left (t .row) (t .number)) out2
           drawn-formats u bytes e =
-              let w = drawn-told (fileRefusal s b store marks out) (renders.toState u) (bytes .0) (renderedDue s b) textDue
+              let w = drawn-told (refusalIn s b (cut.rowsIn store) (length marks) (length out)) (renders.toState u) (bytes .0) (renderedDue s b) textDue
               (ap (renders.answerOf s b) (sym e) ∙ drawn-answer)
               in
               let number : t .number ≡ built s b .taken = ap (λ (x : cut.LayoutState). x .cursor .number) (told .state) in
               record {
                 answer =
                     (λ i. formatted (w .bytes i) (told .left i) (to-row i) (number i))
-                    ∙ sym (ap (λ (x : Option Refusal). fileAnswerBy x (formatted textDue leftDue (rowsDue s b) (built s b .taken))) (w .passes));
-                store-left = store-same;
-                marks-left = marks-same;
-                output-left = output-same;
+                    ∙ sym (ap (λ (x : Option Refusal). fileAnswerBy x (formatted textDue leftDue (rowsDue s b) (built s b .taken))) (sym table-same ∙ w .passes));
+                output-left = output-same ∙ ap (λ (x : Option Refusal). unless x out (onto (drawnDue s b .text) out)) table-same;
               }

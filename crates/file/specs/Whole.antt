@@ -1,4 +1,4 @@
--- What the run of one file, or of one frame, answers and leaves.
+-- What the run of one file, or of one frame, answers and leaves: rows and marks are its own, the output is lent.
 use mathlib.Core.Path.{_≡_}
 use mathlib.Core.Bool.{Bool, not, _&&_}
 use mathlib.Core.Option.{Option}
@@ -8,7 +8,7 @@ use lib.Dec.{leb}
 use lib.ListN.{length, take, drop}
 use Rattle.image.specs.Bytes.{be32}
 use Rattle.refusals.specs.Refusals.{Refusal, unless, when}
-use Rattle.format.specs.File.{fileStore, fileMarks, fileOutput, FileAnswer, refused, formatted, fileAnswerBy, fileAnswer}
+use Rattle.format.specs.File.{FileAnswer, refused, formatted, fileAnswerBy, fileAnswer, fileOutput}
 use Rattle.file.specs.declared.Formatted.{Formatted}
 use Rattle.file.specs.declared.Formatted.the-variants as answer
 
@@ -17,12 +17,10 @@ abbrev pub answerOf : Formatted → FileAnswer
 answerOf (answer.Text bytes left rows numbers) = formatted (bytes .0) left rows numbers
 answerOf (answer.Refused n p) = refused (record { number = n; place = p })
 
--- the answer, and store, marks and output at exit, for one source and image
-pub record Formats (source image store marks out : List ℕ) (r : Formatted) (store2 marks2 out2 : List ℕ) : Type 0 where
-  pub answer : answerOf r ≡ fileAnswer source image store marks out
-  pub store-left : store2 ≡ fileStore source image store
-  pub marks-left : marks2 ≡ fileMarks source image store marks out
-  pub output-left : out2 ≡ fileOutput source image store marks out
+-- the answer, and the output at exit, for one source and image
+pub record Formats (source image out : List ℕ) (r : Formatted) (out2 : List ℕ) : Type 0 where
+  pub answer : answerOf r ≡ fileAnswer source image (length out)
+  pub output-left : out2 ≡ fileOutput source image out
 
 -- a frame: "four bytes source length, source, image"
 abbrev pub sourceOf : List ℕ → List ℕ
@@ -39,9 +37,13 @@ frameFits frame = leb (length frame) 32768 && leb 4 (length frame) && leb (4 + b
 abbrev pub frameRefusal : List ℕ → Option Refusal
 frameRefusal frame = when (not (frameFits frame)) 13 0
 
--- the answer, and store, marks and output at exit, for one frame
-pub record FormatsFrame (frame store marks out : List ℕ) (r : Formatted) (store2 marks2 out2 : List ℕ) : Type 0 where
-  pub answer : answerOf r ≡ fileAnswerBy (frameRefusal frame) (fileAnswer (sourceOf frame) (imageOf frame) store marks out)
-  pub store-left : store2 ≡ unless (frameRefusal frame) store (fileStore (sourceOf frame) (imageOf frame) store)
-  pub marks-left : marks2 ≡ unless (frameRefusal frame) marks (fileMarks (sourceOf frame) (imageOf frame) store marks out)
-  pub output-left : out2 ≡ unless (frameRefusal frame) out (fileOutput (sourceOf frame) (imageOf frame) store marks out)
+-- the answer, and the output at exit, for one frame
+abbrev pub frameAnswer : List ℕ → ℕ → FileAnswer
+frameAnswer frame room = fileAnswerBy (frameRefusal frame) (fileAnswer (sourceOf frame) (imageOf frame) room)
+
+abbrev pub frameOutput : List ℕ → List ℕ → List ℕ
+frameOutput frame out = unless (frameRefusal frame) out (fileOutput (sourceOf frame) (imageOf frame) out)
+
+pub record FormatsFrame (frame out : List ℕ) (r : Formatted) (out2 : List ℕ) : Type 0 where
+  pub answer : answerOf r ≡ frameAnswer frame (length out)
+  pub output-left : out2 ≡ frameOutput frame out

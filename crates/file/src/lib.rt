@@ -1,5 +1,6 @@
 // Module 8: the whole run of one file, and of a frame that the program reads.
 ghost use mathlib.Core.Path.{_≡_};
+ghost use lib.ListN.{length};
 ghost use Rattle.cut.specs.Parts.{layoutFresh, renderFresh};
 ghost use Rattle.laying.specs.Calls.{toState as laidState};
 ghost use Rattle.laying.specs.Steps.{Accepts};
@@ -17,6 +18,9 @@ use rendering::Rendering;
 use rendering::render_checked;
 use rows::store::Bytes;
 use rows::store::Columns;
+
+// The longest frame that the program takes.
+const MAX_FRAME: usize = 32768;
 
 pub enum Formatted {
     // the bytes written, the comments left, the rows and the group numbers
@@ -58,24 +62,33 @@ fn render_fresh() -> RenderState
     }
 }
 
-// A file that is accepted, with n comments and the tree at `at`: all declarations in one layout call, all rows in one rendering call.
-fn format_accepted(
-    source: &[u8],
-    image: &[u8],
-    store: &mut [u32],
-    marks: &mut [u8],
-    out: &mut [u8],
-    n: usize,
-    at: usize,
-) -> Formatted
-    requires { ⌜ Accepts (now source) (now image) n at ⌝ }
-    ensures { λ r. ⌜ Formats (now (source .entry)) (now (image .entry)) (now (store .entry)) (now (marks .entry)) (now (out .entry)) r (now (store .exit)) (now (marks .exit)) (now (out .exit)) ⌝ }
+// 1,800 rows.
+fn rows() -> [u32; 16200]
+    ensures { λ r. ⌜ 16200 ≡ length r ⌝ }
 {
+    [0; 16200]
+}
+
+// 1,800 marks.
+fn marks() -> [u8; 1800]
+    ensures { λ r. ⌜ 1800 ≡ length r ⌝ }
+{
+    [0; 1800]
+}
+
+// A file that is accepted, with n comments and the tree at `at`: all declarations in one layout call, all rows in one rendering call. The rows
+// of a file that 9 or 10 refuses can't be taken back out of a lent store, so that rows and marks are of its own.
+fn format_accepted(source: &[u8], image: &[u8], out: &mut [u8], n: usize, at: usize) -> Formatted
+    requires { ⌜ Accepts (now source) (now image) n at ⌝ }
+    ensures { λ r. ⌜ Formats (now (source .entry)) (now (image .entry)) (now (out .entry)) r (now (out .exit)) ⌝ }
+{
+    let mut store = rows();
+    let mut used = marks();
     let declarations = count_declarations(source, image, n, at);
     match accepted(
         source,
         image,
-        store,
+        &mut store,
         n,
         at,
         layout_fresh(),
@@ -84,7 +97,15 @@ fn format_accepted(
     ) {
         Laying::Refused(number, place) => Formatted::Refused(number, place),
         Laying::Laid(state, left) => {
-            match render_checked(source, image, store, marks, out, render_fresh(), state.row) {
+            match render_checked(
+                source,
+                image,
+                &mut store,
+                &mut used,
+                out,
+                render_fresh(),
+                state.row,
+            ) {
                 Rendering::Refused(number, place) => Formatted::Refused(number, place),
                 Rendering::Written(end, bytes) => Formatted::Text {
                     bytes: bytes,
@@ -97,35 +118,21 @@ fn format_accepted(
     }
 }
 
-// Formats a file, or refuses to.
-pub fn format_file(
-    source: &[u8],
-    image: &[u8],
-    store: &mut [u32],
-    marks: &mut [u8],
-    out: &mut [u8],
-) -> Formatted
-    ensures { λ r. ⌜ Formats (now (source .entry)) (now (image .entry)) (now (store .entry)) (now (marks .entry)) (now (out .entry)) r (now (store .exit)) (now (marks .exit)) (now (out .exit)) ⌝ }
+// Formats a file, or refuses to and leaves the output as it was.
+pub fn format_file(source: &[u8], image: &[u8], out: &mut [u8]) -> Formatted
+    ensures { λ r. ⌜ Formats (now (source .entry)) (now (image .entry)) (now (out .entry)) r (now (out .exit)) ⌝ }
 {
     match check(source, image) {
         Answer::Refused(number, place) => Formatted::Refused(number, place),
-        Answer::Accepted { comments, tree } => format_accepted(
-            source,
-            image,
-            store,
-            marks,
-            out,
-            comments,
-            tree,
-        ),
+        Answer::Accepted { comments, tree } => format_accepted(source, image, out, comments, tree),
     }
 }
 
 // Formats the file of a frame: four bytes source length, source, image.
-pub fn format_frame(frame: &[u8], store: &mut [u32], marks: &mut [u8], out: &mut [u8]) -> Formatted
-    ensures { λ r. ⌜ FormatsFrame (now (frame .entry)) (now (store .entry)) (now (marks .entry)) (now (out .entry)) r (now (store .exit)) (now (marks .exit)) (now (out .exit)) ⌝ }
+pub fn format_frame(frame: &[u8], out: &mut [u8]) -> Formatted
+    ensures { λ r. ⌜ FormatsFrame (now (frame .entry)) (now (out .entry)) r (now (out .exit)) ⌝ }
 {
-    if 32768 < frame.len() {
+    if MAX_FRAME < frame.len() {
         return Formatted::Refused(13, 0);
     }
     if frame.len() < 4 {
@@ -136,5 +143,5 @@ pub fn format_frame(frame: &[u8], store: &mut [u32], marks: &mut [u8], out: &mut
         return Formatted::Refused(13, 0);
     }
     let end = 4 + size;
-    format_file(&frame[4..end], &frame[end..], store, marks, out)
+    format_file(&frame[4..end], &frame[end..], out)
 }

@@ -29,7 +29,7 @@ use Rattle.cut.specs.Parts.{LayoutState, RenderState, layoutFresh, renderFresh,
 use Rattle.cut.specs.Parts.{renderTests, renderTable}
 use Rattle.format.specs.Parts.{refusalOf, renderImage, treeOf, drawn, parts}
 use Rattle.format.specs.Demands.{rulesOf, laidTo}
-use Rattle.format.specs.File.{built, rowsDue, marksDue, drawnDue, laidRefusal, fileRefusal, fileStore, fileMarks, fileOutput}
+use Rattle.format.specs.File.{built, rowsDue, marksDue, drawnDue, laidRefusal, refusalIn}
 use Rattle.format.proofs.Whole.{fmt-parsed}
 use Rattle.format.proofs.Limits.{all-limited}
 use Rattle.format.proofs.RenderParts.{render-parts}
@@ -47,6 +47,18 @@ fits-header b h =
       eq-eqb (5 + be32 b 1) (length b) (h .size),
       le-leb (be32 b 1) 1048576 (h .short),
     )
+
+-- what the two calls leave of store, marks and output: where 9 or 10 refuses, the rows are laid already
+abbrev pub storeLeft : List ℕ → List ℕ → List ℕ → List ℕ
+storeLeft s b store = unless (laidRefusal s b (rowsIn store)) store (onto (rows (built s b .nodes) 0) store)
+
+abbrev pub marksLeft : List ℕ → List ℕ → List ℕ → List ℕ → List ℕ → List ℕ
+marksLeft s b store marks out =
+    unless (refusalIn s b (rowsIn store) (length marks) (length out)) marks (onto (drawnDue s b .marks) marks)
+
+abbrev pub outputLeft : List ℕ → List ℕ → List ℕ → List ℕ → List ℕ → List ℕ
+outputLeft s b store marks out =
+    unless (refusalIn s b (rowsIn store) (length marks) (length out)) out (onto (drawnDue s b .text) out)
 
 first-none : (a b : Option Refusal) → first (a ∷ b ∷ []) ≡ none → a ≡ none
 first-none none b e = refl
@@ -100,7 +112,7 @@ module _ (s b : List ℕ) where
   rows-needed : rowsNeeded (parts s b) layoutArgs layoutFresh ≡ rowsDue s b
   rows-needed = fmt-parsed s b .closed .row-due
 
-  pub layout-refusal-due : (store : List ℕ) → rulesOf s b .layout-refusal layoutArgs layoutFresh store ≡ laidRefusal s b store
+  pub layout-refusal-due : (store : List ℕ) → rulesOf s b .layout-refusal layoutArgs layoutFresh store ≡ laidRefusal s b (rowsIn store)
   layout-refusal-due store =
       ap (λ (x : Bool).
       first
@@ -114,13 +126,13 @@ module _ (s b : List ℕ) where
   -- what it answers and leaves
   pub layout-answer-due : (store : List ℕ)
       → layoutAnswer (rulesOf s b) layoutArgs layoutFresh store
-      ≡ answerBy (rulesOf s b) (laidRefusal s b store) (laidOut stateDue (length (commentsOf b) - built s b .placed))
+      ≡ answerBy (rulesOf s b) (laidRefusal s b (rowsIn store)) (laidOut stateDue (length (commentsOf b) - built s b .placed))
   layout-answer-due store =
       ap₂ (λ (r : Option Refusal) (l : Laid LayoutState). answerBy (rulesOf s b) r (laidOut (l .state) (l .left)))
       (layout-refusal-due store)
       laid-due
 
-  pub layout-store-due : (store : List ℕ) → layoutStore (rulesOf s b) layoutArgs layoutFresh store ≡ fileStore s b store
+  pub layout-store-due : (store : List ℕ) → layoutStore (rulesOf s b) layoutArgs layoutFresh store ≡ storeLeft s b store
   layout-store-due store =
       ap₂ (λ (r : Option Refusal) (l : Laid LayoutState). unless r store (onto (l .rows) store)) (layout-refusal-due store) laid-due
 
@@ -217,14 +229,14 @@ module _ (s b : List ℕ) where
   renderedDue = record { pen = drawnDue s b .pen; in-use = max 0 (marksDue s b); row = rowsDue s b }
 
   -- what it answers and leaves, of what the layout call left
-  module _ (store marks out : List ℕ) (h : laidRefusal s b store ≡ none) where
+  module _ (store marks out : List ℕ) (h : laidRefusal s b (rowsIn store) ≡ none) where
     read : refusalOf (readAll s b) ≡ none
     read = first-none (refusalOf (readAll s b)) (when (ltb (rowsIn store) (rowsDue s b)) 8 (rowsDue s b)) h
 
-    left-store : fileStore s b store ≡ onto (rows (built s b .nodes) 0) store
+    left-store : storeLeft s b store ≡ onto (rows (built s b .nodes) 0) store
     left-store = ap (λ (r : Option Refusal). unless r store (onto (rows (built s b .nodes) 0) store)) h
 
-    pub render-refusal-due : rulesOf s b .render-refusal (renderArgs out) renderFresh (fileStore s b store) marks ≡ fileRefusal s b store marks out
+    pub render-refusal-due : rulesOf s b .render-refusal (renderArgs out) renderFresh (storeLeft s b store) marks ≡ refusalIn s b (rowsIn store) (length marks) (length out)
     render-refusal-due =
         ap (λ (x : List ℕ). first (renderTable (parts s b) (renderArgs out) renderFresh x marks)) left-store
         ∙ render-table-due store read marks out
@@ -236,26 +248,26 @@ module _ (s b : List ℕ) where
         ∷ []))
         (sym h)
 
-    pub render-early-due : first (take 3 (renderTable (parts s b) (renderArgs out) renderFresh (fileStore s b store) marks)) ≡ none
+    pub render-early-due : first (take 3 (renderTable (parts s b) (renderArgs out) renderFresh (storeLeft s b store) marks)) ≡ none
     render-early-due =
         ap (λ (x : List ℕ). first (take 3 (renderTable (parts s b) (renderArgs out) renderFresh x marks))) left-store ∙ early-due store read marks out
 
-    gives-due : renderGives (rulesOf s b) (renderArgs out) renderFresh (fileStore s b store) marks
+    gives-due : renderGives (rulesOf s b) (renderArgs out) renderFresh (storeLeft s b store) marks
         ≡ record { state = renderedDue; marks = drawnDue s b .marks; text = drawnDue s b .text }
     gives-due =
         ap (λ (x : List ℕ). renderGives (rulesOf s b) (renderArgs out) renderFresh x marks) left-store ∙ rendered-due store read marks out
 
-    pub render-answer-due : renderAnswer (rulesOf s b) (renderArgs out) renderFresh (fileStore s b store) marks
-        ≡ answerBy (rulesOf s b) (fileRefusal s b store marks out) (written renderedDue (length (drawnDue s b .text)))
+    pub render-answer-due : renderAnswer (rulesOf s b) (renderArgs out) renderFresh (storeLeft s b store) marks
+        ≡ answerBy (rulesOf s b) (refusalIn s b (rowsIn store) (length marks) (length out)) (written renderedDue (length (drawnDue s b .text)))
     render-answer-due =
         ap₂ (λ (r : Option Refusal) (l : Rendered RenderState). answerBy (rulesOf s b) r (written (l .state) (length (l .text))))
         render-refusal-due
         gives-due
 
-    pub render-marks-due : renderMarks (rulesOf s b) (renderArgs out) renderFresh (fileStore s b store) marks ≡ fileMarks s b store marks out
+    pub render-marks-due : renderMarks (rulesOf s b) (renderArgs out) renderFresh (storeLeft s b store) marks ≡ marksLeft s b store marks out
     render-marks-due =
         ap₂ (λ (r : Option Refusal) (l : Rendered RenderState). unless r marks (onto (l .marks) marks)) render-refusal-due gives-due
 
-    pub render-output-due : renderOutput (rulesOf s b) (renderArgs out) renderFresh (fileStore s b store) marks out ≡ fileOutput s b store marks out
+    pub render-output-due : renderOutput (rulesOf s b) (renderArgs out) renderFresh (storeLeft s b store) marks out ≡ outputLeft s b store marks out
     render-output-due =
         ap₂ (λ (r : Option Refusal) (l : Rendered RenderState). unless r out (onto (l .text) out)) render-refusal-due gives-due

@@ -16,8 +16,15 @@ use Rattle.facts.specs.Accepted.{fresh}
 use Rattle.renderer.specs.Renderer.{renders}
 use Rattle.refusals.specs.Refusals.{Refusal, unless, first, when}
 use Rattle.cut.specs.Run.{onto}
-use Rattle.cut.specs.Parts.{Drawn, renderFresh, rowsIn}
+use Rattle.cut.specs.Parts.{Drawn, renderFresh}
 use Rattle.format.specs.Parts.{refusalOf, treeOf, rendererOf, drawnBy, page}
+
+-- What the run has of its own: "It has 1,800 rows, 1,800 marks and 65,536 output bytes." The output is lent.
+abbrev pub fileRows : ℕ
+fileRows = 1800
+
+abbrev pub fileMarks : ℕ
+fileMarks = 1800
 
 module _ (s b : List ℕ) where
   -- what `fmt_parsed` builds
@@ -36,28 +43,25 @@ module _ (s b : List ℕ) where
   abbrev pub drawnDue : Drawn
   drawnDue = drawnBy (renders (page s b) (built .nodes) true (rendererOf (renderFresh .pen) (replicate marksDue 0)))
 
-  -- 1 to 7, then 8
-  abbrev pub laidRefusal : List ℕ → Option Refusal
-  laidRefusal store = first (refusalOf (readAll s b) ∷ when (ltb (rowsIn store) rowsDue) 8 rowsDue ∷ [])
+  -- 1 to 7, then 8, in a store of so many rows
+  abbrev pub laidRefusal : ℕ → Option Refusal
+  laidRefusal rows = first (refusalOf (readAll s b) ∷ when (ltb rows rowsDue) 8 rowsDue ∷ [])
 
-  -- then 9, then 10: no other cause refuses a whole file
-  abbrev pub fileRefusal : List ℕ → List ℕ → List ℕ → Option Refusal
-  fileRefusal store marks out =
+  -- then 9, then 10, with so many marks and so many bytes of output: no other cause refuses a whole file
+  abbrev pub refusalIn : ℕ → ℕ → ℕ → Option Refusal
+  refusalIn rows marks room =
       first
-      (laidRefusal store
-      ∷ when (ltb (length marks) marksDue) 9 marksDue
-      ∷ when (ltb (length out) (length (drawnDue .text))) 10 (length (drawnDue .text))
+      (laidRefusal rows
+      ∷ when (ltb marks marksDue) 9 marksDue
+      ∷ when (ltb room (length (drawnDue .text))) 10 (length (drawnDue .text))
       ∷ [])
 
-  -- what is left of store, marks and output; where 9 or 10 refuses, the rows are laid already
-  abbrev pub fileStore : List ℕ → List ℕ
-  fileStore store = unless (laidRefusal store) store (onto (rows (built .nodes) 0) store)
+  abbrev pub fileRefusal : ℕ → Option Refusal
+  fileRefusal room = refusalIn fileRows fileMarks room
 
-  abbrev pub fileMarks : List ℕ → List ℕ → List ℕ → List ℕ
-  fileMarks store marks out = unless (fileRefusal store marks out) marks (onto (drawnDue .marks) marks)
-
-  abbrev pub fileOutput : List ℕ → List ℕ → List ℕ → List ℕ
-  fileOutput store marks out = unless (fileRefusal store marks out) out (onto (drawnDue .text) out)
+  -- what is left of the output
+  abbrev pub fileOutput : List ℕ → List ℕ
+  fileOutput out = unless (fileRefusal (length out)) out (onto (drawnDue .text) out)
 
 -- What a file's run answers: number and place; or the bytes written, the comments left, the rows and the group numbers.
 pub data FileAnswer : Type 0 where
@@ -68,7 +72,7 @@ abbrev pub fileAnswerBy : Option Refusal → FileAnswer → FileAnswer
 fileAnswerBy (some r) a = refused r
 fileAnswerBy none a = a
 
-abbrev pub fileAnswer : List ℕ → List ℕ → List ℕ → List ℕ → List ℕ → FileAnswer
-fileAnswer s b store marks out =
-    fileAnswerBy (fileRefusal s b store marks out)
+abbrev pub fileAnswer : List ℕ → List ℕ → ℕ → FileAnswer
+fileAnswer s b room =
+    fileAnswerBy (fileRefusal s b room)
     (formatted (length (drawnDue s b .text)) (length (commentsOf b) - built s b .placed) (rowsDue s b) (built s b .taken))

@@ -7,6 +7,7 @@ pub mod Whole
 pub mod Inside
 pub mod Rows
 pub mod Accepted
+pub mod Answers
 pub mod Exact
 pub mod Examples
 pub mod Numbers

@@ -1,10 +1,12 @@
 -- What a source and an image read as: document 01, "The tree image", and refusals 1 to 7 of "When a call is turned down".
 -- s is the source and b the image. An offset `at` counts from b's first byte.
-use mathlib.Core.List.{List}
-use mathlib.Core.Bool.{Bool, false, cond, not, _&&_}
+use mathlib.Core.Path.{_≡_}
+use mathlib.Core.List.{List, [], _∷_}
+use mathlib.Core.Bool.{Bool, true, false, cond, not, _&&_}
 use Prim.Native.Nat.{ℕ, zero, suc, _+_, _*_}
 use lib.ListN.{length, getD}
 use lib.Dec.{ltb, leb, eqb}
+use Rattle.refusals.specs.Refusals.{Refusal, isOneOf}
 use Rattle.text.specs.Utf8.{prefix, wellFormed}
 use Rattle.text.specs.Newlines.{isRange}
 use Rattle.image.specs.Bytes.{be16, be32}
@@ -115,9 +117,9 @@ opens s b v left p at end =
     (got (headAt b at) (headAt b at .first))))
 
 -- the children from `at` to `stop`, at the places of the row; `one` reads one. A child has a byte at least, so that n turns, one more than
--- there are bytes, are enough
+-- there are bytes, never run out
 unfoldable pub childrenAt : (ℕ → ℕ → ℕ → Read Tree) → ℕ → ℕ → ℕ → ℕ → Read Trees
-childrenAt one zero row at stop = bad 0 0
+childrenAt one zero row at stop = bad 4 at
 childrenAt one (suc n) row at stop =
     cond (ltb at stop)
     (cond (eqb row 0) (bad 4 at)
@@ -169,16 +171,32 @@ sourceFits s = leb (length s) 65536
 unfoldable pub readAll : List ℕ → List ℕ → Read Image
 readAll s b = cond (not (sourceFits s)) (bad 1 0) (cond (not (wellFormed s)) (bad 2 (prefix s)) (readImage false s b))
 
--- ---- the code's answers
--- what `check` answers to each outcome
+-- ---- the answer of `check`
+-- accepted, with the number of comments and the tree's offset; or refused: "Number and place are all that comes back."
+pub data Outcome : Type 0 where
+  accepted : ℕ → ℕ → Outcome
+  refused : Refusal → Outcome
+
+abbrev pub outcome : Read Image → Outcome
+outcome (got i end) = accepted (i .comments) (i .at)
+outcome (bad n p) = refused (record { number = n; place = p })
+
+-- what each answer stands for, case by case
+abbrev pub outcomeOf : Answer → Outcome
+outcomeOf (Accepted n at) = accepted n at
+outcomeOf (Refused n p) = refused (record { number = n; place = p })
+
+-- the numbers under which the reader refuses, in the table's order; proofs/Numbers.antt shows that there is no other
+abbrev pub readNumbers : List ℕ
+readNumbers = 1 ∷ 2 ∷ 3 ∷ 7 ∷ 4 ∷ 5 ∷ 6 ∷ []
+
+abbrev pub ReadNumbers : Type 0
+ReadNumbers = (s b : List ℕ) (n p : ℕ) → readAll s b ≡ bad n p → isOneOf n readNumbers ≡ true
+
+-- ---- the code's answers to a part
 abbrev pub answerOf : Read Image → Answer
 answerOf (got i end) = Accepted (i .comments) (i .at)
 answerOf (bad n p) = Refused n p
-
--- the number and the place that each answer stands for; 0 and 0 where nothing is refused
-abbrev pub refusal : Answer → ℕ × ℕ
-refusal (Accepted n at) = (0, 0)
-refusal (Refused n p) = (n, p)
 
 -- what the reading of a part answers, and the reading of one record's head at place p
 abbrev pub stepOf : {A : Type 0} → Read A → Step

@@ -3,6 +3,7 @@ use mathlib.Core.Bool.{Bool, true, false, _||_}
 use mathlib.Core.Option.{Option, none, some}
 use mathlib.Core.List.{List, [], _∷_}
 use Prim.Native.Nat.{ℕ}
+use lib.Dec.{eqb}
 
 -- "Number and place are all that comes back."
 pub record Refusal : Type 0 where
@@ -31,6 +32,11 @@ orElse none rest = rest
 abbrev pub first : List (Option Refusal) → Option Refusal
 first [] = none
 first (o ∷ os) = orElse o (first os)
+
+-- a number is one of those under which an entry refuses
+abbrev pub isOneOf : ℕ → List ℕ → Bool
+isOneOf n [] = false
+isOneOf n (k ∷ ks) = eqb n k || isOneOf n ks
 
 -- "Left as it was: all": the first where a call is refused, the second where it is accepted
 abbrev pub unless : {A : Type 0} → Option Refusal → A → A → A

@@ -10,7 +10,7 @@ use native.Mathlib.Numerals.{add-one}
 use lib.ListN.{length, getD}
 use lib.Dec.{leb, eqb}
 use borrow.Author.Tests.{eq-eqb, ne-eqb, le-ltb, lt-leb, le-leb, leb-true, eqb-true}
-use Rattle.text.specs.Utf8.{sequence, highs, plain, stride, run, prefix, wellFormed, checked}
+use Rattle.text.specs.Utf8.{sequence, highs, plain, stride, run, prefix, wellFormed, illFormed, refusalOf}
 use Rattle.text.specs.declared.utf8.Checked.the-variants.{WellFormed, Bad}
 use Rattle.text.proofs.Sequences.{ascii, sequence-fits}
 use Rattle.text.proofs.Tests.{and-left, and-right}
@@ -116,10 +116,10 @@ stride-none s at e = go (eqb (at % 16) 0 && plain 16 s at) e
 pub stop : (s : List ℕ) (at : ℕ) → sequence s at ≡ 0 → Going s at → prefix s ≡ at
 stop s at e g = g .same ∙ run-stop (g .turns) s at e
 
-pub checked-bad : (s : List ℕ) (at : ℕ) → prefix s ≡ at → at < length s → Bad at ≡ checked s
-unfolding checked wellFormed
+pub checked-bad : (s : List ℕ) (at : ℕ) → prefix s ≡ at → at < length s → refusalOf (Bad at) ≡ illFormed s
+unfolding illFormed wellFormed
 checked-bad s at e h = sym (rw (e, ne-eqb at (length s) (λ p. omega arith)))
 
-pub checked-good : (s : List ℕ) → prefix s ≡ length s → WellFormed ≡ checked s
-unfolding checked wellFormed
+pub checked-good : (s : List ℕ) → prefix s ≡ length s → refusalOf WellFormed ≡ illFormed s
+unfolding illFormed wellFormed
 checked-good s e = sym (rw (eq-eqb (prefix s) (length s) e))

@@ -2,9 +2,11 @@
 -- A byte past the end reads as 0, which continues no sequence.
 use Prim.Native.Nat.{ℕ, zero, suc, _+_, _*_, _-_, _/_, _%_}
 use mathlib.Core.List.{List, [], _∷_}
+use mathlib.Core.Option.{Option, none, some}
 use mathlib.Core.Bool.{Bool, true, false, cond, not, _&&_, _||_}
 use lib.ListN.{length, getD}
 use lib.Dec.{ltb, leb, eqb}
+use Rattle.refusals.specs.Refusals.{Refusal, when}
 use Rattle.text.specs.declared.utf8.Checked.{Checked}
 use Rattle.text.specs.declared.utf8.Checked.the-variants.{WellFormed, Bad}
 use Rattle.text.specs.declared.utf8.Lead.{Lead}
@@ -93,9 +95,14 @@ prefix s = run (length s) s 0
 unfoldable pub wellFormed : List ℕ → Bool
 wellFormed s = eqb (prefix s) (length s)
 
--- what `check` answers
-unfoldable pub checked : List ℕ → Checked
-checked s = cond (wellFormed s) WellFormed (Bad (prefix s))
+-- refusal 2: "source not well-formed UTF-8", at the "first byte of the bad sequence"
+unfoldable pub illFormed : List ℕ → Option Refusal
+illFormed s = when (not (wellFormed s)) 2 (prefix s)
+
+-- what `check` answers, case by case
+abbrev pub refusalOf : Checked → Option Refusal
+refusalOf WellFormed = none
+refusalOf (Bad at) = some (record { number = 2; place = at })
 
 -- A character boundary: the end of the text, or a byte that starts a sequence.
 unfoldable pub boundary : List ℕ → ℕ → Bool

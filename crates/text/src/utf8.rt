@@ -2,7 +2,7 @@
 ghost use mathlib.Core.Path.{_≡_};
 ghost use Prim.Native.Nat.{_+_, _≤_, _<_};
 ghost use lib.ListN.{length, getD};
-ghost use Rattle.text.specs.Utf8.{rowOf, leadOf, continues, sequence, highs, plain, stride, checked, boundary, scalar, charAt, ends, ending, charBefore};
+ghost use Rattle.text.specs.Utf8.{rowOf, leadOf, continues, sequence, highs, plain, stride, illFormed, refusalOf, boundary, scalar, charAt, ends, ending, charBefore};
 
 pub enum Checked {
     WellFormed,
@@ -152,7 +152,7 @@ fn stride(s: &[u8], at: usize) -> usize
 
 // Whether a text is well-formed, or where its first bad sequence starts.
 pub fn check(s: &[u8]) -> Checked
-    ensures { λ r. ⌜ r ≡ checked (now (s .entry)) ⌝ }
+    ensures { λ r. ⌜ refusalOf r ≡ illFormed (now (s .entry)) ⌝ }
 {
     let mut at = 0;
     while at < s.len() {

@@ -1,10 +1,13 @@
 -- Refusals 1 and 2 by their tests; else the answer is the image's.
 -- Assumes nothing.
 use mathlib.Core.Path.{sym, _∙_, ap}
+use mathlib.Core.Bool.{false}
+use Prim.Native.Nat.{ℕ}
 use borrow.Author.Tests.{not-true, not-false}
 use borrow.Author.Needs.{needs}
-use Rattle.image.specs.Read.{readAll}
-use Rattle.image.specs.declared.Answer.the-variants.{Refused}
+use Rattle.text.specs.Utf8.{refusalOf}
+use Rattle.image.specs.Read.{readImage, readAll, refused}
+use Rattle.image.proofs.Answers.{told}
 use Rattle.image.proofs.Texts.{checked-well, checked-bad, checked-place}
 use Rattle.image.proofs.check.Statement.{statement}
 use Rattle.image.proofs.check.Tie as tie
@@ -30,11 +33,11 @@ read-image-requires c κs = search needs
 
 returns-2 : tie.Need-returns-2
 unfolding readAll
-returns-2 c = let e = sym (c .before .before .before .check .ensures) ∙ c .before .at .given .1 in simp (sym (c .before .before .before .before .before .source-fits .ensures) ∙ not-false _ (c .before .before .before .before .if1 .left), checked-bad _ _ e) (ap (Refused 2) (checked-place _ _ e))
+returns-2 c = let e = sym (c .before .before .before .check .ensures) ∙ ap refusalOf (c .before .at .given .1) in simp (sym (c .before .before .before .before .before .source-fits .ensures) ∙ not-false _ (c .before .before .before .before .if1 .left), checked-bad _ _ e) (ap (λ (x : ℕ). refused (record { number = 2; place = x })) (checked-place _ _ e))
 
 returns-3 : tie.Need-returns-3
 unfolding readAll
-returns-3 c = simp (sym (c .before .before .before .before .before .source-fits .ensures) ∙ not-false _ (c .before .before .before .before .if1 .left), checked-well _ (sym (c .before .before .before .check .ensures) ∙ c .before .enum-told .given .1)) (c .read-image .ensures)
+returns-3 c = simp (sym (c .before .before .before .before .before .source-fits .ensures) ∙ not-false _ (c .before .before .before .before .if1 .left), checked-well _ (sym (c .before .before .before .check .ensures) ∙ ap refusalOf (c .before .enum-told .given .1))) (told _ (readImage false (c .before .before .before .before .before .before .before .before .args .source .now) (c .before .before .before .before .before .before .before .before .args .image .now)) (c .read-image .ensures))
 
 pub check-spec : {M : Type 1} → statement M
 check-spec =

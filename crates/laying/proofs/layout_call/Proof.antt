@@ -1,6 +1,8 @@
 use Rattle.laying.proofs.Ends.{ends-unread}
 use mathlib.Core.Path.{_≡_, refl, sym, ap, _∙_}
 use borrow.Author.Needs.{needs}
+use Rattle.image.specs.Read.{readAll}
+use Rattle.image.proofs.Answers.{answer-told}
 use Rattle.laying.proofs.layout_call.Statement.{statement}
 use Rattle.laying.proofs.layout_call.Tie as tie
 use Rattle.laying.proofs.layout_call.Reads as reads
@@ -22,11 +24,11 @@ enum-known-comments c = search needs
 
 -- src/lib.rt:140:48
 accepted-requires : tie.Need-accepted-requires
-accepted-requires c κs = record { answer = sym (c .before .before .before .before .check .ensures) ∙ c .before .before .comments .given .1 }
+accepted-requires c κs = record { answer = answer-told (c .before .before .before .before .check .result) (readAll (c .before .before .before .before .before .before .before .before .args .source .now) (c .before .before .before .before .before .before .before .before .args .image .now)) (c .before .before .before .before .check .ensures) ∙ c .before .before .comments .given .1 }
 
 -- src/lib.rt:128:1
 returns : tie.Need-returns
-returns c = ends-unread (c .before .before .before .before .before .before .before .args .source .now) (c .before .before .before .before .before .before .before .args .image .now) (c .before .before .before .before .before .before .before .args .state) (c .before .before .before .before .before .before .before .args .stop) (c .before .before .before .before .before .before .before .args .close) (c .before .before .before .before .before .before .before .args .store .now) _ _ (sym (c .before .before .before .check .ensures) ∙ c .before .number .given .1)
+returns c = ends-unread (c .before .before .before .before .before .before .before .args .source .now) (c .before .before .before .before .before .before .before .args .image .now) (c .before .before .before .before .before .before .before .args .state) (c .before .before .before .before .before .before .before .args .stop) (c .before .before .before .before .before .before .before .args .close) (c .before .before .before .before .before .before .before .args .store .now) _ _ (answer-told (c .before .before .before .check .result) (readAll (c .before .before .before .before .before .before .before .args .source .now) (c .before .before .before .before .before .before .before .args .image .now)) (c .before .before .before .check .ensures) ∙ c .before .number .given .1)
 
 -- src/lib.rt:128:1
 same-length : tie.Need-same-length
