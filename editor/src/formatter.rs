@@ -110,11 +110,12 @@ impl Formatter {
 
     /// Room to spare, as far as there is memory: a row and a mark for each
     /// byte of the image and two for each comment, which has eight bytes
-    /// there, and many times the source for the text. Neither layout nor
-    /// rendering then has to count before it writes.
+    /// there, and many times the source and the image for the text. Neither
+    /// layout nor rendering then has to count before it writes.
     fn prepare(&mut self, source: &[u8], image: &[u8]) {
         let rows = (image.len() + image.len() / 4).min(MOST_AT_FIRST) as u64;
-        let bytes = (source.len() as u64).saturating_mul(16) + (1 << 16);
+        let lengths = source.len() as u64 * 2 + image.len() as u64;
+        let bytes = lengths.saturating_mul(8).saturating_add(1 << 16);
         lengthen(&mut self.store, rows * ROW as u64);
         lengthen(&mut self.marks, rows);
         lengthen(&mut self.output, bytes.min(self.most_output));
