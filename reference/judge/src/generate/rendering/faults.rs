@@ -139,6 +139,10 @@ pub fn calls() -> Vec<CallCase> {
     for edits in edits {
         cases.extend(edited(&parts, edits));
     }
+    // Where the second part is the end, a part past it is at fault itself.
+    let at_end = Part::Call(0, vec![word()], 1, Vec::new());
+    let [alone, _] = edited(&[at_end], &[(1, AFTER, 3)]);
+    cases.push(alone);
     cases
 }
 
@@ -148,7 +152,7 @@ pub fn calls() -> Vec<CallCase> {
 pub fn call_ranges() -> Vec<CallCase> {
     let arguments = vec![group(0, []), group(1, [])];
     let parts = [Part::Call(0, vec![], 1, arguments), word()];
-    let mut cases = vec![smallest()];
+    let mut cases = Vec::new();
     for second in 0..=4 {
         for first in 0..=4 {
             cases.extend((0..=4).map(|last| {
@@ -162,14 +166,6 @@ pub fn call_ranges() -> Vec<CallCase> {
         }
     }
     cases
-}
-
-/// A `Call` of two rows whose second part is its end, and a part that outgrows
-/// it: the part is at fault.
-fn smallest() -> CallCase {
-    let call = [kinds::CALL, 0, 1, 2, 2, 0, 0, 0, 0];
-    let part = [kinds::ASCII, 0, 0, 0, 3, 0, 0, 0, 0];
-    on_rows(&[call, part].map(Row::from_cells))
 }
 
 /// Kinds, origins and texts that there are not.
