@@ -23,6 +23,9 @@
 extern "C" {
 #endif
 
+/* The library is for 64-bit machines: elsewhere this has no size. */
+typedef char rrufthim_lengths_have_64_bits[sizeof(size_t) == 8 ? 1 : -1];
+
 /* Refusals: out[0], with what out[1] is then. */
 #define RRUFTHIM_SOURCE_TOO_LONG 1  /* the source is over 65,536 bytes: 0 */
 #define RRUFTHIM_SOURCE_NOT_UTF8 2  /* the source isn't well-formed UTF-8: first byte of the bad sequence */
