@@ -12,6 +12,9 @@ use crate::{
 /// rows, rounded down.
 pub const ROW: usize = 9;
 
+/// The rows, and the marks, that [`format_file`] has.
+pub const FILE_ROWS: u64 = 1_800;
+
 /// What [`check`] says of an image that it accepts.
 #[derive(Clone, Copy, Debug, PartialEq, Eq)]
 pub struct Accepted {
@@ -43,9 +46,9 @@ pub struct FileWritten {
     pub bytes: usize,
     /// Comments that the text doesn't hold: the last so many of the list.
     pub comments_left: u64,
-    /// Rows of the store in use.
+    /// Rows that the file took.
     pub rows: u64,
-    /// Marks in use.
+    /// Marks that it took.
     pub numbers: u64,
 }
 
@@ -60,8 +63,7 @@ pub fn check(source: &[u8], image: &[u8]) -> Result<Accepted, Refusal> {
             source.len(),
             image.as_ptr(),
             image.len(),
-            out.as_mut_ptr(),
-            out.len(),
+            &mut out,
         );
     }
     let [number, comments, tree] = out;
@@ -91,12 +93,10 @@ pub fn layout(
             image.len(),
             store.as_mut_ptr(),
             store.len(),
-            from.as_ptr(),
-            from.len(),
+            &from,
             stop,
             close.into(),
-            out.as_mut_ptr(),
-            out.len(),
+            &mut out,
         );
     }
     let [number, comments_left, state @ ..] = out;
@@ -134,11 +134,9 @@ pub fn render(
             marks.len(),
             output.as_mut_ptr(),
             output.len(),
-            from.as_ptr(),
-            from.len(),
+            &from,
             stop,
-            out.as_mut_ptr(),
-            out.len(),
+            &mut out,
         );
     }
     let [number, bytes, state @ ..] = out;
@@ -149,13 +147,14 @@ pub fn render(
     })
 }
 
-/// Lays out and renders a whole file: refusals 1 to 10. After 9 and 10 the
-/// store holds the rows; a refusal changes nothing else.
+/// Lays out and renders a whole file of at most [`FILE_ROWS`] rows: refusals 1
+/// to 10, each of which leaves the output as it was. [`Formatter`] takes larger
+/// files.
+///
+/// [`Formatter`]: crate::Formatter
 pub fn format_file(
     source: &[u8],
     image: &[u8],
-    store: &mut [u32],
-    marks: &mut [u8],
     output: &mut [u8],
 ) -> Result<FileWritten, Refusal> {
     let mut out = [0; 5];
@@ -166,14 +165,9 @@ pub fn format_file(
             source.len(),
             image.as_ptr(),
             image.len(),
-            store.as_mut_ptr(),
-            store.len(),
-            marks.as_mut_ptr(),
-            marks.len(),
             output.as_mut_ptr(),
             output.len(),
-            out.as_mut_ptr(),
-            out.len(),
+            &mut out,
         );
     }
     let [number, bytes, comments_left, rows, numbers] = out;

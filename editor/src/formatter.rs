@@ -1,8 +1,10 @@
 //! Formatting with buffers that grow as refusals 8, 9 and 10 ask.
 
 use crate::{
-    calls::{FileWritten, ROW, format_file},
+    calls::{Laid, ROW, Written, layout, render},
+    image::declarations,
     refusal::Refusal,
+    states::{LayoutState, RenderState},
 };
 
 /// The longest text that [`Formatter::new`] allows: 64 MiB.
@@ -14,7 +16,8 @@ pub const MOST_OUTPUT: u64 = 64 << 20;
 /// The most rows that are lent before a refusal asks for more: 18 MiB.
 const MOST_AT_FIRST: usize = 1 << 19;
 
-/// Owns the buffers of [`format_file`] and keeps them from file to file.
+/// Formats whole files of any size by two calls, [`layout`] and [`render`], in
+/// buffers that it owns and keeps from file to file.
 #[derive(Clone, Debug)]
 pub struct Formatter {
     store: Vec<u32>,
@@ -60,25 +63,45 @@ impl Formatter {
         source: &[u8],
         image: &[u8],
     ) -> Result<FileText<'_>, Refusal> {
-        let written = self.run(source, image)?;
+        self.prepare(source, image);
+        let laid = self.lay_out(source, image)?;
+        let written = self.render(source, image, laid.state.next_row)?;
         Ok(FileText {
             text: &self.output[..written.bytes],
-            comments_left: written.comments_left,
+            comments_left: laid.comments_left,
         })
     }
 
-    /// One round for most files. Where a buffer is too short it grows once,
-    /// to what the file needs: four rounds at most.
-    fn run(
+    /// All declarations and the final line, in one round for most files. Where
+    /// the store is too short it grows once, to what the file needs.
+    fn lay_out(
         &mut self,
         source: &[u8],
         image: &[u8],
-    ) -> Result<FileWritten, Refusal> {
-        self.prepare(source, image);
+    ) -> Result<Laid, Refusal> {
+        let (fresh, stop) = (LayoutState::default(), declarations(image));
+        loop {
+            let store = &mut self.store;
+            match layout(source, image, store, &fresh, stop, true) {
+                Ok(laid) => return Ok(laid),
+                Err(refusal) => self.grow(refusal)?,
+            }
+        }
+    }
+
+    /// All rows, in one round for most files. Marks and output grow once each
+    /// where they are too short.
+    fn render(
+        &mut self,
+        source: &[u8],
+        image: &[u8],
+        rows: u64,
+    ) -> Result<Written, Refusal> {
+        let fresh = RenderState::default();
         loop {
             let (store, marks) = (&mut self.store, &mut self.marks);
             let output = &mut self.output;
-            match format_file(source, image, store, marks, output) {
+            match render(source, image, store, marks, output, &fresh, rows) {
                 Ok(written) => return Ok(written),
                 Err(refusal) => self.grow(refusal)?,
             }
@@ -87,11 +110,12 @@ impl Formatter {
 
     /// Room to spare, as far as there is memory: a row and a mark for each
     /// byte of the image and two for each comment, which has eight bytes
-    /// there, and many times the source for the text. Neither layout nor
-    /// rendering then has to count before it writes.
+    /// there, and many times the source and the image for the text. Neither
+    /// layout nor rendering then has to count before it writes.
     fn prepare(&mut self, source: &[u8], image: &[u8]) {
         let rows = (image.len() + image.len() / 4).min(MOST_AT_FIRST) as u64;
-        let bytes = (source.len() as u64).saturating_mul(16) + (1 << 16);
+        let lengths = source.len() as u64 * 2 + image.len() as u64;
+        let bytes = lengths.saturating_mul(8).saturating_add(1 << 16);
         lengthen(&mut self.store, rows * ROW as u64);
         lengthen(&mut self.marks, rows);
         lengthen(&mut self.output, bytes.min(self.most_output));

@@ -15,13 +15,14 @@ mod calls;
 mod encode;
 mod fmt;
 mod formatter;
+mod image;
 mod linked;
 mod refusal;
 mod states;
 
 pub use calls::{
-    Accepted, FileWritten, Laid, ROW, Written, check, format_file, layout,
-    render,
+    Accepted, FILE_ROWS, FileWritten, Laid, ROW, Written, check, format_file,
+    layout, render,
 };
 pub use encode::{
     EncodeError, MOST_BODY, MOST_COMMENTS, MOST_DEPTH, MOST_SOURCE,
@@ -31,6 +32,7 @@ pub use fmt::{
     CommentsLeft, FormatError, Formatted, fmt_parsed, fmt_parsed_with_widths,
 };
 pub use formatter::{FileText, Formatter, MOST_OUTPUT};
+pub use image::declarations;
 pub use refusal::Refusal;
 pub use states::{LayoutState, RenderState};
 

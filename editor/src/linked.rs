@@ -1,5 +1,6 @@
 //! The functions of the static library, as crates/exports/src/lib.rt has
-//! them: a slice is a pointer and a length, answers are numbers in `out`.
+//! them: a slice is a pointer and a length, an array a pointer. Answers are
+//! numbers in `out`. include/rrufthim.h says the same to C.
 
 // The library's numbers are u64, and its lengths too.
 #[cfg(not(target_pointer_width = "64"))]
@@ -11,8 +12,7 @@ unsafe extern "C" {
         source_len: usize,
         image: *const u8,
         image_len: usize,
-        out: *mut u64,
-        out_len: usize,
+        out: *mut [u64; 3],
     );
 
     pub fn rrufthim_layout(
@@ -22,12 +22,10 @@ unsafe extern "C" {
         image_len: usize,
         store: *mut u32,
         store_len: usize,
-        state: *const u64,
-        state_len: usize,
+        state: *const [u64; 7],
         stop: u64,
         close: u64,
-        out: *mut u64,
-        out_len: usize,
+        out: *mut [u64; 9],
     );
 
     pub fn rrufthim_render(
@@ -41,11 +39,9 @@ unsafe extern "C" {
         marks_len: usize,
         output: *mut u8,
         output_len: usize,
-        state: *const u64,
-        state_len: usize,
+        state: *const [u64; 5],
         stop: u64,
-        out: *mut u64,
-        out_len: usize,
+        out: *mut [u64; 7],
     );
 
     pub fn rrufthim_format(
@@ -53,13 +49,8 @@ unsafe extern "C" {
         source_len: usize,
         image: *const u8,
         image_len: usize,
-        store: *mut u32,
-        store_len: usize,
-        marks: *mut u8,
-        marks_len: usize,
         output: *mut u8,
         output_len: usize,
-        out: *mut u64,
-        out_len: usize,
+        out: *mut [u64; 5],
     );
 }

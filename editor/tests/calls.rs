@@ -4,9 +4,7 @@ mod support;
 
 use std::thread;
 
-use rrufthim::{
-    LayoutState, ROW, RenderState, check, format_file, layout, render,
-};
+use rrufthim::{LayoutState, ROW, RenderState, check, layout, render};
 use support::{Buffers, DECLARATIONS, SOURCE, tariff_image};
 
 /// Lays out up to each stop in turn, and closes at the last.
@@ -101,14 +99,7 @@ fn threads_do_not_meet() {
             scope.spawn(|| {
                 for _ in 0..200 {
                     let mut own = Buffers::ample();
-                    let Buffers {
-                        store,
-                        marks,
-                        output,
-                    } = &mut own;
-                    let source = SOURCE.as_bytes();
-                    let got =
-                        format_file(source, &image, store, marks, output);
+                    let got = own.format(SOURCE.as_bytes(), &image);
                     assert_eq!(got, due);
                     assert_eq!(own, whole);
                 }

@@ -8,6 +8,7 @@ use std::thread;
 use rrufthim::{
     EncodeError, MOST_BODY, MOST_COMMENTS, MOST_DEPTH, MOST_SOURCE,
     MOST_WIDTH, Refusal, ast::*, check, encode, encode_with_widths,
+    format_file,
 };
 use support::{Buffers, constants, path};
 
@@ -109,7 +110,9 @@ fn a_small_stack() {
     let image = encode(&nested(MOST_DEPTH - 5), &[]).expect("an image");
     let run = move || {
         let mut buffers = Buffers::ample();
-        buffers.format(SOURCE.as_bytes(), &image).is_ok()
+        let source = SOURCE.as_bytes();
+        buffers.format(source, &image).is_ok()
+            && format_file(source, &image, &mut buffers.output).is_ok()
     };
     let thread = thread::Builder::new().stack_size(256 << 10).spawn(run);
     assert!(thread.expect("a thread").join().expect("no panic"));

@@ -4,8 +4,8 @@
 mod support;
 
 use rrufthim::{
-    FileWritten, LayoutState, ROW, Refusal, RenderState, check, layout,
-    render,
+    FileWritten, Formatter, LayoutState, ROW, Refusal, RenderState, check,
+    format_file, layout, render,
 };
 use support::{
     Buffers, DECLARATIONS, JUNK, JUNK_NUMBER, Random, SOURCE, tariff_image,
@@ -90,6 +90,7 @@ fn empty_slices_are_refused() {
     let state = RenderState::default();
     assert_eq!(try_render(&mut none, &[], &state, 0), Err(Refusal::NoImage));
     assert_eq!(none.format(&[], &[]), Err(Refusal::NoImage));
+    assert_eq!(format_file(&[], &[], &mut []), Err(Refusal::NoImage));
 }
 
 #[test]
@@ -242,6 +243,7 @@ fn changed_stores() {
 #[test]
 fn changed_images_and_sources() {
     let image = tariff_image();
+    let mut formatter = Formatter::new();
     let mut random = Random(4);
     let mut refused = 0;
     for _ in 0..TRIES {
@@ -259,6 +261,10 @@ fn changed_images_and_sources() {
             refused += 1;
             assert_eq!(formatted, Err(refusal));
             assert_eq!(buffers, Buffers::ample());
+            let output = &mut buffers.output;
+            assert_eq!(format_file(&source, &image, output), Err(refusal));
+            assert_eq!(buffers, Buffers::ample());
+            assert_eq!(formatter.format(&source, &image), Err(refusal));
         }
     }
     assert!(refused > 0 && refused < TRIES);
@@ -269,24 +275,34 @@ fn changed_images_and_sources() {
 fn neighbours_are_left_alone() {
     let image = tariff_image();
     let due = due(&image);
-    let (rows, marks) = (due.rows as usize * ROW, due.numbers as usize);
-    let mut around = Buffers::ample();
-    let written = rrufthim::format_file(
-        SOURCE.as_bytes(),
-        &image,
-        &mut around.store[5..5 + rows],
-        &mut around.marks[5..5 + marks],
-        &mut around.output[5..5 + due.bytes],
-    );
-    assert_eq!(written, Ok(due));
+    let (rows, numbers) = (due.rows as usize * ROW, due.numbers as usize);
+    let (source, bytes) = (SOURCE.as_bytes(), due.bytes);
     let Buffers {
         mut store,
         mut marks,
         mut output,
-    } = around;
+    } = Buffers::ample();
+    let state = LayoutState::default();
+    let lent = &mut store[5..5 + rows];
+    let laid = layout(source, &image, lent, &state, DECLARATIONS, true);
+    assert!(laid.is_ok());
+    let written = render(
+        source,
+        &image,
+        &mut store[5..5 + rows],
+        &mut marks[5..5 + numbers],
+        &mut output[5..5 + bytes],
+        &RenderState::default(),
+        due.rows,
+    );
+    assert_eq!(written.map(|written| written.bytes), Ok(bytes));
+    let mut once_more = vec![JUNK; bytes + 10];
+    let lent = &mut once_more[5..5 + bytes];
+    assert_eq!(format_file(source, &image, lent), Ok(due));
+    assert_eq!(once_more, output[..bytes + 10]);
     store.drain(5..5 + rows);
-    marks.drain(5..5 + due.numbers as usize);
-    output.drain(5..5 + due.bytes);
+    marks.drain(5..5 + numbers);
+    output.drain(5..5 + bytes);
     assert!(store.iter().all(|number| *number == JUNK_NUMBER));
     assert!(marks.iter().all(|mark| *mark == JUNK));
     assert!(output.iter().all(|byte| *byte == JUNK));

@@ -4,7 +4,10 @@
 #[path = "../../examples/format.rs"]
 mod example;
 
-use rrufthim::{FileWritten, ROW, Refusal, ast::*, encode, format_file};
+use rrufthim::{
+    FileWritten, LayoutState, ROW, Refusal, RenderState, ast::*,
+    declarations, encode, layout, render,
+};
 
 pub use example::{SOURCE, tariff};
 
@@ -79,6 +82,7 @@ impl Buffers {
         Buffers::new(300, 300, 4_000)
     }
 
+    /// A whole file by the two calls.
     pub fn format(
         &mut self,
         source: &[u8],
@@ -89,7 +93,17 @@ impl Buffers {
             marks,
             output,
         } = self;
-        format_file(source, image, store, marks, output)
+        let (fresh, stop) = (LayoutState::default(), declarations(image));
+        let laid = layout(source, image, store, &fresh, stop, true)?;
+        let (fresh, rows) = (RenderState::default(), laid.state.next_row);
+        let written =
+            render(source, image, store, marks, output, &fresh, rows)?;
+        Ok(FileWritten {
+            bytes: written.bytes,
+            comments_left: laid.comments_left,
+            rows,
+            numbers: written.state.marks_in_use,
+        })
     }
 }
 

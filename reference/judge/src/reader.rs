@@ -57,19 +57,37 @@ impl Record<'_> {
     }
 }
 
+/// Whether comments (7) and spans (6) are tested to be ranges of the source.
+/// The original doesn't test them.
+#[derive(Clone, Copy, Debug, PartialEq, Eq)]
+pub enum Ranges {
+    Tested,
+    Believed,
+}
+
 /// Reads an image with its source: refusals 1, 2, 3, 7, then 4, 5, 6.
 pub fn read<'i>(
     source: &'i [u8],
     image: &'i [u8],
 ) -> Result<Accepted<'i>, Refusal> {
+    read_with(source, image, Ranges::Tested)
+}
+
+/// The same with or without the tests of ranges.
+pub fn read_with<'i>(
+    source: &'i [u8],
+    image: &'i [u8],
+    ranges: Ranges,
+) -> Result<Accepted<'i>, Refusal> {
     check_source_length(source)?;
     let source = std::str::from_utf8(source)
         .map_err(|bad| refusal(2, bad.valid_up_to()))?;
     check_header(image)?;
-    let comments = read_comments(source, image)?;
+    let comments = read_comments(source, image, ranges)?;
     let mut reader = Reader {
         source,
         image,
+        ranges,
         at: HEADER + COUNT + PAIR * comments.len(),
     };
     let tree = reader.present(grammar::TREE, image.len(), 1)?;
@@ -109,6 +127,7 @@ pub fn check_header(image: &[u8]) -> Result<(), Refusal> {
 fn read_comments(
     source: &str,
     image: &[u8],
+    ranges: Ranges,
 ) -> Result<Vec<Range<usize>>, Refusal> {
     let bad_count = refusal(7, HEADER);
     let (count, rest) = image[HEADER..]
@@ -122,7 +141,8 @@ fn read_comments(
         .map(|i| {
             let at = HEADER + COUNT + PAIR * i;
             let span = number(image, at)..number(image, at + 4);
-            if span.is_empty() || !lies_in(source, &span) {
+            let right = !span.is_empty() && lies_in(source, &span);
+            if ranges == Ranges::Tested && !right {
                 return Err(refusal(7, at));
             }
             Ok(span)
@@ -143,6 +163,7 @@ fn number(image: &[u8], at: usize) -> usize {
 struct Reader<'i> {
     source: &'i str,
     image: &'i [u8],
+    ranges: Ranges,
     at: usize,
 }
 
@@ -200,7 +221,8 @@ impl<'i> Reader<'i> {
         if depth > MOST_DEPTH {
             return Err(refusal(5, at));
         }
-        if !lies_in(self.source, &span) {
+        let tested = self.ranges == Ranges::Tested;
+        if tested && !lies_in(self.source, &span) {
             return Err(refusal(6, at));
         }
         let children = self.children(kind, place, end, depth)?;

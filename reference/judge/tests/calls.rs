@@ -203,6 +203,56 @@ fn whose_fault_a_wrong_row_is() {
     assert_eq!(wrong_row(&[call(1, 3), line(2), line(4), line(4)]), Some(2));
 }
 
+/// Document 01: "a `Call`'s second part not starting at a part or the end".
+/// One that starts at the end is right, whatever its parts are.
+#[test]
+fn a_second_part_at_the_end_answers_for_no_part() {
+    let line = |after| row(rows::LINE, 0, after);
+    let group = |after| row(rows::GROUP, 0, after);
+    let call = |second, after| row(rows::CALL, second, after);
+    let cells = [
+        [rows::CALL, 0, 1, 2, 2, 0, 0, 0, 0],
+        [rows::ASCII, 0, 0, 0, 3, 0, 0, 0, 0],
+    ];
+    assert_eq!(wrong_row(&cells.map(Row::from_cells)), Some(1));
+    // No part, and right ones.
+    assert_eq!(wrong_row(&[call(1, 1)]), None);
+    assert_eq!(wrong_row(&[call(2, 2), line(2)]), None);
+    assert_eq!(wrong_row(&[call(3, 3), group(3), line(3)]), None);
+    // A row after that is the row itself, or one before it.
+    assert_eq!(wrong_row(&[call(2, 2), line(1)]), Some(1));
+    assert_eq!(wrong_row(&[call(3, 3), line(2), group(1)]), Some(2));
+    // A part that outgrows the call, the stop, or its own parent.
+    assert_eq!(wrong_row(&[call(2, 2), line(3), line(3)]), Some(1));
+    assert_eq!(wrong_row(&[call(2, 2), group(u32::MAX)]), Some(1));
+    assert_eq!(
+        wrong_row(&[call(4, 4), group(3), group(4), line(4)]),
+        Some(2)
+    );
+    // A leaf with parts.
+    assert_eq!(wrong_row(&[call(3, 3), line(3), line(3)]), Some(1));
+    // The call's own range is wrong.
+    assert_eq!(wrong_row(&[call(2, 2)]), Some(0));
+    assert_eq!(wrong_row(&[call(0, 0)]), Some(0));
+}
+
+/// One that is meant to be a part isn't, where going from part to part
+/// doesn't reach it.
+#[test]
+fn a_second_part_inside_answers_for_the_way_there() {
+    let line = |after| row(rows::LINE, 0, after);
+    let group = |after| row(rows::GROUP, 0, after);
+    let call = |second, after| row(rows::CALL, second, after);
+    assert_eq!(wrong_row(&[call(2, 3), line(2), line(3)]), None);
+    assert_eq!(wrong_row(&[call(2, 3), group(3), line(3)]), Some(0));
+    assert_eq!(wrong_row(&[call(2, 3), line(1), line(3)]), Some(0));
+    assert_eq!(wrong_row(&[call(2, 3), line(4), line(3)]), Some(0));
+    assert_eq!(wrong_row(&[call(2, 3), line(2), line(2)]), Some(2));
+    assert_eq!(wrong_row(&[call(1, 3), line(1), line(3)]), Some(1));
+    assert_eq!(wrong_row(&[call(0, 2), line(2)]), Some(0));
+    assert_eq!(wrong_row(&[call(3, 2), line(2), line(3)]), Some(0));
+}
+
 #[test]
 fn rows_nest_256_deep() {
     let nested = |count: u32| -> Vec<Row> {
@@ -236,6 +286,30 @@ fn the_cut_rule_holds_of_the_original() {
         assert_eq!((answers, world), plain, "case {index}");
     }
     assert!(spoken_of > 200, "{spoken_of}");
+}
+
+/// docs/ARCHITECTURE.md, "The way of one file": the smallest list on which the
+/// cut rule is false, since it renders a row before that is laid out.
+#[test]
+fn the_cut_rule_needs_rows_that_are_laid_out() {
+    let bytes = examples::frame("shebang").unwrap();
+    let frame = frame::split(&bytes).unwrap();
+    let first =
+        Row::from_cells([rows::ASCII, 0, 0, 0, 1, rows::IMAGE, 8, 1, 0]);
+    let mut world = World {
+        store: vec![0; 2 * Row::CELLS],
+        ..World::default()
+    };
+    world.put_rows(0, &[first]);
+    let (store, marks) = (world.store.clone(), world.marks.clone());
+    let calls = [render(1), layout(0, false)];
+    let given = given(&frame);
+    assert!(!calls::reads_laid_rows_alone(given, &store, &marks, &calls));
+    let answers = calls::run(given, &mut world, &calls);
+    let (due_answers, due) = calls::plain_run(given, &store, &marks, &calls);
+    assert!(answers.iter().chain(&due_answers).all(Result::is_ok));
+    assert_eq!(world.text, b"\0");
+    assert_eq!(due.text, b"#!/x");
 }
 
 #[test]

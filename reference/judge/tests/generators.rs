@@ -1,10 +1,15 @@
 //! The generators keep what they promise.
 
+use std::collections::BTreeMap;
+
 use judge::{
+    calls::{self, Answer, Given},
     frame::{self, Frame},
-    generate::{self, Class},
+    generate::{self, CallCase, Class},
     program::{self, Widths},
     reader::{self, Payload},
+    refusal::Refusal,
+    rows::{self, Row},
     table,
 };
 
@@ -71,6 +76,81 @@ fn edges_end_where_wanted() {
         }
     }
     assert!(ends[78] > 20 && ends[79] > 20 && ends[80] > 20, "{ends:?}");
+}
+
+/// What refusal 11 can find of the first `Call` of a case's rows: where its
+/// second part starts, and whose the fault is.
+fn call_fault(
+    case: &CallCase,
+    answer: Result<Answer, Refusal>,
+) -> Option<(&'static str, &'static str)> {
+    let from = case.world.rendering.next_row;
+    let rows = case.world.rows(case.world.room_for_rows());
+    let is_call = |row: &Row| row.kind == rows::CALL;
+    let place = from + rows.get(from..)?.iter().position(is_call)?;
+    let call = rows[place];
+    let second = if call.second_part == call.after {
+        "the end"
+    } else {
+        "elsewhere"
+    };
+    let fault = match answer {
+        Ok(_) => "none",
+        Err(Refusal {
+            number: 11,
+            place: at,
+        }) => {
+            let at = at as usize;
+            let row = rows.get(at)?;
+            if at == place {
+                "the call"
+            } else if at < place || at >= call.after as usize {
+                return None;
+            } else if row.after as usize <= at {
+                "a part that ends where it begins"
+            } else if row.after > call.after {
+                "a part that outgrows it"
+            } else {
+                "another part"
+            }
+        }
+        Err(_) => return None,
+    };
+    Some((second, fault))
+}
+
+/// A comparison tries 20,000 lists.
+#[test]
+fn calls_have_wrong_parts_of_every_kind() {
+    let mut counts = BTreeMap::new();
+    for index in 0..20_000 {
+        let case = generate::call_case(SEED, index);
+        let given = Given {
+            source: &case.source,
+            image: &case.image,
+        };
+        let mut world = case.world.clone();
+        if let [render @ calls::Call::Render { .. }] = case.calls[..] {
+            let answer = calls::call(given, &mut world, render);
+            if let Some(found) = call_fault(&case, answer) {
+                *counts.entry(found).or_insert(0) += 1;
+            }
+        }
+    }
+    let due = [
+        (("the end", "none"), 200),
+        (("the end", "a part that ends where it begins"), 200),
+        (("the end", "a part that outgrows it"), 200),
+        (("the end", "another part"), 200),
+        (("elsewhere", "none"), 200),
+        (("elsewhere", "the call"), 200),
+        (("elsewhere", "a part that ends where it begins"), 50),
+        (("elsewhere", "a part that outgrows it"), 50),
+    ];
+    for (kind, least) in due {
+        let count = counts.get(&kind).copied().unwrap_or(0);
+        assert!(count >= least, "{kind:?} {counts:?}");
+    }
 }
 
 #[test]

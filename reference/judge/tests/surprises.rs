@@ -1,13 +1,14 @@
-//! docs/DIFFERENCES.md, "What the original does that you might not expect":
-//! every input and output there, on the original.
+//! docs/DIFFERENCES.md: every input and output there, on the original.
 
-use std::ops::Range;
+use std::{any::Any, ops::Range, panic};
 
 use judge::{
-    examples, frame,
+    driver, examples, frame,
     image::{self, Tree, chosen, node, text},
     program::{self, Widths},
+    reader::{self, Ranges},
     script,
+    tree::Input,
 };
 
 const PAGE: &str = include_str!("../../../docs/DIFFERENCES.md");
@@ -301,4 +302,86 @@ fn widths_are_believed() {
 fn an_import_of_nothing() {
     let frame = examples::frame("import-nothing").unwrap();
     assert_row("16 with neither path nor group", &output(&frame));
+}
+
+/// `const A: T = VALUE;` with this span for `A`, all others 0, 0.
+fn constant_at(span: Range<usize>, value: Option<Tree>) -> Tree {
+    constant(Some(text(span, 1, "A")), value)
+}
+
+/// What the original makes of a frame whose ranges nobody tested: its text, or
+/// the page's words for its panic.
+fn untested(frame: &[u8]) -> String {
+    let frame = frame::split(frame).unwrap();
+    let accepted =
+        reader::read_with(frame.source, frame.image, Ranges::Believed);
+    let accepted = accepted.expect("all but the ranges is right");
+    let input = Input::new(&accepted, frame.image);
+    let _held = input.supply_widths();
+    let run = panic::AssertUnwindSafe(|| driver::run(&input).text);
+    match panic::catch_unwind(run) {
+        Ok(text) => format!("`{text:?}`"),
+        Err(message) => panic_in_words(message).to_owned(),
+    }
+}
+
+fn panic_in_words(message: Box<dyn Any + Send>) -> &'static str {
+    let message = match message.downcast::<String>() {
+        Ok(owned) => *owned,
+        Err(other) => (*other.downcast::<&str>().unwrap()).to_owned(),
+    };
+    let known = [
+        (
+            "out of bounds",
+            "panics: a slice past the end (`span_content`)",
+        ),
+        (
+            "subtract with overflow",
+            "panics: overflow (`comment.end - 1`)",
+        ),
+    ];
+    let found = known.iter().find(|(part, _)| message.contains(part));
+    found.unwrap_or_else(|| panic!("{message}")).1
+}
+
+/// "Refusals that the Rust doesn't have": the original without the tests, and
+/// the number and place that they give.
+#[test]
+fn refused_where_the_original_has_no_test() {
+    let one = |source, comments, declaration| {
+        examples::of_source(source, comments, vec![declaration])
+    };
+    let name_at = |span| constant_at(span, value("a"));
+    let literal = chosen(87, 0..1, 0, []);
+    let literal = node(51, 0..0, [Some(literal)]);
+    let literal = constant_at(0..0, Some(literal));
+    #[allow(clippy::reversed_empty_ranges)]
+    let reversed = 2..1;
+    let inputs = [
+        ("source empty, `A` at 1..2", one("", vec![], name_at(1..2))),
+        ("source `é`, `A` at 1..1", one("é", vec![], name_at(1..1))),
+        (
+            "source `ab`, `A` at 2..1",
+            one("ab", vec![], name_at(reversed)),
+        ),
+        (
+            "source empty, the value a literal (87, payload 0) at 0..1",
+            one("", vec![], literal),
+        ),
+        (
+            "source `ab`, a comment 1..1, `A` at 2..2",
+            one("ab", vec![1..1], name_at(2..2)),
+        ),
+        (
+            "source `ab`, a comment 0..0, `A` at 1..2",
+            one("ab", vec![0..0], name_at(1..2)),
+        ),
+    ];
+    for (input, frame) in inputs {
+        let original = untested(&frame);
+        let port = output(&frame);
+        let row = format!("| {input} | {original} | {} |", port.trim_end());
+        assert!(PAGE.contains(&row), "{row}");
+        assert!(port.starts_with("refused "), "{port}");
+    }
 }

@@ -22,9 +22,9 @@ pub struct Accepted {
 
 /// The port's reader: refusals 1 to 7.
 pub fn check(source: &[u8], image: &[u8]) -> Result<Accepted, Refusal> {
-    let mut out = [UNTOUCHED; 4];
-    port::check(source, image, &mut out);
-    let [comments, tree] = accepted(&out)?;
+    let mut out = Out::<4>::new();
+    port::check(source, image, out.places());
+    let [comments, tree] = out.accepted()?;
     Ok(Accepted { comments, tree })
 }
 
@@ -44,26 +44,42 @@ const UNTOUCHED: u64 = 0xABAD_1DEA_ABAD_1DEA;
 /// that the call promises.
 pub const ILL_FORMED: u8 = 255;
 
-/// What follows the 0 of an accepted call, or the refusal. Past the answer
-/// `out` must be as it was.
-fn accepted<const N: usize>(out: &[u64]) -> Result<[u64; N], Refusal> {
-    let answered = if out[0] == 0 { 1 + N } else { 2 };
-    let strange = Refusal {
-        number: ILL_FORMED,
-        place: out[0],
-    };
-    let touched = |number: &u64| *number != UNTOUCHED;
-    if !out[..answered].iter().all(touched)
-        || out[answered..].iter().any(touched)
-    {
-        return Err(strange);
+/// Where a call puts its answer, with one place behind it that no call has.
+struct Out<const N: usize>([u64; N]);
+
+impl<const N: usize> Out<N> {
+    fn new() -> Self {
+        Out([UNTOUCHED; N])
     }
-    match out {
-        [0, rest @ ..] => Ok(*rest.first_chunk().expect("long enough")),
-        [number @ 1..=13, place, ..] => Err(Refusal {
-            number: *number as u8,
-            place: *place,
-        }),
-        _ => Err(strange),
+
+    /// The places that the call is lent.
+    fn places<const M: usize>(&mut self) -> &mut [u64; M] {
+        assert_eq!(M + 1, N);
+        self.0.first_chunk_mut().expect("long enough")
+    }
+
+    /// What follows the 0 of an accepted call, or the refusal. Past the answer
+    /// all must be as it was.
+    fn accepted<const A: usize>(&self) -> Result<[u64; A], Refusal> {
+        let out = &self.0[..];
+        let answered = if out[0] == 0 { 1 + A } else { 2 };
+        let strange = Refusal {
+            number: ILL_FORMED,
+            place: out[0],
+        };
+        let touched = |number: &u64| *number != UNTOUCHED;
+        if !out[..answered].iter().all(touched)
+            || out[answered..].iter().any(touched)
+        {
+            return Err(strange);
+        }
+        match out {
+            [0, rest @ ..] => Ok(*rest.first_chunk().expect("long enough")),
+            [number @ 1..=13, place, ..] => Err(Refusal {
+                number: *number as u8,
+                place: *place,
+            }),
+            _ => Err(strange),
+        }
     }
 }

@@ -1,5 +1,5 @@
-//! The exported functions of the port as safe Rust: slices and numbers in,
-//! numbers out. With the feature `stand-in` the judge answers in their place.
+//! The exported functions of the port as safe Rust: slices, arrays and numbers
+//! in, numbers out. With the feature `stand-in` the judge answers in their place.
 
 #[cfg(feature = "stand-in")]
 pub use crate::stand_in::{check, format, layout, render};
@@ -15,8 +15,7 @@ mod linked {
             source_len: usize,
             image: *const u8,
             image_len: usize,
-            out: *mut u64,
-            out_len: usize,
+            out: *mut [u64; 3],
         );
     }
 
@@ -29,12 +28,10 @@ mod linked {
             image_len: usize,
             store: *mut u32,
             store_len: usize,
-            state: *const u64,
-            state_len: usize,
+            state: *const [u64; 7],
             stop: u64,
             close: u64,
-            out: *mut u64,
-            out_len: usize,
+            out: *mut [u64; 9],
         );
         fn rrufthim_render(
             source: *const u8,
@@ -47,30 +44,23 @@ mod linked {
             marks_len: usize,
             output: *mut u8,
             output_len: usize,
-            state: *const u64,
-            state_len: usize,
+            state: *const [u64; 5],
             stop: u64,
-            out: *mut u64,
-            out_len: usize,
+            out: *mut [u64; 7],
         );
         fn rrufthim_format(
             source: *const u8,
             source_len: usize,
             image: *const u8,
             image_len: usize,
-            store: *mut u32,
-            store_len: usize,
-            marks: *mut u8,
-            marks_len: usize,
             output: *mut u8,
             output_len: usize,
-            out: *mut u64,
-            out_len: usize,
+            out: *mut [u64; 5],
         );
     }
 
     /// `out`: 0, comments, the tree's offset; or number, place.
-    pub fn check(source: &[u8], image: &[u8], out: &mut [u64]) {
+    pub fn check(source: &[u8], image: &[u8], out: &mut [u64; 3]) {
         // Safety: each slice with its own length; nothing is kept.
         unsafe {
             rrufthim_check(
@@ -78,8 +68,7 @@ mod linked {
                 source.len(),
                 image.as_ptr(),
                 image.len(),
-                out.as_mut_ptr(),
-                out.len(),
+                out,
             );
         }
     }
@@ -92,10 +81,10 @@ mod linked {
         source: &[u8],
         image: &[u8],
         store: &mut [u32],
-        state: &[u64],
+        state: &[u64; 7],
         stop: u64,
         close: u64,
-        out: &mut [u64],
+        out: &mut [u64; 9],
     ) {
         // Safety: as in `check`.
         unsafe {
@@ -106,12 +95,10 @@ mod linked {
                 image.len(),
                 store.as_mut_ptr(),
                 store.len(),
-                state.as_ptr(),
-                state.len(),
+                state,
                 stop,
                 close,
-                out.as_mut_ptr(),
-                out.len(),
+                out,
             );
         }
     }
@@ -126,9 +113,9 @@ mod linked {
         store: &mut [u32],
         marks: &mut [u8],
         output: &mut [u8],
-        state: &[u64],
+        state: &[u64; 5],
         stop: u64,
-        out: &mut [u64],
+        out: &mut [u64; 7],
     ) {
         // Safety: as in `check`.
         unsafe {
@@ -143,11 +130,9 @@ mod linked {
                 marks.len(),
                 output.as_mut_ptr(),
                 output.len(),
-                state.as_ptr(),
-                state.len(),
+                state,
                 stop,
-                out.as_mut_ptr(),
-                out.len(),
+                out,
             );
         }
     }
@@ -158,10 +143,8 @@ mod linked {
     pub fn format(
         source: &[u8],
         image: &[u8],
-        store: &mut [u32],
-        marks: &mut [u8],
         output: &mut [u8],
-        out: &mut [u64],
+        out: &mut [u64; 5],
     ) {
         // Safety: as in `check`.
         unsafe {
@@ -170,14 +153,9 @@ mod linked {
                 source.len(),
                 image.as_ptr(),
                 image.len(),
-                store.as_mut_ptr(),
-                store.len(),
-                marks.as_mut_ptr(),
-                marks.len(),
                 output.as_mut_ptr(),
                 output.len(),
-                out.as_mut_ptr(),
-                out.len(),
+                out,
             );
         }
     }

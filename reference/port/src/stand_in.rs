@@ -9,6 +9,7 @@ use judge::{
         render_call,
     },
     driver::{Pen, Stop},
+    program::{MARKS, ROWS},
     reader,
     refusal::Refusal,
     rows::Row,
@@ -51,14 +52,16 @@ pub enum Fault {
     FaultyRow,
     /// 12 comes before 11.
     Order,
-    /// A number past the answer is written.
+    /// A number past a refusal's two is written.
     PastAnswer,
     /// The whole run's bytes written.
     WholeBytes,
+    /// The whole run writes its output before 10.
+    OutputBeforeRefusal,
 }
 
 impl Fault {
-    pub const ALL: [Fault; 18] = [
+    pub const ALL: [Fault; 19] = [
         Fault::CheckPlace,
         Fault::CommentsLeft,
         Fault::Position,
@@ -77,6 +80,7 @@ impl Fault {
         Fault::Order,
         Fault::PastAnswer,
         Fault::WholeBytes,
+        Fault::OutputBeforeRefusal,
     ];
 }
 
@@ -99,40 +103,43 @@ fn put(out: &mut [u64], numbers: &[u64]) {
 
 fn put_refusal(out: &mut [u64], refusal: Refusal) {
     put(out, &[refusal.number.into(), refusal.place]);
+    if planted(Fault::PastAnswer) {
+        put(&mut out[2..], &[0]);
+    }
 }
 
-/// Numbers that are missing count as 0.
-fn at(state: &[u64], place: usize) -> usize {
-    state.get(place).copied().unwrap_or(0) as usize
-}
-
-fn layout_state(state: &[u64]) -> LayoutState {
+fn layout_state(state: &[u64; 7]) -> LayoutState {
+    let [begun, closed, next_declaration, at @ ..] =
+        state.map(|number| number as usize);
+    let [next_row, next_number, comments_placed, position] = at;
     LayoutState {
-        begun: at(state, 0) != 0,
-        closed: at(state, 1) != 0,
-        next_declaration: at(state, 2),
+        begun: begun != 0,
+        closed: closed != 0,
+        next_declaration,
         at: Stop {
-            next_row: at(state, 3),
-            next_number: at(state, 4),
-            comments_placed: at(state, 5),
-            position: at(state, 6),
+            next_row,
+            next_number,
+            comments_placed,
+            position,
         },
     }
 }
 
-fn render_state(state: &[u64]) -> RenderState {
+fn render_state(state: &[u64; 5]) -> RenderState {
+    let [indent, next_indent, column, marks_in_use, next_row] =
+        state.map(|number| number as usize);
     RenderState {
         pen: Pen {
-            indent: at(state, 0),
-            next_indent: at(state, 1),
-            column: at(state, 2),
+            indent,
+            next_indent,
+            column,
         },
-        marks_in_use: at(state, 3),
-        next_row: at(state, 4),
+        marks_in_use,
+        next_row,
     }
 }
 
-pub fn check(source: &[u8], image: &[u8], out: &mut [u64]) {
+pub fn check(source: &[u8], image: &[u8], out: &mut [u64; 3]) {
     match reader::read(source, image) {
         Ok(read) => {
             put(out, &[0, read.comments.len() as u64, read.tree.at as u64]);
@@ -148,10 +155,10 @@ pub fn layout(
     source: &[u8],
     image: &[u8],
     store: &mut [u32],
-    state: &[u64],
+    state: &[u64; 7],
     stop: u64,
     close: u64,
-    out: &mut [u64],
+    out: &mut [u64; 9],
 ) {
     let mut world = World {
         store: store.to_vec(),
@@ -221,9 +228,6 @@ fn put_laid(out: &mut [u64], state: &LayoutState, comments_left: usize) {
         state.at.position + usize::from(shift),
     ];
     put(out, &numbers.map(|number| number as u64));
-    if planted(Fault::PastAnswer) {
-        put(&mut out[numbers.len()..], &[0]);
-    }
 }
 
 #[allow(clippy::too_many_arguments)]
@@ -233,9 +237,9 @@ pub fn render(
     store: &mut [u32],
     marks: &mut [u8],
     output: &mut [u8],
-    state: &[u64],
+    state: &[u64; 5],
     stop: u64,
-    out: &mut [u64],
+    out: &mut [u64; 7],
 ) {
     let mut world = World {
         store: store.to_vec(),
@@ -318,27 +322,35 @@ fn put_written(out: &mut [u64], state: &RenderState, bytes: usize) {
     put(out, &numbers.map(|number| number as u64));
 }
 
+/// The whole run on rows and marks of its own.
 pub fn format(
     source: &[u8],
     image: &[u8],
-    store: &mut [u32],
-    marks: &mut [u8],
     output: &mut [u8],
-    out: &mut [u64],
+    out: &mut [u64; 5],
 ) {
     let declarations = match reader::read(source, image) {
         Ok(read) => read.tree.children.len() as u64 - 1,
         Err(refusal) => return put_refusal(out, refusal),
     };
+    let mut store = vec![0; ROWS * Row::CELLS];
+    let mut marks = vec![0; MARKS as usize];
     let mut laid = [0; 9];
-    layout(source, image, store, &[], declarations, 1, &mut laid);
+    let (fresh, store) = ([0; 7], &mut store);
+    layout(source, image, store, &fresh, declarations, 1, &mut laid);
     if laid[0] != 0 {
         return put(out, &laid[..2]);
     }
     let [rows, numbers] = [laid[5], laid[6]];
     let mut shown = [0; 7];
-    render(source, image, store, marks, output, &[], rows, &mut shown);
+    let (fresh, marks) = ([0; 5], &mut marks);
+    render(
+        source, image, store, marks, output, &fresh, rows, &mut shown,
+    );
     if shown[0] != 0 {
+        if planted(Fault::OutputBeforeRefusal) {
+            output.fill(0);
+        }
         return put(out, &shown[..2]);
     }
     let bytes = shown[1] + u64::from(planted(Fault::WholeBytes));

@@ -6,7 +6,7 @@ use judge::{
     refusal::Refusal,
 };
 
-use crate::{UNTOUCHED, accepted, port};
+use crate::{Out, port};
 
 /// What the whole run says of an accepted file.
 #[derive(Clone, Copy, Debug, PartialEq, Eq)]
@@ -25,7 +25,7 @@ pub fn layout(
     stop: usize,
     close: bool,
 ) -> Result<Answer, Refusal> {
-    let mut out = [UNTOUCHED; 10];
+    let mut out = Out::<10>::new();
     let numbers = [
         truth(state.begun),
         truth(state.closed),
@@ -39,12 +39,13 @@ pub fn layout(
         given.source,
         given.image,
         store,
-        without_zeros(&numbers),
+        &numbers,
         stop as u64,
         truth(close),
-        &mut out,
+        out.places(),
     );
-    let [comments_left, begun, closed, next, at @ ..] = accepted::<8>(&out)?;
+    let [comments_left, begun, closed, next, at @ ..] =
+        out.accepted::<8>()?;
     let [next_row, next_number, comments_placed, position] =
         at.map(|number| number as usize);
     Ok(Answer::LaidOut {
@@ -72,7 +73,7 @@ pub fn render(
     state: &RenderState,
     stop: usize,
 ) -> Result<Answer, Refusal> {
-    let mut out = [UNTOUCHED; 8];
+    let mut out = Out::<8>::new();
     let numbers = [
         state.pen.indent,
         state.pen.next_indent,
@@ -87,12 +88,12 @@ pub fn render(
         store,
         marks,
         output,
-        without_zeros(&numbers),
+        &numbers,
         stop as u64,
-        &mut out,
+        out.places(),
     );
     let [bytes, indent, next_indent, column, marks_in_use, next_row] =
-        accepted::<6>(&out)?.map(|number| number as usize);
+        out.accepted::<6>()?.map(|number| number as usize);
     Ok(Answer::Written {
         state: RenderState {
             pen: Pen {
@@ -108,16 +109,11 @@ pub fn render(
 }
 
 /// The port's whole run.
-pub fn format(
-    given: Given,
-    store: &mut [u32],
-    marks: &mut [u8],
-    output: &mut [u8],
-) -> Result<Formatted, Refusal> {
-    let mut out = [UNTOUCHED; 6];
+pub fn format(given: Given, output: &mut [u8]) -> Result<Formatted, Refusal> {
+    let mut out = Out::<6>::new();
     let Given { source, image } = given;
-    port::format(source, image, store, marks, output, &mut out);
-    let [bytes, comments_left, rows, numbers] = accepted(&out)?;
+    port::format(source, image, output, out.places());
+    let [bytes, comments_left, rows, numbers] = out.accepted()?;
     Ok(Formatted {
         bytes,
         comments_left,
@@ -129,10 +125,4 @@ pub fn format(
 /// Any number but 0 is true.
 fn truth(value: bool) -> u64 {
     if value { 1 << 40 } else { 0 }
-}
-
-/// Numbers that are missing count as 0, so zeros at the end are left out.
-fn without_zeros(numbers: &[u64]) -> &[u64] {
-    let last = numbers.iter().rposition(|number| *number != 0);
-    &numbers[..last.map_or(0, |place| place + 1)]
 }

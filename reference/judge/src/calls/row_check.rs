@@ -60,7 +60,8 @@ impl Check<'_> {
     }
 
     /// What a kind says of its parts; their own ranges are theirs to answer
-    /// for, unless they miss a place that this row names.
+    /// for, unless they miss a part that this row names. A `Call` whose second
+    /// part starts at the end names none.
     fn parts_are_right(&self, place: usize, row: &Row) -> bool {
         let after = row.after as usize;
         let second = row.second_part as usize;

@@ -296,9 +296,14 @@ fn one_rendering(random: &mut Random) -> CallCase {
     let sizes = [source.len(), image.len()];
     let from = random.below(3);
     let mut rows = vec![Row::default(); from];
-    rows.extend(random_rows::rows(random, sizes, from));
-    if random.once_in(3) {
-        random_rows::damage(random, &mut rows);
+    match random.below(9) {
+        0..=3 => rows.extend(random_rows::call(random, sizes, from)),
+        kind => {
+            rows.extend(random_rows::rows(random, sizes, from));
+            if kind < 6 {
+                random_rows::damage(random, &mut rows);
+            }
+        }
     }
     let mut world = world(random, rows.len(), 12);
     let fitting = world.room_for_rows().min(rows.len());

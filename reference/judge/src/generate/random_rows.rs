@@ -9,17 +9,57 @@ use crate::{
 /// source and image.
 pub fn rows(random: &mut Random, sizes: [usize; 2], base: usize) -> Vec<Row> {
     let left = *random.pick(&[1, 5, 20, 60]);
-    let mut maker = Maker {
-        random,
-        sizes: [sizes[0], sizes[1], rows::fixed_words().len()],
-        base,
-        left,
-        rows: Vec::new(),
-    };
+    let mut maker = Maker::new(random, sizes, base, left);
     while maker.left > 0 {
         maker.row(1);
     }
     maker.rows
+}
+
+/// The same with a `Call` among the first rows, whose second part and whose
+/// parts' ranges may be set anew: those are what refusal 11 says of a `Call`.
+pub fn call(random: &mut Random, sizes: [usize; 2], base: usize) -> Vec<Row> {
+    let left = *random.pick(&[4, 8, 16]);
+    let mut maker = Maker::new(random, sizes, base, left);
+    if maker.random.once_in(3) {
+        maker.row(1);
+    }
+    let place = maker.rows.len();
+    maker.of_kind(rows::CALL, 1);
+    while maker.left > 0 {
+        maker.row(1);
+    }
+    let mut rows = maker.rows;
+    move_second_part(random, &mut rows[place], base + place);
+    let below = rows[place].after as usize - base;
+    if !random.once_in(4) && place + 1 < below {
+        // The last row stands behind the second part, most times.
+        let first = *random.pick(&[place + 1, below - 1]);
+        let part = random.between(first, below - 1);
+        let call = rows[place];
+        move_end(random, &mut rows[part], call, base + part);
+    }
+    rows
+}
+
+/// To the call's end, or to any row near it.
+fn move_second_part(random: &mut Random, call: &mut Row, place: usize) {
+    let after = call.after as usize;
+    call.second_part = match random.below(5) {
+        0 | 1 => call.second_part,
+        2 | 3 => call.after,
+        _ => random.between(place, after + 1) as u32,
+    };
+}
+
+/// A range that is none, that outgrows the call, or any.
+fn move_end(random: &mut Random, row: &mut Row, call: Row, place: usize) {
+    row.after = match random.below(6) {
+        0 | 1 => place as u32,
+        2 | 3 => call.after + 1,
+        4 => call.after,
+        _ => random.between(place, call.after as usize) as u32,
+    };
 }
 
 struct Maker<'r> {
@@ -30,14 +70,28 @@ struct Maker<'r> {
     rows: Vec<Row>,
 }
 
-impl Maker<'_> {
+impl<'r> Maker<'r> {
+    fn new(
+        random: &'r mut Random,
+        [source, image]: [usize; 2],
+        base: usize,
+        left: usize,
+    ) -> Self {
+        Maker {
+            random,
+            sizes: [source, image, rows::fixed_words().len()],
+            base,
+            left,
+            rows: Vec::new(),
+        }
+    }
+
     fn here(&self) -> u32 {
         (self.base + self.rows.len()) as u32
     }
 
     fn row(&mut self, depth: usize) {
-        self.left = self.left.saturating_sub(1);
-        let nested = depth < 12 && self.left > 0;
+        let nested = depth < 12 && self.left > 1;
         let kind = match self.random.below(if nested { 16 } else { 7 }) {
             // Leaves first; then rows with parts, calls more than once.
             leaf @ 0..=6 => leaf as u32 + rows::WRAP_PARENT,
@@ -46,6 +100,11 @@ impl Maker<'_> {
             12 | 13 => rows::CALL,
             _ => rows::GROUP,
         };
+        self.of_kind(kind, depth);
+    }
+
+    fn of_kind(&mut self, kind: u32, depth: usize) {
+        self.left = self.left.saturating_sub(1);
         let place = self.rows.len();
         let cells = self.own_cells(kind);
         self.rows.push(cells);

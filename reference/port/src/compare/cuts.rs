@@ -5,7 +5,7 @@ use judge::{
     calls::{Answer, Given, LayoutState, RenderState},
     driver::{Run, Shown},
     frame::Frame,
-    program::{self, MARKS, OUTPUT, ROWS, Widths},
+    program::{self, OUTPUT, Widths},
     refusal::{Refusal, refusal},
     rows::{self, Row},
 };
@@ -49,31 +49,20 @@ pub fn compare(tally: &mut Tally, class: &str, frame: Frame) {
     }
 }
 
-/// The whole run. Its layout call writes the rows before rendering refuses;
-/// else a refusal leaves all as it was.
+/// The whole run; a refusal leaves the output as it was.
 fn compare_whole(
     tally: &mut Tally,
     given: Given,
     run: Option<&Run>,
     due: Result<Formatted, Refusal>,
 ) {
-    let mut store = junk_cells(ROWS * Row::CELLS);
-    let mut marks = junk_bytes(MARKS as usize);
     let mut output = junk_bytes(OUTPUT);
-    let mut due_store = store.clone();
-    let mut due_marks = marks.clone();
     let mut due_output = output.clone();
-    let got = crate::format(given, &mut store, &mut marks, &mut output);
-    if let Some(run) = run.filter(|run| run.rows.len() <= ROWS) {
-        put_rows(&mut due_store, 0, &run.rows);
-    }
+    let got = crate::format(given, &mut output);
     if let Some(run) = run.filter(|_| due.is_ok()) {
-        due_marks[..run.marks.len()].copy_from_slice(&run.marks);
         due_output[..run.text.len()].copy_from_slice(run.text.as_bytes());
     }
     let _ = tally.expect("the whole run's answer", &due, &got)
-        && expect_store(tally, "the whole run's store", &due_store, &store)
-        && tally.expect_bytes("the whole run's marks", &due_marks, &marks)
         && tally.expect_bytes("the whole run's output", &due_output, &output);
 }
 

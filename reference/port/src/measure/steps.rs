@@ -3,11 +3,11 @@
 use std::{fmt::Write, hint::black_box};
 
 use judge::{
-    calls::{Given, LayoutState, RenderState},
+    calls::{Answer, Given, LayoutState, RenderState},
     driver::{self, Held, Run},
     frame::Frame,
     generate::{self, SizeCase},
-    program::{self, Widths},
+    program::{self, ROWS, Widths},
     reader,
     rows::{self, Row},
     tree,
@@ -43,7 +43,8 @@ impl Ported<'_> {
         assert!(answer.is_ok(), "{answer:?}");
     }
 
-    fn render(&mut self) {
+    /// Renders, and gives the bytes of the text.
+    fn render(&mut self) -> usize {
         let answer = crate::render(
             self.given,
             &mut self.store,
@@ -52,18 +53,27 @@ impl Ported<'_> {
             &RenderState::default(),
             self.rows,
         );
-        assert!(answer.is_ok(), "{answer:?}");
+        match answer {
+            Ok(Answer::Written { bytes, .. }) => bytes,
+            other => panic!("{other:?}"),
+        }
     }
 
-    /// The text of the whole run.
+    /// The text of the whole run, which has rows and marks of its own.
     fn format(&mut self) -> &[u8] {
-        let answer = crate::format(
-            self.given,
-            &mut self.store,
-            &mut self.marks,
-            &mut self.output,
-        );
+        let answer = crate::format(self.given, &mut self.output);
         &self.output[..answer.expect("room for all").bytes as usize]
+    }
+
+    /// The whole file by the two calls.
+    fn calls(&mut self) -> usize {
+        self.layout();
+        self.render()
+    }
+
+    /// Whether the whole run has rows enough.
+    fn is_small(&self) -> bool {
+        self.rows <= ROWS
     }
 }
 
@@ -83,9 +93,11 @@ fn rows_lent(file: &File) -> usize {
     file.image.len() + 2 * comments + 16
 }
 
-/// The three steps on all files of an input, and the whole run once more with
-/// no more room than it needs, where both calls count before they write.
-pub fn of_files(input: &Input) -> [Line; 4] {
+/// The steps on all files of an input: layout and rendering apart; the whole
+/// run, on those files that it has rows for; the two calls with no more room
+/// than they need, where both count before they write; and the editor's
+/// formatter.
+pub fn of_files(input: &Input) -> Vec<Line> {
     let files = input.files.iter();
     let accepted: Vec<_> = files
         .map(|file| reader::read(&file.source, &file.image))
@@ -97,17 +109,18 @@ pub fn of_files(input: &Input) -> [Line; 4] {
         .map(|(accepted, file)| tree::Input::new(accepted, &file.image))
         .collect();
     let [mut ported, mut tight] = [const { Vec::new() }; 2];
-    let [mut rows, mut bytes] = [0, 0];
+    let mut lengths = Vec::new();
     for (tree, file) in trees.iter().zip(&input.files) {
         let run = driver::run(tree);
-        rows += run.rows.len();
-        bytes += run.text.len();
+        lengths.push(run.text.len());
         let mut one =
             of_file(file, &run, rows_lent(file), roomy(run.text.len()));
-        let text = one.format().len();
+        let text = one.calls();
         ported.push(one);
         tight.push(of_file(file, &run, run.rows.len(), text));
     }
+    let rows = ported.iter().map(|one| one.rows).sum();
+    let bytes = lengths.iter().sum();
     let line =
         |step, size, unit, [port_seconds, rust_seconds]: [f64; 2]| Line {
             step,
@@ -117,12 +130,46 @@ pub fn of_files(input: &Input) -> [Line; 4] {
             port_seconds,
             rust_seconds,
         };
-    [
+    let mut lines = vec![
         line("layout", rows, "row", layout(&mut ported, &trees)),
         line("rendering", rows, "row", rendered(&mut ported, &trees)),
-        line("whole", bytes, "byte", whole(&mut ported, &trees)),
-        line("tight whole", bytes, "byte", whole(&mut tight, &trees)),
-    ]
+        line("tight calls", bytes, "byte", calls(&mut tight, &trees)),
+    ];
+    #[cfg(feature = "formatter")]
+    lines.push(line("Formatter", bytes, "byte", formatter(input, &trees)));
+    lines.extend(small_files(input, &mut ported, &trees, &lengths));
+    lines
+}
+
+/// The whole run on the files of an input that it has rows for.
+fn small_files(
+    input: &Input,
+    ported: &mut [Ported],
+    trees: &[tree::Input],
+    lengths: &[usize],
+) -> Option<Line> {
+    let all = ported.len();
+    let (mut small, mut bytes) = (Vec::new(), 0);
+    for ((one, tree), length) in ported.iter_mut().zip(trees).zip(lengths) {
+        if one.is_small() {
+            small.push((one, tree));
+            bytes += length;
+        }
+    }
+    let name = match small.len() {
+        0 => return None,
+        count if count == all => input.name.clone(),
+        count => format!("{}: {count} of them", input.name),
+    };
+    let [port_seconds, rust_seconds] = whole(&mut small);
+    Some(Line {
+        step: "whole",
+        input: name,
+        size: bytes,
+        unit: "byte",
+        port_seconds,
+        rust_seconds,
+    })
 }
 
 fn of_file<'f>(
@@ -159,7 +206,7 @@ fn layout(ported: &mut [Ported], trees: &[tree::Input]) -> [f64; 2] {
 fn rendered(ported: &mut [Ported], trees: &[tree::Input]) -> [f64; 2] {
     let held: Vec<Held> = trees.iter().map(Held::lay_out).collect();
     both(
-        || ported.iter_mut().for_each(Ported::render),
+        || ported.iter_mut().map(Ported::render).sum::<usize>(),
         || {
             for one in &held {
                 black_box(one.render());
@@ -169,11 +216,44 @@ fn rendered(ported: &mut [Ported], trees: &[tree::Input]) -> [f64; 2] {
 }
 
 /// The whole run from the image, and `fmt_parsed` from the decoded tree.
-fn whole(ported: &mut [Ported], trees: &[tree::Input]) -> [f64; 2] {
+fn whole(files: &mut [(&mut Ported, &tree::Input)]) -> [f64; 2] {
+    let trees: Vec<&tree::Input> = files.iter().map(|(_, t)| *t).collect();
     both(
         || {
-            for one in ported.iter_mut() {
+            for (one, _) in files.iter_mut() {
                 black_box(one.format());
+            }
+        },
+        || {
+            for tree in &trees {
+                black_box(driver::format(tree));
+            }
+        },
+    )
+}
+
+/// The two calls from the image, and `fmt_parsed` from the decoded tree.
+fn calls(ported: &mut [Ported], trees: &[tree::Input]) -> [f64; 2] {
+    both(
+        || ported.iter_mut().map(Ported::calls).sum::<usize>(),
+        || {
+            for tree in trees {
+                black_box(driver::format(tree));
+            }
+        },
+    )
+}
+
+/// The editor's formatter, its buffers kept from file to file, and
+/// `fmt_parsed`.
+#[cfg(feature = "formatter")]
+fn formatter(input: &Input, trees: &[tree::Input]) -> [f64; 2] {
+    let mut formatter = rrufthim::Formatter::new();
+    both(
+        || {
+            for File { source, image } in &input.files {
+                let text = formatter.format(source, image).expect("a text");
+                black_box(text.text);
             }
         },
         || {
@@ -255,7 +335,9 @@ fn stack_of_rendering(document: Document) -> StackLine {
     let mut ported = of_document(&empty, &document, bytes);
     StackLine {
         step: "rendering",
-        bytes: stack::used(|| ported.render()),
+        bytes: stack::used(|| {
+            black_box(ported.render());
+        }),
         input: document.name,
         rows: document.rows.len(),
     }

@@ -146,6 +146,28 @@ pub fn calls() -> Vec<CallCase> {
     cases
 }
 
+/// A `Call` with two rows below: each second part with each range of the two,
+/// right or wrong. Where the second part starts at the end, the call is right
+/// whatever the ranges are.
+pub fn call_ranges() -> Vec<CallCase> {
+    let arguments = vec![group(0, []), group(1, [])];
+    let parts = [Part::Call(0, vec![], 1, arguments), word()];
+    let mut cases = Vec::new();
+    for second in 0..=4 {
+        for first in 0..=4 {
+            cases.extend((0..=4).map(|last| {
+                let edits = [
+                    (0, SECOND, second),
+                    (1, AFTER, first),
+                    (2, AFTER, last),
+                ];
+                on_rows(&changed(rows(&parts, 0), &edits, 0))
+            }));
+        }
+    }
+    cases
+}
+
 /// Kinds, origins and texts that there are not.
 pub fn cells() -> Vec<CallCase> {
     let words = kinds::fixed_words().len();

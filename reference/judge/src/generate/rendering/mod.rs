@@ -20,6 +20,7 @@ pub fn cases() -> Vec<CallCase> {
         faults::ranges(),
         faults::if_wraps(),
         faults::calls(),
+        faults::call_ranges(),
         faults::cells(),
         faults::unused(),
         faults::ignored(),

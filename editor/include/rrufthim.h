@@ -1,0 +1,119 @@
+/*
+ * The proved formatter for Roto scripts, as C calls it. The functions are those of libexports.a, which `rt staticlib exports` writes
+ * (x86-64 Linux). docs/01-scope.md has the rules: the tree image, rows, marks, states and refusals.
+ *
+ * Buffers. A pointer to bytes or rows goes with the number of its elements; state and out have a fixed number of places. No pointer may be
+ * NULL, even where the number is 0. store must be aligned for uint32_t, state and out for uint64_t. What a call may change (store, marks,
+ * output, out) must overlap nothing else that it is given; source, image and state are only read. Nothing is kept after a call, and no
+ * call shares anything with another: threads need nothing but buffers of their own. A call takes less than 256 KB of stack and no heap.
+ *
+ * Answers. out[0] is 0 if the call is accepted; the other numbers are then those named at each function. Else out[0] is the refusal's
+ * number and out[1] its place, and the rest of out is left as it was. A refused call changes no other buffer. An accepted one leaves what
+ * lies behind the rows, marks and bytes that it writes as it was.
+ *
+ * Flags. In state and close every number but 0 means yes; in out a flag is 0 or 1.
+ */
+#ifndef RRUFTHIM_H
+#define RRUFTHIM_H
+
+#include <stddef.h>
+#include <stdint.h>
+
+#ifdef __cplusplus
+extern "C" {
+#endif
+
+/* The library is for 64-bit machines: elsewhere this has no size. */
+typedef char rrufthim_lengths_have_64_bits[sizeof(size_t) == 8 ? 1 : -1];
+
+/* Refusals: out[0], with what out[1] is then. */
+#define RRUFTHIM_SOURCE_TOO_LONG 1  /* the source is over 65,536 bytes: 0 */
+#define RRUFTHIM_SOURCE_NOT_UTF8 2  /* the source isn't well-formed UTF-8: first byte of the bad sequence */
+#define RRUFTHIM_NO_IMAGE 3         /* the image's version or length is wrong, or its body over 1,048,576 bytes: 0 */
+#define RRUFTHIM_BAD_RECORD 4       /* a record of the image is malformed: offset in the image */
+#define RRUFTHIM_TOO_DEEP 5         /* a record is 65 deep: its offset in the image */
+#define RRUFTHIM_BAD_SPAN 6         /* a record's span is no range of characters of the source: the record's offset in the image */
+#define RRUFTHIM_BAD_COMMENT 7      /* the comment list is wrong: offset of its count or of the bad pair in the image */
+#define RRUFTHIM_MORE_ROWS 8        /* the store is too short: rows needed in all */
+#define RRUFTHIM_MORE_MARKS 9       /* the marks are too few: marks needed */
+#define RRUFTHIM_MORE_OUTPUT 10     /* the output is too short: bytes needed */
+#define RRUFTHIM_BAD_ROW 11         /* a row can't be rendered: that row; or the stop is past the store or 2,097,152: 0 */
+#define RRUFTHIM_BAD_STATE 12       /* the state, the marks in use or the stop don't fit: 0 */
+
+/* Sizes. */
+#define RRUFTHIM_ROW 9               /* numbers of the store that a row takes; store_len / 9 rows, rounded down */
+#define RRUFTHIM_FILE_ROWS 1800      /* the rows, and the marks, that rrufthim_format has of its own */
+#define RRUFTHIM_LAYOUT_STATE 7      /* places of a layout state */
+#define RRUFTHIM_RENDER_STATE 5      /* places of a rendering state */
+#define RRUFTHIM_CHECK_OUT 3         /* places of each function's out */
+#define RRUFTHIM_LAYOUT_OUT 9
+#define RRUFTHIM_RENDER_OUT 7
+#define RRUFTHIM_FORMAT_OUT 5
+
+/*
+ * Whether a source and its tree image are accepted. Refusals 1 to 7.
+ *
+ * out: [0] 0, [1] number of comments, [2] offset of the tree's record in the image.
+ */
+void rrufthim_check(
+    const uint8_t *source, size_t source_len,
+    const uint8_t *image, size_t image_len,
+    uint64_t out[RRUFTHIM_CHECK_OUT]);
+
+/*
+ * Lays out the declarations from the state's next one up to number stop, that one not included. The first call lays the shebang too. close,
+ * allowed where stop is the number of declarations, adds the final line and ends the layout. Refusals 1 to 7, 12, 8.
+ *
+ * state: [0] begun (flag), [1] closed (flag), [2] next declaration, [3] next row, [4] next group number, [5] comments placed,
+ *        [6] position in the source. Fresh: all 0. Later: out[2] to out[8] of the last accepted call.
+ * store: is written from the state's next row on.
+ * out:   [0] 0, [1] comments that no row holds yet, [2] to [8] the new state. After closing, out[1] comments are in no row and so not in
+ *        the text: the last out[1] of the image's list. Look at it before you save.
+ */
+void rrufthim_layout(
+    const uint8_t *source, size_t source_len,
+    const uint8_t *image, size_t image_len,
+    uint32_t *store, size_t store_len,
+    const uint64_t state[RRUFTHIM_LAYOUT_STATE],
+    uint64_t stop,
+    uint64_t close,
+    uint64_t out[RRUFTHIM_LAYOUT_OUT]);
+
+/*
+ * Renders the rows from the state's next one up to row stop, that one not included. Refusals 1, 3, 11, 12, 9, 10.
+ *
+ * state:  [0] indent, [1] next indent, [2] column, [3] marks in use, [4] next row. Fresh: all 0. Later: out[2] to out[6] of the last
+ *         accepted call.
+ * store:  is used during the call, and holds the same after it.
+ * marks:  a byte for each group number, 1 wrapped, 0 not; keep them from call to call. What they hold before the first doesn't matter.
+ * output: is written from its start on, in every call: take the bytes before the next one.
+ * out:    [0] 0, [1] bytes written, [2] to [6] the new state.
+ */
+void rrufthim_render(
+    const uint8_t *source, size_t source_len,
+    const uint8_t *image, size_t image_len,
+    uint32_t *store, size_t store_len,
+    uint8_t *marks, size_t marks_len,
+    uint8_t *output, size_t output_len,
+    const uint64_t state[RRUFTHIM_RENDER_STATE],
+    uint64_t stop,
+    uint64_t out[RRUFTHIM_RENDER_OUT]);
+
+/*
+ * Lays out and renders a whole file of at most 1,800 rows. Larger files are refused by 8: make the two calls above. Refusals 1 to 10.
+ *
+ * output: is written from its start on.
+ * out:    [0] 0, [1] bytes written, [2] comments that the text doesn't hold, the last so many of the image's list, [3] rows and
+ *         [4] group numbers that the file took. Look at out[2] before you save.
+ */
+void rrufthim_format(
+    const uint8_t *source, size_t source_len,
+    const uint8_t *image, size_t image_len,
+    uint8_t *output, size_t output_len,
+    uint64_t out[RRUFTHIM_FORMAT_OUT]);
+
+#ifdef __cplusplus
+}
+#endif
+
+#endif
