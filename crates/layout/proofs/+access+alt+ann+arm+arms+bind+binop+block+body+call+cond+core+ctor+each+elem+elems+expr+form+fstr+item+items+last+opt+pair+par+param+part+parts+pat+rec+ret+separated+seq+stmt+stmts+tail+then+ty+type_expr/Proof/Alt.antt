@@ -1,0 +1,64 @@
+-- Each function lays its rule: its calls lay the rule's steps in their order, and the laws of the steps join them.
+use mathlib.Core.Path.{_≡_, _∙_}
+use Prim.Native.Nat.{ℕ, _+_}
+use native.Mathlib.Omega.{arith}
+use Rattle.image.specs.Bytes.{be32}
+use Rattle.image.specs.Read.{stopAt}
+use Rattle.tree.specs.At.{ExprAt}
+use Rattle.state.proofs.Laws.{lays, lays-then}
+use Rattle.layout.specs.Layout as rules
+use Rattle.layout.proofs.Lays.{lays-as, laid-as}
+use Rattle.layout.proofs.Places.{absent, present, within, expr-whole, block-whole, maybe-block}
+use Rattle.layout.proofs.Optionals.{has-block, no-else, some-else}
+use Rattle.layout.proofs.alt.Reads as alt
+use Rattle.layout.proofs.+access+alt+ann+arm+arms+bind+binop+block+body+call+cond+core+ctor+each+elem+elems+expr+form+fstr+item+items+last+opt+pair+par+param+part+parts+pat+rec+ret+separated+seq+stmt+stmts+tail+then+ty+type_expr.Lts-alt as alt-lts
+use Rattle.layout.proofs.+access+alt+ann+arm+arms+bind+binop+block+body+call+cond+core+ctor+each+elem+elems+expr+form+fstr+item+items+last+opt+pair+par+param+part+parts+pat+rec+ret+separated+seq+stmt+stmts+tail+then+ty+type_expr.Proof.Base.{alt-at, alt-calls}
+
+pub alt-third-requires : (t : ℕ) → alt-lts.Need-third-requires (alt-calls t) (alt-at t) alt.Post
+unfolding ExprAt
+alt-third-requires t c κs = (within (expr-whole _ _ _ (@pre .1 .tree .1 .0) (@pre .1 .held .1 .0)), within (block-whole _ _ _ (@pre .1 .tree .1 .1) (@pre .1 .held .1 .1)))
+
+pub alt-add-cond : (t : ℕ) → alt-lts.Need-add-cond (alt-calls t) (alt-at t) alt.Post
+unfolding ExprAt
+alt-add-cond t c = omega (arith, @pre .1 .accepted .small, @pre .1 .held .0 .long, @pre .1 .held .0 .fits)
+
+pub alt-cond-requires : (t : ℕ) → alt-lts.Need-cond-requires (alt-calls t) (alt-at t) alt.Post
+unfolding ExprAt
+alt-cond-requires t c κs = (
+  omega (arith, @pre .0, @pre .1 .held .1 .3 .same),
+  record { accepted = @pre .1 .accepted; tree = (@pre .1 .tree .1 .0, @pre .1 .tree .1 .1); held = (@pre .1 .held .1 .0, @pre .1 .held .1 .1) },
+)
+
+pub alt-is-absent-requires : (t : ℕ) → alt-lts.Need-is-absent-requires (alt-calls t) (alt-at t) alt.Post
+unfolding ExprAt
+alt-is-absent-requires t c κs = rw (@third .ensures) (maybe-block _ _ _ (@pre .1 .tree .1 .2) (@pre .1 .held .1 .2))
+
+pub alt-same-length : (t : ℕ) → alt-lts.Need-same-length (alt-calls t) (alt-at t) alt.Post
+alt-same-length t c = @cond .kept .0
+
+pub alt-returns : (t : ℕ) → alt-lts.Need-returns (alt-calls t) (alt-at t) alt.Post
+unfolding ExprAt rules.look
+alt-returns t c = laid-as
+    (let e : be32 (@args .b .now) (stopAt (@args .b .now) (stopAt (@args .b .now) (@args .at + 13))) ≡ 0 = absent (rw (@third .ensures) at (@is-absent .ensures)) (@if1 .taken) in
+    record { of = λ x a. lays-then (lays-as (@pre .1 .accepted) (@cond .ensures) .of (x .1 .0, x .1 .1) (a .1 .0, a .1 .1)) (no-else e .of (x .1 .2) (a .1 .2)) })
+
+pub alt-word-requires : (t : ℕ) → alt-lts.Need-word-requires (alt-calls t) (alt-at t) alt.Post
+alt-word-requires t c κs = tt
+
+pub alt-block-requires : (t : ℕ) → alt-lts.Need-block-requires (alt-calls t) (alt-at t) alt.Post
+unfolding ExprAt
+alt-block-requires t c κs = let f : be32 (@args .b .now) (stopAt (@args .b .now) (stopAt (@args .b .now) (@args .at + 13))) ≡ 0 → ⊥ = present (rw (@third .ensures) at (@is-absent .ensures)) (@if1 .left) in
+    rw (@third .ensures)
+    (omega (arith, @pre .0, @pre .1 .held .1 .3 .same), has-block f (record { accepted = @pre .1 .accepted; tree = @pre .1 .tree .1 .2; held = @pre .1 .held .1 .2 }))
+
+pub alt-same-length-2 : (t : ℕ) → alt-lts.Need-same-length-2 (alt-calls t) (alt-at t) alt.Post
+alt-same-length-2 t c = @block .kept .0 ∙ @word .kept .0 ∙ @cond .kept .0
+
+pub alt-returns-2 : (t : ℕ) → alt-lts.Need-returns-2 (alt-calls t) (alt-at t) alt.Post
+unfolding ExprAt rules.look
+alt-returns-2 t c = laid-as
+    (let f : be32 (@args .b .now) (stopAt (@args .b .now) (stopAt (@args .b .now) (@args .at + 13))) ≡ 0 → ⊥ = present (rw (@third .ensures) at (@is-absent .ensures)) (@if1 .left) in
+    let l = rw (@third .ensures) at (lays-as (@pre .1 .accepted) (@block .ensures)) in
+    record {
+      of = λ x a. lays-then (lays-as (@pre .1 .accepted) (@cond .ensures) .of (x .1 .0, x .1 .1) (a .1 .0, a .1 .1)) (some-else f (lays (@word .ensures)) l .of (x .1 .2) (a .1 .2));
+    })

@@ -1,0 +1,77 @@
+-- Each function lays its rule: its calls lay the rule's steps in their order, and the laws of the steps join them.
+use mathlib.Core.Path.{_∙_}
+use Prim.Native.Nat.{ℕ}
+use native.Mathlib.Omega.{arith}
+use borrow.Author.Tests.{lt-ltb, le-ltb}
+use Rattle.tree.specs.At.{ExprAt}
+use Rattle.state.proofs.Laws.{lays-then, lays-if, lays-else, room-first, room-next, room-if, room-else}
+use Rattle.state.proofs.Nested.{opens-called, room-called, room-called-next, lays-called}
+use Rattle.comments.specs.Listed.{span}
+use Rattle.layout.specs.Layout as rules
+use Rattle.layout.proofs.Lays.{lays-as, laid-as, lays-list}
+use Rattle.layout.proofs.Places.{within, expr-whole}
+use Rattle.layout.proofs.Runs.{list-of, expr-elems}
+use Rattle.layout.proofs.call.Reads as call
+use Rattle.layout.proofs.+access+alt+ann+arm+arms+bind+binop+block+body+call+cond+core+ctor+each+elem+elems+expr+form+fstr+item+items+last+opt+pair+par+param+part+parts+pat+rec+ret+separated+seq+stmt+stmts+tail+then+ty+type_expr.Lts-call as call-lts
+use Rattle.layout.proofs.+access+alt+ann+arm+arms+bind+binop+block+body+call+cond+core+ctor+each+elem+elems+expr+form+fstr+item+items+last+opt+pair+par+param+part+parts+pat+rec+ret+separated+seq+stmt+stmts+tail+then+ty+type_expr.Proof.Base.{call-at, call-calls}
+
+pub call-second-requires : (t : ℕ) → call-lts.Need-second-requires (call-calls t) (call-at t) call.Post
+unfolding ExprAt
+call-second-requires t c κs = within (expr-whole _ _ _ (@pre .1 .tree .1 .0) (@pre .1 .held .1 .0))
+
+pub call-open-call-requires : (t : ℕ) → call-lts.Need-open-call-requires (call-calls t) (call-at t) call.Post
+unfolding ExprAt rules.look
+call-open-call-requires t c κs = opens-called _ _ (room-if _ (lt-ltb _ _ (@if1 .taken)) (@pre .1 .room))
+
+pub call-add-expr : (t : ℕ) → call-lts.Need-add-expr (call-calls t) (call-at t) call.Post
+unfolding ExprAt
+call-add-expr t c = omega (arith, @pre .1 .accepted .small, @pre .1 .held .0 .long, @pre .1 .held .0 .fits)
+
+pub call-expr-requires : (t : ℕ) → call-lts.Need-expr-requires (call-calls t) (call-at t) call.Post
+unfolding ExprAt rules.look
+call-expr-requires t c κs = (omega (arith, @pre .0, @pre .1 .held .1 .3 .same), record { accepted = @pre .1 .accepted; tree = @pre .1 .tree .1 .0; held = @pre .1 .held .1 .0; room = room-called _ (room-if _ (lt-ltb _ _ (@if1 .taken)) (@pre .1 .room)) (@open-call .ensures) })
+
+pub call-seq-requires : (t : ℕ) → call-lts.Need-seq-requires (call-calls t) (call-at t) call.Post
+unfolding ExprAt rules.look
+call-seq-requires t c κs = rw (@second .ensures) (omega (arith, @pre .0, @pre .1 .held .1 .3 .same), record { accepted = @pre .1 .accepted; tree = rules.exprElems _ (@pre .1 .tree .1 .2); held = list-of (@pre .1 .held .1 .1) (expr-elems _ _ _ _ (@pre .1 .tree .1 .2) (@pre .1 .held .1 .2)); span = @pre .1 .tree .1 .1; ended = @pre .1 .held .1 .1 .end; room = room-called-next (room-if _ (lt-ltb _ _ (@if1 .taken)) (@pre .1 .room)) (@open-call .ensures) (lays-as (@pre .1 .accepted) (@expr .ensures) .of (@pre .1 .tree .1 .0) (@pre .1 .held .1 .0)) })
+
+pub call-set-second-requires : (t : ℕ) → call-lts.Need-set-second-requires (call-calls t) (call-at t) call.Post
+call-set-second-requires t c κs = tt
+
+pub call-close-requires : (t : ℕ) → call-lts.Need-close-requires (call-calls t) (call-at t) call.Post
+call-close-requires t c κs = tt
+
+pub call-same-length : (t : ℕ) → call-lts.Need-same-length (call-calls t) (call-at t) call.Post
+call-same-length t c = @close .kept .0 ∙ @set-second .kept .0 ∙ @seq .kept .0 ∙ @expr .kept .0 ∙ @open-call .kept .0
+
+pub call-returns : (t : ℕ) → call-lts.Need-returns (call-calls t) (call-at t) call.Post
+unfolding ExprAt rules.look
+call-returns t c = laid-as
+    (let l = rw (@second .ensures) at (lays-list (@pre .1 .accepted) (@seq .ensures)) in
+    record {
+      of =
+          λ x a.
+          lays-if _ (lt-ltb _ _ (@if1 .taken))
+          (lays-called (@open-call .ensures) (lays-as (@pre .1 .accepted) (@expr .ensures) .of (x .1 .0) (a .1 .0)) (l .of (rules.exprElems _ (x .1 .2)) (list-of (a .1 .1) (expr-elems _ _ _ _ (x .1 .2) (a .1 .2))) (x .1 .1) (a .1 .1 .end)) (@set-second .ensures) (@close .ensures));
+    })
+
+pub call-add-expr-2 : (t : ℕ) → call-lts.Need-add-expr-2 (call-calls t) (call-at t) call.Post
+unfolding ExprAt
+call-add-expr-2 t c = omega (arith, @pre .1 .accepted .small, @pre .1 .held .0 .long, @pre .1 .held .0 .fits)
+
+pub call-expr-requires-2 : (t : ℕ) → call-lts.Need-expr-requires-2 (call-calls t) (call-at t) call.Post
+unfolding ExprAt rules.look
+call-expr-requires-2 t c κs = (omega (arith, @pre .0, @pre .1 .held .1 .3 .same), record { accepted = @pre .1 .accepted; tree = @pre .1 .tree .1 .0; held = @pre .1 .held .1 .0; room = room-first _ (room-else _ (le-ltb _ _ (@if1 .left)) (@pre .1 .room)) })
+
+pub call-seq-requires-2 : (t : ℕ) → call-lts.Need-seq-requires-2 (call-calls t) (call-at t) call.Post
+unfolding ExprAt rules.look
+call-seq-requires-2 t c κs = rw (@second .ensures) (omega (arith, @pre .0, @pre .1 .held .1 .3 .same), record { accepted = @pre .1 .accepted; tree = rules.exprElems _ (@pre .1 .tree .1 .2); held = list-of (@pre .1 .held .1 .1) (expr-elems _ _ _ _ (@pre .1 .tree .1 .2) (@pre .1 .held .1 .2)); span = @pre .1 .tree .1 .1; ended = @pre .1 .held .1 .1 .end; room = room-next (room-else _ (le-ltb _ _ (@if1 .left)) (@pre .1 .room)) (lays-as (@pre .1 .accepted) (@expr2 .ensures) .of (@pre .1 .tree .1 .0) (@pre .1 .held .1 .0)) })
+
+pub call-same-length-2 : (t : ℕ) → call-lts.Need-same-length-2 (call-calls t) (call-at t) call.Post
+call-same-length-2 t c = @seq2 .kept .0 ∙ @expr2 .kept .0
+
+pub call-returns-2 : (t : ℕ) → call-lts.Need-returns-2 (call-calls t) (call-at t) call.Post
+unfolding ExprAt rules.look
+call-returns-2 t c = laid-as
+    (let l = rw (@second .ensures) at (lays-list (@pre .1 .accepted) (@seq2 .ensures)) in
+    record { of = λ x a. lays-else _ (le-ltb _ _ (@if1 .left)) (lays-then (lays-as (@pre .1 .accepted) (@expr2 .ensures) .of (x .1 .0) (a .1 .0)) (l .of (rules.exprElems _ (x .1 .2)) (list-of (a .1 .1) (expr-elems _ _ _ _ (x .1 .2) (a .1 .2))) (x .1 .1) (a .1 .1 .end))) })

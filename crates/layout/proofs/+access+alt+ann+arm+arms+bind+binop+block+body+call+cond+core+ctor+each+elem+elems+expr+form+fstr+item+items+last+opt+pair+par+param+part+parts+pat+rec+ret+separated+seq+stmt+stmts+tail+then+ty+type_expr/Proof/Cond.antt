@@ -1,0 +1,60 @@
+-- Each function lays its rule: its calls lay the rule's steps in their order, and the laws of the steps join them.
+use mathlib.Core.Path.{_∙_}
+use Prim.Native.Nat.{ℕ}
+use native.Mathlib.Omega.{arith}
+use Rattle.state.proofs.Laws.{lays, lays-then, room-first, room-next}
+use Rattle.state.proofs.Nested.{opens-group, room-group, lays-group, opens-indent, room-indent, lays-indent}
+use Rattle.layout.specs.Layout as rules
+use Rattle.layout.proofs.Lays.{lays-as, laid-as}
+use Rattle.layout.proofs.Places.{within, expr-whole}
+use Rattle.layout.proofs.cond.Reads as cond
+use Rattle.layout.proofs.+access+alt+ann+arm+arms+bind+binop+block+body+call+cond+core+ctor+each+elem+elems+expr+form+fstr+item+items+last+opt+pair+par+param+part+parts+pat+rec+ret+separated+seq+stmt+stmts+tail+then+ty+type_expr.Lts-cond as cond-lts
+use Rattle.layout.proofs.+access+alt+ann+arm+arms+bind+binop+block+body+call+cond+core+ctor+each+elem+elems+expr+form+fstr+item+items+last+opt+pair+par+param+part+parts+pat+rec+ret+separated+seq+stmt+stmts+tail+then+ty+type_expr.Proof.Base.{cond-at, cond-calls}
+
+pub cond-word-requires : (t : ℕ) → cond-lts.Need-word-requires (cond-calls t) (cond-at t) cond.Post
+unfolding rules.clause
+cond-word-requires t c κs = room-first _ (@pre .1 .room)
+
+pub cond-open-group-requires : (t : ℕ) → cond-lts.Need-open-group-requires (cond-calls t) (cond-at t) cond.Post
+unfolding rules.clause
+cond-open-group-requires t c κs = opens-group _ (room-first _ (room-next (@pre .1 .room) (lays (@word .ensures))))
+
+pub cond-open-indent-requires : (t : ℕ) → cond-lts.Need-open-indent-requires (cond-calls t) (cond-at t) cond.Post
+unfolding rules.clause
+cond-open-indent-requires t c κs = opens-indent _ (room-group _ (room-first _ (room-next (@pre .1 .room) (lays (@word .ensures)))) (@open-group .ensures))
+
+pub cond-expr-requires : (t : ℕ) → cond-lts.Need-expr-requires (cond-calls t) (cond-at t) cond.Post
+unfolding rules.clause
+cond-expr-requires t c κs = (omega (arith, @pre .0), record { accepted = @pre .1 .accepted; tree = @pre .1 .tree .0; held = @pre .1 .held .0; room = room-indent (room-group _ (room-first _ (room-next (@pre .1 .room) (lays (@word .ensures)))) (@open-group .ensures)) (@open-indent .ensures) })
+
+pub cond-close-requires : (t : ℕ) → cond-lts.Need-close-requires (cond-calls t) (cond-at t) cond.Post
+cond-close-requires t c κs = tt
+
+pub cond-close-requires-2 : (t : ℕ) → cond-lts.Need-close-requires-2 (cond-calls t) (cond-at t) cond.Post
+cond-close-requires-2 t c κs = tt
+
+pub cond-word-requires-2 : (t : ℕ) → cond-lts.Need-word-requires-2 (cond-calls t) (cond-at t) cond.Post
+unfolding rules.clause
+cond-word-requires-2 t c κs = room-first _ (room-next (room-next (@pre .1 .room) (lays (@word .ensures))) (lays-group _ (@open-group .ensures) (lays-indent (@open-indent .ensures) (lays-as (@pre .1 .accepted) (@expr .ensures) .of (@pre .1 .tree .0) (@pre .1 .held .0)) (@close .ensures)) (@close2 .ensures)))
+
+pub cond-past-requires : (t : ℕ) → cond-lts.Need-past-requires (cond-calls t) (cond-at t) cond.Post
+cond-past-requires t c κs = within (expr-whole _ _ _ (@pre .1 .tree .0) (@pre .1 .held .0))
+
+pub cond-block-requires : (t : ℕ) → cond-lts.Need-block-requires (cond-calls t) (cond-at t) cond.Post
+unfolding rules.clause
+cond-block-requires t c κs = rw (@past .ensures) (omega (arith, @pre .0), record { accepted = @pre .1 .accepted; tree = @pre .1 .tree .1; held = @pre .1 .held .1; room = room-next (room-next (room-next (@pre .1 .room) (lays (@word .ensures))) (lays-group _ (@open-group .ensures) (lays-indent (@open-indent .ensures) (lays-as (@pre .1 .accepted) (@expr .ensures) .of (@pre .1 .tree .0) (@pre .1 .held .0)) (@close .ensures)) (@close2 .ensures))) (lays (@word2 .ensures)) })
+
+pub cond-same-length : (t : ℕ) → cond-lts.Need-same-length (cond-calls t) (cond-at t) cond.Post
+cond-same-length t c = @block .kept .0 ∙ @word2 .kept .0 ∙ @close2 .kept .0 ∙ @close .kept .0 ∙ @expr .kept .0 ∙ @open-indent .kept .0 ∙ @open-group .kept .0 ∙ @word .kept .0
+
+pub cond-returns : (t : ℕ) → cond-lts.Need-returns (cond-calls t) (cond-at t) cond.Post
+unfolding rules.clause
+cond-returns t c = laid-as
+    (record {
+  of =
+      λ x a.
+      lays-then (lays (@word .ensures))
+      (lays-then
+      (lays-group _ (@open-group .ensures) (lays-indent (@open-indent .ensures) (lays-as (@pre .1 .accepted) (@expr .ensures) .of (x .0) (a .0)) (@close .ensures)) (@close2 .ensures))
+      (lays-then (lays (@word2 .ensures)) (lays-as (@pre .1 .accepted) (@block .ensures) .of (x .1) (rw (@past .ensures) (a .1)))));
+})

@@ -1,0 +1,72 @@
+-- Each function lays its rule: its calls lay the rule's steps in their order, and the laws of the steps join them.
+use mathlib.Core.Path.{sym, _∙_}
+use Prim.Native.Nat.{ℕ}
+use native.Mathlib.Omega.{arith}
+use Rattle.tree.specs.At.{StmtAt}
+use Rattle.state.proofs.Laws.{lays}
+use Rattle.layout.proofs.Lays.{lays-as, laid-as}
+use Rattle.layout.proofs.Places.{expr-whole, stmt-whole}
+use Rattle.layout.proofs.Bodies.{let-has, import-has, does-has, let-laid, import-stmt, does-laid}
+use Rattle.layout.proofs.stmt.Reads as stmt
+use Rattle.layout.proofs.+access+alt+ann+arm+arms+bind+binop+block+body+call+cond+core+ctor+each+elem+elems+expr+form+fstr+item+items+last+opt+pair+par+param+part+parts+pat+rec+ret+separated+seq+stmt+stmts+tail+then+ty+type_expr.Lts-stmt as stmt-lts
+use Rattle.layout.proofs.+access+alt+ann+arm+arms+bind+binop+block+body+call+cond+core+ctor+each+elem+elems+expr+form+fstr+item+items+last+opt+pair+par+param+part+parts+pat+rec+ret+separated+seq+stmt+stmts+tail+then+ty+type_expr.Proof.Base.{stmt-at, stmt-calls}
+
+pub stmt-kind-requires : (t : ℕ) → stmt-lts.Need-kind-requires (stmt-calls t) (stmt-at t) stmt.Post
+stmt-kind-requires t c κs = stmt-whole _ _ _ (@pre .1 .tree) (@pre .1 .held)
+
+pub stmt-bind-requires : (t : ℕ) → stmt-lts.Need-bind-requires (stmt-calls t) (stmt-at t) stmt.Post
+stmt-bind-requires t c κs = (omega (arith, @pre .0), let-has (sym (@kind .ensures) ∙ @match .keys1) (@pre .1))
+
+pub stmt-word-requires : (t : ℕ) → stmt-lts.Need-word-requires (stmt-calls t) (stmt-at t) stmt.Post
+stmt-word-requires t c κs = tt
+
+pub stmt-add-item : (t : ℕ) → stmt-lts.Need-add-item (stmt-calls t) (stmt-at t) stmt.Post
+stmt-add-item t c = let w = stmt-whole _ _ _ (@pre .1 .tree) (@pre .1 .held) in omega (arith, @pre .1 .accepted .small, w .long, w .fits)
+
+pub stmt-item-requires : (t : ℕ) → stmt-lts.Need-item-requires (stmt-calls t) (stmt-at t) stmt.Post
+unfolding StmtAt
+stmt-item-requires t c κs = let h = import-has (sym (@kind .ensures) ∙ @match .keys2) (@pre .1) in
+    (omega (arith, @pre .0, h .held .1 .1 .same), record { accepted = h .accepted; tree = h .tree .1; held = h .held .1 .0 })
+
+pub stmt-word-requires-2 : (t : ℕ) → stmt-lts.Need-word-requires-2 (stmt-calls t) (stmt-at t) stmt.Post
+stmt-word-requires-2 t c κs = tt
+
+pub stmt-open-group-requires : (t : ℕ) → stmt-lts.Need-open-group-requires (stmt-calls t) (stmt-at t) stmt.Post
+stmt-open-group-requires t c κs = tt
+
+pub stmt-add-expr : (t : ℕ) → stmt-lts.Need-add-expr (stmt-calls t) (stmt-at t) stmt.Post
+stmt-add-expr t c = let w = stmt-whole _ _ _ (@pre .1 .tree) (@pre .1 .held) in omega (arith, @pre .1 .accepted .small, w .long, w .fits)
+
+pub stmt-expr-requires : (t : ℕ) → stmt-lts.Need-expr-requires (stmt-calls t) (stmt-at t) stmt.Post
+unfolding StmtAt
+stmt-expr-requires t c κs = let h = does-has (λ e. @match .rest .0 .1 (@kind .ensures ∙ e)) (λ e. @match .rest .1 (@kind .ensures ∙ e)) (@pre .1) in
+    (omega (arith, @pre .0, h .held .1 .1 .same), record { accepted = h .accepted; tree = h .tree .1; held = h .held .1 .0 })
+
+pub stmt-add-semicolon : (t : ℕ) → stmt-lts.Need-add-semicolon (stmt-calls t) (stmt-at t) stmt.Post
+stmt-add-semicolon t c = let w = stmt-whole _ _ _ (@pre .1 .tree) (@pre .1 .held) in omega (arith, @pre .1 .accepted .small, w .long, w .fits)
+
+pub stmt-semicolon-requires : (t : ℕ) → stmt-lts.Need-semicolon-requires (stmt-calls t) (stmt-at t) stmt.Post
+unfolding StmtAt
+stmt-semicolon-requires t c κs = let h = does-has (λ e. @match .rest .0 .1 (@kind .ensures ∙ e)) (λ e. @match .rest .1 (@kind .ensures ∙ e)) (@pre .1) in
+    expr-whole _ _ _ (h .tree .1) (h .held .1 .0)
+
+pub stmt-close-requires : (t : ℕ) → stmt-lts.Need-close-requires (stmt-calls t) (stmt-at t) stmt.Post
+stmt-close-requires t c κs = tt
+
+pub stmt-same-length : (t : ℕ) → stmt-lts.Need-same-length (stmt-calls t) (stmt-at t) stmt.Post
+stmt-same-length t c = @bind .kept .0
+
+pub stmt-returns : (t : ℕ) → stmt-lts.Need-returns (stmt-calls t) (stmt-at t) stmt.Post
+stmt-returns t c = laid-as (let-laid (sym (@kind .ensures) ∙ @match .keys1) (lays-as (@pre .1 .accepted) (@bind .ensures)))
+
+pub stmt-same-length-2 : (t : ℕ) → stmt-lts.Need-same-length-2 (stmt-calls t) (stmt-at t) stmt.Post
+stmt-same-length-2 t c = @word2 .kept .0 ∙ @item .kept .0 ∙ @word .kept .0
+
+pub stmt-returns-2 : (t : ℕ) → stmt-lts.Need-returns-2 (stmt-calls t) (stmt-at t) stmt.Post
+stmt-returns-2 t c = laid-as (import-stmt (sym (@kind .ensures) ∙ @match .keys2) (lays (@word .ensures)) (lays-as (@pre .1 .accepted) (@item .ensures)) (lays (@word2 .ensures)))
+
+pub stmt-same-length-3 : (t : ℕ) → stmt-lts.Need-same-length-3 (stmt-calls t) (stmt-at t) stmt.Post
+stmt-same-length-3 t c = @close .kept .0 ∙ @semicolon .kept .0 ∙ @expr .kept .0 ∙ @open-group .kept .0
+
+pub stmt-returns-3 : (t : ℕ) → stmt-lts.Need-returns-3 (stmt-calls t) (stmt-at t) stmt.Post
+stmt-returns-3 t c = laid-as (does-laid (λ e. @match .rest .0 .1 (@kind .ensures ∙ e)) (λ e. @match .rest .1 (@kind .ensures ∙ e)) (@open-group .ensures) (lays-as (@pre .1 .accepted) (@expr .ensures)) (lays (@semicolon .ensures)) (@close .ensures))
