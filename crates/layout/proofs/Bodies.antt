@@ -37,6 +37,10 @@ BlockPartsAt s b x at =
     × MaybeExprAt s b (x .2) (stopAt b (at + 13))
     × Ends s b (stopAt b (at + 13)) at
 
+pub record BlockStands (s b : List ℕ) (at : ℕ) : Type 0 where
+  pub tree : Span × Stmts × MaybeExpr
+  pub held : BlockPartsAt s b tree at
+
 module _ (s b : List ℕ) where
   no-stmts : (from to : ℕ) (ss : Stmts) → StmtsAt s b ss from to → eqb to from ≡ noneOf ss
   unfolding StmtsAt
@@ -74,9 +78,10 @@ module _ (s b : List ℕ) (at : ℕ) where
       ap (λ (t : Bool). t && eqb (be32 b (stopAt b (at + 13))) 0) (none-same ss a) ∙ no-expr s b (stopAt b (at + 13)) ss last e
 
   -- the parts alone
-  pub block-parts : (k : Block) → BlockAt s b k at → (x : Span × Stmts × MaybeExpr) × BlockPartsAt s b x at
+  pub block-parts : (k : Block) → BlockAt s b k at → BlockStands s b at
   unfolding BlockAt
-  block-parts (braces p ss last) a = ((p, ss, last), (head-whole (a .0), head-whole (a .1 .head), a .2, a .3, a .4))
+  block-parts (braces p ss last) a =
+      record { tree = (p, ss, last); held = (head-whole (a .0), head-whole (a .1 .head), a .2, a .3, a .4) }
 
 -- the steps of a block, with its parts
 module _ {s b : List ℕ} {at : ℕ} where

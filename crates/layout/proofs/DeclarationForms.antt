@@ -108,6 +108,11 @@ module _ {s b : List ℕ} {at : ℕ} {X : Type 0} (mk : X → Declaration) (f : 
       }
 
 -- ---- optional parts
+pub params-whole : (s b : List ℕ) (at : ℕ) → (be32 b at ≡ 0 → ⊥) → (m : Option Idents) → MaybeListAt s b m at → Whole b at
+unfolding Maybe
+params-whole s b at f none a = absurd (f (a .zero))
+params-whole s b at f (some is) a = head-whole (a .head)
+
 module _ {s b : List ℕ} {at : ℕ} where
   pub params-list : {c : Cursor} → (be32 b at ≡ 0 → ⊥) → (at + 13 ≡ stopAt b at → ⊥) → Has MaybeListAt someTypeParams s b at c
       → HasList element.Ident 37 38 true Tight (be32 b (at + 9)) s b at c

@@ -21,7 +21,7 @@ use Rattle.comments.specs.Listed.{given}
 use Rattle.layout.specs.Layout.{pathRule, isSome, isGroup, importFirst, importPath, importGroup, importItems, importElems, separated}
 use Rattle.layout.specs.Contracts.{Has, Within, Whole}
 use Rattle.layout.specs.Forms.{MaybePathAt}
-use Rattle.layout.proofs.Places.{head-whole, import-whole}
+use Rattle.layout.proofs.Places.{within, head-whole, import-whole}
 use Rattle.layout.proofs.Runs.{list-of, import-elems}
 use Rattle.layout.specs.Elems.{HasList}
 use Rattle.layout.specs.declared.kinds.Element.the-variants as element
@@ -134,6 +134,19 @@ pub single-false : {r : Bool} {m n j k : ℕ} → r ≡ (not (eqb m n) && eqb j 
 single-false {r} {m} {n} {j} {k} p q f e =
     let z : (not (eqb m n) && eqb j k) ≡ true = rw (ne-eqb m n f, eq-eqb j k e) in
     true-false (sym z ∙ sym p ∙ q)
+
+-- what the test for one item reads
+module _ (s b : List ℕ) (at : ℕ) (f : be32 b at ≡ 0 → ⊥) where
+  pub group-whole : (q : ImportGroup) → ImportGroupAt s b q at → Whole b at
+  unfolding ImportGroupAt
+  group-whole noGroup a = absurd (f (a .zero))
+  group-whole (group p is) a = head-whole (a .0)
+
+  pub group-next : (q : ImportGroup) → ImportGroupAt s b q at → (stopAt b at ≡ at + 13 → ⊥) → Within b (at + 13)
+  unfolding ImportGroupAt ImportsAt
+  group-next noGroup a g = absurd (f (a .zero))
+  group-next (group p noImports) a g = absurd (g (sym (a .1 .same)))
+  group-next (group p (i ∷ⁱ is)) a g = within (import-whole s b (at + 13) i (a .1 .0))
 
 module _ {s b : List ℕ} {at : ℕ} where
   -- the list of a group

@@ -11,7 +11,7 @@ use Rattle.image.specs.Read.{stopAt}
 use Rattle.tree.specs.Syntax.{Ident}
 use Rattle.tree.specs.At.{Done, Before, IdentAt, IdentsAt}
 use Rattle.rows.specs.Node.{str}
-use Rattle.state.specs.Act.{push, _⨟_}
+use Rattle.state.specs.Act.{Act, push, _⨟_}
 use Rattle.state.specs.Laid.{text, Room}
 use Rattle.state.specs.declared.Cursor.{Cursor}
 use Rattle.state.proofs.Laws.{Lays, lays-then, lays-skip, room-first, room-next}
@@ -21,13 +21,19 @@ use Rattle.layout.specs.Contracts.{Accepted, Has, HasAll}
 use Rattle.layout.proofs.Lays.{LaysAll, LaysAs}
 
 -- the text that the numbers of its record say
-pub ident-same : {s b : List ℕ} {at w f n : ℕ} {i : Ident} → IdentAt s b i at → w ≡ be16 b (at + 13) → f ≡ at + 15 → n ≡ stopAt b at - f
-    → push (str w (text 1 f n)) ≡ ident (given s b) i
-ident-same {w = w} {f = f} {n = n} {i = i} a p q r =
-    let e : w ≡ i .width = p ∙ a .wide in
-    let h : f ≡ i .start = q ∙ a .starts in
-    let k : n ≡ i .size = omega (arith, a .ends, a .starts) in
-    rw (e, h, k)
+module _ {s b : List ℕ} {at w f n : ℕ} {i : Ident} (a : IdentAt s b i at) (p : w ≡ be16 b (at + 13)) (q : f ≡ at + 15) (r : n ≡ stopAt b at - f) where
+  same : push (str w (text 1 f n)) ≡ ident (given s b) i
+  same =
+      let e : w ≡ i .width = p ∙ a .wide in
+      let h : f ≡ i .start = q ∙ a .starts in
+      let k : n ≡ i .size = omega (arith, a .ends, a .starts) in
+      rw (e, h, k)
+
+  pub ident-room : {c : Cursor} → Room (ident (given s b) i) c → Room (push (str w (text 1 f n))) c
+  ident-room {c} room = subst (λ (z : Act). Room z c) (sym same) room
+
+  pub ident-laid : {x y : List ℕ} {c d : Cursor} → Lays (push (str w (text 1 f n))) x c y d → Lays (ident (given s b) i) x c y d
+  ident-laid {x} {y} {c} {d} l = subst (λ (z : Act). Lays z x c y d) same l
 
 -- the first of the identifiers that are left, and those after it
 pub record More (breaks : Bool) (s b : List ℕ) (p to : ℕ) (c : Cursor) : Type 0 where

@@ -15,27 +15,27 @@ use Rattle.layout.proofs.+access+alt+ann+arm+arms+bind+binop+block+body
 
 pub access-second-requires : (t : ℕ) → access-lts.Need-second-requires (access-calls t) (access-at t) access.Post
 unfolding ExprAt
-access-second-requires t c κs = within (expr-whole _ _ _ (@pre .1 .tree .1 .0) (@pre .1 .held .1 .0))
+access-second-requires t c κs = within (expr-whole _ _ _ (c .before .before .before .pre .1 .tree .1 .0) (c .before .before .before .pre .1 .held .1 .0))
 
 pub access-open-group-requires : (t : ℕ) → access-lts.Need-open-group-requires (access-calls t) (access-at t) access.Post
 unfolding ExprAt rules.look
-access-open-group-requires t c κs = opens-group _ (room-if _ (lt-ltb _ _ (@if1 .taken)) (@pre .1 .room))
+access-open-group-requires t c κs = opens-group _ (room-if _ (lt-ltb _ _ (c .before .if1 .taken)) (c .before .before .before .before .before .before .pre .1 .room))
 
 pub access-open-indent-next-requires : (t : ℕ) → access-lts.Need-open-indent-next-requires (access-calls t) (access-at t) access.Post
 unfolding ExprAt rules.look
-access-open-indent-next-requires t c κs = opens-indent-next _ (room-group _ (room-if _ (lt-ltb _ _ (@if1 .taken)) (@pre .1 .room)) (@open-group .ensures))
+access-open-indent-next-requires t c κs = opens-indent-next _ (room-group _ (room-if _ (lt-ltb _ _ (c .before .before .before .before .before .if1 .taken)) (c .before .before .before .before .before .before .before .before .before .before .pre .1 .room)) (c .before .before .before .open-group .ensures))
 
 pub access-add-expr : (t : ℕ) → access-lts.Need-add-expr (access-calls t) (access-at t) access.Post
 unfolding ExprAt
-access-add-expr t c = omega (arith, @pre .1 .accepted .small, @pre .1 .held .0 .long, @pre .1 .held .0 .fits)
+access-add-expr t c = omega (arith, c .before .before .before .before .before .before .before .before .before .before .before .before .before .before .pre .1 .accepted .small, c .before .before .before .before .before .before .before .before .before .before .before .before .before .before .pre .1 .held .0 .long, c .before .before .before .before .before .before .before .before .before .before .before .before .before .before .pre .1 .held .0 .fits)
 
 pub access-expr-requires : (t : ℕ) → access-lts.Need-expr-requires (access-calls t) (access-at t) access.Post
 unfolding ExprAt rules.look
-access-expr-requires t c κs = (omega (arith, @pre .0, @pre .1 .held .1 .2 .same), record { accepted = @pre .1 .accepted; tree = @pre .1 .tree .1 .0; held = @pre .1 .held .1 .0; room = room-first _ (room-indent-next (room-group _ (room-if _ (lt-ltb _ _ (@if1 .taken)) (@pre .1 .room)) (@open-group .ensures)) (@open-indent-next .ensures)) })
+access-expr-requires t c κs = (omega (arith, c .before .before .before .before .before .before .before .before .before .before .before .before .before .before .pre .0, c .before .before .before .before .before .before .before .before .before .before .before .before .before .before .pre .1 .held .1 .2 .same), record { accepted = c .before .before .before .before .before .before .before .before .before .before .before .before .before .before .pre .1 .accepted; tree = c .before .before .before .before .before .before .before .before .before .before .before .before .before .before .pre .1 .tree .1 .0; held = c .before .before .before .before .before .before .before .before .before .before .before .before .before .before .pre .1 .held .1 .0; room = room-first _ (room-indent-next (room-group _ (room-if _ (lt-ltb _ _ (c .before .before .before .before .before .before .before .before .before .if1 .taken)) (c .before .before .before .before .before .before .before .before .before .before .before .before .before .before .pre .1 .room)) (c .before .before .before .before .before .before .before .open-group .ensures)) (c .before .before .before .open-indent-next .ensures)) })
 
 pub access-field-name-requires : (t : ℕ) → access-lts.Need-field-name-requires (access-calls t) (access-at t) access.Post
 unfolding ExprAt rules.look
-access-field-name-requires t c κs = rw (@second .ensures) (record { accepted = @pre .1 .accepted; tree = @pre .1 .tree .1 .1; held = @pre .1 .held .1 .1; room = room-next (room-indent-next (room-group _ (room-if _ (lt-ltb _ _ (@if1 .taken)) (@pre .1 .room)) (@open-group .ensures)) (@open-indent-next .ensures)) (lays-as (@pre .1 .accepted) (@expr .ensures) .of (@pre .1 .tree .1 .0) (@pre .1 .held .1 .0)) })
+access-field-name-requires t c κs = rw (c .before .before .before .before .before .before .before .before .before .before .before .before .before .before .second .ensures) (record { accepted = c .before .before .before .before .before .before .before .before .before .before .before .before .before .before .before .before .before .before .pre .1 .accepted; tree = c .before .before .before .before .before .before .before .before .before .before .before .before .before .before .before .before .before .before .pre .1 .tree .1 .1; held = c .before .before .before .before .before .before .before .before .before .before .before .before .before .before .before .before .before .before .pre .1 .held .1 .1; room = room-next (room-indent-next (room-group _ (room-if _ (lt-ltb _ _ (c .before .before .before .before .before .before .before .before .before .before .before .before .before .if1 .taken)) (c .before .before .before .before .before .before .before .before .before .before .before .before .before .before .before .before .before .before .pre .1 .room)) (c .before .before .before .before .before .before .before .before .before .before .before .open-group .ensures)) (c .before .before .before .before .before .before .before .open-indent-next .ensures)) (lays-as (c .before .before .before .before .before .before .before .before .before .before .before .before .before .before .before .before .before .before .pre .1 .accepted) (c .before .before .before .expr .ensures) .of (c .before .before .before .before .before .before .before .before .before .before .before .before .before .before .before .before .before .before .pre .1 .tree .1 .0) (c .before .before .before .before .before .before .before .before .before .before .before .before .before .before .before .before .before .before .pre .1 .held .1 .0)) })
 
 pub access-close-requires : (t : ℕ) → access-lts.Need-close-requires (access-calls t) (access-at t) access.Post
 access-close-requires t c κs = tt
@@ -44,43 +44,43 @@ pub access-close-requires-2 : (t : ℕ) → access-lts.Need-close-requires-2 (ac
 access-close-requires-2 t c κs = tt
 
 pub access-same-length : (t : ℕ) → access-lts.Need-same-length (access-calls t) (access-at t) access.Post
-access-same-length t c = @close2 .kept .0 ∙ @close .kept .0 ∙ @field-name .kept .0 ∙ @expr .kept .0 ∙ @open-indent-next .kept .0 ∙ @open-group .kept .0
+access-same-length t c = c .before .before .close2 .kept .0 ∙ c .before .before .before .before .before .before .close .kept .0 ∙ c .before .before .before .before .before .before .before .before .before .before .field-name .kept .0 ∙ c .before .before .before .before .before .before .before .before .before .before .before .before .before .before .expr .kept .0 ∙ c .before .before .before .before .before .before .before .before .before .before .before .before .before .before .before .before .before .before .open-indent-next .kept .0 ∙ c .before .before .before .before .before .before .before .before .before .before .before .before .before .before .before .before .before .before .before .before .before .before .open-group .kept .0
 
 pub access-returns : (t : ℕ) → access-lts.Need-returns (access-calls t) (access-at t) access.Post
 unfolding ExprAt rules.look
 access-returns t c = laid-as
     (record {
-  of =
-      λ x a.
-      lays-if _ (lt-ltb _ _ (@if1 .taken))
-      (lays-group _ (@open-group .ensures)
-      (lays-indent-next (@open-indent-next .ensures)
-      (lays-then (lays-as (@pre .1 .accepted) (@expr .ensures) .of (x .1 .0) (a .1 .0)) (lays-as (@pre .1 .accepted) (@field-name .ensures) .of (x .1 .1) (rw (@second .ensures) (a .1 .1))))
-      (@close .ensures))
-      (@close2 .ensures));
-})
+      of =
+          λ x a.
+          lays-if _ (lt-ltb _ _ (c .before .before .before .before .before .before .before .before .before .before .before .before .before .before .before .before .before .before .before .before .before .before .before .before .if1 .taken))
+          (lays-group _ (c .before .before .before .before .before .before .before .before .before .before .before .before .before .before .before .before .before .before .before .before .before .before .open-group .ensures)
+          (lays-indent-next (c .before .before .before .before .before .before .before .before .before .before .before .before .before .before .before .before .before .before .open-indent-next .ensures)
+          (lays-then (lays-as (c .before .before .before .before .before .before .before .before .before .before .before .before .before .before .before .before .before .before .before .before .before .before .before .before .before .before .before .before .before .pre .1 .accepted) (c .before .before .before .before .before .before .before .before .before .before .before .before .before .before .expr .ensures) .of (x .1 .0) (a .1 .0)) (lays-as (c .before .before .before .before .before .before .before .before .before .before .before .before .before .before .before .before .before .before .before .before .before .before .before .before .before .before .before .before .before .pre .1 .accepted) (c .before .before .before .before .before .before .before .before .before .before .field-name .ensures) .of (x .1 .1) (rw (c .before .before .before .before .before .before .before .before .before .before .before .before .before .before .before .before .before .before .before .before .before .before .before .before .before .second .ensures) (a .1 .1))))
+          (c .before .before .before .before .before .before .close .ensures))
+          (c .before .before .close2 .ensures));
+    })
 
 pub access-add-expr-2 : (t : ℕ) → access-lts.Need-add-expr-2 (access-calls t) (access-at t) access.Post
 unfolding ExprAt
-access-add-expr-2 t c = omega (arith, @pre .1 .accepted .small, @pre .1 .held .0 .long, @pre .1 .held .0 .fits)
+access-add-expr-2 t c = omega (arith, c .before .before .before .before .before .before .pre .1 .accepted .small, c .before .before .before .before .before .before .pre .1 .held .0 .long, c .before .before .before .before .before .before .pre .1 .held .0 .fits)
 
 pub access-expr-requires-2 : (t : ℕ) → access-lts.Need-expr-requires-2 (access-calls t) (access-at t) access.Post
 unfolding ExprAt rules.look
-access-expr-requires-2 t c κs = (omega (arith, @pre .0, @pre .1 .held .1 .2 .same), record { accepted = @pre .1 .accepted; tree = @pre .1 .tree .1 .0; held = @pre .1 .held .1 .0; room = room-first _ (room-else _ (le-ltb _ _ (@if1 .left)) (@pre .1 .room)) })
+access-expr-requires-2 t c κs = (omega (arith, c .before .before .before .before .before .before .pre .0, c .before .before .before .before .before .before .pre .1 .held .1 .2 .same), record { accepted = c .before .before .before .before .before .before .pre .1 .accepted; tree = c .before .before .before .before .before .before .pre .1 .tree .1 .0; held = c .before .before .before .before .before .before .pre .1 .held .1 .0; room = room-first _ (room-else _ (le-ltb _ _ (c .before .if1 .left)) (c .before .before .before .before .before .before .pre .1 .room)) })
 
 pub access-field-name-requires-2 : (t : ℕ) → access-lts.Need-field-name-requires-2 (access-calls t) (access-at t) access.Post
 unfolding ExprAt rules.look
-access-field-name-requires-2 t c κs = rw (@second .ensures) (record { accepted = @pre .1 .accepted; tree = @pre .1 .tree .1 .1; held = @pre .1 .held .1 .1; room = room-next (room-else _ (le-ltb _ _ (@if1 .left)) (@pre .1 .room)) (lays-as (@pre .1 .accepted) (@expr2 .ensures) .of (@pre .1 .tree .1 .0) (@pre .1 .held .1 .0)) })
+access-field-name-requires-2 t c κs = rw (c .before .before .before .before .before .before .second .ensures) (record { accepted = c .before .before .before .before .before .before .before .before .before .before .pre .1 .accepted; tree = c .before .before .before .before .before .before .before .before .before .before .pre .1 .tree .1 .1; held = c .before .before .before .before .before .before .before .before .before .before .pre .1 .held .1 .1; room = room-next (room-else _ (le-ltb _ _ (c .before .before .before .before .before .if1 .left)) (c .before .before .before .before .before .before .before .before .before .before .pre .1 .room)) (lays-as (c .before .before .before .before .before .before .before .before .before .before .pre .1 .accepted) (c .before .before .before .expr2 .ensures) .of (c .before .before .before .before .before .before .before .before .before .before .pre .1 .tree .1 .0) (c .before .before .before .before .before .before .before .before .before .before .pre .1 .held .1 .0)) })
 
 pub access-same-length-2 : (t : ℕ) → access-lts.Need-same-length-2 (access-calls t) (access-at t) access.Post
-access-same-length-2 t c = @field-name2 .kept .0 ∙ @expr2 .kept .0
+access-same-length-2 t c = c .before .before .field-name2 .kept .0 ∙ c .before .before .before .before .before .before .expr2 .kept .0
 
 pub access-returns-2 : (t : ℕ) → access-lts.Need-returns-2 (access-calls t) (access-at t) access.Post
 unfolding ExprAt rules.look
 access-returns-2 t c = laid-as
     (record {
-  of =
-      λ x a.
-      lays-else _ (le-ltb _ _ (@if1 .left))
-      (lays-then (lays-as (@pre .1 .accepted) (@expr2 .ensures) .of (x .1 .0) (a .1 .0)) (lays-as (@pre .1 .accepted) (@field-name2 .ensures) .of (x .1 .1) (rw (@second .ensures) (a .1 .1))));
-})
+      of =
+          λ x a.
+          lays-else _ (le-ltb _ _ (c .before .before .before .before .before .before .before .before .if1 .left))
+          (lays-then (lays-as (c .before .before .before .before .before .before .before .before .before .before .before .before .before .pre .1 .accepted) (c .before .before .before .before .before .before .expr2 .ensures) .of (x .1 .0) (a .1 .0)) (lays-as (c .before .before .before .before .before .before .before .before .before .before .before .before .before .pre .1 .accepted) (c .before .before .field-name2 .ensures) .of (x .1 .1) (rw (c .before .before .before .before .before .before .before .before .before .second .ensures) (a .1 .1))));
+    })

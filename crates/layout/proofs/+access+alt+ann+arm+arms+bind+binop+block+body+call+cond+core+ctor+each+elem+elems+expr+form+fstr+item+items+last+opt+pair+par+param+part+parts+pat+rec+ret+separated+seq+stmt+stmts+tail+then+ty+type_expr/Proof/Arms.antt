@@ -15,43 +15,43 @@ use Rattle.layout.proofs.+access+alt+ann+arm+arms+bind+binop+block+body
 
 pub arms-second-requires : (t : ℕ) → arms-lts.Need-second-requires (arms-calls t) (arms-at t) arms.Post
 unfolding ExprAt
-arms-second-requires t c κs = within (expr-whole _ _ _ (@pre .1 .tree .1 .0) (@pre .1 .held .1 .0))
+arms-second-requires t c κs = within (expr-whole _ _ _ (c .before .before .before .pre .1 .tree .1 .0) (c .before .before .before .pre .1 .held .1 .0))
 
 pub arms-word-requires : (t : ℕ) → arms-lts.Need-word-requires (arms-calls t) (arms-at t) arms.Post
 unfolding ExprAt rules.look
-arms-word-requires t c κs = room-first _ (@pre .1 .room)
+arms-word-requires t c κs = room-first _ (c .before .before .before .before .before .pre .1 .room)
 
 pub arms-add-expr : (t : ℕ) → arms-lts.Need-add-expr (arms-calls t) (arms-at t) arms.Post
 unfolding ExprAt
-arms-add-expr t c = omega (arith, @pre .1 .accepted .small, @pre .1 .held .0 .long, @pre .1 .held .0 .fits)
+arms-add-expr t c = omega (arith, c .before .before .before .before .before .before .before .before .before .pre .1 .accepted .small, c .before .before .before .before .before .before .before .before .before .pre .1 .held .0 .long, c .before .before .before .before .before .before .before .before .before .pre .1 .held .0 .fits)
 
 pub arms-expr-requires : (t : ℕ) → arms-lts.Need-expr-requires (arms-calls t) (arms-at t) arms.Post
 unfolding ExprAt rules.look
-arms-expr-requires t c κs = (omega (arith, @pre .0, @pre .1 .held .1 .3 .same), record { accepted = @pre .1 .accepted; tree = @pre .1 .tree .1 .0; held = @pre .1 .held .1 .0; room = room-first _ (room-next (@pre .1 .room) (lays (@word .ensures))) })
+arms-expr-requires t c κs = (omega (arith, c .before .before .before .before .before .before .before .before .before .pre .0, c .before .before .before .before .before .before .before .before .before .pre .1 .held .1 .3 .same), record { accepted = c .before .before .before .before .before .before .before .before .before .pre .1 .accepted; tree = c .before .before .before .before .before .before .before .before .before .pre .1 .tree .1 .0; held = c .before .before .before .before .before .before .before .before .before .pre .1 .held .1 .0; room = room-first _ (room-next (c .before .before .before .before .before .before .before .before .before .pre .1 .room) (lays (c .before .before .before .word .ensures))) })
 
 pub arms-word-requires-2 : (t : ℕ) → arms-lts.Need-word-requires-2 (arms-calls t) (arms-at t) arms.Post
 unfolding ExprAt rules.look
-arms-word-requires-2 t c κs = room-first _ (room-next (room-next (@pre .1 .room) (lays (@word .ensures))) (lays-as (@pre .1 .accepted) (@expr .ensures) .of (@pre .1 .tree .1 .0) (@pre .1 .held .1 .0)))
+arms-word-requires-2 t c κs = room-first _ (room-next (room-next (c .before .before .before .before .before .before .before .before .before .before .before .before .before .pre .1 .room) (lays (c .before .before .before .before .before .before .before .word .ensures))) (lays-as (c .before .before .before .before .before .before .before .before .before .before .before .before .before .pre .1 .accepted) (c .before .before .before .expr .ensures) .of (c .before .before .before .before .before .before .before .before .before .before .before .before .before .pre .1 .tree .1 .0) (c .before .before .before .before .before .before .before .before .before .before .before .before .before .pre .1 .held .1 .0)))
 
 pub arms-seq-requires : (t : ℕ) → arms-lts.Need-seq-requires (arms-calls t) (arms-at t) arms.Post
 unfolding ExprAt rules.look
-arms-seq-requires t c κs = rw (@second .ensures) (
-  omega (arith, @pre .0, @pre .1 .held .1 .3 .same),
-  record { accepted = @pre .1 .accepted; tree = rules.armElems _ (@pre .1 .tree .1 .2); held = list-of (@pre .1 .held .1 .1) (arm-elems _ _ _ _ (@pre .1 .tree .1 .2) (@pre .1 .held .1 .2)); span = @pre .1 .tree .1 .1; ended = @pre .1 .held .1 .1 .end; room = room-next (room-next (room-next (@pre .1 .room) (lays (@word .ensures))) (lays-as (@pre .1 .accepted) (@expr .ensures) .of (@pre .1 .tree .1 .0) (@pre .1 .held .1 .0))) (lays (@word2 .ensures)) },
+arms-seq-requires t c κs = rw (c .before .before .before .before .before .before .before .before .before .before .before .before .before .second .ensures) (
+  omega (arith, c .before .before .before .before .before .before .before .before .before .before .before .before .before .before .before .before .before .pre .0, c .before .before .before .before .before .before .before .before .before .before .before .before .before .before .before .before .before .pre .1 .held .1 .3 .same),
+  record { accepted = c .before .before .before .before .before .before .before .before .before .before .before .before .before .before .before .before .before .pre .1 .accepted; tree = rules.armElems _ (c .before .before .before .before .before .before .before .before .before .before .before .before .before .before .before .before .before .pre .1 .tree .1 .2); held = list-of (c .before .before .before .before .before .before .before .before .before .before .before .before .before .before .before .before .before .pre .1 .held .1 .1) (arm-elems _ _ _ _ (c .before .before .before .before .before .before .before .before .before .before .before .before .before .before .before .before .before .pre .1 .tree .1 .2) (c .before .before .before .before .before .before .before .before .before .before .before .before .before .before .before .before .before .pre .1 .held .1 .2)); span = c .before .before .before .before .before .before .before .before .before .before .before .before .before .before .before .before .before .pre .1 .tree .1 .1; ended = c .before .before .before .before .before .before .before .before .before .before .before .before .before .before .before .before .before .pre .1 .held .1 .1 .end; room = room-next (room-next (room-next (c .before .before .before .before .before .before .before .before .before .before .before .before .before .before .before .before .before .pre .1 .room) (lays (c .before .before .before .before .before .before .before .before .before .before .before .word .ensures))) (lays-as (c .before .before .before .before .before .before .before .before .before .before .before .before .before .before .before .before .before .pre .1 .accepted) (c .before .before .before .before .before .before .before .expr .ensures) .of (c .before .before .before .before .before .before .before .before .before .before .before .before .before .before .before .before .before .pre .1 .tree .1 .0) (c .before .before .before .before .before .before .before .before .before .before .before .before .before .before .before .before .before .pre .1 .held .1 .0))) (lays (c .before .before .before .word2 .ensures)) },
 )
 
 pub arms-same-length : (t : ℕ) → arms-lts.Need-same-length (arms-calls t) (arms-at t) arms.Post
-arms-same-length t c = @seq .kept .0 ∙ @word2 .kept .0 ∙ @expr .kept .0 ∙ @word .kept .0
+arms-same-length t c = c .before .before .seq .kept .0 ∙ c .before .before .before .before .before .before .word2 .kept .0 ∙ c .before .before .before .before .before .before .before .before .before .before .expr .kept .0 ∙ c .before .before .before .before .before .before .before .before .before .before .before .before .before .before .word .kept .0
 
 pub arms-returns : (t : ℕ) → arms-lts.Need-returns (arms-calls t) (arms-at t) arms.Post
 unfolding ExprAt rules.look
 arms-returns t c = laid-as
-    (let l = rw (@second .ensures) at (lays-list (@pre .1 .accepted) (@seq .ensures)) in
+    (let l = rw (c .before .before .before .before .before .before .before .before .before .before .before .before .before .before .before .before .second .ensures) at (lays-list (c .before .before .before .before .before .before .before .before .before .before .before .before .before .before .before .before .before .before .before .before .pre .1 .accepted) (c .before .before .seq .ensures)) in
     record {
       of =
           λ x a.
-          lays-then (lays (@word .ensures))
-          (lays-then (lays-as (@pre .1 .accepted) (@expr .ensures) .of (x .1 .0) (a .1 .0))
-          (lays-then (lays (@word2 .ensures))
+          lays-then (lays (c .before .before .before .before .before .before .before .before .before .before .before .before .before .before .word .ensures))
+          (lays-then (lays-as (c .before .before .before .before .before .before .before .before .before .before .before .before .before .before .before .before .before .before .before .before .pre .1 .accepted) (c .before .before .before .before .before .before .before .before .before .before .expr .ensures) .of (x .1 .0) (a .1 .0))
+          (lays-then (lays (c .before .before .before .before .before .before .word2 .ensures))
           (l .of (rules.armElems _ (x .1 .2)) (list-of (a .1 .1) (arm-elems _ _ _ _ (x .1 .2) (a .1 .2))) (x .1 .1) (a .1 .1 .end))));
     })

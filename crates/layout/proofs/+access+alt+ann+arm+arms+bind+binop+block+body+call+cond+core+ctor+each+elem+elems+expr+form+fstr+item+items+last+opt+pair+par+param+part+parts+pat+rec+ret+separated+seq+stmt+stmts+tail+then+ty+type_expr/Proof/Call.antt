@@ -17,23 +17,23 @@ use Rattle.layout.proofs.+access+alt+ann+arm+arms+bind+binop+block+body
 
 pub call-second-requires : (t : ℕ) → call-lts.Need-second-requires (call-calls t) (call-at t) call.Post
 unfolding ExprAt
-call-second-requires t c κs = within (expr-whole _ _ _ (@pre .1 .tree .1 .0) (@pre .1 .held .1 .0))
+call-second-requires t c κs = within (expr-whole _ _ _ (c .before .before .before .pre .1 .tree .1 .0) (c .before .before .before .pre .1 .held .1 .0))
 
 pub call-open-call-requires : (t : ℕ) → call-lts.Need-open-call-requires (call-calls t) (call-at t) call.Post
 unfolding ExprAt rules.look
-call-open-call-requires t c κs = opens-called _ _ (room-if _ (lt-ltb _ _ (@if1 .taken)) (@pre .1 .room))
+call-open-call-requires t c κs = opens-called _ _ (room-if _ (lt-ltb _ _ (c .before .if1 .taken)) (c .before .before .before .before .before .before .pre .1 .room))
 
 pub call-add-expr : (t : ℕ) → call-lts.Need-add-expr (call-calls t) (call-at t) call.Post
 unfolding ExprAt
-call-add-expr t c = omega (arith, @pre .1 .accepted .small, @pre .1 .held .0 .long, @pre .1 .held .0 .fits)
+call-add-expr t c = omega (arith, c .before .before .before .before .before .before .before .before .before .before .pre .1 .accepted .small, c .before .before .before .before .before .before .before .before .before .before .pre .1 .held .0 .long, c .before .before .before .before .before .before .before .before .before .before .pre .1 .held .0 .fits)
 
 pub call-expr-requires : (t : ℕ) → call-lts.Need-expr-requires (call-calls t) (call-at t) call.Post
 unfolding ExprAt rules.look
-call-expr-requires t c κs = (omega (arith, @pre .0, @pre .1 .held .1 .3 .same), record { accepted = @pre .1 .accepted; tree = @pre .1 .tree .1 .0; held = @pre .1 .held .1 .0; room = room-called _ (room-if _ (lt-ltb _ _ (@if1 .taken)) (@pre .1 .room)) (@open-call .ensures) })
+call-expr-requires t c κs = (omega (arith, c .before .before .before .before .before .before .before .before .before .before .pre .0, c .before .before .before .before .before .before .before .before .before .before .pre .1 .held .1 .3 .same), record { accepted = c .before .before .before .before .before .before .before .before .before .before .pre .1 .accepted; tree = c .before .before .before .before .before .before .before .before .before .before .pre .1 .tree .1 .0; held = c .before .before .before .before .before .before .before .before .before .before .pre .1 .held .1 .0; room = room-called _ (room-if _ (lt-ltb _ _ (c .before .before .before .before .before .if1 .taken)) (c .before .before .before .before .before .before .before .before .before .before .pre .1 .room)) (c .before .before .before .open-call .ensures) })
 
 pub call-seq-requires : (t : ℕ) → call-lts.Need-seq-requires (call-calls t) (call-at t) call.Post
 unfolding ExprAt rules.look
-call-seq-requires t c κs = rw (@second .ensures) (omega (arith, @pre .0, @pre .1 .held .1 .3 .same), record { accepted = @pre .1 .accepted; tree = rules.exprElems _ (@pre .1 .tree .1 .2); held = list-of (@pre .1 .held .1 .1) (expr-elems _ _ _ _ (@pre .1 .tree .1 .2) (@pre .1 .held .1 .2)); span = @pre .1 .tree .1 .1; ended = @pre .1 .held .1 .1 .end; room = room-called-next (room-if _ (lt-ltb _ _ (@if1 .taken)) (@pre .1 .room)) (@open-call .ensures) (lays-as (@pre .1 .accepted) (@expr .ensures) .of (@pre .1 .tree .1 .0) (@pre .1 .held .1 .0)) })
+call-seq-requires t c κs = rw (c .before .before .before .before .before .before .before .before .before .before .second .ensures) (omega (arith, c .before .before .before .before .before .before .before .before .before .before .before .before .before .before .pre .0, c .before .before .before .before .before .before .before .before .before .before .before .before .before .before .pre .1 .held .1 .3 .same), record { accepted = c .before .before .before .before .before .before .before .before .before .before .before .before .before .before .pre .1 .accepted; tree = rules.exprElems _ (c .before .before .before .before .before .before .before .before .before .before .before .before .before .before .pre .1 .tree .1 .2); held = list-of (c .before .before .before .before .before .before .before .before .before .before .before .before .before .before .pre .1 .held .1 .1) (expr-elems _ _ _ _ (c .before .before .before .before .before .before .before .before .before .before .before .before .before .before .pre .1 .tree .1 .2) (c .before .before .before .before .before .before .before .before .before .before .before .before .before .before .pre .1 .held .1 .2)); span = c .before .before .before .before .before .before .before .before .before .before .before .before .before .before .pre .1 .tree .1 .1; ended = c .before .before .before .before .before .before .before .before .before .before .before .before .before .before .pre .1 .held .1 .1 .end; room = room-called-next (room-if _ (lt-ltb _ _ (c .before .before .before .before .before .before .before .before .before .if1 .taken)) (c .before .before .before .before .before .before .before .before .before .before .before .before .before .before .pre .1 .room)) (c .before .before .before .before .before .before .before .open-call .ensures) (lays-as (c .before .before .before .before .before .before .before .before .before .before .before .before .before .before .pre .1 .accepted) (c .before .before .before .expr .ensures) .of (c .before .before .before .before .before .before .before .before .before .before .before .before .before .before .pre .1 .tree .1 .0) (c .before .before .before .before .before .before .before .before .before .before .before .before .before .before .pre .1 .held .1 .0)) })
 
 pub call-set-second-requires : (t : ℕ) → call-lts.Need-set-second-requires (call-calls t) (call-at t) call.Post
 call-set-second-requires t c κs = tt
@@ -42,36 +42,36 @@ pub call-close-requires : (t : ℕ) → call-lts.Need-close-requires (call-calls
 call-close-requires t c κs = tt
 
 pub call-same-length : (t : ℕ) → call-lts.Need-same-length (call-calls t) (call-at t) call.Post
-call-same-length t c = @close .kept .0 ∙ @set-second .kept .0 ∙ @seq .kept .0 ∙ @expr .kept .0 ∙ @open-call .kept .0
+call-same-length t c = c .before .before .close .kept .0 ∙ c .before .before .before .before .before .before .set-second .kept .0 ∙ c .before .before .before .before .before .before .before .before .before .before .seq .kept .0 ∙ c .before .before .before .before .before .before .before .before .before .before .before .before .before .before .expr .kept .0 ∙ c .before .before .before .before .before .before .before .before .before .before .before .before .before .before .before .before .before .before .open-call .kept .0
 
 pub call-returns : (t : ℕ) → call-lts.Need-returns (call-calls t) (call-at t) call.Post
 unfolding ExprAt rules.look
 call-returns t c = laid-as
-    (let l = rw (@second .ensures) at (lays-list (@pre .1 .accepted) (@seq .ensures)) in
+    (let l = rw (c .before .before .before .before .before .before .before .before .before .before .before .before .before .before .before .before .before .before .before .before .before .second .ensures) at (lays-list (c .before .before .before .before .before .before .before .before .before .before .before .before .before .before .before .before .before .before .before .before .before .before .before .before .before .pre .1 .accepted) (c .before .before .before .before .before .before .before .before .before .before .seq .ensures)) in
     record {
       of =
           λ x a.
-          lays-if _ (lt-ltb _ _ (@if1 .taken))
-          (lays-called (@open-call .ensures) (lays-as (@pre .1 .accepted) (@expr .ensures) .of (x .1 .0) (a .1 .0)) (l .of (rules.exprElems _ (x .1 .2)) (list-of (a .1 .1) (expr-elems _ _ _ _ (x .1 .2) (a .1 .2))) (x .1 .1) (a .1 .1 .end)) (@set-second .ensures) (@close .ensures));
+          lays-if _ (lt-ltb _ _ (c .before .before .before .before .before .before .before .before .before .before .before .before .before .before .before .before .before .before .before .before .if1 .taken))
+          (lays-called (c .before .before .before .before .before .before .before .before .before .before .before .before .before .before .before .before .before .before .open-call .ensures) (lays-as (c .before .before .before .before .before .before .before .before .before .before .before .before .before .before .before .before .before .before .before .before .before .before .before .before .before .pre .1 .accepted) (c .before .before .before .before .before .before .before .before .before .before .before .before .before .before .expr .ensures) .of (x .1 .0) (a .1 .0)) (l .of (rules.exprElems _ (x .1 .2)) (list-of (a .1 .1) (expr-elems _ _ _ _ (x .1 .2) (a .1 .2))) (x .1 .1) (a .1 .1 .end)) (c .before .before .before .before .before .before .set-second .ensures) (c .before .before .close .ensures));
     })
 
 pub call-add-expr-2 : (t : ℕ) → call-lts.Need-add-expr-2 (call-calls t) (call-at t) call.Post
 unfolding ExprAt
-call-add-expr-2 t c = omega (arith, @pre .1 .accepted .small, @pre .1 .held .0 .long, @pre .1 .held .0 .fits)
+call-add-expr-2 t c = omega (arith, c .before .before .before .before .before .before .pre .1 .accepted .small, c .before .before .before .before .before .before .pre .1 .held .0 .long, c .before .before .before .before .before .before .pre .1 .held .0 .fits)
 
 pub call-expr-requires-2 : (t : ℕ) → call-lts.Need-expr-requires-2 (call-calls t) (call-at t) call.Post
 unfolding ExprAt rules.look
-call-expr-requires-2 t c κs = (omega (arith, @pre .0, @pre .1 .held .1 .3 .same), record { accepted = @pre .1 .accepted; tree = @pre .1 .tree .1 .0; held = @pre .1 .held .1 .0; room = room-first _ (room-else _ (le-ltb _ _ (@if1 .left)) (@pre .1 .room)) })
+call-expr-requires-2 t c κs = (omega (arith, c .before .before .before .before .before .before .pre .0, c .before .before .before .before .before .before .pre .1 .held .1 .3 .same), record { accepted = c .before .before .before .before .before .before .pre .1 .accepted; tree = c .before .before .before .before .before .before .pre .1 .tree .1 .0; held = c .before .before .before .before .before .before .pre .1 .held .1 .0; room = room-first _ (room-else _ (le-ltb _ _ (c .before .if1 .left)) (c .before .before .before .before .before .before .pre .1 .room)) })
 
 pub call-seq-requires-2 : (t : ℕ) → call-lts.Need-seq-requires-2 (call-calls t) (call-at t) call.Post
 unfolding ExprAt rules.look
-call-seq-requires-2 t c κs = rw (@second .ensures) (omega (arith, @pre .0, @pre .1 .held .1 .3 .same), record { accepted = @pre .1 .accepted; tree = rules.exprElems _ (@pre .1 .tree .1 .2); held = list-of (@pre .1 .held .1 .1) (expr-elems _ _ _ _ (@pre .1 .tree .1 .2) (@pre .1 .held .1 .2)); span = @pre .1 .tree .1 .1; ended = @pre .1 .held .1 .1 .end; room = room-next (room-else _ (le-ltb _ _ (@if1 .left)) (@pre .1 .room)) (lays-as (@pre .1 .accepted) (@expr2 .ensures) .of (@pre .1 .tree .1 .0) (@pre .1 .held .1 .0)) })
+call-seq-requires-2 t c κs = rw (c .before .before .before .before .before .before .second .ensures) (omega (arith, c .before .before .before .before .before .before .before .before .before .before .pre .0, c .before .before .before .before .before .before .before .before .before .before .pre .1 .held .1 .3 .same), record { accepted = c .before .before .before .before .before .before .before .before .before .before .pre .1 .accepted; tree = rules.exprElems _ (c .before .before .before .before .before .before .before .before .before .before .pre .1 .tree .1 .2); held = list-of (c .before .before .before .before .before .before .before .before .before .before .pre .1 .held .1 .1) (expr-elems _ _ _ _ (c .before .before .before .before .before .before .before .before .before .before .pre .1 .tree .1 .2) (c .before .before .before .before .before .before .before .before .before .before .pre .1 .held .1 .2)); span = c .before .before .before .before .before .before .before .before .before .before .pre .1 .tree .1 .1; ended = c .before .before .before .before .before .before .before .before .before .before .pre .1 .held .1 .1 .end; room = room-next (room-else _ (le-ltb _ _ (c .before .before .before .before .before .if1 .left)) (c .before .before .before .before .before .before .before .before .before .before .pre .1 .room)) (lays-as (c .before .before .before .before .before .before .before .before .before .before .pre .1 .accepted) (c .before .before .before .expr2 .ensures) .of (c .before .before .before .before .before .before .before .before .before .before .pre .1 .tree .1 .0) (c .before .before .before .before .before .before .before .before .before .before .pre .1 .held .1 .0)) })
 
 pub call-same-length-2 : (t : ℕ) → call-lts.Need-same-length-2 (call-calls t) (call-at t) call.Post
-call-same-length-2 t c = @seq2 .kept .0 ∙ @expr2 .kept .0
+call-same-length-2 t c = c .before .before .seq2 .kept .0 ∙ c .before .before .before .before .before .before .expr2 .kept .0
 
 pub call-returns-2 : (t : ℕ) → call-lts.Need-returns-2 (call-calls t) (call-at t) call.Post
 unfolding ExprAt rules.look
 call-returns-2 t c = laid-as
-    (let l = rw (@second .ensures) at (lays-list (@pre .1 .accepted) (@seq2 .ensures)) in
-    record { of = λ x a. lays-else _ (le-ltb _ _ (@if1 .left)) (lays-then (lays-as (@pre .1 .accepted) (@expr2 .ensures) .of (x .1 .0) (a .1 .0)) (l .of (rules.exprElems _ (x .1 .2)) (list-of (a .1 .1) (expr-elems _ _ _ _ (x .1 .2) (a .1 .2))) (x .1 .1) (a .1 .1 .end))) })
+    (let l = rw (c .before .before .before .before .before .before .before .before .before .second .ensures) at (lays-list (c .before .before .before .before .before .before .before .before .before .before .before .before .before .pre .1 .accepted) (c .before .before .seq2 .ensures)) in
+    record { of = λ x a. lays-else _ (le-ltb _ _ (c .before .before .before .before .before .before .before .before .if1 .left)) (lays-then (lays-as (c .before .before .before .before .before .before .before .before .before .before .before .before .before .pre .1 .accepted) (c .before .before .before .before .before .before .expr2 .ensures) .of (x .1 .0) (a .1 .0)) (l .of (rules.exprElems _ (x .1 .2)) (list-of (a .1 .1) (expr-elems _ _ _ _ (x .1 .2) (a .1 .2))) (x .1 .1) (a .1 .1 .end))) })

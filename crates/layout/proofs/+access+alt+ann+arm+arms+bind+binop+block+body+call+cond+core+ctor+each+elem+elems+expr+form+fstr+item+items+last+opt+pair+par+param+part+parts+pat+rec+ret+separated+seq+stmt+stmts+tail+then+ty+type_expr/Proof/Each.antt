@@ -13,36 +13,36 @@ use Rattle.layout.proofs.+access+alt+ann+arm+arms+bind+binop+block+body
 
 pub each-second-requires : (t : ℕ) → each-lts.Need-second-requires (each-calls t) (each-at t) each.Post
 unfolding ExprAt
-each-second-requires t c κs = within (ident-whole (@pre .1 .held .1 .0))
+each-second-requires t c κs = within (ident-whole (c .before .before .before .pre .1 .held .1 .0))
 
 pub each-word-requires : (t : ℕ) → each-lts.Need-word-requires (each-calls t) (each-at t) each.Post
 unfolding ExprAt rules.look
-each-word-requires t c κs = room-first _ (@pre .1 .room)
+each-word-requires t c κs = room-first _ (c .before .before .before .before .before .pre .1 .room)
 
 pub each-add-ident : (t : ℕ) → each-lts.Need-add-ident (each-calls t) (each-at t) each.Post
 unfolding ExprAt
-each-add-ident t c = omega (arith, @pre .1 .accepted .small, @pre .1 .held .0 .long, @pre .1 .held .0 .fits)
+each-add-ident t c = omega (arith, c .before .before .before .before .before .before .before .before .before .pre .1 .accepted .small, c .before .before .before .before .before .before .before .before .before .pre .1 .held .0 .long, c .before .before .before .before .before .before .before .before .before .pre .1 .held .0 .fits)
 
 pub each-ident-requires : (t : ℕ) → each-lts.Need-ident-requires (each-calls t) (each-at t) each.Post
 unfolding ExprAt rules.look
-each-ident-requires t c κs = record { accepted = @pre .1 .accepted; tree = @pre .1 .tree .1 .0; held = @pre .1 .held .1 .0; room = room-first _ (room-next (@pre .1 .room) (lays (@word .ensures))) }
+each-ident-requires t c κs = record { accepted = c .before .before .before .before .before .before .before .before .before .pre .1 .accepted; tree = c .before .before .before .before .before .before .before .before .before .pre .1 .tree .1 .0; held = c .before .before .before .before .before .before .before .before .before .pre .1 .held .1 .0; room = room-first _ (room-next (c .before .before .before .before .before .before .before .before .before .pre .1 .room) (lays (c .before .before .before .word .ensures))) }
 
 pub each-cond-requires : (t : ℕ) → each-lts.Need-cond-requires (each-calls t) (each-at t) each.Post
 unfolding ExprAt rules.look
-each-cond-requires t c κs = rw (@second .ensures) (
-  omega (arith, @pre .0, @pre .1 .held .1 .3 .same),
-  record { accepted = @pre .1 .accepted; tree = (@pre .1 .tree .1 .1, @pre .1 .tree .1 .2); held = (@pre .1 .held .1 .1, @pre .1 .held .1 .2); room = room-next (room-next (@pre .1 .room) (lays (@word .ensures))) (lays-as (@pre .1 .accepted) (@ident .ensures) .of (@pre .1 .tree .1 .0) (@pre .1 .held .1 .0)) },
+each-cond-requires t c κs = rw (c .before .before .before .before .before .before .before .before .before .second .ensures) (
+  omega (arith, c .before .before .before .before .before .before .before .before .before .before .before .before .before .pre .0, c .before .before .before .before .before .before .before .before .before .before .before .before .before .pre .1 .held .1 .3 .same),
+  record { accepted = c .before .before .before .before .before .before .before .before .before .before .before .before .before .pre .1 .accepted; tree = (c .before .before .before .before .before .before .before .before .before .before .before .before .before .pre .1 .tree .1 .1, c .before .before .before .before .before .before .before .before .before .before .before .before .before .pre .1 .tree .1 .2); held = (c .before .before .before .before .before .before .before .before .before .before .before .before .before .pre .1 .held .1 .1, c .before .before .before .before .before .before .before .before .before .before .before .before .before .pre .1 .held .1 .2); room = room-next (room-next (c .before .before .before .before .before .before .before .before .before .before .before .before .before .pre .1 .room) (lays (c .before .before .before .before .before .before .before .word .ensures))) (lays-as (c .before .before .before .before .before .before .before .before .before .before .before .before .before .pre .1 .accepted) (c .before .before .before .ident .ensures) .of (c .before .before .before .before .before .before .before .before .before .before .before .before .before .pre .1 .tree .1 .0) (c .before .before .before .before .before .before .before .before .before .before .before .before .before .pre .1 .held .1 .0)) },
 )
 
 pub each-same-length : (t : ℕ) → each-lts.Need-same-length (each-calls t) (each-at t) each.Post
-each-same-length t c = @cond .kept .0 ∙ @ident .kept .0 ∙ @word .kept .0
+each-same-length t c = c .before .before .cond .kept .0 ∙ c .before .before .before .before .before .before .ident .kept .0 ∙ c .before .before .before .before .before .before .before .before .before .before .word .kept .0
 
 pub each-returns : (t : ℕ) → each-lts.Need-returns (each-calls t) (each-at t) each.Post
 unfolding ExprAt rules.look
 each-returns t c = laid-as
     (record {
-  of =
-      λ x a.
-      lays-then (lays (@word .ensures))
-      (lays-then (lays-as (@pre .1 .accepted) (@ident .ensures) .of (x .1 .0) (a .1 .0)) (lays-as (@pre .1 .accepted) (@cond .ensures) .of (x .1 .1, x .1 .2) (rw (@second .ensures) (a .1 .1, a .1 .2))));
-})
+      of =
+          λ x a.
+          lays-then (lays (c .before .before .before .before .before .before .before .before .before .before .word .ensures))
+          (lays-then (lays-as (c .before .before .before .before .before .before .before .before .before .before .before .before .before .before .before .before .pre .1 .accepted) (c .before .before .before .before .before .before .ident .ensures) .of (x .1 .0) (a .1 .0)) (lays-as (c .before .before .before .before .before .before .before .before .before .before .before .before .before .before .before .before .pre .1 .accepted) (c .before .before .cond .ensures) .of (x .1 .1, x .1 .2) (rw (c .before .before .before .before .before .before .before .before .before .before .before .before .second .ensures) (a .1 .1, a .1 .2))));
+    })

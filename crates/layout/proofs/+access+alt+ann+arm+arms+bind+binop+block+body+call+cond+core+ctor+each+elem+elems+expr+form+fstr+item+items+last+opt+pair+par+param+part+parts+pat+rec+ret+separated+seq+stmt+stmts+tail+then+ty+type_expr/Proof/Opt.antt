@@ -9,16 +9,16 @@ use Rattle.layout.proofs.+access+alt+ann+arm+arms+bind+binop+block+body
 use Rattle.layout.proofs.+access+alt+ann+arm+arms+bind+binop+block+body+call+cond+core+ctor+each+elem+elems+expr+form+fstr+item+items+last+opt+pair+par+param+part+parts+pat+rec+ret+separated+seq+stmt+stmts+tail+then+ty+type_expr.Proof.Base.{opt-at, opt-calls}
 
 pub opt-is-absent-requires : (t : ℕ) → opt-lts.Need-is-absent-requires (opt-calls t) (opt-at t) opt.Post
-opt-is-absent-requires t c κs = maybe-expr _ _ _ (@pre .1 .tree) (@pre .1 .held)
+opt-is-absent-requires t c κs = maybe-expr _ _ _ (c .before .before .before .pre .1 .tree) (c .before .before .before .pre .1 .held)
 
 pub opt-returns : (t : ℕ) → opt-lts.Need-returns (opt-calls t) (opt-at t) opt.Post
-opt-returns t c = laid-as (no-maybe (@args .k) (absent (@is-absent .ensures) (@if1 .taken)))
+opt-returns t c = laid-as (no-maybe (c .before .before .before .before .before .args .k) (absent (c .before .is-absent .ensures) (c .if1 .taken)))
 
 pub opt-then-requires : (t : ℕ) → opt-lts.Need-then-requires (opt-calls t) (opt-at t) opt.Post
-opt-then-requires t c κs = (omega (arith, @pre .0), has-expr (present (@is-absent .ensures) (@if1 .left)) (@pre .1))
+opt-then-requires t c κs = (omega (arith, c .before .before .before .before .before .before .pre .0), has-expr (c .before .before .before .before .before .before .args .k) (present (c .before .before .is-absent .ensures) (c .before .if1 .left)) (c .before .before .before .before .before .before .pre .1))
 
 pub opt-same-length : (t : ℕ) → opt-lts.Need-same-length (opt-calls t) (opt-at t) opt.Post
-opt-same-length t c = @then .kept .0
+opt-same-length t c = c .before .before .then .kept .0
 
 pub opt-returns-2 : (t : ℕ) → opt-lts.Need-returns-2 (opt-calls t) (opt-at t) opt.Post
-opt-returns-2 t c = laid-as (some-maybe (@args .k) (present (@is-absent .ensures) (@if1 .left)) (lays-as (@pre .1 .accepted) (@then .ensures)))
+opt-returns-2 t c = laid-as (some-maybe (c .before .before .before .before .before .before .before .before .before .args .k) (present (c .before .before .before .before .before .is-absent .ensures) (c .before .before .before .before .if1 .left)) (lays-as (c .before .before .before .before .before .before .before .before .before .pre .1 .accepted) (c .before .before .then .ensures)))

@@ -15,38 +15,38 @@ use Rattle.layout.proofs.+access+alt+ann+arm+arms+bind+binop+block+body
 
 pub rec-second-requires : (t : ℕ) → rec-lts.Need-second-requires (rec-calls t) (rec-at t) rec.Post
 unfolding ExprAt
-rec-second-requires t c κs = within (path-whole (@pre .1 .held .1 .0))
+rec-second-requires t c κs = within (path-whole (c .before .before .before .pre .1 .held .1 .0))
 
 pub rec-add-path : (t : ℕ) → rec-lts.Need-add-path (rec-calls t) (rec-at t) rec.Post
 unfolding ExprAt
-rec-add-path t c = omega (arith, @pre .1 .accepted .small, @pre .1 .held .0 .long, @pre .1 .held .0 .fits)
+rec-add-path t c = omega (arith, c .before .before .before .before .before .pre .1 .accepted .small, c .before .before .before .before .before .pre .1 .held .0 .long, c .before .before .before .before .before .pre .1 .held .0 .fits)
 
 pub rec-path-requires : (t : ℕ) → rec-lts.Need-path-requires (rec-calls t) (rec-at t) rec.Post
 unfolding ExprAt rules.look
-rec-path-requires t c κs = record { accepted = @pre .1 .accepted; tree = @pre .1 .tree .1 .0; held = @pre .1 .held .1 .0; room = room-first _ (@pre .1 .room) }
+rec-path-requires t c κs = record { accepted = c .before .before .before .before .before .pre .1 .accepted; tree = c .before .before .before .before .before .pre .1 .tree .1 .0; held = c .before .before .before .before .before .pre .1 .held .1 .0; room = room-first _ (c .before .before .before .before .before .pre .1 .room) }
 
 pub rec-word-requires : (t : ℕ) → rec-lts.Need-word-requires (rec-calls t) (rec-at t) rec.Post
 unfolding ExprAt rules.look
-rec-word-requires t c κs = room-first _ (room-next (@pre .1 .room) (lays-as (@pre .1 .accepted) (@path .ensures) .of (@pre .1 .tree .1 .0) (@pre .1 .held .1 .0)))
+rec-word-requires t c κs = room-first _ (room-next (c .before .before .before .before .before .before .before .before .before .pre .1 .room) (lays-as (c .before .before .before .before .before .before .before .before .before .pre .1 .accepted) (c .before .before .before .path .ensures) .of (c .before .before .before .before .before .before .before .before .before .pre .1 .tree .1 .0) (c .before .before .before .before .before .before .before .before .before .pre .1 .held .1 .0)))
 
 pub rec-seq-requires : (t : ℕ) → rec-lts.Need-seq-requires (rec-calls t) (rec-at t) rec.Post
 unfolding ExprAt rules.look
-rec-seq-requires t c κs = rw (@second .ensures) (
-  omega (arith, @pre .0, @pre .1 .held .1 .3 .same),
-  record { accepted = @pre .1 .accepted; tree = rules.entryElems _ (@pre .1 .tree .1 .2); held = list-of (@pre .1 .held .1 .1) (entry-elems _ _ _ _ (@pre .1 .tree .1 .2) (@pre .1 .held .1 .2)); span = @pre .1 .tree .1 .1; ended = @pre .1 .held .1 .1 .end; room = room-next (room-next (@pre .1 .room) (lays-as (@pre .1 .accepted) (@path .ensures) .of (@pre .1 .tree .1 .0) (@pre .1 .held .1 .0))) (lays (@word .ensures)) },
+rec-seq-requires t c κs = rw (c .before .before .before .before .before .before .before .before .before .second .ensures) (
+  omega (arith, c .before .before .before .before .before .before .before .before .before .before .before .before .before .pre .0, c .before .before .before .before .before .before .before .before .before .before .before .before .before .pre .1 .held .1 .3 .same),
+  record { accepted = c .before .before .before .before .before .before .before .before .before .before .before .before .before .pre .1 .accepted; tree = rules.entryElems _ (c .before .before .before .before .before .before .before .before .before .before .before .before .before .pre .1 .tree .1 .2); held = list-of (c .before .before .before .before .before .before .before .before .before .before .before .before .before .pre .1 .held .1 .1) (entry-elems _ _ _ _ (c .before .before .before .before .before .before .before .before .before .before .before .before .before .pre .1 .tree .1 .2) (c .before .before .before .before .before .before .before .before .before .before .before .before .before .pre .1 .held .1 .2)); span = c .before .before .before .before .before .before .before .before .before .before .before .before .before .pre .1 .tree .1 .1; ended = c .before .before .before .before .before .before .before .before .before .before .before .before .before .pre .1 .held .1 .1 .end; room = room-next (room-next (c .before .before .before .before .before .before .before .before .before .before .before .before .before .pre .1 .room) (lays-as (c .before .before .before .before .before .before .before .before .before .before .before .before .before .pre .1 .accepted) (c .before .before .before .before .before .before .before .path .ensures) .of (c .before .before .before .before .before .before .before .before .before .before .before .before .before .pre .1 .tree .1 .0) (c .before .before .before .before .before .before .before .before .before .before .before .before .before .pre .1 .held .1 .0))) (lays (c .before .before .before .word .ensures)) },
 )
 
 pub rec-same-length : (t : ℕ) → rec-lts.Need-same-length (rec-calls t) (rec-at t) rec.Post
-rec-same-length t c = @seq .kept .0 ∙ @word .kept .0 ∙ @path .kept .0
+rec-same-length t c = c .before .before .seq .kept .0 ∙ c .before .before .before .before .before .before .word .kept .0 ∙ c .before .before .before .before .before .before .before .before .before .before .path .kept .0
 
 pub rec-returns : (t : ℕ) → rec-lts.Need-returns (rec-calls t) (rec-at t) rec.Post
 unfolding ExprAt rules.look
 rec-returns t c = laid-as
-    (let l = rw (@second .ensures) at (lays-list (@pre .1 .accepted) (@seq .ensures)) in
+    (let l = rw (c .before .before .before .before .before .before .before .before .before .before .before .before .second .ensures) at (lays-list (c .before .before .before .before .before .before .before .before .before .before .before .before .before .before .before .before .pre .1 .accepted) (c .before .before .seq .ensures)) in
     record {
       of =
           λ x a.
-          lays-then (lays-as (@pre .1 .accepted) (@path .ensures) .of (x .1 .0) (a .1 .0))
-          (lays-then (lays (@word .ensures))
+          lays-then (lays-as (c .before .before .before .before .before .before .before .before .before .before .before .before .before .before .before .before .pre .1 .accepted) (c .before .before .before .before .before .before .before .before .before .before .path .ensures) .of (x .1 .0) (a .1 .0))
+          (lays-then (lays (c .before .before .before .before .before .before .word .ensures))
           (l .of (rules.entryElems _ (x .1 .2)) (list-of (a .1 .1) (entry-elems _ _ _ _ (x .1 .2) (a .1 .2))) (x .1 .1) (a .1 .1 .end)));
     })
