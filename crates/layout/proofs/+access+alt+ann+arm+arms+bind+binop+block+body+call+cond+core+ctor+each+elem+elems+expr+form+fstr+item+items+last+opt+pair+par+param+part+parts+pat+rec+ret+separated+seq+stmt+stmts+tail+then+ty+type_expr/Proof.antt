@@ -39,6 +39,7 @@ mod Ty
 mod Rec
 mod Ctor
 -- Each function lays its rule: its calls lay the rule's steps in their order, and the laws of the steps join them.
+use borrow.Author.Needs.{needs}
 use Rattle.layout.proofs.access.Reads as access
 use Rattle.layout.proofs.+access+alt+ann+arm+arms+bind+binop+block+body+call+cond+core+ctor+each+elem+elems+expr+form+fstr+item+items+last+opt+pair+par+param+part+parts+pat+rec+ret+separated+seq+stmt+stmts+tail+then+ty+type_expr.Lts-access as access-lts
 use Rattle.layout.proofs.then.Reads as then
@@ -120,17 +121,17 @@ use Rattle.layout.proofs.+access+alt+ann+arm+arms+bind+binop+block+body
 use Rattle.layout.proofs.+access+alt+ann+arm+arms+bind+binop+block+body+call+cond+core+ctor+each+elem+elems+expr+form+fstr+item+items+last+opt+pair+par+param+part+parts+pat+rec+ret+separated+seq+stmt+stmts+tail+then+ty+type_expr.{statement}
 use Rattle.layout.proofs.+access+alt+ann+arm+arms+bind+binop+block+body+call+cond+core+ctor+each+elem+elems+expr+form+fstr+item+items+last+opt+pair+par+param+part+parts+pat+rec+ret+separated+seq+stmt+stmts+tail+then+ty+type_expr.Tie.{close}
 use Rattle.layout.proofs.+access+alt+ann+arm+arms+bind+binop+block+body+call+cond+core+ctor+each+elem+elems+expr+form+fstr+item+items+last+opt+pair+par+param+part+parts+pat+rec+ret+separated+seq+stmt+stmts+tail+then+ty+type_expr.Proof.Base.{μ-access, μ-then, μ-arm, μ-bind, μ-binop, μ-block, μ-body, μ-call, μ-cond, μ-ann, μ-elem, μ-elems, μ-pair, μ-expr, μ-param, μ-each, μ-form, μ-fstr, μ-items, μ-alt, μ-item, μ-core, μ-last, μ-seq, μ-arms, μ-opt, μ-par, μ-part, μ-parts, μ-pat, μ-ret, μ-separated, μ-stmt, μ-stmts, μ-tail, μ-type-expr, μ-ty, μ-rec, μ-ctor, access-at, then-at, arm-at, bind-at, binop-at, block-at, body-at, call-at, cond-at, ann-at, elem-at, elems-at, pair-at, expr-at, param-at, each-at, form-at, fstr-at, items-at, alt-at, item-at, core-at, last-at, seq-at, arms-at, opt-at, par-at, part-at, parts-at, pat-at, ret-at, separated-at, stmt-at, stmts-at, tail-at, type-expr-at, ty-at, rec-at, ctor-at, access-calls, then-calls, arm-calls, bind-calls, binop-calls, block-calls, body-calls, call-calls, cond-calls, ann-calls, elem-calls, elems-calls, pair-calls, expr-calls, param-calls, each-calls, form-calls, fstr-calls, items-calls, alt-calls, item-calls, core-calls, last-calls, seq-calls, arms-calls, opt-calls, par-calls, part-calls, parts-calls, pat-calls, ret-calls, separated-calls, stmt-calls, stmts-calls, tail-calls, type-expr-calls, ty-calls, rec-calls, ctor-calls}
-use Rattle.layout.proofs.+access+alt+ann+arm+arms+bind+binop+block+body+call+cond+core+ctor+each+elem+elems+expr+form+fstr+item+items+last+opt+pair+par+param+part+parts+pat+rec+ret+separated+seq+stmt+stmts+tail+then+ty+type_expr.Proof.Access.{access-second-requires, access-open-group-requires, access-open-indent-next-requires, access-add-expr, access-expr-requires, access-field-name-requires, access-close-requires, access-close-requires-2, access-same-length, access-returns, access-add-expr-2, access-expr-requires-2, access-field-name-requires-2, access-same-length-2, access-returns-2}
+use Rattle.layout.proofs.+access+alt+ann+arm+arms+bind+binop+block+body+call+cond+core+ctor+each+elem+elems+expr+form+fstr+item+items+last+opt+pair+par+param+part+parts+pat+rec+ret+separated+seq+stmt+stmts+tail+then+ty+type_expr.Proof.Access.{access-second-requires, access-open-group-requires, access-open-indent-next-requires, access-add-expr, access-expr-requires, access-field-name-requires, access-same-length, access-returns, access-add-expr-2, access-expr-requires-2, access-field-name-requires-2, access-same-length-2, access-returns-2}
 use Rattle.layout.proofs.+access+alt+ann+arm+arms+bind+binop+block+body+call+cond+core+ctor+each+elem+elems+expr+form+fstr+item+items+last+opt+pair+par+param+part+parts+pat+rec+ret+separated+seq+stmt+stmts+tail+then+ty+type_expr.Proof.Then.{then-word-requires, then-expr-requires, then-same-length, then-returns}
 use Rattle.layout.proofs.+access+alt+ann+arm+arms+bind+binop+block+body+call+cond+core+ctor+each+elem+elems+expr+form+fstr+item+items+last+opt+pair+par+param+part+parts+pat+rec+ret+separated+seq+stmt+stmts+tail+then+ty+type_expr.Proof.Arm.{arm-second-requires, arm-third-requires, arm-add-pat, arm-pat-requires, arm-opt-requires, arm-word-requires, arm-expr-requires, arm-arm-comma-requires, arm-same-length, arm-returns}
 use Rattle.layout.proofs.+access+alt+ann+arm+arms+bind+binop+block+body+call+cond+core+ctor+each+elem+elems+expr+form+fstr+item+items+last+opt+pair+par+param+part+parts+pat+rec+ret+separated+seq+stmt+stmts+tail+then+ty+type_expr.Proof.Bind.{bind-second-requires, bind-third-requires, bind-word-requires, bind-add-ident, bind-ident-requires, bind-ann-requires, bind-word-requires-2, bind-expr-requires, bind-word-requires-3, bind-same-length, bind-returns}
-use Rattle.layout.proofs.+access+alt+ann+arm+arms+bind+binop+block+body+call+cond+core+ctor+each+elem+elems+expr+form+fstr+item+items+last+opt+pair+par+param+part+parts+pat+rec+ret+separated+seq+stmt+stmts+tail+then+ty+type_expr.Proof.Binop.{binop-precedence-requires, binop-leftmost-requires, binop-open-group-requires, binop-expr-requires, binop-line-or-space-requires, binop-open-indent-requires, binop-tail-requires, binop-close-requires, binop-close-requires-2, binop-same-length, binop-returns}
-use Rattle.layout.proofs.+access+alt+ann+arm+arms+bind+binop+block+body+call+cond+core+ctor+each+elem+elems+expr+form+fstr+item+items+last+opt+pair+par+param+part+parts+pat+rec+ret+separated+seq+stmt+stmts+tail+then+ty+type_expr.Proof.Block.{block-is-empty-requires, block-open-group-requires, block-block-start-requires, block-body-requires, block-line-requires, block-word-requires, block-close-requires, block-same-length, block-returns}
-use Rattle.layout.proofs.+access+alt+ann+arm+arms+bind+binop+block+body+call+cond+core+ctor+each+elem+elems+expr+form+fstr+item+items+last+opt+pair+par+param+part+parts+pat+rec+ret+separated+seq+stmt+stmts+tail+then+ty+type_expr.Proof.Body.{body-second-requires, body-no-stmts-requires, body-is-empty-requires, body-open-indent-requires, body-add-stmts, body-add-stmts-2, body-stmts-requires, body-last-requires, body-end-requires, body-gap-requires, body-close-requires, body-same-length, body-returns}
-use Rattle.layout.proofs.+access+alt+ann+arm+arms+bind+binop+block+body+call+cond+core+ctor+each+elem+elems+expr+form+fstr+item+items+last+opt+pair+par+param+part+parts+pat+rec+ret+separated+seq+stmt+stmts+tail+then+ty+type_expr.Proof.Call.{call-second-requires, call-open-call-requires, call-add-expr, call-expr-requires, call-seq-requires, call-set-second-requires, call-close-requires, call-same-length, call-returns, call-add-expr-2, call-expr-requires-2, call-seq-requires-2, call-same-length-2, call-returns-2}
-use Rattle.layout.proofs.+access+alt+ann+arm+arms+bind+binop+block+body+call+cond+core+ctor+each+elem+elems+expr+form+fstr+item+items+last+opt+pair+par+param+part+parts+pat+rec+ret+separated+seq+stmt+stmts+tail+then+ty+type_expr.Proof.Cond.{cond-word-requires, cond-open-group-requires, cond-open-indent-requires, cond-expr-requires, cond-close-requires, cond-close-requires-2, cond-word-requires-2, cond-past-requires, cond-block-requires, cond-same-length, cond-returns}
+use Rattle.layout.proofs.+access+alt+ann+arm+arms+bind+binop+block+body+call+cond+core+ctor+each+elem+elems+expr+form+fstr+item+items+last+opt+pair+par+param+part+parts+pat+rec+ret+separated+seq+stmt+stmts+tail+then+ty+type_expr.Proof.Binop.{binop-precedence-requires, binop-leftmost-requires, binop-open-group-requires, binop-expr-requires, binop-line-or-space-requires, binop-open-indent-requires, binop-tail-requires, binop-same-length, binop-returns}
+use Rattle.layout.proofs.+access+alt+ann+arm+arms+bind+binop+block+body+call+cond+core+ctor+each+elem+elems+expr+form+fstr+item+items+last+opt+pair+par+param+part+parts+pat+rec+ret+separated+seq+stmt+stmts+tail+then+ty+type_expr.Proof.Block.{block-is-empty-requires, block-open-group-requires, block-block-start-requires, block-body-requires, block-line-requires, block-word-requires, block-same-length, block-returns}
+use Rattle.layout.proofs.+access+alt+ann+arm+arms+bind+binop+block+body+call+cond+core+ctor+each+elem+elems+expr+form+fstr+item+items+last+opt+pair+par+param+part+parts+pat+rec+ret+separated+seq+stmt+stmts+tail+then+ty+type_expr.Proof.Body.{body-second-requires, body-no-stmts-requires, body-is-empty-requires, body-open-indent-requires, body-add-stmts, body-add-stmts-2, body-stmts-requires, body-last-requires, body-end-requires, body-gap-requires, body-same-length, body-returns}
+use Rattle.layout.proofs.+access+alt+ann+arm+arms+bind+binop+block+body+call+cond+core+ctor+each+elem+elems+expr+form+fstr+item+items+last+opt+pair+par+param+part+parts+pat+rec+ret+separated+seq+stmt+stmts+tail+then+ty+type_expr.Proof.Call.{call-second-requires, call-open-call-requires, call-add-expr, call-expr-requires, call-seq-requires, call-same-length, call-returns, call-add-expr-2, call-expr-requires-2, call-seq-requires-2, call-same-length-2, call-returns-2}
+use Rattle.layout.proofs.+access+alt+ann+arm+arms+bind+binop+block+body+call+cond+core+ctor+each+elem+elems+expr+form+fstr+item+items+last+opt+pair+par+param+part+parts+pat+rec+ret+separated+seq+stmt+stmts+tail+then+ty+type_expr.Proof.Cond.{cond-word-requires, cond-open-group-requires, cond-open-indent-requires, cond-expr-requires, cond-word-requires-2, cond-past-requires, cond-block-requires, cond-same-length, cond-returns}
 use Rattle.layout.proofs.+access+alt+ann+arm+arms+bind+binop+block+body+call+cond+core+ctor+each+elem+elems+expr+form+fstr+item+items+last+opt+pair+par+param+part+parts+pat+rec+ret+separated+seq+stmt+stmts+tail+then+ty+type_expr.Proof.Ann.{ann-is-absent-requires, ann-returns, ann-word-requires, ann-type-expr-requires, ann-same-length, ann-returns-2}
-use Rattle.layout.proofs.+access+alt+ann+arm+arms+bind+binop+block+body+call+cond+core+ctor+each+elem+elems+expr+form+fstr+item+items+last+opt+pair+par+param+part+parts+pat+rec+ret+separated+seq+stmt+stmts+tail+then+ty+type_expr.Proof.Elem.{elem-enum-told, elem-ident-requires, elem-enum-told-2, elem-type-expr-requires, elem-enum-told-3, elem-param-requires, elem-enum-told-4, elem-item-requires, elem-enum-told-5, elem-expr-requires, elem-enum-told-6, elem-open-group-requires, elem-expr-requires-2, elem-close-requires, elem-enum-told-7, elem-pair-requires, elem-enum-told-8, elem-arm-requires, elem-enum-told-9, elem-ctor-requires, elem-same-length, elem-returns, elem-same-length-2, elem-returns-2, elem-same-length-3, elem-returns-3, elem-same-length-4, elem-returns-4, elem-same-length-5, elem-returns-5, elem-same-length-6, elem-returns-6, elem-same-length-7, elem-returns-7, elem-same-length-8, elem-returns-8, elem-same-length-9, elem-returns-9}
+use Rattle.layout.proofs.+access+alt+ann+arm+arms+bind+binop+block+body+call+cond+core+ctor+each+elem+elems+expr+form+fstr+item+items+last+opt+pair+par+param+part+parts+pat+rec+ret+separated+seq+stmt+stmts+tail+then+ty+type_expr.Proof.Elem.{elem-ident-requires, elem-type-expr-requires, elem-param-requires, elem-item-requires, elem-expr-requires, elem-open-group-requires, elem-expr-requires-2, elem-pair-requires, elem-arm-requires, elem-ctor-requires, elem-same-length, elem-returns, elem-same-length-2, elem-returns-2, elem-same-length-3, elem-returns-3, elem-same-length-4, elem-returns-4, elem-same-length-5, elem-returns-5, elem-same-length-6, elem-returns-6, elem-same-length-7, elem-returns-7, elem-same-length-8, elem-returns-8, elem-same-length-9, elem-returns-9}
 use Rattle.layout.proofs.+access+alt+ann+arm+arms+bind+binop+block+body+call+cond+core+ctor+each+elem+elems+expr+form+fstr+item+items+last+opt+pair+par+param+part+parts+pat+rec+ret+separated+seq+stmt+stmts+tail+then+ty+type_expr.Proof.ElemsFn.{elems-Inv-loop, elems-μ-loop, elems-loop-holds, elems-start-requires, elems-before-elem-requires, elems-elem-requires, elems-past-requires, elems-loop-less, elems-loop-again, elems-same-length, elems-returns}
 use Rattle.layout.proofs.+access+alt+ann+arm+arms+bind+binop+block+body+call+cond+core+ctor+each+elem+elems+expr+form+fstr+item+items+last+opt+pair+par+param+part+parts+pat+rec+ret+separated+seq+stmt+stmts+tail+then+ty+type_expr.Proof.Pair.{pair-second-requires, pair-add-ident, pair-ident-requires, pair-word-requires, pair-expr-requires, pair-same-length, pair-returns}
 use Rattle.layout.proofs.+access+alt+ann+arm+arms+bind+binop+block+body+call+cond+core+ctor+each+elem+elems+expr+form+fstr+item+items+last+opt+pair+par+param+part+parts+pat+rec+ret+separated+seq+stmt+stmts+tail+then+ty+type_expr.Proof.ExprFn.{expr-form-requires, expr-pop-trailing-comment-requires, expr-same-length, expr-returns}
@@ -141,7 +142,7 @@ use Rattle.layout.proofs.+access+alt+ann+arm+arms+bind+binop+block+body
 use Rattle.layout.proofs.+access+alt+ann+arm+arms+bind+binop+block+body+call+cond+core+ctor+each+elem+elems+expr+form+fstr+item+items+last+opt+pair+par+param+part+parts+pat+rec+ret+separated+seq+stmt+stmts+tail+then+ty+type_expr.Proof.Items.{items-is-absent-requires, items-returns, items-is-single-requires, items-add-item, items-item-requires, items-same-length, items-returns-2, items-seq-requires, items-same-length-2, items-returns-3}
 use Rattle.layout.proofs.+access+alt+ann+arm+arms+bind+binop+block+body+call+cond+core+ctor+each+elem+elems+expr+form+fstr+item+items+last+opt+pair+par+param+part+parts+pat+rec+ret+separated+seq+stmt+stmts+tail+then+ty+type_expr.Proof.Alt.{alt-third-requires, alt-add-cond, alt-cond-requires, alt-is-absent-requires, alt-same-length, alt-returns, alt-word-requires, alt-block-requires, alt-same-length-2, alt-returns-2}
 use Rattle.layout.proofs.+access+alt+ann+arm+arms+bind+binop+block+body+call+cond+core+ctor+each+elem+elems+expr+form+fstr+item+items+last+opt+pair+par+param+part+parts+pat+rec+ret+separated+seq+stmt+stmts+tail+then+ty+type_expr.Proof.Item.{item-second-requires, item-add-import-first, item-import-first-requires, item-add-import-dot, item-import-dot-requires, item-items-requires, item-same-length, item-returns}
-use Rattle.layout.proofs.+access+alt+ann+arm+arms+bind+binop+block+body+call+cond+core+ctor+each+elem+elems+expr+form+fstr+item+items+last+opt+pair+par+param+part+parts+pat+rec+ret+separated+seq+stmt+stmts+tail+then+ty+type_expr.Proof.CoreFn.{core-add-from, core-past-requires, core-hollow-requires, core-same-length, core-returns, core-open-list-requires, core-open-indent-requires, core-elems-requires, core-end-elems-requires, core-close-requires, core-close-list-requires, core-same-length-2, core-returns-2}
+use Rattle.layout.proofs.+access+alt+ann+arm+arms+bind+binop+block+body+call+cond+core+ctor+each+elem+elems+expr+form+fstr+item+items+last+opt+pair+par+param+part+parts+pat+rec+ret+separated+seq+stmt+stmts+tail+then+ty+type_expr.Proof.CoreFn.{core-add-from, core-past-requires, core-hollow-requires, core-same-length, core-returns, core-open-list-requires, core-open-indent-requires, core-elems-requires, core-end-elems-requires, core-close-list-requires, core-same-length-2, core-returns-2}
 use Rattle.layout.proofs.+access+alt+ann+arm+arms+bind+binop+block+body+call+cond+core+ctor+each+elem+elems+expr+form+fstr+item+items+last+opt+pair+par+param+part+parts+pat+rec+ret+separated+seq+stmt+stmts+tail+then+ty+type_expr.Proof.Last.{last-is-absent-requires, last-returns, last-start-requires, last-before-stmt-requires, last-expr-requires, last-pop-trailing-comment-requires, last-same-length, last-returns-2}
 use Rattle.layout.proofs.+access+alt+ann+arm+arms+bind+binop+block+body+call+cond+core+ctor+each+elem+elems+expr+form+fstr+item+items+last+opt+pair+par+param+part+parts+pat+rec+ret+separated+seq+stmt+stmts+tail+then+ty+type_expr.Proof.Seq.{seq-end-requires, seq-separated-requires, seq-same-length, seq-returns}
 use Rattle.layout.proofs.+access+alt+ann+arm+arms+bind+binop+block+body+call+cond+core+ctor+each+elem+elems+expr+form+fstr+item+items+last+opt+pair+par+param+part+parts+pat+rec+ret+separated+seq+stmt+stmts+tail+then+ty+type_expr.Proof.Arms.{arms-second-requires, arms-word-requires, arms-add-expr, arms-expr-requires, arms-word-requires-2, arms-seq-requires, arms-same-length, arms-returns}
@@ -151,8 +152,8 @@ use Rattle.layout.proofs.+access+alt+ann+arm+arms+bind+binop+block+body
 use Rattle.layout.proofs.+access+alt+ann+arm+arms+bind+binop+block+body+call+cond+core+ctor+each+elem+elems+expr+form+fstr+item+items+last+opt+pair+par+param+part+parts+pat+rec+ret+separated+seq+stmt+stmts+tail+then+ty+type_expr.Proof.Parts.{parts-Inv-loop, parts-μ-loop, parts-loop-holds, parts-part-requires, parts-past-requires, parts-loop-less, parts-loop-again, parts-same-length, parts-returns}
 use Rattle.layout.proofs.+access+alt+ann+arm+arms+bind+binop+block+body+call+cond+core+ctor+each+elem+elems+expr+form+fstr+item+items+last+opt+pair+par+param+part+parts+pat+rec+ret+separated+seq+stmt+stmts+tail+then+ty+type_expr.Proof.Pat.{pat-kind-requires, pat-word-requires, pat-same-length, pat-returns, pat-second-requires, pat-add-ident, pat-ident-requires, pat-is-absent-requires, pat-same-length-2, pat-returns-2, pat-seq-requires, pat-same-length-3, pat-returns-3}
 use Rattle.layout.proofs.+access+alt+ann+arm+arms+bind+binop+block+body+call+cond+core+ctor+each+elem+elems+expr+form+fstr+item+items+last+opt+pair+par+param+part+parts+pat+rec+ret+separated+seq+stmt+stmts+tail+then+ty+type_expr.Proof.Ret.{ret-payload-requires, ret-add-word, ret-word-requires, ret-add-opt, ret-opt-requires, ret-same-length, ret-returns}
-use Rattle.layout.proofs.+access+alt+ann+arm+arms+bind+binop+block+body+call+cond+core+ctor+each+elem+elems+expr+form+fstr+item+items+last+opt+pair+par+param+part+parts+pat+rec+ret+separated+seq+stmt+stmts+tail+then+ty+type_expr.Proof.Separated.{separated-open-group-requires, separated-core-requires, separated-close-requires, separated-same-length, separated-returns}
-use Rattle.layout.proofs.+access+alt+ann+arm+arms+bind+binop+block+body+call+cond+core+ctor+each+elem+elems+expr+form+fstr+item+items+last+opt+pair+par+param+part+parts+pat+rec+ret+separated+seq+stmt+stmts+tail+then+ty+type_expr.Proof.Stmt.{stmt-kind-requires, stmt-bind-requires, stmt-word-requires, stmt-add-item, stmt-item-requires, stmt-word-requires-2, stmt-open-group-requires, stmt-add-expr, stmt-expr-requires, stmt-add-semicolon, stmt-semicolon-requires, stmt-close-requires, stmt-same-length, stmt-returns, stmt-same-length-2, stmt-returns-2, stmt-same-length-3, stmt-returns-3}
+use Rattle.layout.proofs.+access+alt+ann+arm+arms+bind+binop+block+body+call+cond+core+ctor+each+elem+elems+expr+form+fstr+item+items+last+opt+pair+par+param+part+parts+pat+rec+ret+separated+seq+stmt+stmts+tail+then+ty+type_expr.Proof.Separated.{separated-open-group-requires, separated-core-requires, separated-same-length, separated-returns}
+use Rattle.layout.proofs.+access+alt+ann+arm+arms+bind+binop+block+body+call+cond+core+ctor+each+elem+elems+expr+form+fstr+item+items+last+opt+pair+par+param+part+parts+pat+rec+ret+separated+seq+stmt+stmts+tail+then+ty+type_expr.Proof.Stmt.{stmt-kind-requires, stmt-bind-requires, stmt-word-requires, stmt-add-item, stmt-item-requires, stmt-word-requires-2, stmt-open-group-requires, stmt-add-expr, stmt-expr-requires, stmt-add-semicolon, stmt-semicolon-requires, stmt-same-length, stmt-returns, stmt-same-length-2, stmt-returns-2, stmt-same-length-3, stmt-returns-3}
 use Rattle.layout.proofs.+access+alt+ann+arm+arms+bind+binop+block+body+call+cond+core+ctor+each+elem+elems+expr+form+fstr+item+items+last+opt+pair+par+param+part+parts+pat+rec+ret+separated+seq+stmt+stmts+tail+then+ty+type_expr.Proof.Stmts.{stmts-Inv-loop, stmts-μ-loop, stmts-loop-holds, stmts-start-requires, stmts-before-stmt-requires, stmts-stmt-requires, stmts-end-requires, stmts-after-stmt-requires, stmts-past-requires, stmts-loop-less, stmts-loop-again, stmts-same-length, stmts-returns}
 use Rattle.layout.proofs.+access+alt+ann+arm+arms+bind+binop+block+body+call+cond+core+ctor+each+elem+elems+expr+form+fstr+item+items+last+opt+pair+par+param+part+parts+pat+rec+ret+separated+seq+stmt+stmts+tail+then+ty+type_expr.Proof.Tail.{tail-Inv-loop, tail-μ-loop, tail-sub-n, tail-loop-holds, tail-sub-n-2, tail-mul-p, tail-element-copy-out-p, tail-second-requires, tail-operator-requires, tail-third-requires, tail-expr-requires, tail-loop-less, tail-loop-again, tail-same-length, tail-returns}
 use Rattle.layout.proofs.+access+alt+ann+arm+arms+bind+binop+block+body+call+cond+core+ctor+each+elem+elems+expr+form+fstr+item+items+last+opt+pair+par+param+part+parts+pat+rec+ret+separated+seq+stmt+stmts+tail+then+ty+type_expr.Proof.TypeExpr.{type-expr-kind-requires, type-expr-add-type-expr, type-expr-type-expr-requires, type-expr-word-requires, type-expr-ty-requires, type-expr-word-requires-2, type-expr-word-requires-3, type-expr-add-seq, type-expr-seq-requires, type-expr-same-length, type-expr-returns, type-expr-same-length-2, type-expr-returns-2, type-expr-same-length-3, type-expr-returns-3, type-expr-same-length-4, type-expr-returns-4, type-expr-same-length-5, type-expr-returns-5}
@@ -212,8 +213,8 @@ pub +access+alt+ann+arm+arms+bind+binop+block+body+call+cond+core+ctor+each+elem
     (access-add-expr t)
     (access-expr-requires t)
     (access-field-name-requires t)
-    (access-close-requires t)
-    (access-close-requires-2 t)
+    (λ c κs. tt)
+    (λ c κs. tt)
     (access-same-length t)
     (access-returns t)
     (access-add-expr-2 t)
@@ -291,8 +292,8 @@ pub +access+alt+ann+arm+arms+bind+binop+block+body+call+cond+core+ctor+each+elem
     (binop-line-or-space-requires t)
     (binop-open-indent-requires t)
     (binop-tail-requires t)
-    (binop-close-requires t)
-    (binop-close-requires-2 t)
+    (λ c κs. tt)
+    (λ c κs. tt)
     (binop-same-length t)
     (binop-returns t))
     (λ t. block-lts.spec (block-calls t)
@@ -304,7 +305,7 @@ pub +access+alt+ann+arm+arms+bind+binop+block+body+call+cond+core+ctor+each+elem
     (block-body-requires t)
     (block-line-requires t)
     (block-word-requires t)
-    (block-close-requires t)
+    (λ c κs. tt)
     (block-same-length t)
     (block-returns t))
     (λ t. body-lts.spec (body-calls t)
@@ -320,7 +321,7 @@ pub +access+alt+ann+arm+arms+bind+binop+block+body+call+cond+core+ctor+each+elem
     (body-last-requires t)
     (body-end-requires t)
     (body-gap-requires t)
-    (body-close-requires t)
+    (λ c κs. tt)
     (body-same-length t)
     (body-returns t))
     (λ t. call-lts.spec (call-calls t)
@@ -331,8 +332,8 @@ pub +access+alt+ann+arm+arms+bind+binop+block+body+call+cond+core+ctor+each+elem
     (call-add-expr t)
     (call-expr-requires t)
     (call-seq-requires t)
-    (call-set-second-requires t)
-    (call-close-requires t)
+    (λ c κs. tt)
+    (λ c κs. tt)
     (call-same-length t)
     (call-returns t)
     (call-add-expr-2 t)
@@ -347,8 +348,8 @@ pub +access+alt+ann+arm+arms+bind+binop+block+body+call+cond+core+ctor+each+elem
     (cond-open-group-requires t)
     (cond-open-indent-requires t)
     (cond-expr-requires t)
-    (cond-close-requires t)
-    (cond-close-requires-2 t)
+    (λ c κs. tt)
+    (λ c κs. tt)
     (cond-word-requires-2 t)
     (cond-past-requires t)
     (cond-block-requires t)
@@ -366,7 +367,7 @@ pub +access+alt+ann+arm+arms+bind+binop+block+body+call+cond+core+ctor+each+elem
     (core-open-indent-requires t)
     (core-elems-requires t)
     (core-end-elems-requires t)
-    (core-close-requires t)
+    (λ c κs. tt)
     (core-close-list-requires t)
     (core-same-length-2 t)
     (core-returns-2 t))
@@ -398,25 +399,25 @@ pub +access+alt+ann+arm+arms+bind+binop+block+body+call+cond+core+ctor+each+elem
     (λ t. elem-lts.spec (elem-calls t)
     (elem-at t)
     elem.Post
-    (elem-enum-told t)
+    (λ c. search needs)
     (elem-ident-requires t)
-    (elem-enum-told-2 t)
+    (λ c. search needs)
     (elem-type-expr-requires t)
-    (elem-enum-told-3 t)
+    (λ c. search needs)
     (elem-param-requires t)
-    (elem-enum-told-4 t)
+    (λ c. search needs)
     (elem-item-requires t)
-    (elem-enum-told-5 t)
+    (λ c. search needs)
     (elem-expr-requires t)
-    (elem-enum-told-6 t)
+    (λ c. search needs)
     (elem-open-group-requires t)
     (elem-expr-requires-2 t)
-    (elem-close-requires t)
-    (elem-enum-told-7 t)
+    (λ c κs. tt)
+    (λ c. search needs)
     (elem-pair-requires t)
-    (elem-enum-told-8 t)
+    (λ c. search needs)
     (elem-arm-requires t)
-    (elem-enum-told-9 t)
+    (λ c. search needs)
     (elem-ctor-requires t)
     (elem-same-length t)
     (elem-returns t)
@@ -695,7 +696,7 @@ pub +access+alt+ann+arm+arms+bind+binop+block+body+call+cond+core+ctor+each+elem
     separated.Post
     (separated-open-group-requires t)
     (separated-core-requires t)
-    (separated-close-requires t)
+    (λ c κs. tt)
     (separated-same-length t)
     (separated-returns t))
     (λ t. seq-lts.spec (seq-calls t)
@@ -719,7 +720,7 @@ pub +access+alt+ann+arm+arms+bind+binop+block+body+call+cond+core+ctor+each+elem
     (stmt-expr-requires t)
     (stmt-add-semicolon t)
     (stmt-semicolon-requires t)
-    (stmt-close-requires t)
+    (λ c κs. tt)
     (stmt-same-length t)
     (stmt-returns t)
     (stmt-same-length-2 t)

@@ -1,4 +1,3 @@
--- Each function lays its rule: its calls lay the rule's steps in their order, and the laws of the steps join them.
 use mathlib.Core.Path.{_∙_}
 use Prim.Native.Nat.{ℕ}
 use native.Mathlib.Omega.{arith}
@@ -36,12 +35,6 @@ access-expr-requires t c κs = (omega (arith, c .before .before .before .before 
 pub access-field-name-requires : (t : ℕ) → access-lts.Need-field-name-requires (access-calls t) (access-at t) access.Post
 unfolding ExprAt rules.look
 access-field-name-requires t c κs = rw (c .before .before .before .before .before .before .before .before .before .before .before .before .before .before .second .ensures) (record { accepted = c .before .before .before .before .before .before .before .before .before .before .before .before .before .before .before .before .before .before .pre .1 .accepted; tree = c .before .before .before .before .before .before .before .before .before .before .before .before .before .before .before .before .before .before .pre .1 .tree .1 .1; held = c .before .before .before .before .before .before .before .before .before .before .before .before .before .before .before .before .before .before .pre .1 .held .1 .1; room = room-next (room-indent-next (room-group _ (room-if _ (lt-ltb _ _ (c .before .before .before .before .before .before .before .before .before .before .before .before .before .if1 .taken)) (c .before .before .before .before .before .before .before .before .before .before .before .before .before .before .before .before .before .before .pre .1 .room)) (c .before .before .before .before .before .before .before .before .before .before .before .open-group .ensures)) (c .before .before .before .before .before .before .before .open-indent-next .ensures)) (lays-as (c .before .before .before .before .before .before .before .before .before .before .before .before .before .before .before .before .before .before .pre .1 .accepted) (c .before .before .before .expr .ensures) .of (c .before .before .before .before .before .before .before .before .before .before .before .before .before .before .before .before .before .before .pre .1 .tree .1 .0) (c .before .before .before .before .before .before .before .before .before .before .before .before .before .before .before .before .before .before .pre .1 .held .1 .0)) })
-
-pub access-close-requires : (t : ℕ) → access-lts.Need-close-requires (access-calls t) (access-at t) access.Post
-access-close-requires t c κs = tt
-
-pub access-close-requires-2 : (t : ℕ) → access-lts.Need-close-requires-2 (access-calls t) (access-at t) access.Post
-access-close-requires-2 t c κs = tt
 
 pub access-same-length : (t : ℕ) → access-lts.Need-same-length (access-calls t) (access-at t) access.Post
 access-same-length t c = c .before .before .close2 .kept .0 ∙ c .before .before .before .before .before .before .close .kept .0 ∙ c .before .before .before .before .before .before .before .before .before .before .field-name .kept .0 ∙ c .before .before .before .before .before .before .before .before .before .before .before .before .before .before .expr .kept .0 ∙ c .before .before .before .before .before .before .before .before .before .before .before .before .before .before .before .before .before .before .open-indent-next .kept .0 ∙ c .before .before .before .before .before .before .before .before .before .before .before .before .before .before .before .before .before .before .before .before .before .before .open-group .kept .0

@@ -1,4 +1,3 @@
--- Each function lays its rule: its calls lay the rule's steps in their order, and the laws of the steps join them.
 use mathlib.Core.Path.{_≡_, refl, sym, ap, _∙_}
 use Prim.Native.Nat.{ℕ}
 use native.Mathlib.Omega.{arith}
@@ -71,12 +70,6 @@ binop-tail-requires t c κs = let same : rules.binopPrecedence (c .before .befor
         room = room-indent (room-next (room-next (room-group _ room (c .before .before .before .before .before .before .before .before .before .before .before .before .before .before .before .before .open-group .ensures)) (lays-as (c .before .before .before .before .before .before .before .before .before .before .before .before .before .before .before .before .before .before .before .before .before .before .before .before .pre .1 .accepted) (c .before .before .before .before .before .before .before .before .before .before .before .before .expr .ensures) .of (st .tree) (st .held))) (lays (c .before .before .before .before .before .before .before .before .line-or-space .ensures))) (c .before .before .before .before .open-indent .ensures);
       },
     )
-
-pub binop-close-requires : (t : ℕ) → binop-lts.Need-close-requires (binop-calls t) (binop-at t) binop.Post
-binop-close-requires t c κs = tt
-
-pub binop-close-requires-2 : (t : ℕ) → binop-lts.Need-close-requires-2 (binop-calls t) (binop-at t) binop.Post
-binop-close-requires-2 t c κs = tt
 
 pub binop-same-length : (t : ℕ) → binop-lts.Need-same-length (binop-calls t) (binop-at t) binop.Post
 binop-same-length t c = c .before .before .close2 .kept .0 ∙ c .before .before .before .before .before .before .close .kept .0 ∙ c .before .before .before .before .before .before .before .before .before .before .tail .kept .0 ∙ c .before .before .before .before .before .before .before .before .before .before .before .before .before .before .before .open-indent .kept .0 ∙ c .before .before .before .before .before .before .before .before .before .before .before .before .before .before .before .before .before .before .before .line-or-space .kept .0 ∙ c .before .before .before .before .before .before .before .before .before .before .before .before .before .before .before .before .before .before .before .before .before .before .before .expr .kept .0 ∙ c .before .before .before .before .before .before .before .before .before .before .before .before .before .before .before .before .before .before .before .before .before .before .before .before .before .before .before .open-group .kept .0

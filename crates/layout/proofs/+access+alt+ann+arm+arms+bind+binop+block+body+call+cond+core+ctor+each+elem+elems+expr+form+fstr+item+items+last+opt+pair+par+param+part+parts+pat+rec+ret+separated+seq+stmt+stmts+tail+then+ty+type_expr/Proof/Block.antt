@@ -1,4 +1,3 @@
--- Each function lays its rule: its calls lay the rule's steps in their order, and the laws of the steps join them.
 use mathlib.Core.Path.{_∙_}
 use Prim.Native.Nat.{ℕ}
 use native.Mathlib.Omega.{arith}
@@ -28,9 +27,6 @@ block-line-requires t c κs = let h = block-has (c .before .before .before .befo
 
 pub block-word-requires : (t : ℕ) → block-lts.Need-word-requires (block-calls t) (block-at t) block.Post
 block-word-requires t c κs = let h = block-has (c .before .before .before .before .before .before .before .before .before .before .before .before .before .before .before .before .before .is-empty .ensures) (c .before .before .before .before .before .before .before .before .before .before .before .before .before .before .before .before .before .before .before .before .before .pre .1) in room-next (room-next (room-next (room-group _ (h .room) (c .before .before .before .before .before .before .before .before .before .before .before .before .before .before .before .open-group .ensures)) (lays (c .before .before .before .before .before .before .before .before .before .before .before .block-start .ensures))) (lays-as (c .before .before .before .before .before .before .before .before .before .before .before .before .before .before .before .before .before .before .before .before .before .pre .1 .accepted) (c .before .before .before .before .before .before .before .body .ensures) .of (h .tree) (h .held))) (lays (c .before .before .before .line .ensures))
-
-pub block-close-requires : (t : ℕ) → block-lts.Need-close-requires (block-calls t) (block-at t) block.Post
-block-close-requires t c κs = tt
 
 pub block-same-length : (t : ℕ) → block-lts.Need-same-length (block-calls t) (block-at t) block.Post
 block-same-length t c = c .before .before .close .kept .0 ∙ c .before .before .before .before .before .before .word .kept .0 ∙ c .before .before .before .before .before .before .before .before .before .before .line .kept .0 ∙ c .before .before .before .before .before .before .before .before .before .before .before .before .before .before .body .kept .0 ∙ c .before .before .before .before .before .before .before .before .before .before .before .before .before .before .before .before .before .before .block-start .kept .0 ∙ c .before .before .before .before .before .before .before .before .before .before .before .before .before .before .before .before .before .before .before .before .before .before .open-group .kept .0

@@ -1,4 +1,3 @@
--- Each function lays its rule: its calls lay the rule's steps in their order, and the laws of the steps join them.
 use mathlib.Core.Path.{refl, _∙_}
 use Prim.Native.Nat.{ℕ}
 use native.Mathlib.Omega.{arith}
@@ -40,9 +39,6 @@ body-end-requires t c κs = let w = block-parts _ _ _ (c .before .before .before
 
 pub body-gap-requires : (t : ℕ) → body-lts.Need-gap-requires (body-calls t) (body-at t) body.Post
 body-gap-requires t c κs = let h = body-has (c .before .before .before .before .before .before .before .before .before .before .before .before .before .before .before .no-stmts .ensures) (c .before .before .before .before .before .before .before .before .before .before .before .before .before .before .is-empty .ensures) (c .end .ensures) (c .before .before .before .before .before .before .before .before .before .before .before .before .before .before .before .before .before .before .before .before .pre .1) in (c .before .before .before .before .before .before .before .before .before .before .before .before .before .before .before .before .before .before .before .before .pre .1 .accepted, room-next (room-next (room-indent (h .room) (c .before .before .before .before .before .before .before .before .before .before .before .before .open-indent .ensures)) ((rw (c .before .before .before .before .before .before .before .before .before .before .before .before .before .before .before .before .second .ensures) at (lays-all (c .before .before .before .before .before .before .before .before .before .before .before .before .before .before .before .before .before .before .before .before .pre .1 .accepted) (rw (c .before .before .before .before .before .before .before .before .before .before .before .before .before .before .before .before .second .ensures) (block-parts _ _ _ (c .before .before .before .before .before .before .before .before .before .before .before .before .before .before .before .before .before .before .before .before .pre .1 .tree) (c .before .before .before .before .before .before .before .before .before .before .before .before .before .before .before .before .before .before .before .before .pre .1 .held) .held .1 .fits)) (c .before .before .before .before .before .before .before .before .stmts .ensures))) .of (h .tree .1) (h .held .2))) ((rw (c .before .before .before .before .before .before .before .before .before .before .before .before .before .before .before .before .second .ensures) at (lays-as (c .before .before .before .before .before .before .before .before .before .before .before .before .before .before .before .before .before .before .before .before .pre .1 .accepted) (c .before .before .before .before .last .ensures))) .of (h .tree .2) (h .held .3)))
-
-pub body-close-requires : (t : ℕ) → body-lts.Need-close-requires (body-calls t) (body-at t) body.Post
-body-close-requires t c κs = tt
 
 pub body-same-length : (t : ℕ) → body-lts.Need-same-length (body-calls t) (body-at t) body.Post
 body-same-length t c = c .before .before .close .kept .0 ∙ c .before .before .before .before .before .before .gap .kept .0 ∙ c .before .before .before .before .before .before .before .before .before .before .before .last .kept .0 ∙ c .before .before .before .before .before .before .before .before .before .before .before .before .before .before .before .stmts .kept .0 ∙ c .before .before .before .before .before .before .before .before .before .before .before .before .before .before .before .before .before .before .before .open-indent .kept .0

@@ -1,4 +1,3 @@
--- Each function lays its rule: its calls lay the rule's steps in their order, and the laws of the steps join them.
 use mathlib.Core.Path.{_∙_}
 use Prim.Native.Nat.{ℕ}
 use native.Mathlib.Omega.{arith}
@@ -34,12 +33,6 @@ call-expr-requires t c κs = (omega (arith, c .before .before .before .before .b
 pub call-seq-requires : (t : ℕ) → call-lts.Need-seq-requires (call-calls t) (call-at t) call.Post
 unfolding ExprAt rules.look
 call-seq-requires t c κs = rw (c .before .before .before .before .before .before .before .before .before .before .second .ensures) (omega (arith, c .before .before .before .before .before .before .before .before .before .before .before .before .before .before .pre .0, c .before .before .before .before .before .before .before .before .before .before .before .before .before .before .pre .1 .held .1 .3 .same), record { accepted = c .before .before .before .before .before .before .before .before .before .before .before .before .before .before .pre .1 .accepted; tree = rules.exprElems _ (c .before .before .before .before .before .before .before .before .before .before .before .before .before .before .pre .1 .tree .1 .2); held = list-of (c .before .before .before .before .before .before .before .before .before .before .before .before .before .before .pre .1 .held .1 .1) (expr-elems _ _ _ _ (c .before .before .before .before .before .before .before .before .before .before .before .before .before .before .pre .1 .tree .1 .2) (c .before .before .before .before .before .before .before .before .before .before .before .before .before .before .pre .1 .held .1 .2)); span = c .before .before .before .before .before .before .before .before .before .before .before .before .before .before .pre .1 .tree .1 .1; ended = c .before .before .before .before .before .before .before .before .before .before .before .before .before .before .pre .1 .held .1 .1 .end; room = room-called-next (room-if _ (lt-ltb _ _ (c .before .before .before .before .before .before .before .before .before .if1 .taken)) (c .before .before .before .before .before .before .before .before .before .before .before .before .before .before .pre .1 .room)) (c .before .before .before .before .before .before .before .open-call .ensures) (lays-as (c .before .before .before .before .before .before .before .before .before .before .before .before .before .before .pre .1 .accepted) (c .before .before .before .expr .ensures) .of (c .before .before .before .before .before .before .before .before .before .before .before .before .before .before .pre .1 .tree .1 .0) (c .before .before .before .before .before .before .before .before .before .before .before .before .before .before .pre .1 .held .1 .0)) })
-
-pub call-set-second-requires : (t : ℕ) → call-lts.Need-set-second-requires (call-calls t) (call-at t) call.Post
-call-set-second-requires t c κs = tt
-
-pub call-close-requires : (t : ℕ) → call-lts.Need-close-requires (call-calls t) (call-at t) call.Post
-call-close-requires t c κs = tt
 
 pub call-same-length : (t : ℕ) → call-lts.Need-same-length (call-calls t) (call-at t) call.Post
 call-same-length t c = c .before .before .close .kept .0 ∙ c .before .before .before .before .before .before .set-second .kept .0 ∙ c .before .before .before .before .before .before .before .before .before .before .seq .kept .0 ∙ c .before .before .before .before .before .before .before .before .before .before .before .before .before .before .expr .kept .0 ∙ c .before .before .before .before .before .before .before .before .before .before .before .before .before .before .before .before .before .before .open-call .kept .0

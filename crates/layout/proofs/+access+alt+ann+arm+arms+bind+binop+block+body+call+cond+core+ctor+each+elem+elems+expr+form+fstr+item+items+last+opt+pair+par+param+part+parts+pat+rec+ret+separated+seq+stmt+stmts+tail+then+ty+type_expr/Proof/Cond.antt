@@ -1,4 +1,3 @@
--- Each function lays its rule: its calls lay the rule's steps in their order, and the laws of the steps join them.
 use mathlib.Core.Path.{_∙_}
 use Prim.Native.Nat.{ℕ}
 use native.Mathlib.Omega.{arith}
@@ -26,12 +25,6 @@ cond-open-indent-requires t c κs = opens-indent _ (room-group _ (room-first _ (
 pub cond-expr-requires : (t : ℕ) → cond-lts.Need-expr-requires (cond-calls t) (cond-at t) cond.Post
 unfolding rules.clause
 cond-expr-requires t c κs = (omega (arith, c .before .before .before .before .before .before .before .before .before .before .before .before .before .before .before .before .pre .0), record { accepted = c .before .before .before .before .before .before .before .before .before .before .before .before .before .before .before .before .pre .1 .accepted; tree = c .before .before .before .before .before .before .before .before .before .before .before .before .before .before .before .before .pre .1 .tree .0; held = c .before .before .before .before .before .before .before .before .before .before .before .before .before .before .before .before .pre .1 .held .0; room = room-indent (room-group _ (room-first _ (room-next (c .before .before .before .before .before .before .before .before .before .before .before .before .before .before .before .before .pre .1 .room) (lays (c .before .before .before .before .before .before .before .before .before .before .before .word .ensures)))) (c .before .before .before .before .before .before .before .open-group .ensures)) (c .before .before .before .open-indent .ensures) })
-
-pub cond-close-requires : (t : ℕ) → cond-lts.Need-close-requires (cond-calls t) (cond-at t) cond.Post
-cond-close-requires t c κs = tt
-
-pub cond-close-requires-2 : (t : ℕ) → cond-lts.Need-close-requires-2 (cond-calls t) (cond-at t) cond.Post
-cond-close-requires-2 t c κs = tt
 
 pub cond-word-requires-2 : (t : ℕ) → cond-lts.Need-word-requires-2 (cond-calls t) (cond-at t) cond.Post
 unfolding rules.clause

@@ -1,4 +1,3 @@
--- Each function lays its rule: its calls lay the rule's steps in their order, and the laws of the steps join them.
 use mathlib.Core.Path.{sym, subst, _∙_}
 use mathlib.Core.List.{_∷_}
 use Prim.Native.Nat.{ℕ, _+_}
@@ -39,9 +38,6 @@ core-elems-requires t c κs = let h = some-elems (λ e. c .before .before .befor
 
 pub core-end-elems-requires : (t : ℕ) → core-lts.Need-end-elems-requires (core-calls t) (core-at t) core.Post
 core-end-elems-requires t c κs = let h = some-elems (λ e. c .before .before .before .before .before .before .before .before .before .before .before .before .before .if1 .left (e ∙ sym (c .before .before .before .before .before .before .before .before .before .before .before .before .before .before .past .ensures))) (c .before .before .before .before .before .before .before .before .before .before .before .before .before .before .before .before .before .before .pre .1) in (c .before .before .before .before .before .before .before .before .before .before .before .before .before .before .before .before .before .before .pre .1 .accepted, room-next (room-indent (room-first _ (room-next (h .room) (lays (c .before .before .before .before .before .before .before .before .before .before .before .open-list .ensures)))) (c .before .before .before .before .before .before .before .open-indent .ensures)) (lays-all (c .before .before .before .before .before .before .before .before .before .before .before .before .before .before .before .before .before .before .pre .1 .accepted) (rw (c .before .before .before .before .before .before .before .before .before .before .before .before .before .before .past .ensures) (c .before .before .before .before .before .before .before .before .before .before .before .before .before .before .before .before .before .before .pre .1 .held .fits)) (c .before .before .before .elems .ensures) .of (h .tree) (subst (λ (n : ℕ). ElemsAt (c .before .before .before .before .before .before .before .before .before .before .before .before .before .before .before .before .before .before .args .k) (c .before .before .before .before .before .before .before .before .before .before .before .before .before .before .before .before .before .before .args .s .now) (c .before .before .before .before .before .before .before .before .before .before .before .before .before .before .before .before .before .before .args .b .now) (h .tree) (c .before .before .before .before .before .before .before .before .before .before .before .before .before .before .before .before .before .before .args .at + 13) n) (sym (c .before .before .before .before .before .before .before .before .before .before .before .before .before .before .past .ensures)) (h .held))))
-
-pub core-close-requires : (t : ℕ) → core-lts.Need-close-requires (core-calls t) (core-at t) core.Post
-core-close-requires t c κs = tt
 
 pub core-close-list-requires : (t : ℕ) → core-lts.Need-close-list-requires (core-calls t) (core-at t) core.Post
 core-close-list-requires t c κs = let h = some-elems (λ e. c .before .before .before .before .before .before .before .before .before .before .before .before .before .before .before .before .before .before .before .before .before .if1 .left (e ∙ sym (c .before .before .before .before .before .before .before .before .before .before .before .before .before .before .before .before .before .before .before .before .before .before .past .ensures))) (c .before .before .before .before .before .before .before .before .before .before .before .before .before .before .before .before .before .before .before .before .before .before .before .before .before .before .pre .1) in (c .before .before .before .before .before .before .before .before .before .before .before .before .before .before .before .before .before .before .before .before .before .before .before .before .before .before .pre .1 .accepted, room-next (room-next (h .room) (lays (c .before .before .before .before .before .before .before .before .before .before .before .before .before .before .before .before .before .before .before .open-list .ensures))) (lays-indent (c .before .before .before .before .before .before .before .before .before .before .before .before .before .before .before .open-indent .ensures) (lays-then (lays-all (c .before .before .before .before .before .before .before .before .before .before .before .before .before .before .before .before .before .before .before .before .before .before .before .before .before .before .pre .1 .accepted) (rw (c .before .before .before .before .before .before .before .before .before .before .before .before .before .before .before .before .before .before .before .before .before .before .past .ensures) (c .before .before .before .before .before .before .before .before .before .before .before .before .before .before .before .before .before .before .before .before .before .before .before .before .before .before .pre .1 .held .fits)) (c .before .before .before .before .before .before .before .before .before .before .before .elems .ensures) .of (h .tree) (subst (λ (n : ℕ). ElemsAt (c .before .before .before .before .before .before .before .before .before .before .before .before .before .before .before .before .before .before .before .before .before .before .before .before .before .before .args .k) (c .before .before .before .before .before .before .before .before .before .before .before .before .before .before .before .before .before .before .before .before .before .before .before .before .before .before .args .s .now) (c .before .before .before .before .before .before .before .before .before .before .before .before .before .before .before .before .before .before .before .before .before .before .before .before .before .before .args .b .now) (h .tree) (c .before .before .before .before .before .before .before .before .before .before .before .before .before .before .before .before .before .before .before .before .before .before .before .before .before .before .args .at + 13) n) (sym (c .before .before .before .before .before .before .before .before .before .before .before .before .before .before .before .before .before .before .before .before .before .before .past .ensures)) (h .held))) (lays (c .before .before .before .before .before .before .before .end-elems .ensures))) (c .before .before .before .close .ensures)))

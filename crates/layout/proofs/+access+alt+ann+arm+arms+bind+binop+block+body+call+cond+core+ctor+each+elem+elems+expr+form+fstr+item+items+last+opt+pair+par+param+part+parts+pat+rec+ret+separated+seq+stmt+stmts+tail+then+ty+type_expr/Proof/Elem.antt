@@ -1,4 +1,3 @@
--- Each function lays its rule: its calls lay the rule's steps in their order, and the laws of the steps join them.
 use mathlib.Core.Path.{_∙_}
 use Prim.Native.Nat.{ℕ}
 use native.Mathlib.Omega.{arith}
@@ -12,43 +11,25 @@ use Rattle.layout.proofs.elem.Reads as elem
 use Rattle.layout.proofs.+access+alt+ann+arm+arms+bind+binop+block+body+call+cond+core+ctor+each+elem+elems+expr+form+fstr+item+items+last+opt+pair+par+param+part+parts+pat+rec+ret+separated+seq+stmt+stmts+tail+then+ty+type_expr.Lts-elem as elem-lts
 use Rattle.layout.proofs.+access+alt+ann+arm+arms+bind+binop+block+body+call+cond+core+ctor+each+elem+elems+expr+form+fstr+item+items+last+opt+pair+par+param+part+parts+pat+rec+ret+separated+seq+stmt+stmts+tail+then+ty+type_expr.Proof.Base.{elem-at, elem-calls}
 
-pub elem-enum-told : (t : ℕ) → elem-lts.Need-enum-told (elem-calls t) (elem-at t) elem.Post
-elem-enum-told t c = search needs
-
 pub elem-ident-requires : (t : ℕ) → elem-lts.Need-ident-requires (elem-calls t) (elem-at t) elem.Post
 unfolding ItemAt
 elem-ident-requires t c κs = item-has (c .before .enum-told .given .1) (λ e i. i) (c .before .before .before .before .before .before .pre .1)
-
-pub elem-enum-told-2 : (t : ℕ) → elem-lts.Need-enum-told-2 (elem-calls t) (elem-at t) elem.Post
-elem-enum-told-2 t c = search needs
 
 pub elem-type-expr-requires : (t : ℕ) → elem-lts.Need-type-expr-requires (elem-calls t) (elem-at t) elem.Post
 unfolding ItemAt
 elem-type-expr-requires t c κs = (omega (arith, c .before .before .before .before .before .before .pre .0), item-has (c .before .enum-told2 .given .1) (λ e i. i) (c .before .before .before .before .before .before .pre .1))
 
-pub elem-enum-told-3 : (t : ℕ) → elem-lts.Need-enum-told-3 (elem-calls t) (elem-at t) elem.Post
-elem-enum-told-3 t c = search needs
-
 pub elem-param-requires : (t : ℕ) → elem-lts.Need-param-requires (elem-calls t) (elem-at t) elem.Post
 unfolding ItemAt
 elem-param-requires t c κs = (omega (arith, c .before .before .before .before .before .before .pre .0), item-has (c .before .enum-told3 .given .1) (λ e i. i) (c .before .before .before .before .before .before .pre .1))
-
-pub elem-enum-told-4 : (t : ℕ) → elem-lts.Need-enum-told-4 (elem-calls t) (elem-at t) elem.Post
-elem-enum-told-4 t c = search needs
 
 pub elem-item-requires : (t : ℕ) → elem-lts.Need-item-requires (elem-calls t) (elem-at t) elem.Post
 unfolding ItemAt
 elem-item-requires t c κs = (omega (arith, c .before .before .before .before .before .before .pre .0), item-has (c .before .enum-told4 .given .1) (λ e i. i) (c .before .before .before .before .before .before .pre .1))
 
-pub elem-enum-told-5 : (t : ℕ) → elem-lts.Need-enum-told-5 (elem-calls t) (elem-at t) elem.Post
-elem-enum-told-5 t c = search needs
-
 pub elem-expr-requires : (t : ℕ) → elem-lts.Need-expr-requires (elem-calls t) (elem-at t) elem.Post
 unfolding ItemAt
 elem-expr-requires t c κs = (omega (arith, c .before .before .before .before .before .before .pre .0), item-has (c .before .enum-told5 .given .1) (λ e i. i) (c .before .before .before .before .before .before .pre .1))
-
-pub elem-enum-told-6 : (t : ℕ) → elem-lts.Need-enum-told-6 (elem-calls t) (elem-at t) elem.Post
-elem-enum-told-6 t c = search needs
 
 pub elem-open-group-requires : (t : ℕ) → elem-lts.Need-open-group-requires (elem-calls t) (elem-at t) elem.Post
 unfolding ItemAt
@@ -58,25 +39,13 @@ pub elem-expr-requires-2 : (t : ℕ) → elem-lts.Need-expr-requires-2 (elem-cal
 unfolding ItemAt
 elem-expr-requires-2 t c κs = let h = item-has (c .before .before .before .before .before .enum-told6 .given .1) (λ e i. i) (c .before .before .before .before .before .before .before .before .before .before .pre .1) in (omega (arith, c .before .before .before .before .before .before .before .before .before .before .pre .0), has-at h (room-group _ (h .room) (c .before .before .before .open-group .ensures)))
 
-pub elem-close-requires : (t : ℕ) → elem-lts.Need-close-requires (elem-calls t) (elem-at t) elem.Post
-elem-close-requires t c κs = tt
-
-pub elem-enum-told-7 : (t : ℕ) → elem-lts.Need-enum-told-7 (elem-calls t) (elem-at t) elem.Post
-elem-enum-told-7 t c = search needs
-
 pub elem-pair-requires : (t : ℕ) → elem-lts.Need-pair-requires (elem-calls t) (elem-at t) elem.Post
 unfolding ItemAt
 elem-pair-requires t c κs = (omega (arith, c .before .before .before .before .before .before .pre .0), item-has (c .before .enum-told7 .given .1) (λ e i. i) (c .before .before .before .before .before .before .pre .1))
 
-pub elem-enum-told-8 : (t : ℕ) → elem-lts.Need-enum-told-8 (elem-calls t) (elem-at t) elem.Post
-elem-enum-told-8 t c = search needs
-
 pub elem-arm-requires : (t : ℕ) → elem-lts.Need-arm-requires (elem-calls t) (elem-at t) elem.Post
 unfolding ItemAt
 elem-arm-requires t c κs = (omega (arith, c .before .before .before .before .before .before .pre .0), item-has (c .before .enum-told8 .given .1) (λ e i. i) (c .before .before .before .before .before .before .pre .1))
-
-pub elem-enum-told-9 : (t : ℕ) → elem-lts.Need-enum-told-9 (elem-calls t) (elem-at t) elem.Post
-elem-enum-told-9 t c = search needs
 
 pub elem-ctor-requires : (t : ℕ) → elem-lts.Need-ctor-requires (elem-calls t) (elem-at t) elem.Post
 unfolding ItemAt

@@ -1,4 +1,3 @@
--- Each function lays its rule: its calls lay the rule's steps in their order, and the laws of the steps join them.
 use mathlib.Core.Path.{_∙_}
 use Prim.Native.Nat.{ℕ}
 use native.Mathlib.Omega.{arith}
@@ -17,9 +16,6 @@ separated-open-group-requires t c κs = opens-group _ (c .before .before .before
 pub separated-core-requires : (t : ℕ) → separated-lts.Need-core-requires (separated-calls t) (separated-at t) separated.Post
 unfolding rules.separated
 separated-core-requires t c κs = (omega (arith, c .before .before .before .before .before .before .before .before .pre .0), record { accepted = c .before .before .before .before .before .before .before .before .pre .1 .accepted; tree = c .before .before .before .before .before .before .before .before .pre .1 .tree; held = c .before .before .before .before .before .before .before .before .pre .1 .held; span = c .before .before .before .before .before .before .before .before .pre .1 .span; ended = c .before .before .before .before .before .before .before .before .pre .1 .ended; room = room-group _ (c .before .before .before .before .before .before .before .before .pre .1 .room) (c .before .before .before .open-group .ensures) })
-
-pub separated-close-requires : (t : ℕ) → separated-lts.Need-close-requires (separated-calls t) (separated-at t) separated.Post
-separated-close-requires t c κs = tt
 
 pub separated-same-length : (t : ℕ) → separated-lts.Need-same-length (separated-calls t) (separated-at t) separated.Post
 separated-same-length t c = c .before .before .close .kept .0 ∙ c .before .before .before .before .before .before .core .kept .0 ∙ c .before .before .before .before .before .before .before .before .before .before .open-group .kept .0

@@ -1,4 +1,3 @@
--- Each function lays its rule: its calls lay the rule's steps in their order, and the laws of the steps join them.
 use mathlib.Core.Path.{sym, _∙_}
 use Prim.Native.Nat.{ℕ}
 use native.Mathlib.Omega.{arith}
@@ -48,9 +47,6 @@ stmt-add-semicolon t c = let w = stmt-whole _ _ _ (c .before .before .before .be
 pub stmt-semicolon-requires : (t : ℕ) → stmt-lts.Need-semicolon-requires (stmt-calls t) (stmt-at t) stmt.Post
 unfolding StmtAt
 stmt-semicolon-requires t c κs = let h = does-has (λ e. c .before .before .before .before .before .before .before .before .before .match .rest .0 .1 (c .before .before .before .before .before .before .before .before .before .before .kind .ensures ∙ e)) (λ e. c .before .before .before .before .before .before .before .before .before .match .rest .1 (c .before .before .before .before .before .before .before .before .before .before .kind .ensures ∙ e)) (c .before .before .before .before .before .before .before .before .before .before .before .before .before .before .pre .1) in (expr-whole _ _ _ (h .tree .1) (h .held .1 .0), room-next (room-group _ (h .room) (c .before .before .before .before .before .before .before .open-group .ensures)) (lays-as (c .before .before .before .before .before .before .before .before .before .before .before .before .before .before .pre .1 .accepted) (c .before .before .before .expr .ensures) .of (h .tree .1) (h .held .1 .0)))
-
-pub stmt-close-requires : (t : ℕ) → stmt-lts.Need-close-requires (stmt-calls t) (stmt-at t) stmt.Post
-stmt-close-requires t c κs = tt
 
 pub stmt-same-length : (t : ℕ) → stmt-lts.Need-same-length (stmt-calls t) (stmt-at t) stmt.Post
 stmt-same-length t c = c .before .before .bind .kept .0
