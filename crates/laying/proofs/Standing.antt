@@ -13,12 +13,12 @@ use Rattle.tree.specs.Syntax.{Declaration}
 use Rattle.tree.specs.At.{TreeAt, DeclarationsAt}
 use Rattle.tree.specs.Walk.{walked}
 use Rattle.tree.proofs.Walk.{declarations-from, walked-within, walked-on, declarations-between}
-use Rattle.state.specs.Laid.{st, Room}
+use Rattle.state.specs.Laid.{st, Room, Laid}
 use Rattle.state.specs.declared.Cursor.{Cursor}
 use Rattle.comments.specs.Listed.{given, commentsOf}
 use Rattle.comments.proofs.Accepted.{accepted-listed}
 use Rattle.comments.proofs.Fronts.{count-of}
-use Rattle.layout.specs.Contracts.{Accepted, Has, HasAll, Within}
+use Rattle.layout.specs.Contracts.{Accepted, Has, LaidAs, HasAll, LaidAll, Within}
 use Rattle.layout.specs.Forms.{MaybeIdentAt, declarationsFrom}
 use Rattle.layout.specs.Layout.{shebangRule, declarationsRule}
 use Rattle.facts.specs.Accepted.{Stands}
@@ -45,6 +45,11 @@ module _ {s b : List ℕ} {n at : ℕ} (a : Accepts s b n at) where
 
   pub has-shebang : {c : Cursor} → Room (shebangRule (given s b) (tree s b .shebang)) c → Has MaybeIdentAt shebangRule s b (at + 13) c
   has-shebang room = record { accepted = ready; tree = tree s b .shebang; held = stands .tree .shebang; room = room }
+
+  pub shebang-laid : {x y : List ℕ} {c d : Cursor} → LaidAs MaybeIdentAt shebangRule s b (at + 13) x c y d
+      → Room (shebangRule (given s b) (tree s b .shebang)) c → Laid (shebangRule (given s b) (tree s b .shebang)) x c y d
+  unfolding has-shebang
+  shebang-laid l room = l .of (has-shebang room)
 
   -- ---- the declarations
   abbrev ds : List Declaration
@@ -131,6 +136,12 @@ module _ {s b : List ℕ} {n at : ℕ} (a : Accepts s b n at) where
       inside = omega (arith, walked-within s b ds to (stopAt b (at + 13)) (stopAt b at) all, stands .tree .end);
       room = room;
     }
+
+    pub part-laid : (first : Bool) {x y : List ℕ} {c d : Cursor}
+        → LaidAll DeclarationsAt (declarationsFrom first) s b (startOf s b at from) (startOf s b at to) x c y d
+        → Room (declarationsRule (given s b) ys first) c → Laid (declarationsRule (given s b) ys first) x c y d
+    unfolding has-part
+    part-laid first l room = l .of (has-part first room)
 
     parted : take from ds ++ (ys ++ drop (to - from) (drop from ds)) ≡ ds
     parted =

@@ -8,16 +8,16 @@ use Rattle.laying.proofs.laid.Statement.{statement}
 use Rattle.laying.proofs.laid.Tie as tie
 
 cursor-of-requires : tie.Need-cursor-of-requires
-cursor-of-requires c κs = let k = pass (@args .source .now) (@args .image .now) (@args .state) (@args .stop) (@args .close) (@args .store .now) (@pre .0) (@pre .1 .0) in (k .row, (k .number, (omega (arith, k .placed, comments-count (@pre .0), few-comments (@pre .0)), omega (arith, k .position, source-short (@pre .0)))))
+cursor-of-requires c κs = let k = pass (c .before .before .before .args .source .now) (c .before .before .before .args .image .now) (c .before .before .before .args .state) (c .before .before .before .args .stop) (c .before .before .before .args .close) (c .before .before .before .args .store .now) (c .before .before .before .pre .0) (c .before .before .before .pre .1 .0) in (k .row, (k .number, (omega (arith, k .placed, comments-count (c .before .before .before .pre .0), few-comments (c .before .before .before .pre .0)), omega (arith, k .position, source-short (c .before .before .before .pre .0)))))
 
 lay-requires : tie.Need-lay-requires
-lay-requires c κs = let k = pass (@args .source .now) (@args .image .now) (@args .state) (@args .stop) (@args .close) (@args .store .now) (@pre .0) (@pre .1 .0) in ((@pre .0, (k .ahead, k .within)), rw (@cursor-of .ensures) (ready (@args .source .now) (@args .image .now) (@args .state) (@args .stop) (@args .close) (@args .store .now) (@pre .0) (@pre .1 .0)))
+lay-requires c κs = let k = pass (c .before .before .before .before .before .args .source .now) (c .before .before .before .before .before .args .image .now) (c .before .before .before .before .before .args .state) (c .before .before .before .before .before .args .stop) (c .before .before .before .before .before .args .close) (c .before .before .before .before .before .args .store .now) (c .before .before .before .before .before .pre .0) (c .before .before .before .before .before .pre .1 .0) in ((c .before .before .before .before .before .pre .0, (k .ahead, k .within)), rw (c .before .cursor-of .ensures) (ready (c .before .before .before .before .before .args .source .now) (c .before .before .before .before .before .args .image .now) (c .before .before .before .before .before .args .state) (c .before .before .before .before .before .args .stop) (c .before .before .before .before .before .args .close) (c .before .before .before .before .before .args .store .now) (c .before .before .before .before .before .pre .0) (c .before .before .before .before .before .pre .1 .0)))
 
 sub-t15 : tie.Need-sub-t15
-sub-t15 c = omega (arith, @wide .ensures, placed-in (@args .source .now) (@args .image .now) (@args .state) (@args .stop) (@args .close) (@args .store .now) (@pre .0) (@pre .1 .0) (@pre .1 .1) _ _ (rw (@cursor-of .ensures) at (@lay .ensures)))
+sub-t15 c = omega (arith, c .before .before .before .wide .ensures, placed-in (c .before .before .before .before .before .before .before .before .before .before .before .before .args .source .now) (c .before .before .before .before .before .before .before .before .before .before .before .before .args .image .now) (c .before .before .before .before .before .before .before .before .before .before .before .before .args .state) (c .before .before .before .before .before .before .before .before .before .before .before .before .args .stop) (c .before .before .before .before .before .before .before .before .before .before .before .before .args .close) (c .before .before .before .before .before .before .before .before .before .before .before .before .args .store .now) (c .before .before .before .before .before .before .before .before .before .before .before .before .pre .0) (c .before .before .before .before .before .before .before .before .before .before .before .before .pre .1 .0) (c .before .before .before .before .before .before .before .before .before .before .before .before .pre .1 .1) _ _ (rw (c .before .before .before .before .before .before .before .before .cursor-of .ensures) at (c .before .before .before .before .before .before .lay .ensures)))
 
 returns : tie.Need-returns
-returns c = ends-laid (@args .source .now) (@args .image .now) (@args .state) (@args .stop) (@args .close) (@args .store .now) (@pre .0) (@pre .1 .0) (@pre .1 .1) _ _ (rw (@cursor-of .ensures) at (@lay .ensures)) _ _ refl refl refl (@wide2 .ensures) (@wide3 .ensures) (@wide .ensures) (@wide4 .ensures) (ap (λ (m : ℕ). @args .n - m) (@wide .ensures))
+returns c = ends-laid (c .before .before .before .before .before .before .before .before .before .before .before .before .args .source .now) (c .before .before .before .before .before .before .before .before .before .before .before .before .args .image .now) (c .before .before .before .before .before .before .before .before .before .before .before .before .args .state) (c .before .before .before .before .before .before .before .before .before .before .before .before .args .stop) (c .before .before .before .before .before .before .before .before .before .before .before .before .args .close) (c .before .before .before .before .before .before .before .before .before .before .before .before .args .store .now) (c .before .before .before .before .before .before .before .before .before .before .before .before .pre .0) (c .before .before .before .before .before .before .before .before .before .before .before .before .pre .1 .0) (c .before .before .before .before .before .before .before .before .before .before .before .before .pre .1 .1) _ _ (rw (c .before .before .before .before .before .before .before .before .cursor-of .ensures) at (c .before .before .before .before .before .before .lay .ensures)) _ _ refl refl refl (c .before .before .wide2 .ensures) (c .before .wide3 .ensures) (c .before .before .before .wide .ensures) (c .wide4 .ensures) (ap (λ (m : ℕ). c .before .before .before .before .before .before .before .before .before .before .before .before .args .n - m) (c .before .before .before .wide .ensures))
 
 pub laid-spec : {M : Type 1} → statement M
 laid-spec =

@@ -1,20 +1,20 @@
 use borrow.Author.Needs.{needs}
 use Rattle.state.proofs.Laws.{room-first, room-past, laid-then}
-use Rattle.laying.proofs.Standing.{has-part}
+use Rattle.laying.proofs.Standing.{has-part, part-laid}
 use Rattle.laying.proofs.steps.lay.Statement.{statement}
 use Rattle.laying.proofs.steps.lay.Tie as tie
 
 begin-requires : tie.Need-begin-requires
-begin-requires c κs = (@pre .0 .0, room-first _ (@pre .1))
+begin-requires c κs = (c .before .before .before .before .pre .0 .0, room-first _ (c .before .before .before .before .pre .1))
 
 declarations-requires : tie.Need-declarations-requires
-declarations-requires c κs = rw (@declaration-at .ensures, @declaration-at2 .ensures) (has-part (@pre .0 .0) _ _ (@pre .0 .1 .0) _ (room-first _ (room-past (@pre .1) (@begin .ensures))))
+declarations-requires c κs = rw (c .before .before .declaration-at .ensures, c .before .declaration-at2 .ensures) (has-part (c .before .before .before .before .before .before .before .before .before .before .pre .0 .0) _ _ (c .before .before .before .before .before .before .before .before .before .before .pre .0 .1 .0) _ (room-first _ (room-past (c .before .before .before .before .before .before .before .before .before .before .pre .1) (c .before .before .before .before .before .begin .ensures))))
 
 end-requires : tie.Need-end-requires
-end-requires c κs = room-past (room-past (@pre .1) (@begin .ensures)) ((rw (@declaration-at .ensures, @declaration-at2 .ensures) at (@declarations .ensures)) .of (has-part (@pre .0 .0) _ _ (@pre .0 .1 .0) _ (room-first _ (room-past (@pre .1) (@begin .ensures)))))
+end-requires c κs = room-past (room-past (c .before .before .before .before .before .before .before .before .before .before .before .before .before .before .pre .1) (c .before .before .before .before .before .before .before .before .before .begin .ensures)) (part-laid (c .before .before .before .before .before .before .before .before .before .before .before .before .before .before .pre .0 .0) _ _ (c .before .before .before .before .before .before .before .before .before .before .before .before .before .before .pre .0 .1 .0) _ (rw (c .before .before .before .before .before .before .declaration-at .ensures, c .before .before .before .before .before .declaration-at2 .ensures) at (c .before .before .before .declarations .ensures)) (room-first _ (room-past (c .before .before .before .before .before .before .before .before .before .before .before .before .before .before .pre .1) (c .before .before .before .before .before .before .before .before .before .begin .ensures))))
 
 returns : tie.Need-returns
-returns c = laid-then (@begin .ensures) (laid-then ((rw (@declaration-at .ensures, @declaration-at2 .ensures) at (@declarations .ensures)) .of (has-part (@pre .0 .0) _ _ (@pre .0 .1 .0) _ (room-first _ (room-past (@pre .1) (@begin .ensures))))) (@end .ensures))
+returns c = laid-then (c .before .before .before .before .before .before .before .before .before .before .before .before .begin .ensures) (laid-then (part-laid (c .before .before .before .before .before .before .before .before .before .before .before .before .before .before .before .before .before .pre .0 .0) _ _ (c .before .before .before .before .before .before .before .before .before .before .before .before .before .before .before .before .before .pre .0 .1 .0) _ (rw (c .before .before .before .before .before .before .before .before .before .declaration-at .ensures, c .before .before .before .before .before .before .before .before .declaration-at2 .ensures) at (c .before .before .before .before .before .before .declarations .ensures)) (room-first _ (room-past (c .before .before .before .before .before .before .before .before .before .before .before .before .before .before .before .before .before .pre .1) (c .before .before .before .before .before .before .before .before .before .before .before .before .begin .ensures)))) (c .before .before .end .ensures))
 
 pub lay-spec : {M : Type 1} → statement M
 lay-spec =
