@@ -15,12 +15,12 @@ use Rattle.text.specs.Newlines.{countNewlines}
 use Rattle.text.specs.declared.space.Found.the-variants.{At, Nowhere}
 use Rattle.tree.specs.Syntax.{Span}
 use Rattle.rows.specs.Node.{line, emptyLine}
-use Rattle.rows.specs.Rows.{sizes}
-use Rattle.state.specs.Act.{Given, St, Out, Act, Asking, next, _⨟_, skip, push, moveTo, pop, told, answering}
+use Rattle.state.specs.Act.{Given, St, Out, Act, Asking, next, _⨟_, _⨟!_, skip, push, moveTo, pop, told, answering}
 use Rattle.state.specs.declared.Cursor.{Cursor}
 use Rattle.state.specs.declared.Asked.{Asked}
-use Rattle.state.specs.Laid.{cursor, st, Laid, LaidAsking}
-use Rattle.state.proofs.Laws.{laid-same, laid-then, laid-skip, laid-moveTo, laid-pop, asking-same, laid-answering, laid-answers}
+use Rattle.state.specs.Laid.{cursor, st, Room, Laid, LaidAsking}
+use Rattle.state.proofs.Laws.{room-same, room-first, room-past, room-else, laid-same, laid-then, laid-skip, laid-moveTo, laid-pop, asking-same, laid-answering, laid-answers}
+use Rattle.comments.specs.Listed.{given}
 use Rattle.comments.specs.Comments.{nth, front, remark, newlines, ignoreNewlines, popComment, waits, popComments, popWhitespace, popTrailingComment}
 
 module _ (g : Given) where
@@ -41,6 +41,11 @@ module _ (g : Given) where
   ignored-some position s p e = rw e
 
   -- ---- `newlines` and `ignore_newlines`
+  pub room-newlines : (position : ℕ) {c : Cursor} → Room (told (newlines g position)) c
+      → (let n = countNewlines (g .source) (c .pos) position in Room (cond (eqb n 0) skip (cond (eqb n 1) (push line) (push emptyLine))) c)
+  unfolding newlines
+  room-newlines position room = room-first (moveTo position) (room-same refl room)
+
   pub laid-newlines : (position n : ℕ) {s s₁ : List ℕ} {c c₁ c₂ : Cursor} → n ≡ countNewlines (g .source) (c .pos) position
       → Laid (cond (eqb n 0) skip (cond (eqb n 1) (push line) (push emptyLine))) s c s₁ c₁
       → c₂ ≡ cursor (c₁ .row) (c₁ .number) position (c₁ .placed)
@@ -49,7 +54,7 @@ module _ (g : Given) where
   laid-newlines position n {s} {s₁} {c} {c₁} {c₂} e l m =
       let r : Asking = λ s. ((cond (eqb n 0) skip (cond (eqb n 1) (push line) (push emptyLine)) ⨟ moveTo position) s, ltb 0 n) in
       let k : LaidAsking r s c s₁ (record { cursor = c₂; answer = ltb 0 n }) =
-      record { laid = laid-then l (laid-moveTo m); answers = λ room. refl } in
+      record { laid = laid-then l (laid-moveTo m); answers = refl } in
       asking-same
       (ap
       (λ (i : ℕ). ((cond (eqb i 0) skip (cond (eqb i 1) (push line) (push emptyLine)) ⨟ moveTo position) (st c), ltb 0 i))
@@ -80,32 +85,31 @@ module _ (g : Given) where
   gap-placed true position s = newlines-placed position s
   gap-placed false position s = refl
 
-  pub comment-placed : (leading : Bool) (p : Span) (s : St) → popComment g leading p s .placed ≡ s .placed + 1
+  comment-placed : (leading : Bool) (p : Span) (s : St) → popComment g leading p s .placed ≡ s .placed + 1
   unfolding popComment _⨟_
   comment-placed leading p s = gap-placed leading (p .start) (next s (pop s))
 
-  -- its number of comments placed may be set anew at its end
-  pub laid-comment : (leading : Bool) (p : Span) {s s₁ s₂ : List ℕ} {c c₁ c₂ c₃ c₄ c₅ : Cursor}
+  pub laid-comment : (leading : Bool) (p : Span) {s s₁ s₂ : List ℕ} {c c₁ c₂ c₃ c₄ : Cursor}
       → c₁ ≡ cursor (c .row) (c .number) (c .pos) (c .placed + 1) → Laid (gap leading (p .start)) s c₁ s₁ c₂
-      → c₃ ≡ cursor (c₂ .row) (c₂ .number) (p .end - 1) (c₂ .placed) → Laid (remark g p) s₁ c₃ s₂ c₄
-      → c₅ ≡ cursor (c₄ .row) (c₄ .number) (c₄ .pos) (c .placed + 1) → Laid (popComment g leading p) s c s₂ c₅
+      → c₃ ≡ cursor (c₂ .row) (c₂ .number) (p .end - 1) (c₂ .placed) → Laid (remark g p) s₁ c₃ s₂ c₄ → Laid (popComment g leading p) s c s₂ c₄
   unfolding popComment
-  laid-comment leading p {s} {s₁} {s₂} {c} {c₁} {c₂} {c₃} {c₄} {c₅} e l f m h =
-      let all : Laid (pop ⨟ gap leading (p .start) ⨟ moveTo (p .end - 1) ⨟ remark g p) s c s₂ c₄ =
-      laid-then (laid-pop e) (laid-then l (laid-then (laid-moveTo f) m)) in
-      let o : Out = popComment g leading p (st c) in
-      record {
-        does =
-            λ room.
-            let d = all .does room in
-            record {
-              stored = d .stored;
-              moved =
-                  h
-                  ∙ ap (λ (x : Cursor). cursor (x .row) (x .number) (x .pos) (c .placed + 1)) (d .moved)
-                  ∙ ap (λ (n : ℕ). cursor (c .row + sizes (o .nodes)) (c .number + o .taken) (o .pos) n) (sym (comment-placed leading p (st c)));
-            };
-      }
+  laid-comment leading p e l f m = laid-then (laid-pop e) (laid-then l (laid-then (laid-moveTo f) m))
+
+  -- room for it is room for what comes before it, and for its text
+  pub room-gap : (leading : Bool) (p : Span) (s : List ℕ) {c c₁ : Cursor} → c₁ ≡ cursor (c .row) (c .number) (c .pos) (c .placed + 1)
+      → Room (popComment g leading p) c → Room (gap leading (p .start)) c₁
+  unfolding popComment
+  room-gap leading p s e room = room-first _ (room-past room (laid-pop {s = s} e))
+
+  pub room-remark : (leading : Bool) (p : Span) {s s₁ : List ℕ} {c c₁ c₂ c₃ : Cursor}
+      → c₁ ≡ cursor (c .row) (c .number) (c .pos) (c .placed + 1) → Laid (gap leading (p .start)) s c₁ s₁ c₂
+      → c₃ ≡ cursor (c₂ .row) (c₂ .number) (p .end - 1) (c₂ .placed) → Room (popComment g leading p) c → Room (remark g p) c₃
+  unfolding popComment
+  room-remark leading p {s} {s₁} e l f room = room-past (room-past (room-past room (laid-pop {s = s} e)) l) (laid-moveTo {s = s₁} f)
+
+  -- one comment more is placed after it
+  pub one-more : (leading : Bool) (p : Span) {s s′ : List ℕ} {c c′ : Cursor} → Laid (popComment g leading p) s c s′ c′ → c′ .placed ≡ c .placed + 1
+  one-more leading p {c = c} l = ap (λ (x : Cursor). x .placed) (l .moved) ∙ comment-placed leading p (st c)
 
   -- ---- the loop of `pop_whitespace`
   pop-on : (n position : ℕ) (leading : Bool) (s : St) (p : Span) → nth (g .comments) (s .placed) ≡ some p → ltb (p .start) position ≡ true
@@ -128,29 +132,43 @@ module _ (g : Given) where
   pub record Going (position : ℕ) (leading : Bool) (s₀ : List ℕ) (c₀ : Cursor) (keep : Bool) (s : List ℕ) (c : Cursor) : Type 0 where
     pub turns : ℕ
     pub enough : length (g .comments) ≤ c .placed + turns
+    pub room : Room (popComments g turns position keep) c
     pub goes :
         (s′ : List ℕ) (c′ : Cursor)
         → Laid (popComments g turns position keep) s c s′ c′ → Laid (popComments g (length (g .comments)) position leading) s₀ c₀ s′ c′
 
-  pub begin : (position : ℕ) (leading : Bool) (s : List ℕ) (c : Cursor) → Going position leading s c leading s c
-  begin position leading s c = record { turns = length (g .comments); enough = omega arith; goes = λ s′ c′ l. l }
+  pub begin : (position : ℕ) (leading : Bool) (s : List ℕ) (c : Cursor) → Room (popComments g (length (g .comments)) position leading) c
+      → Going position leading s c leading s c
+  begin position leading s c room = record { turns = length (g .comments); enough = omega arith; room = room; goes = λ s′ c′ l. l }
 
   module _ {position : ℕ} {leading : Bool} {s₀ : List ℕ} {c₀ : Cursor} where
-    pub go-on : {keep : Bool} {s s₁ : List ℕ} {c c₁ : Cursor} (p : Span) → nth (g .comments) (c .placed) ≡ some p → p .start < position
-        → c .placed < length (g .comments) → Laid (popComment g keep p) s c s₁ c₁ → c₁ .placed ≡ c .placed + 1
-        → Going position leading s₀ c₀ keep s c → Going position leading s₀ c₀ true s₁ c₁
-    go-on {keep} {s} {s₁} {c} {c₁} p e w h l one i = go (i .turns) (i .enough) (i .goes)
+    -- there is room for the comment at the front
+    pub going-room : {keep : Bool} {s : List ℕ} {c : Cursor} (p : Span) → nth (g .comments) (c .placed) ≡ some p → p .start < position
+        → c .placed < length (g .comments) → Going position leading s₀ c₀ keep s c → Room (popComment g keep p) c
+    going-room {keep} {s} {c} p e w h i = go (i .turns) (i .enough) (i .room)
       where
-        go : (m : ℕ) → length (g .comments) ≤ c .placed + m
+        go : (m : ℕ) → length (g .comments) ≤ c .placed + m → Room (popComments g m position keep) c → Room (popComment g keep p) c
+        go zero f room = absurd (omega arith)
+        go (suc m) f room =
+            room-first (popComments g m position true) (room-same (pop-on m position keep (st c) p e (lt-ltb (p .start) position w)) room)
+
+    pub go-on : {keep : Bool} {s s₁ : List ℕ} {c c₁ : Cursor} (p : Span) → nth (g .comments) (c .placed) ≡ some p → p .start < position
+        → c .placed < length (g .comments) → Laid (popComment g keep p) s c s₁ c₁
+        → Going position leading s₀ c₀ keep s c → Going position leading s₀ c₀ true s₁ c₁
+    go-on {keep} {s} {s₁} {c} {c₁} p e w h l i = go (i .turns) (i .enough) (i .room) (i .goes)
+      where
+        go : (m : ℕ) → length (g .comments) ≤ c .placed + m → Room (popComments g m position keep) c
             → ((s′ : List ℕ) (c′ : Cursor)
             → Laid (popComments g m position keep) s c s′ c′ → Laid (popComments g (length (g .comments)) position leading) s₀ c₀ s′ c′)
             → Going position leading s₀ c₀ true s₁ c₁
-        go zero f k = absurd (omega arith)
-        go (suc m) f k =
+        go zero f room k = absurd (omega arith)
+        go (suc m) f room k =
+            let on = pop-on m position keep (st c) p e (lt-ltb (p .start) position w) in
             record {
               turns = m;
-              enough = omega arith;
-              goes = λ s′ c′ r. k s′ c′ (laid-same (sym (pop-on m position keep (st c) p e (lt-ltb (p .start) position w))) (laid-then l r));
+              enough = omega (arith, one-more keep p l);
+              room = room-past (room-same on room) l;
+              goes = λ s′ c′ r. k s′ c′ (laid-same (sym on) (laid-then l r));
             }
 
     -- it ends where no comment is left, and where the next starts at the position or after it
@@ -176,7 +194,29 @@ module _ (g : Given) where
   unfolding popWhitespace
   whole position leading trailing only l m = asking-same refl (laid-answers l m)
 
+  -- room for it is room for its loop, and then for what is done after it
+  room-whole : (position : ℕ) (leading trailing only : Bool) {c : Cursor} → Room (told (popWhitespace g position leading trailing only)) c
+      → Room
+      (popComments g (length (g .comments)) position leading ⨟ told (ending (waits g position (st c) && trailing) position only))
+      c
+  unfolding popWhitespace _⨟!_
+  room-whole position leading trailing only room = room-same refl room
+
+  pub room-comments : (position : ℕ) (leading trailing only : Bool) {c : Cursor} → Room (told (popWhitespace g position leading trailing only)) c
+      → Room (popComments g (length (g .comments)) position leading) c
+  room-comments position leading trailing only {c} room =
+      room-first (told (ending (waits g position (st c) && trailing) position only)) (room-whole position leading trailing only room)
+
   -- newlines after a comment
+  pub room-trailing : (position : ℕ) (leading trailing only : Bool) {s s₁ : List ℕ} {c c₁ : Cursor} → waits g position (st c) ≡ true → trailing ≡ true
+      → Laid (popComments g (length (g .comments)) position leading) s c s₁ c₁ → Room (told (popWhitespace g position leading trailing only)) c
+      → Room (told (newlines g position)) c₁
+  room-trailing position leading trailing only {c = c} {c₁ = c₁} w t l room =
+      let after : Room (told (ending (waits g position (st c) && trailing) position only)) c₁ =
+      room-past (room-whole position leading trailing only room) l in
+      subst (λ (y : Bool). Room (told (ending (true && y) position only)) c₁) t
+      (subst (λ (x : Bool). Room (told (ending (x && trailing) position only)) c₁) w after)
+
   pub laid-trailing : (position : ℕ) (leading only : Bool) {trailing : Bool} {s s₁ s₂ : List ℕ} {c c₁ c₂ : Cursor}
       → waits g position (st c) ≡ true → trailing ≡ true → Laid (popComments g (length (g .comments)) position leading) s c s₁ c₁
       → Laid (told (newlines g position)) s₁ c₁ s₂ c₂
@@ -195,6 +235,21 @@ module _ (g : Given) where
   rest true true position only (inr e) l = let z : _≡_ {A = ℕ} 0 1 = cc in absurd (omega arith)
   rest true false position only e l = l
   rest false y position only e l = l
+
+  neither : (x y : Bool) → (y ≡ false) ⊎ (x ≡ false) → (x && y) ≡ false
+  neither true true (inl e) = e
+  neither true true (inr e) = e
+  neither true false e = refl
+  neither false y e = refl
+
+  pub room-only : (position : ℕ) (leading trailing only : Bool) {s s₁ : List ℕ} {c c₁ : Cursor} → (trailing ≡ false) ⊎ (waits g position (st c) ≡ false)
+      → only ≡ true → Laid (popComments g (length (g .comments)) position leading) s c s₁ c₁
+      → Room (told (popWhitespace g position leading trailing only)) c → Room (told (newlines g position)) c₁
+  room-only position leading trailing only {c = c} {c₁ = c₁} e o l room =
+      let after : Room (told (ending (waits g position (st c) && trailing) position only)) c₁ =
+      room-past (room-whole position leading trailing only room) l in
+      subst (λ (y : Bool). Room (told (ending false position y)) c₁) o
+      (subst (λ (x : Bool). Room (told (ending x position only)) c₁) (neither (waits g position (st c)) trailing e) after)
 
   pub laid-only : (position : ℕ) (leading trailing : Bool) {only : Bool} {s s₁ s₂ : List ℕ} {c c₁ : Cursor} {r : Asked}
       → (trailing ≡ false) ⊎ (waits g position (st c) ≡ false) → only ≡ true
@@ -261,3 +316,8 @@ module _ (g : Given) where
       → p .start ≡ place → popTrailingComment g s ≡ (pop ⨟ remark g p ⨟ moveTo (p .end)) s
   unfolding popTrailingComment
   trailing-one s place p e f h = rw (e, popTrailingComment) (rw (f, popTrailingComment) (rw (eq-eqb (p .start) place h)))
+
+-- the image counts for nothing in `newlines`
+pub any-image : (s b b′ : List ℕ) (position : ℕ) {c : Cursor} → Room (told (newlines (given s b) position)) c → Room (told (newlines (given s b′) position)) c
+unfolding newlines
+any-image s b b′ position room = room-same refl room

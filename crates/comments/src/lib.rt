@@ -2,14 +2,14 @@
 // image, and the cursor says how many of them are placed.
 ghost use mathlib.Core.Path.{_≡_};
 ghost use mathlib.Core.Bool.{cond};
-ghost use mathlib.Core.List.{List};
+ghost use mathlib.Core.List.{List, []};
 ghost use mathlib.Core.Option.{some};
 ghost use Prim.Native.Nat.{ℕ, _+_, _≤_};
 ghost use lib.ListN.{length};
 ghost use lib.Dec.{eqb};
 ghost use Rattle.rows.specs.Node.{line, emptyLine};
 ghost use Rattle.state.specs.Act.{skip, push, told};
-ghost use Rattle.state.specs.Laid.{cursor, st, Laid, LaidAsking};
+ghost use Rattle.state.specs.Laid.{cursor, st, Room, Laid, LaidAsking};
 ghost use Rattle.comments.specs.Comments.{nth, remark, newlines, ignoreNewlines, popComment, waits, popComments, popWhitespace};
 ghost use Rattle.comments.specs.Comments.{popTrailingComment};
 ghost use Rattle.comments.specs.Listed.{span, commentsOf, given, ListFits, Listed, pendingOf};
@@ -20,6 +20,7 @@ use crate::reading::newlines_from;
 use crate::reading::something_from;
 use image::bytes::num16;
 use image::bytes::num32;
+use rows::store::Bytes;
 use state::Asked;
 use state::Cursor;
 use state::leaves::empty_line;
@@ -64,14 +65,17 @@ fn is_waiting(image: &[u8], c: Cursor, position: u32) -> bool
 // `Node::Comment` of a comment without the white space at its end.
 fn remark(store: &mut [u32], c: Cursor, source: &[u8], start: u32, end: u32) -> Cursor
     requires { ⌜ start ≤ end ⌝ }
+    requires { ⌜ Room (remark (given (now source) []) (span start end)) c ⌝ }
     ensures { λ r. ⌜ ((b : List ℕ) → Laid (remark (given (now (source .entry)) b) (span start end)) (now (store .entry)) c (now (store .exit)) r) ⌝ }
 {
     let trimmed = trim_end(source, start as usize, end as usize);
-    state::leaves::comment(store, c, start, trimmed as u32 - start)
+    let size = Bytes(trimmed - start as usize);
+    state::leaves::comment(store, c, start, size)
 }
 
 // A line for one newline, an empty line for more.
 fn break_line(store: &mut [u32], c: Cursor, n: usize) -> Cursor
+    requires { ⌜ Room (cond (eqb n 0) skip (cond (eqb n 1) (push line) (push emptyLine))) c ⌝ }
     ensures { λ r. ⌜ Laid (cond (eqb n 0) skip (cond (eqb n 1) (push line) (push emptyLine))) (now (store .entry)) c (now (store .exit)) r ⌝ }
 {
     if n == 0 {
@@ -85,6 +89,7 @@ fn break_line(store: &mut [u32], c: Cursor, n: usize) -> Cursor
 
 // A line for one newline up to the position, an empty line for more; it answers whether there is any.
 fn newlines(store: &mut [u32], c: Cursor, source: &[u8], position: u32) -> Asked
+    requires { ⌜ Room (told (newlines (given (now source) []) position)) c ⌝ }
     ensures { λ r. ⌜ ((b : List ℕ) → LaidAsking (newlines (given (now (source .entry)) b) position) (now (store .entry)) c (now (store .exit)) r) ⌝ }
 {
     let n = newlines_from(source, c.pos as usize, position as usize);
@@ -121,6 +126,7 @@ fn before_comment(
     start: u32,
 ) -> Cursor
     requires { ⌜ ListFits (now image) ⌝ }
+    requires { ⌜ Room (cond leading (told (newlines (given (now source) (now image)) start)) (ignoreNewlines (given (now source) (now image)) start)) c ⌝ }
     ensures { λ r. ⌜ Laid (cond leading (told (newlines (given (now (source .entry)) (now (image .entry))) start)) (ignoreNewlines (given (now (source .entry)) (now (image .entry))) start)) (now (store .entry)) c (now (store .exit)) r ⌝ }
 {
     if leading {
@@ -142,13 +148,12 @@ fn pop_comment(
 ) -> Cursor
     requires { ⌜ Listed (now source) (now image) ⌝ }
     requires { ⌜ nth (commentsOf (now image)) (c .placed) ≡ some (span start end) ⌝ }
+    requires { ⌜ Room (popComment (given (now source) (now image)) leading (span start end)) c ⌝ }
     ensures { λ r. ⌜ Laid (popComment (given (now (source .entry)) (now (image .entry))) leading (span start end)) (now (store .entry)) c (now (store .exit)) r ⌝ }
-    ensures { λ r. ⌜ r .placed ≡ c .placed + 1 ⌝ }
 {
-    let placed = c.placed + 1;
-    let d = before_comment(store, with_placed(c, placed), source, image, leading, start);
-    let e = remark(store, move_to(d, end - 1), source, start, end);
-    with_placed(e, placed)
+    let popped = with_placed(c, c.placed + 1);
+    let d = before_comment(store, popped, source, image, leading, start);
+    remark(store, move_to(d, end - 1), source, start, end)
 }
 
 // The loop of `pop_whitespace`: the comments that start before the position.
@@ -161,6 +166,7 @@ fn pop_comments(
     leading: bool,
 ) -> Cursor
     requires { ⌜ Listed (now source) (now image) ⌝ }
+    requires { ⌜ Room (popComments (given (now source) (now image)) (length (commentsOf (now image))) position leading) c ⌝ }
     ensures { λ r. ⌜ Laid (popComments (given (now (source .entry)) (now (image .entry))) (length (commentsOf (now (image .entry)))) position leading) (now (store .entry)) c (now (store .exit)) r ⌝ }
 {
     let mut d = c;
@@ -191,6 +197,7 @@ fn place_comments(
     only: bool,
 ) -> Asked
     requires { ⌜ Listed (now source) (now image) ⌝ }
+    requires { ⌜ Room (told (popWhitespace (given (now source) (now image)) position leading trailing only)) c ⌝ }
     ensures { λ r. ⌜ LaidAsking (popWhitespace (given (now (source .entry)) (now (image .entry))) position leading trailing only) (now (store .entry)) c (now (store .exit)) r ⌝ }
 {
     let waiting = is_waiting(image, c, position);
@@ -225,6 +232,7 @@ pub fn pop_whitespace(
     only: bool,
 ) -> Asked
     requires { ⌜ Listed (now source) (now image) ⌝ }
+    requires { ⌜ Room (told (popWhitespace (given (now source) (now image)) position leading trailing only)) c ⌝ }
     ensures { λ r. ⌜ LaidAsking (popWhitespace (given (now (source .entry)) (now (image .entry))) position leading trailing only) (now (store .entry)) c (now (store .exit)) r ⌝ }
 {
     if only {
@@ -242,6 +250,7 @@ pub fn pop_whitespace(
 // Places the comment at the front, if it starts at the first place that is not white space or is a newline.
 pub fn pop_trailing_comment(store: &mut [u32], c: Cursor, source: &[u8], image: &[u8]) -> Cursor
     requires { ⌜ Listed (now source) (now image) ⌝ }
+    requires { ⌜ Room (popTrailingComment (given (now source) (now image))) c ⌝ }
     ensures { λ r. ⌜ Laid (popTrailingComment (given (now (source .entry)) (now (image .entry)))) (now (store .entry)) c (now (store .exit)) r ⌝ }
 {
     match something_from(source, c.pos as usize) {

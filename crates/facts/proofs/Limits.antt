@@ -165,7 +165,7 @@ module _ {g : Given} {t : SyntaxTree} {at : ℕ} (a : Stands g t at) where
 
   -- ---- room for the rows of a layout call, from any state that refusal 12 lets pass
   room : {d : ℕ} (s : Act) → Sounds g (be32 (g .image) at) d s → Places g s → (c : Cursor) → c .row ≤ 2097152 → c .number ≤ 1048576
-      → c .placed ≤ length (g .comments) → Room (s (st c)) c
+      → c .placed ≤ length (g .comments) → Room s c
   room s p q c h i j =
       let r = p .from (st c) in
       let w = q .from (st c) j in
@@ -175,7 +175,7 @@ module _ {g : Given} {t : SyntaxTree} {at : ℕ} (a : Stands g t at) where
       }
 
   pub call-room : (xs ys zs : List Declaration) (begins first closes : Bool) → xs ++ (ys ++ zs) ≡ t .declarations → (c : Cursor)
-      → c .row ≤ 2097152 → c .number ≤ 1048576 → c .placed ≤ length (g .comments) → Room (callRule g t begins ys first closes (st c)) c
+      → c .row ≤ 2097152 → c .number ≤ 1048576 → c .placed ≤ length (g .comments) → Room (callRule g t begins ys first closes) c
   call-room xs ys zs begins first closes e =
       room (callRule g t begins ys first closes) (call-sound xs ys zs begins first closes e) (places-call g t begins ys first closes)
 

@@ -16,7 +16,7 @@ use Rattle.image.specs.declared.Answer.the-variants as read
 use Rattle.rows.specs.Rows.{sizes, rows}
 use Rattle.rows.proofs.Sizes.{length-rows}
 use Rattle.state.specs.Act.{Act, Out}
-use Rattle.state.specs.Laid.{cursor, st, after, Laid, Done}
+use Rattle.state.specs.Laid.{cursor, st, after, Room, Laid}
 use Rattle.state.specs.declared.Cursor.{Cursor}
 use Rattle.comments.specs.Listed.{given}
 use Rattle.facts.proofs.InOrder.{places-call}
@@ -129,10 +129,10 @@ module _ (s b : List ℕ) (state : LayoutState) (stop : ℕ) (close : Bool) (sto
       pub small : Small from n
       small = record { row = pass .row; number = pass .number; placed = omega (arith, pass .placed, comments-count a) }
 
-      module _ (roomy : Roomy s b state stop close store) (store2 : List ℕ) (e : Cursor) (laid : Laid act store from store2 e) where
-        done : Done (act (st from)) store from store2 e
-        done = laid .does (room a (state .declaration) stop (pass .ahead) from (state .begun) close small)
+      pub ready : Room act from
+      ready = room a (state .declaration) stop (pass .ahead) from (state .begun) close small
 
+      module _ (roomy : Roomy s b state stop close store) (store2 : List ℕ) (e : Cursor) (laid : Laid act store from store2 e) where
         -- so no difference falls under 0
         pub placed-in : e .placed ≤ n
         placed-in =
@@ -141,7 +141,7 @@ module _ (s b : List ℕ) (state : LayoutState) (stop : ℕ) (close : Bool) (sto
             let w = places-call g (tree s b) (not (state .begun)) ds (eqb (state .declaration) 0) close .from (st from)
             (omega (arith, small .placed, comments-count a))
             in
-            omega (arith, ap (λ (c : Cursor). c .placed) (done .moved), w .within, comments-count a)
+            omega (arith, ap (λ (c : Cursor). c .placed) (laid .moved), w .within, comments-count a)
 
         none-left : table ≡ none
         none-left =
@@ -150,7 +150,7 @@ module _ (s b : List ℕ) (state : LayoutState) (stop : ℕ) (close : Bool) (sto
 
         stored : store2 ≡ over (9 * state .row) (gives .rows) store
         stored =
-            done .stored
+            laid .stored
             ∙ sets-over (9 * state .row) (rows (act (st from) .nodes) (state .row)) store
             (let l = length-rows (act (st from) .nodes) (state .row) in omega (arith, needed-is, roomy .fits))
             ∙ ap (λ (p : Piece). over (9 * state .row) (p .rows) store) (sym due)
@@ -171,10 +171,10 @@ module _ (s b : List ℕ) (state : LayoutState) (stop : ℕ) (close : Bool) (sto
           where
             same-state : toState t ≡ gives .state
             same-state =
-                rw (q1, q2, q3, q4, q5, q6, q7, done .moved)
+                rw (q1, q2, q3, q4, q5, q6, q7, laid .moved)
                 (ap (λ (p : Piece). record { begun = true; closed = close; declaration = stop; cursor = p .cursor }) (sym due))
 
             same-left : left ≡ gives .left
             same-left =
-                rw (q8, done .moved)
+                rw (q8, laid .moved)
                 (ap₂ (λ (m k : ℕ). m - k) (sym (comments-count a)) (ap (λ (p : Piece). p .cursor .placed) (sym due)))

@@ -11,14 +11,16 @@ use Rattle.image.specs.Read.{stopAt}
 use Rattle.image.proofs.Accepted.{accepted}
 use Rattle.tree.specs.Syntax.{Declaration}
 use Rattle.tree.specs.At.{TreeAt, DeclarationsAt}
-use Rattle.tree.proofs.Walk.{walked, declarations-from, walked-within, walked-on, declarations-between}
-use Rattle.state.specs.Laid.{st, Room}
+use Rattle.tree.specs.Walk.{walked}
+use Rattle.tree.proofs.Walk.{declarations-from, walked-within, walked-on, declarations-between}
+use Rattle.state.specs.Laid.{st, Room, Laid}
 use Rattle.state.specs.declared.Cursor.{Cursor}
 use Rattle.comments.specs.Listed.{given, commentsOf}
 use Rattle.comments.proofs.Accepted.{accepted-listed}
 use Rattle.comments.proofs.Fronts.{count-of}
-use Rattle.layout.specs.Contracts.{Accepted, Has, HasAll, Within}
-use Rattle.layout.specs.Forms.{MaybeIdentAt}
+use Rattle.layout.specs.Contracts.{Accepted, Has, LaidAs, HasAll, LaidAll, Within}
+use Rattle.layout.specs.Forms.{MaybeIdentAt, declarationsFrom}
+use Rattle.layout.specs.Layout.{shebangRule, declarationsRule}
 use Rattle.facts.specs.Accepted.{Stands}
 use Rattle.rows.specs.Rows.{sizes}
 use Rattle.facts.proofs.Limits.{call-room, call-few}
@@ -41,8 +43,13 @@ module _ {s b : List ℕ} {n at : ℕ} (a : Accepts s b n at) where
   ready : Accepted s b
   ready = record { listed = accepted-listed s b n at (a .answer); small = stands .small }
 
-  pub has-shebang : Has MaybeIdentAt s b (at + 13)
-  has-shebang = record { accepted = ready; tree = tree s b .shebang; held = stands .tree .shebang }
+  pub has-shebang : {c : Cursor} → Room (shebangRule (given s b) (tree s b .shebang)) c → Has MaybeIdentAt shebangRule s b (at + 13) c
+  has-shebang room = record { accepted = ready; tree = tree s b .shebang; held = stands .tree .shebang; room = room }
+
+  pub shebang-laid : {x y : List ℕ} {c d : Cursor} → LaidAs MaybeIdentAt shebangRule s b (at + 13) x c y d
+      → Room (shebangRule (given s b) (tree s b .shebang)) c → Laid (shebangRule (given s b) (tree s b .shebang)) x c y d
+  unfolding has-shebang
+  shebang-laid l room = l .of (has-shebang room)
 
   -- ---- the declarations
   abbrev ds : List Declaration
@@ -120,19 +127,27 @@ module _ {s b : List ℕ} {n at : ℕ} (a : Accepts s b n at) where
         subst (λ (k : ℕ). DeclarationsAt s b ys (startOf s b at from) (startOf s b at k)) (omega arith)
         (declarations-between s b ds from (to - from) (stopAt b (at + 13)) (stopAt b at) all)
 
-    pub has-part : HasAll DeclarationsAt s b (startOf s b at from) (startOf s b at to)
-    has-part = record {
+    pub has-part : (first : Bool) {c : Cursor} → Room (declarationsRule (given s b) ys first) c
+        → HasAll DeclarationsAt (declarationsFrom first) s b (startOf s b at from) (startOf s b at to) c
+    has-part first room = record {
       accepted = ready;
       tree = ys;
       held = between;
       inside = omega (arith, walked-within s b ds to (stopAt b (at + 13)) (stopAt b at) all, stands .tree .end);
+      room = room;
     }
+
+    pub part-laid : (first : Bool) {x y : List ℕ} {c d : Cursor}
+        → LaidAll DeclarationsAt (declarationsFrom first) s b (startOf s b at from) (startOf s b at to) x c y d
+        → Room (declarationsRule (given s b) ys first) c → Laid (declarationsRule (given s b) ys first) x c y d
+    unfolding has-part
+    part-laid first l room = l .of (has-part first room)
 
     parted : take from ds ++ (ys ++ drop (to - from) (drop from ds)) ≡ ds
     parted =
         ap (λ (l : List Declaration). take from ds ++ l) (take-append-drop (to - from) (drop from ds)) ∙ take-append-drop from ds
 
-    pub room : (c : Cursor) (begun close : Bool) → Small c n → Room (callAct s b begun from to close (st c)) c
+    pub room : (c : Cursor) (begun close : Bool) → Small c n → Room (callAct s b begun from to close) c
     room c begun close k =
         call-room stands (take from ds) ys (drop (to - from) (drop from ds)) (not begun) (eqb from 0) close parted c (k .row) (k .number)
         (omega (arith, comments-count, k .placed))

@@ -6,7 +6,7 @@ ghost use mathlib.Core.List.{List};
 ghost use lib.ListN.{length};
 ghost use Rattle.rows.specs.Node.{line as lineNode};
 ghost use Rattle.state.specs.Act.{when, push};
-ghost use Rattle.state.specs.Laid.{Laid};
+ghost use Rattle.state.specs.Laid.{Room, Laid};
 ghost use Rattle.comments.specs.Listed.{given};
 ghost use Rattle.layout.specs.Layout.{shebangRule};
 ghost use Rattle.laying.specs.Steps.{Accepts, tree, declared, startOf, callAct};
@@ -58,6 +58,7 @@ fn begin(
     begun: bool,
 ) -> Cursor
     requires { ⌜ Accepts (now s) (now b) n at ⌝ }
+    requires { ⌜ Room (when (not begun) (shebangRule (given (now s) (now b)) (tree (now s) (now b) .shebang))) c ⌝ }
     ensures { λ r. ⌜ Laid (when (not begun) (shebangRule (given (now (s .entry)) (now (b .entry))) (tree (now (s .entry)) (now (b .entry)) .shebang))) (now (store .entry)) c (now (store .exit)) r ⌝ }
 {
     if begun {
@@ -68,6 +69,7 @@ fn begin(
 
 // "closing .. adds the final `Line`"
 fn end(store: &mut [u32], c: Cursor, close: bool) -> Cursor
+    requires { ⌜ Room (when close (push lineNode)) c ⌝ }
     ensures { λ r. ⌜ Laid (when close (push lineNode)) (now (store .entry)) c (now (store .exit)) r ⌝ }
 {
     if close {
@@ -90,6 +92,7 @@ pub fn lay(
     close: bool,
 ) -> Cursor
     requires { ⌜ Accepts (now s) (now b) n at × ((from ≤ to) × (to ≤ length (declared (now s) (now b)))) ⌝ }
+    requires { ⌜ Room (callAct (now s) (now b) begun from to close) c ⌝ }
     ensures { λ r. ⌜ Laid (callAct (now (s .entry)) (now (b .entry)) begun from to close) (now (store .entry)) c (now (store .exit)) r ⌝ }
 {
     let d = begin(store, c, s, b, n, at, begun);

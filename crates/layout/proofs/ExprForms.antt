@@ -11,12 +11,14 @@ use Rattle.image.specs.Read.{stopAt, kindAt}
 use Rattle.tree.specs.Syntax.{Span, Expr, expr, Form, return′, literal, block, match′, functionCall, access, path, record′, typedRecord, list, not′, assign, compoundAssign, binOp, negate, ifElse, while, for, questionMark, fString, parentheses}
 use Rattle.tree.specs.At.{Head, formKind, ExprAt}
 use Rattle.state.specs.Act.{Given, Act, when}
-use Rattle.state.specs.Laid.{Laid}
+use Rattle.state.specs.Laid.{Room}
 use Rattle.state.specs.declared.Cursor.{Cursor}
 use Rattle.comments.specs.Listed.{given}
 use Rattle.layout.specs.Layout.{look, lookForm, isBlock, isBraced}
-use Rattle.layout.specs.Contracts.{Has, LaidAs}
+use Rattle.layout.specs.Contracts.{Has}
 use Rattle.layout.specs.Forms.{two, three, four, Of, formRule, formWith}
+use Rattle.state.proofs.Laws.{Lays}
+use Rattle.layout.proofs.Lays.{LaysAs}
 
 -- e is of the form mk
 abbrev pub IsForm : {X : Type 0} → (X → Form) → Expr → Type 0
@@ -115,24 +117,34 @@ module _ (s b : List ℕ) (at : ℕ) where
 
 -- an expression whose form is known
 module _ {s b : List ℕ} {at : ℕ} {X : Type 0} (mk : X → Form) (f : (e : Expr) → ExprAt s b e at → IsForm mk e) where
-  pub expr-has : Has ExprAt s b at → Has (Of mk) s b at
-  expr-has h =
+  pub expr-has : (outer : ℕ) {c : Cursor} → Has ExprAt (formWith outer) s b at c → Has (Of mk) (formRule mk outer) s b at c
+  unfolding look
+  expr-has outer {c} h =
       let x = f (h .tree) (h .held) in
-      record { accepted = h .accepted; tree = x .0; held = subst (λ (e : Expr). ExprAt s b e at) (sym (x .1)) (h .held) }
+      record {
+        accepted = h .accepted;
+        tree = x .0;
+        held = subst (λ (e : Expr). ExprAt s b e at) (sym (x .1)) (h .held);
+        room = subst (λ (e : Expr). Room (formWith outer (given s b) e) c) (sym (x .1)) (h .room);
+      }
 
-  pub expr-laid : (outer : ℕ) {x y : List ℕ} {c d : Cursor} → LaidAs (Of mk) (formRule mk outer) s b at x c y d
-      → LaidAs ExprAt (formWith outer) s b at x c y d
+  pub expr-laid : (outer : ℕ) {x y : List ℕ} {c d : Cursor} → LaysAs (Of mk) (formRule mk outer) s b at x c y d
+      → LaysAs ExprAt (formWith outer) s b at x c y d
   unfolding look
   expr-laid outer {x} {y} {c} {d} l =
       record {
         of =
             λ e a.
             let z = f e a in
-            subst (λ (u : Expr). Laid (formWith outer (given s b) u) x c y d) (z .1)
+            subst (λ (u : Expr). Lays (formWith outer (given s b) u) x c y d) (z .1)
             (l .of (z .0) (subst (λ (u : Expr). ExprAt s b u at) (sym (z .1)) a));
       }
 
 -- the comma after an arm
 pub comma-laid : (s b : List ℕ) (at : ℕ) (e : Expr) (a : Act) {x y : List ℕ} {c d : Cursor} → ExprAt s b e at
-    → Laid (when (not (eqb (kindAt b at) 52)) a) x c y d → Laid (when (not (isBlock e)) a) x c y d
-comma-laid s b at e a {x} {y} {c} {d} h l = subst (λ (t : Bool). Laid (when (not t) a) x c y d) (is-block s b at e h) l
+    → Lays (when (not (eqb (kindAt b at) 52)) a) x c y d → Lays (when (not (isBlock e)) a) x c y d
+comma-laid s b at e a {x} {y} {c} {d} h l = subst (λ (t : Bool). Lays (when (not t) a) x c y d) (is-block s b at e h) l
+
+pub comma-room : (s b : List ℕ) (at : ℕ) (e : Expr) (a : Act) {c : Cursor} → ExprAt s b e at → Room (when (not (isBlock e)) a) c
+    → Room (when (not (eqb (kindAt b at) 52)) a) c
+comma-room s b at e a {c} h room = subst (λ (t : Bool). Room (when (not t) a) c) (sym (is-block s b at e h)) room

@@ -13,19 +13,20 @@ use Rattle.image.specs.Bytes.{be32}
 use Rattle.image.specs.Read.{stopAt}
 use Rattle.tree.specs.Syntax.{Span, Path, Import, import, ImportGroup, noGroup, group, Imports, noImports, _∷ⁱ_}
 use Rattle.tree.specs.At.{Head, Absent, Ends, PathAt, Maybe, ImportAt, ImportGroupAt, ImportsAt}
-use Rattle.state.specs.Act.{when, says}
-use Rattle.state.specs.Laid.{Laid}
+use Rattle.state.specs.Act.{Given, Act, _⨟_, when, says}
+use Rattle.state.specs.Laid.{Room}
 use Rattle.state.specs.declared.Cursor.{Cursor}
-use Rattle.state.proofs.Laws.{laid-then, laid-skip}
+use Rattle.state.proofs.Laws.{Lays, lays-then, lays-skip}
 use Rattle.comments.specs.Listed.{given}
-use Rattle.layout.specs.Layout.{pathRule, isSome, isGroup, importFirst, importPath, importGroup, importItems, importElems}
-use Rattle.layout.specs.Contracts.{Has, LaidAs, Within, Whole}
+use Rattle.layout.specs.Layout.{pathRule, isSome, isGroup, importFirst, importPath, importGroup, importItems, importElems, separated}
+use Rattle.layout.specs.Contracts.{Has, Within, Whole}
 use Rattle.layout.specs.Forms.{MaybePathAt}
-use Rattle.layout.proofs.Places.{head-whole, import-whole}
+use Rattle.layout.proofs.Places.{within, head-whole, import-whole}
 use Rattle.layout.proofs.Runs.{list-of, import-elems}
-use Rattle.layout.specs.Elems.{ListOf, LaidList}
+use Rattle.layout.specs.Elems.{HasList}
 use Rattle.layout.specs.declared.kinds.Element.the-variants as element
 use Rattle.layout.specs.declared.kinds.WrapStyle.the-variants.{Tight}
+use Rattle.layout.proofs.Lays.{LaysAs, LaysList}
 
 module _ (s b : List ℕ) (at : ℕ) where
   pub is-some : (q : Option Path) → Maybe s b (PathAt s b) q at → not (eqb (be32 b at) 0) ≡ isSome q
@@ -39,75 +40,84 @@ module _ (s b : List ℕ) (at : ℕ) where
   is-group (group p is) a = rw (ne-eqb (be32 b at) 0 (λ e. omega (arith, a .0 .long)))
 
 module _ {s b : List ℕ} {at : ℕ} where
-  pub has-path : (be32 b at ≡ 0 → ⊥) → Has MaybePathAt s b at → Has PathAt s b at
+  pub has-path : {c : Cursor} → (be32 b at ≡ 0 → ⊥) → Has MaybePathAt importFirst s b at c → Has PathAt (λ g p. pathRule g p true false) s b at c
   unfolding Maybe
-  has-path f h = go (h .tree) (h .held)
+  has-path {c} f h = go (h .tree) (h .held) (h .room)
     where
-      go : (q : Option Path) → Maybe s b (PathAt s b) q at → Has PathAt s b at
-      go none a = absurd (f (a .zero))
-      go (some p) a = record { accepted = h .accepted; tree = p; held = a }
+      go : (q : Option Path) → Maybe s b (PathAt s b) q at → Room (importFirst (given s b) q) c → Has PathAt (λ g p. pathRule g p true false) s b at c
+      go none a room = absurd (f (a .zero))
+      go (some p) a room = record { accepted = h .accepted; tree = p; held = a; room = room }
 
   module _ {x : List ℕ} {c : Cursor} where
-    pub no-path : be32 b at ≡ 0 → LaidAs MaybePathAt importFirst s b at x c x c
+    pub no-path : be32 b at ≡ 0 → LaysAs MaybePathAt importFirst s b at x c x c
     unfolding Maybe
     no-path e = record { of = go }
       where
-        go : (q : Option Path) → Maybe s b (PathAt s b) q at → Laid (importFirst (given s b) q) x c x c
-        go none a = laid-skip
+        go : (q : Option Path) → Maybe s b (PathAt s b) q at → Lays (importFirst (given s b) q) x c x c
+        go none a = lays-skip
         go (some p) a = absurd (omega (arith, e, a .head .head .long))
 
-    pub no-group : be32 b at ≡ 0 → LaidAs ImportGroupAt importGroup s b at x c x c
+    pub no-group : be32 b at ≡ 0 → LaysAs ImportGroupAt importGroup s b at x c x c
     unfolding ImportGroupAt importGroup
     no-group e = record { of = go }
       where
-        go : (q : ImportGroup) → ImportGroupAt s b q at → Laid (importGroup (given s b) q) x c x c
-        go noGroup a = laid-skip
+        go : (q : ImportGroup) → ImportGroupAt s b q at → Lays (importGroup (given s b) q) x c x c
+        go noGroup a = lays-skip
         go (group p is) a = absurd (omega (arith, e, a .0 .long))
 
   module _ {x y : List ℕ} {c d : Cursor} where
-    pub some-path : (be32 b at ≡ 0 → ⊥) → LaidAs PathAt (λ g p. pathRule g p true false) s b at x c y d
-        → LaidAs MaybePathAt importFirst s b at x c y d
+    pub some-path : (be32 b at ≡ 0 → ⊥) → LaysAs PathAt (λ g p. pathRule g p true false) s b at x c y d
+        → LaysAs MaybePathAt importFirst s b at x c y d
     unfolding Maybe
     some-path f l = record { of = go }
       where
-        go : (q : Option Path) → Maybe s b (PathAt s b) q at → Laid (importFirst (given s b) q) x c y d
+        go : (q : Option Path) → Maybe s b (PathAt s b) q at → Lays (importFirst (given s b) q) x c y d
         go none a = absurd (f (a .zero))
         go (some p) a = l .of p a
 
 -- ---- an import by its parts
-pub record ImportParts (s b : List ℕ) (at : ℕ) : Type 0 where
-  pub whole : Whole b at
-  pub path : Has MaybePathAt s b (at + 13)
-  pub group : Has ImportGroupAt s b (stopAt b (at + 13))
-  pub ends : Ends s b (stopAt b (at + 13)) at
+abbrev pub ImportPartsAt : List ℕ → List ℕ → Option Path × ImportGroup → ℕ → Type 0
+ImportPartsAt s b x at =
+    Whole b at × MaybePathAt s b (x .0) (at + 13) × ImportGroupAt s b (x .1) (stopAt b (at + 13)) × Ends s b (stopAt b (at + 13)) at
+
+-- the dot by the lengths of the parts
+abbrev pub Dotted : List ℕ → ℕ → Bool
+Dotted b at = not (eqb (be32 b (at + 13)) 0) && not (eqb (be32 b (stopAt b (at + 13))) 0)
+
+abbrev pub importSteps : List ℕ → ℕ → Given → Option Path × ImportGroup → Act
+importSteps b at g x = importFirst g (x .0) ⨟ when (Dotted b at) (says ".") ⨟ importGroup g (x .1)
+
+module _ (s b : List ℕ) (at : ℕ) where
+  dotted : (q : Option Path) (g : ImportGroup) → Maybe s b (PathAt s b) q (at + 13) → ImportGroupAt s b g (stopAt b (at + 13))
+      → Dotted b at ≡ (isSome q && isGroup g)
+  dotted q g a i = rw (is-some s b (at + 13) q a, is-group s b (stopAt b (at + 13)) g i)
 
 module _ {s b : List ℕ} {at : ℕ} where
-  pub import-parts : Has ImportAt s b at → ImportParts s b at
-  unfolding ImportAt
-  import-parts h = go (h .tree) (h .held)
+  pub import-parts : {c : Cursor} → Has ImportAt importPath s b at c → Has ImportPartsAt (importSteps b at) s b at c
+  unfolding ImportAt importPath
+  import-parts {c} h = go (h .tree) (h .held) (h .room)
     where
-      go : (i : Import) → ImportAt s b i at → ImportParts s b at
-      go (import p q g) a =
+      go : (i : Import) → ImportAt s b i at → Room (importPath (given s b) i) c → Has ImportPartsAt (importSteps b at) s b at c
+      go (import p q g) a room =
           record {
-            whole = head-whole (a .0);
-            path = record { accepted = h .accepted; tree = q; held = a .1 };
-            group = record { accepted = h .accepted; tree = g; held = a .2 };
-            ends = a .3;
+            accepted = h .accepted;
+            tree = (q, g);
+            held = (head-whole (a .0), a .1, a .2, a .3);
+            room =
+                subst (λ (t : Bool). Room (importFirst (given s b) q ⨟ when t (says ".") ⨟ importGroup (given s b) g) c)
+                (sym (dotted s b at q g (a .1) (a .2))) room;
           }
 
-  pub import-laid : {x y z w : List ℕ} {c d e f : Cursor} → LaidAs MaybePathAt importFirst s b (at + 13) x c y d
-      → Laid (when (not (eqb (be32 b (at + 13)) 0) && not (eqb (be32 b (stopAt b (at + 13))) 0)) (says ".")) y d z e
-      → LaidAs ImportGroupAt importGroup s b (stopAt b (at + 13)) z e w f → LaidAs ImportAt importPath s b at x c w f
+  pub import-laid : {x y z w : List ℕ} {c d e f : Cursor} → LaysAs MaybePathAt importFirst s b (at + 13) x c y d
+      → Lays (when (Dotted b at) (says ".")) y d z e
+      → LaysAs ImportGroupAt importGroup s b (stopAt b (at + 13)) z e w f → LaysAs ImportAt importPath s b at x c w f
   unfolding ImportAt importPath
   import-laid {x} {y} {z} {w} {c} {d} {e} {f} l m n = record { of = go }
     where
-      go : (i : Import) → ImportAt s b i at → Laid (importPath (given s b) i) x c w f
+      go : (i : Import) → ImportAt s b i at → Lays (importPath (given s b) i) x c w f
       go (import p q g) a =
-          laid-then (l .of q (a .1))
-          (laid-then
-          (subst (λ (r : Bool). Laid (when (r && isGroup g) (says ".")) y d z e) (is-some s b (at + 13) q (a .1))
-          (subst (λ (r : Bool). Laid (when (not (eqb (be32 b (at + 13)) 0) && r) (says ".")) y d z e) (is-group s b (stopAt b (at + 13)) g (a .2)) m))
-          (n .of g (a .2)))
+          lays-then (l .of q (a .1))
+          (lays-then (subst (λ (r : Bool). Lays (when r (says ".")) y d z e) (dotted s b at q g (a .1) (a .2)) m) (n .of g (a .2)))
 
 -- ---- a group of one item
 true-false : true ≡ false → ⊥
@@ -125,44 +135,77 @@ single-false {r} {m} {n} {j} {k} p q f e =
     let z : (not (eqb m n) && eqb j k) ≡ true = rw (ne-eqb m n f, eq-eqb j k e) in
     true-false (sym z ∙ sym p ∙ q)
 
+-- what the test for one item reads
+module _ (s b : List ℕ) (at : ℕ) (f : be32 b at ≡ 0 → ⊥) where
+  pub group-whole : (q : ImportGroup) → ImportGroupAt s b q at → Whole b at
+  unfolding ImportGroupAt
+  group-whole noGroup a = absurd (f (a .zero))
+  group-whole (group p is) a = head-whole (a .0)
+
+  pub group-next : (q : ImportGroup) → ImportGroupAt s b q at → (stopAt b at ≡ at + 13 → ⊥) → Within b (at + 13)
+  unfolding ImportGroupAt ImportsAt
+  group-next noGroup a g = absurd (f (a .zero))
+  group-next (group p noImports) a g = absurd (g (sym (a .1 .same)))
+  group-next (group p (i ∷ⁱ is)) a g = within (import-whole s b (at + 13) i (a .1 .0))
+
 module _ {s b : List ℕ} {at : ℕ} where
   -- the list of a group
-  pub group-list : (be32 b at ≡ 0 → ⊥) → Has ImportGroupAt s b at → Has (ListOf element.Import) s b at
-  unfolding ImportGroupAt
-  group-list f h = go (h .tree) (h .held)
+  pub group-list : {c : Cursor} → (be32 b at ≡ 0 → ⊥) → ((stopAt b at ≡ at + 13 → ⊥) → stopAt b (at + 13) ≡ stopAt b at → ⊥)
+      → Has ImportGroupAt importGroup s b at c → HasList element.Import 39 40 true Tight (be32 b (at + 9)) s b at c
+  unfolding ImportGroupAt ImportsAt importGroup
+  group-list {c} f g h = go (h .tree) (h .held) (h .room)
     where
-      go : (q : ImportGroup) → ImportGroupAt s b q at → Has (ListOf element.Import) s b at
-      go noGroup a = absurd (f (a .zero))
-      go (group p is) a =
-          record { accepted = h .accepted; tree = importElems (given s b) is; held = list-of (a .0) (import-elems s b (stopAt b at) (at + 13) is (a .1)) }
+      list : (p : Span) (is : Imports) → ImportGroupAt s b (group p is) at
+          → Room (separated (given s b) "{" "}" "," (importElems (given s b) is) p Tight) c
+          → HasList element.Import 39 40 true Tight (be32 b (at + 9)) s b at c
+      list p is a room =
+          record {
+            accepted = h .accepted;
+            tree = importElems (given s b) is;
+            held = list-of (a .0) (import-elems s b (stopAt b at) (at + 13) is (a .1));
+            span = p;
+            ended = a .0 .end;
+            room = room;
+          }
 
-  -- the first item
-  pub group-first : (be32 b at ≡ 0 → ⊥) → (stopAt b at ≡ at + 13 → ⊥) → Has ImportGroupAt s b at → Has ImportAt s b (at + 13)
-  unfolding ImportGroupAt ImportsAt
-  group-first f g h = go (h .tree) (h .held)
+      go : (q : ImportGroup) → ImportGroupAt s b q at → Room (importGroup (given s b) q) c
+          → HasList element.Import 39 40 true Tight (be32 b (at + 9)) s b at c
+      go noGroup a room = absurd (f (a .zero))
+      go (group p noImports) a room = list p noImports a room
+      go (group p (i ∷ⁱ noImports)) a room =
+          absurd (g (λ e. omega (arith, e, a .1 .1 .least, import-whole s b (at + 13) i (a .1 .0) .long)) (a .1 .2 .same))
+      go (group p (i ∷ⁱ j ∷ⁱ is)) a room = list p (i ∷ⁱ j ∷ⁱ is) a room
+
+  -- the only item
+  pub group-first : {c : Cursor} → (be32 b at ≡ 0 → ⊥) → (stopAt b at ≡ at + 13 → ⊥) → stopAt b (at + 13) ≡ stopAt b at
+      → Has ImportGroupAt importGroup s b at c → Has ImportAt importPath s b (at + 13) c
+  unfolding ImportGroupAt ImportsAt importGroup
+  group-first {c} f g e h = go (h .tree) (h .held) (h .room)
     where
-      go : (q : ImportGroup) → ImportGroupAt s b q at → Has ImportAt s b (at + 13)
-      go noGroup a = absurd (f (a .zero))
-      go (group p noImports) a = absurd (g (sym (a .1 .same)))
-      go (group p (i ∷ⁱ is)) a = record { accepted = h .accepted; tree = i; held = a .1 .0 }
+      go : (q : ImportGroup) → ImportGroupAt s b q at → Room (importGroup (given s b) q) c → Has ImportAt importPath s b (at + 13) c
+      go noGroup a room = absurd (f (a .zero))
+      go (group p noImports) a room = absurd (g (sym (a .1 .same)))
+      go (group p (i ∷ⁱ noImports)) a room = record { accepted = h .accepted; tree = i; held = a .1 .0; room = room }
+      go (group p (i ∷ⁱ j ∷ⁱ is)) a room =
+          absurd (omega (arith, e, a .1 .2 .1 .least, import-whole s b (stopAt b (at + 13)) j (a .1 .2 .0) .long))
 
   pub one-import : {x y : List ℕ} {c d : Cursor} → (be32 b at ≡ 0 → ⊥) → (stopAt b at ≡ at + 13 → ⊥) → stopAt b (at + 13) ≡ stopAt b at
-      → LaidAs ImportAt importPath s b (at + 13) x c y d → LaidAs ImportGroupAt importGroup s b at x c y d
+      → LaysAs ImportAt importPath s b (at + 13) x c y d → LaysAs ImportGroupAt importGroup s b at x c y d
   unfolding ImportGroupAt ImportsAt importGroup
   one-import {x} {y} {c} {d} f g e l = record { of = go }
     where
-      go : (q : ImportGroup) → ImportGroupAt s b q at → Laid (importGroup (given s b) q) x c y d
+      go : (q : ImportGroup) → ImportGroupAt s b q at → Lays (importGroup (given s b) q) x c y d
       go noGroup a = absurd (f (a .zero))
       go (group p noImports) a = absurd (g (sym (a .1 .same)))
       go (group p (i ∷ⁱ noImports)) a = l .of i (a .1 .0)
       go (group p (i ∷ⁱ j ∷ⁱ is)) a = absurd (omega (arith, e, a .1 .2 .1 .least, import-whole s b (stopAt b (at + 13)) j (a .1 .2 .0) .long))
 
   pub more-imports : {x y : List ℕ} {c d : Cursor} → (be32 b at ≡ 0 → ⊥) → ((stopAt b at ≡ at + 13 → ⊥) → stopAt b (at + 13) ≡ stopAt b at → ⊥)
-      → LaidList element.Import 39 40 true Tight (be32 b (at + 9)) s b at x c y d → LaidAs ImportGroupAt importGroup s b at x c y d
+      → LaysList element.Import 39 40 true Tight (be32 b (at + 9)) s b at x c y d → LaysAs ImportGroupAt importGroup s b at x c y d
   unfolding ImportGroupAt ImportsAt importGroup
   more-imports {x} {y} {c} {d} f g l = record { of = go }
     where
-      go : (q : ImportGroup) → ImportGroupAt s b q at → Laid (importGroup (given s b) q) x c y d
+      go : (q : ImportGroup) → ImportGroupAt s b q at → Lays (importGroup (given s b) q) x c y d
       go noGroup a = absurd (f (a .zero))
       go (group p noImports) a = l .of [] (list-of (a .0) (import-elems s b (stopAt b at) (at + 13) noImports (a .1))) p (a .0 .end)
       go (group p (i ∷ⁱ noImports)) a =

@@ -1,4 +1,5 @@
 pub mod Idents
+pub mod Lays
 pub mod Places
 pub mod Groups
 pub mod Lasts

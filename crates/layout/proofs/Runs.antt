@@ -11,78 +11,119 @@ use Rattle.image.specs.Read.{stopAt}
 use Rattle.tree.specs.Syntax.{Span, Ident, TypeExpr, type, Types, noTypes, _∷ᵗ_, Fields, noFields, field, Import, import, Imports, noImports, _∷ⁱ_, Variants, noVariants, variant, Expr, expr, Exprs, noExprs, _∷ᵉ_, Entries, noEntries, entry, Arms, noArms, arm}
 use Rattle.tree.specs.At.{Head, Done, Before, IdentsAt, TypeAt, TypesAt, FieldsAt, ImportAt, ImportsAt, VariantsAt, ExprAt, ExprsAt, EntriesAt, ArmsAt}
 use Rattle.rows.specs.Words.{table}
-use Rattle.state.specs.Act.{Given, Act}
-use Rattle.state.specs.Laid.{Laid}
+use Rattle.state.specs.Act.{Given, Act, _⨟_, says, indented}
+use Rattle.state.specs.Laid.{Room}
 use Rattle.state.specs.declared.Cursor.{Cursor}
-use Rattle.state.proofs.Laws.{laid-then, laid-skip}
-use Rattle.comments.specs.Listed.{given}
+use Rattle.state.proofs.Laws.{Lays, lays-then, lays-skip, room-first, room-next}
+use Rattle.comments.specs.Listed.{given, span}
 use Rattle.layout.specs.declared.kinds.Element.{Element}
 use Rattle.layout.specs.declared.kinds.Element.the-variants as element
 use Rattle.layout.specs.declared.kinds.WrapStyle.{WrapStyle}
-use Rattle.layout.specs.Layout.{Elem, elements, inside, beforeElem, identElems, typeElems, fieldElems, importElems, variantElems, exprElems, groupedElems, entryElems, armElems}
-use Rattle.layout.specs.Contracts.{Has, LaidAs, HasAll, LaidAll, Whole}
-use Rattle.layout.specs.Elems.{Is, ItemAt, itemRule, ElemAt, ElemsAt, mark, elementsRule, ListOf, LaidInside, LaidHollow}
+use Rattle.layout.specs.Layout.{Elem, elements, inside, beforeElem, identElems, typeElems, fieldElems, importElems, variantElems, exprElems, groupedElems, entryElems, armElems, opens, edge, trailing, ends}
+use Rattle.layout.specs.Contracts.{Has, HasAll, Whole, Accepted}
+use Rattle.layout.specs.Elems.{Is, ItemAt, itemRule, ElemAt, ElemsAt, mark, elementsRule, ListOf, HasInside, HasHollow}
 use Rattle.layout.proofs.Places.{head-whole}
+use Rattle.layout.proofs.Lays.{LaysAll, LaysAs, LaysHollow, LaysInside}
 
 -- the first of the elements that are left, and those after it
-pub record MoreElems (k : Element) (s b : List ℕ) (p to : ℕ) : Type 0 where
-  pub first : Has (ItemAt k) s b p
+pub record MoreElems (k : Element) (commas first : Bool) (s b : List ℕ) (p to : ℕ) (c : Cursor) : Type 0 where
+  pub accepted : Accepted s b
+  pub elem : Elem
+  pub held : ItemAt k s b elem p
   pub whole : Whole b p
   pub least : stopAt b p ≤ to
-  pub rest : HasAll (ElemsAt k) s b (stopAt b p) to
+  pub inside : to ≤ length b
+  pub rest : List Elem
+  pub rest-held : ElemsAt k s b rest (stopAt b p) to
+  pub room :
+      Room (beforeElem (given s b) (mark commas) first (be32 b (p + 5)) ⨟ elem .act ⨟ elements (given s b) (mark commas) false rest) c
 
-module _ (k : Element) {s b : List ℕ} {p to : ℕ} where
-  pub elems-first : p < to → HasAll (ElemsAt k) s b p to → MoreElems k s b p to
-  unfolding ElemsAt
-  elems-first lt h = go (h .tree) (h .held)
+module _ (k : Element) (commas first : Bool) {s b : List ℕ} {p to : ℕ} {c : Cursor} where
+  pub elems-first : p < to → HasAll (ElemsAt k) (elementsRule commas first) s b p to c → MoreElems k commas first s b p to c
+  unfolding ElemsAt elements
+  elems-first lt h = go (h .tree) (h .held) (h .room)
     where
-      go : (es : List Elem) → ElemsAt k s b es p to → MoreElems k s b p to
-      go [] a = absurd (omega (arith, a .same))
-      go (e ∷ es) a =
+      go : (es : List Elem) → ElemsAt k s b es p to → Room (elementsRule commas first (given s b) es) c → MoreElems k commas first s b p to c
+      go [] a room = absurd (omega (arith, a .same))
+      go (e ∷ es) a room =
           record {
-            first = record { accepted = h .accepted; tree = e; held = a .0 .item };
+            accepted = h .accepted;
+            elem = e;
+            held = a .0 .item;
             whole = record { long = a .0 .long; fits = omega (arith, a .1 .least, h .inside) };
             least = a .1 .least;
-            rest = record { accepted = h .accepted; tree = es; held = a .2; inside = h .inside };
+            inside = h .inside;
+            rest = es;
+            rest-held = a .2;
+            room =
+                subst
+                (λ (n : ℕ). Room (beforeElem (given s b) (mark commas) first n ⨟ e .act ⨟ elements (given s b) (mark commas) false es) c)
+                (sym (a .0 .start)) room;
           }
 
-  pub elems-none : (commas first : Bool) {x : List ℕ} {c : Cursor} → to ≤ p → LaidAll (ElemsAt k) (elementsRule commas first) s b p to x c x c
+  module _ {n : ℕ} (m : MoreElems k commas first s b p to c) (q : n ≡ be32 b (p + 5)) where
+    here : Room (beforeElem (given s b) (mark commas) first n ⨟ m .elem .act ⨟ elements (given s b) (mark commas) false (m .rest)) c
+    here =
+        subst
+        (λ (i : ℕ).
+        Room (beforeElem (given s b) (mark commas) first i ⨟ m .elem .act ⨟ elements (given s b) (mark commas) false (m .rest)) c)
+        (sym q) (m .room)
+
+    pub before-room : Room (beforeElem (given s b) (mark commas) first n) c
+    before-room = room-first _ here
+
+    pub elem-has : {x y : List ℕ} {d : Cursor} → Lays (beforeElem (given s b) (mark commas) first n) x c y d → Has (ItemAt k) itemRule s b p d
+    elem-has l = record { accepted = m .accepted; tree = m .elem; held = m .held; room = room-first _ (room-next here l) }
+
+    pub elems-rest : {x y z : List ℕ} {d e : Cursor} → Lays (beforeElem (given s b) (mark commas) first n) x c y d
+        → LaysAs (ItemAt k) itemRule s b p y d z e → HasAll (ElemsAt k) (elementsRule commas false) s b (stopAt b p) to e
+    elems-rest l i =
+        record {
+          accepted = m .accepted;
+          tree = m .rest;
+          held = m .rest-held;
+          inside = m .inside;
+          room = room-next (room-next here l) (i .of (m .elem) (m .held));
+        }
+
+module _ (k : Element) {s b : List ℕ} {p to : ℕ} where
+  pub elems-none : (commas first : Bool) {x : List ℕ} {c : Cursor} → to ≤ p → LaysAll (ElemsAt k) (elementsRule commas first) s b p to x c x c
   unfolding ElemsAt elements
   elems-none commas first {x} {c} le = record { of = go }
     where
-      go : (es : List Elem) → ElemsAt k s b es p to → Laid (elementsRule commas first (given s b) es) x c x c
-      go [] a = laid-skip
+      go : (es : List Elem) → ElemsAt k s b es p to → Lays (elementsRule commas first (given s b) es) x c x c
+      go [] a = lays-skip
       go (e ∷ es) a = absurd (omega (arith, a .0 .long, a .1 .least))
 
   pub elems-more : (commas first : Bool) {n : ℕ} {x y z w : List ℕ} {c d e f : Cursor} → p < to → n ≡ be32 b (p + 5)
-      → Laid (beforeElem (given s b) (mark commas) first n) x c y d → LaidAs (ItemAt k) itemRule s b p y d z e
-      → LaidAll (ElemsAt k) (elementsRule commas false) s b (stopAt b p) to z e w f
-      → LaidAll (ElemsAt k) (elementsRule commas first) s b p to x c w f
+      → Lays (beforeElem (given s b) (mark commas) first n) x c y d → LaysAs (ItemAt k) itemRule s b p y d z e
+      → LaysAll (ElemsAt k) (elementsRule commas false) s b (stopAt b p) to z e w f
+      → LaysAll (ElemsAt k) (elementsRule commas first) s b p to x c w f
   unfolding ElemsAt elements
   elems-more commas first {n} {x} {y} {z} {w} {c} {d} {e} {f} lt q l m r = record { of = go }
     where
-      go : (es : List Elem) → ElemsAt k s b es p to → Laid (elementsRule commas first (given s b) es) x c w f
+      go : (es : List Elem) → ElemsAt k s b es p to → Lays (elementsRule commas first (given s b) es) x c w f
       go [] a = absurd (omega (arith, a .same))
       go (i ∷ es) a =
-          laid-then (subst (λ (j : ℕ). Laid (beforeElem (given s b) (mark commas) first j) x c y d) (q ∙ a .0 .start) l)
-          (laid-then (m .of i (a .0 .item)) (r .of es (a .2)))
+          lays-then (subst (λ (j : ℕ). Lays (beforeElem (given s b) (mark commas) first j) x c y d) (q ∙ a .0 .start) l)
+          (lays-then (m .of i (a .0 .item)) (r .of es (a .2)))
 
 -- an element whose kind is known
 module _ {k j : Element} {s b : List ℕ} {at : ℕ} (q : k ≡ j) where
-  pub item-has : {T : Type 0} {R : List ℕ → List ℕ → T → ℕ → Type 0} {rule : Given → T → Act}
-      → ((e : Elem) → ItemAt j s b e at → Is R rule s b e at) → Has (ItemAt k) s b at → Has R s b at
-  item-has f h =
+  pub item-has : {T : Type 0} {R : List ℕ → List ℕ → T → ℕ → Type 0} {rule : Given → T → Act} {c : Cursor}
+      → ((e : Elem) → ItemAt j s b e at → Is R rule s b e at) → Has (ItemAt k) itemRule s b at c → Has R rule s b at c
+  item-has {c = c} f h =
       let i = f (h .tree) (subst (λ (n : Element). ItemAt n s b (h .tree) at) q (h .held)) in
-      record { accepted = h .accepted; tree = i .tree; held = i .held }
+      record { accepted = h .accepted; tree = i .tree; held = i .held; room = subst (λ (r : Act). Room r c) (sym (i .same)) (h .room) }
 
   pub item-laid : {T : Type 0} {R : List ℕ → List ℕ → T → ℕ → Type 0} {rule : Given → T → Act} {x y : List ℕ} {c d : Cursor}
-      → ((e : Elem) → ItemAt j s b e at → Is R rule s b e at) → LaidAs R rule s b at x c y d → LaidAs (ItemAt k) itemRule s b at x c y d
+      → ((e : Elem) → ItemAt j s b e at → Is R rule s b e at) → LaysAs R rule s b at x c y d → LaysAs (ItemAt k) itemRule s b at x c y d
   item-laid {x = x} {y = y} {c = c} {d = d} f l =
       record {
         of =
             λ e a.
             let i = f e (subst (λ (n : Element). ItemAt n s b e at) q a) in
-            subst (λ (r : Act). Laid r x c y d) (i .same) (l .of (i .tree) (i .held));
+            subst (λ (r : Act). Lays r x c y d) (i .same) (l .of (i .tree) (i .held));
       }
 
 -- ---- the lists of the syntax tree as elements
@@ -174,24 +215,88 @@ pub list-of : {k : Element} {n : ℕ} {p : Span} {s b : List ℕ} {at : ℕ} {es
 list-of h a = record { long = h .long; fits = h .fits; elems = a }
 
 -- ---- inside the group of a list
+-- the steps where there are elements
+abbrev pub listSteps : ℕ → ℕ → Bool → WrapStyle → ℕ → ℕ → Given → List Elem → Act
+listSteps left right commas style end id g es =
+    opens (getD table left "") style
+    ⨟ indented (elementsRule commas true g es ⨟ ends g (mark commas) id (span 0 end))
+    ⨟ edge style
+    ⨟ says (getD table right "")
+    ⨟ trailing g
+
 module _ {k : Element} {left right : ℕ} {commas : Bool} {style : WrapStyle} {end id : ℕ} {s b : List ℕ} {at : ℕ} {x y : List ℕ} {c d : Cursor} where
-  pub inside-none : at + 13 ≡ stopAt b at → LaidHollow left right end s b x c y d → LaidInside k left right commas style end id s b at x c y d
+  pub inside-none : at + 13 ≡ stopAt b at → LaysHollow left right end s b x c y d → LaysInside k left right commas style end id s b at x c y d
   unfolding ElemsAt
   inside-none q h = record { of = go }
     where
       go : (es : List Elem) → ListOf k s b es at → (p : Span) → end ≡ p .end
-          → Laid (inside (given s b) (getD table left "") (getD table right "") (mark commas) es p style id) x c y d
+          → Lays (inside (given s b) (getD table left "") (getD table right "") (mark commas) es p style id) x c y d
       go [] a p e = h .of (mark commas) p style id e
       go (i ∷ es) a p e = absurd (omega (arith, q, a .elems .0 .long, a .elems .1 .least))
 
   pub inside-some : (at + 13 ≡ stopAt b at → ⊥)
       → ((i : Elem) (es : List Elem) → ElemsAt k s b (i ∷ es) (at + 13) (stopAt b at) → (p : Span) → end ≡ p .end
-      → Laid (inside (given s b) (getD table left "") (getD table right "") (mark commas) (i ∷ es) p style id) x c y d)
-      → LaidInside k left right commas style end id s b at x c y d
+      → Lays (inside (given s b) (getD table left "") (getD table right "") (mark commas) (i ∷ es) p style id) x c y d)
+      → LaysInside k left right commas style end id s b at x c y d
   unfolding ElemsAt
   inside-some q f = record { of = go }
     where
       go : (es : List Elem) → ListOf k s b es at → (p : Span) → end ≡ p .end
-          → Laid (inside (given s b) (getD table left "") (getD table right "") (mark commas) es p style id) x c y d
+          → Lays (inside (given s b) (getD table left "") (getD table right "") (mark commas) es p style id) x c y d
       go [] a p e = absurd (q (a .elems .same))
       go (i ∷ es) a p e = f i es (a .elems) p e
+
+-- there is room for what a list lays inside its group
+module _ {k : Element} {left right : ℕ} {commas : Bool} {style : WrapStyle} {end id : ℕ} {s b : List ℕ} {at : ℕ} {c : Cursor} where
+  pub hollow-has : at + 13 ≡ stopAt b at → HasInside k left right commas style end id s b at c → HasHollow left right end s b c
+  unfolding ElemsAt
+  hollow-has q h = go (h .tree) (h .held) (h .room)
+    where
+      go : (es : List Elem) → ListOf k s b es at
+          → Room (inside (given s b) (getD table left "") (getD table right "") (mark commas) es (h .span) style id) c → HasHollow left right end s b c
+      go [] a room =
+          record {
+            accepted = h .accepted;
+            separator = mark commas;
+            span = h .span;
+            style = style;
+            id = id;
+            ended = h .ended;
+            room = room;
+          }
+      go (i ∷ es) a room = absurd (omega (arith, q, a .elems .0 .long, a .elems .1 .least))
+
+  pub some-elems : (at + 13 ≡ stopAt b at → ⊥) → HasInside k left right commas style end id s b at c
+      → HasAll (ElemsAt k) (listSteps left right commas style end id) s b (at + 13) (stopAt b at) c
+  unfolding ElemsAt inside ends
+  some-elems q h = go (h .tree) (h .held) (h .room)
+    where
+      go : (es : List Elem) → ListOf k s b es at
+          → Room (inside (given s b) (getD table left "") (getD table right "") (mark commas) es (h .span) style id) c
+          → HasAll (ElemsAt k) (listSteps left right commas style end id) s b (at + 13) (stopAt b at) c
+      go [] a room = absurd (q (a .elems .same))
+      go (i ∷ es) a room =
+          record {
+            accepted = h .accepted;
+            tree = i ∷ es;
+            held = a .elems;
+            inside = a .fits;
+            room =
+                subst
+                (λ (n : ℕ).
+                Room
+                (opens (getD table left "") style
+                ⨟ indented (elementsRule commas true (given s b) (i ∷ es) ⨟ ends (given s b) (mark commas) id (span 0 n))
+                ⨟ edge style
+                ⨟ says (getD table right "")
+                ⨟ trailing (given s b))
+                c)
+                (sym (h .ended)) room;
+          }
+
+-- the end of the elements, over a span that ends there
+pub ends-laid : (s b : List ℕ) (commas : Bool) (id : ℕ) {end : ℕ} {x y : List ℕ} {c d : Cursor} (p : Span) → end ≡ p .end
+    → Lays (ends (given s b) (mark commas) id (span 0 end)) x c y d → Lays (ends (given s b) (mark commas) id p) x c y d
+unfolding ends
+ends-laid s b commas id {x = x} {y = y} {c = c} {d = d} p e l =
+    subst (λ (n : ℕ). Lays (ends (given s b) (mark commas) id (span 0 n)) x c y d) e l

@@ -15,18 +15,19 @@ use Rattle.image.specs.Read.{stopAt, kindAt}
 use Rattle.tree.specs.Syntax.{Span, Expr, expr, Form, return′, literal, block, match′, functionCall, access, path, record′, typedRecord, list, not′, assign, compoundAssign, binOp, negate, ifElse, while, for, questionMark, fString, parentheses}
 use Rattle.tree.specs.At.{Head, ByteAt, ExprAt, leftDepth}
 use Rattle.rows.specs.Node.{lineOrSpace}
-use Rattle.state.specs.Act.{Given, Act, push, grouped, indented}
-use Rattle.state.specs.Laid.{Laid, Opened}
+use Rattle.state.specs.Act.{Given, Act, push, grouped, indented, _⨟_}
+use Rattle.state.specs.Laid.{Room, Opened}
 use Rattle.state.specs.declared.Cursor.{Cursor}
-use Rattle.state.proofs.Laws.{laid-then}
-use Rattle.state.proofs.Nested.{laid-group, laid-indent}
+use Rattle.state.proofs.Laws.{Lays, lays-then, room-first, room-next}
+use Rattle.state.proofs.Nested.{lays-group, lays-indent}
 use Rattle.comments.specs.Listed.{given}
 use Rattle.layout.specs.Layout.{Spine, lone, extend, chained, binopPrecedence, look, operator, pickSpine}
-use Rattle.layout.specs.Contracts.{LaidAs, Within, Whole}
+use Rattle.layout.specs.Contracts.{Within, Whole, Accepted, Has}
 use Rattle.layout.specs.Forms.{four, Of, exprWith, formWith, formRule, OperatorAt, operatorRule}
 use Rattle.layout.specs.Chains.{Above, top, up, grown, Starts}
 use Rattle.layout.proofs.Places.{within, expr-whole}
 use Rattle.layout.proofs.ExprForms.{expr-is}
+use Rattle.layout.proofs.Lays.{LaysAs}
 
 -- an operator of the chain's precedence goes on with the chain; another, and what is no operator, is a chain of one
 module _ (g : Given) (m : Span) (l : Expr) (t : Span) (o : ℕ) (r : Expr) where
@@ -93,13 +94,26 @@ module _ {q : ℕ} {s b : List ℕ} {e : Expr} {at : ℕ} where
   above-depth top = refl
   above-depth (up {p = p} {p′ = p′} {x = x} i j k a) = omega (arith, i, above-depth a)
 
+  -- room for a chain is room for its steps
+  pub chain-room : {p : ℕ} {x : Expr} (a : Above q s b e at p x) (h : Act) {c : Cursor} → Room (chained (grown a (lone h))) c
+      → Room (grouped (λ id. h ⨟ push lineOrSpace ⨟ indented (grown a (lone h) .tail))) c
+  unfolding chained
+  chain-room a h {c} room =
+      subst (λ (z : Act). Room (grouped (λ id. z ⨟ push lineOrSpace ⨟ indented (grown a (lone h) .tail))) c) (grown-head a (lone h)) room
+
+  -- and for the operators up to one of them
+  room-below : {p : ℕ} {x : Expr} (a : Above q s b e at p x) (z : Spine) {c : Cursor} → Room (grown a z .tail) c → Room (z .tail) c
+  unfolding grown
+  room-below top z room = room
+  room-below (up {o = o} {r = r} {t = t} i j k a) z room = room-first _ (room-below a (extend (given s b) z t o (exprWith 0 (given s b) r)) room)
+
   pub chain-laid : {p : ℕ} {x : Expr} (a : Above q s b e at p x) (h : Act) {s₀ s₁ s₂ s₃ s₄ s₅ s₆ s₇ : List ℕ} {c c₁ c₂ c₃ c₄ c₅ : Cursor}
-      → Opened 0 (c .number) 0 1 s₀ c s₁ c₁ → Laid h s₁ c₁ s₂ c₂ → Laid (push lineOrSpace) s₂ c₂ s₃ c₃ → Opened 1 0 0 0 s₃ c₃ s₄ c₄
-      → Laid (grown a (lone h) .tail) s₄ c₄ s₅ c₅ → s₆ ≡ set s₅ (9 * c₃ .row + 4) (c₅ .row) → s₇ ≡ set s₆ (9 * c .row + 4) (c₅ .row)
-      → Laid (chained (grown a (lone h))) s₀ c s₇ c₅
+      → Opened 0 (c .number) 0 1 s₀ c s₁ c₁ → Lays h s₁ c₁ s₂ c₂ → Lays (push lineOrSpace) s₂ c₂ s₃ c₃ → Opened 1 0 0 0 s₃ c₃ s₄ c₄
+      → Lays (grown a (lone h) .tail) s₄ c₄ s₅ c₅ → s₆ ≡ set s₅ (9 * c₃ .row + 4) (c₅ .row) → s₇ ≡ set s₆ (9 * c .row + 4) (c₅ .row)
+      → Lays (chained (grown a (lone h))) s₀ c s₇ c₅
   unfolding chained
   chain-laid a h {s₁ = s₁} {s₂ = s₂} {c₁ = c₁} {c₂ = c₂} o l m i t k j =
-      laid-group _ o (laid-then (subst (λ (z : Act). Laid z s₁ c₁ s₂ c₂) (sym (grown-head a (lone h))) l) (laid-then m (laid-indent i t k))) j
+      lays-group _ o (lays-then (subst (λ (z : Act). Lays z s₁ c₁ s₂ c₂) (sym (grown-head a (lone h))) l) (lays-then m (lays-indent i t k))) j
 
 -- the whole chain, from its leftmost operand on
 pub chain-form : (s b : List ℕ) (t : Span × (Expr × Span × ℕ × Expr)) (q at left : ℕ) (w : Starts q s b (expr (t .0) (four binOp (t .1))) at left)
@@ -187,13 +201,52 @@ pub record Going (q : ℕ) (s b : List ℕ) (e : Expr) (at p : ℕ) (first : Boo
   pub above : Above q s b e at p low
   pub spine : Spine
   pub alone : spine .alone ≡ first
-  pub laid : Laid (spine .tail) x c x′ c′
+  pub laid : Lays (spine .tail) x c x′ c′
   pub same : grown above spine ≡ all
+  pub room : Room (all .tail) c
+
+-- the operator that is next, with its right operand
+pub record NextOperator (f : Bool) (s b : List ℕ) (m : ℕ) (c : Cursor) : Type 0 where
+  pub symbol : Span × ℕ
+  pub symbol-held : OperatorAt s b symbol (stopAt b (m + 13))
+  pub right : Expr
+  pub right-held : ExprAt s b right (stopAt b (stopAt b (m + 13)))
+  pub room : Room (operatorRule f (given s b) symbol ⨟ exprWith 0 (given s b) right) c
+
+pub going-next : {q : ℕ} {s b : List ℕ} {e : Expr} {at p m : ℕ} {f : Bool} {all : Spine} {x x₁ : List ℕ} {c c₁ : Cursor}
+    → at < p → p ≡ m + 13 → Going q s b e at p f all x c x₁ c₁ → NextOperator f s b m c₁
+unfolding grown ExprAt
+going-next {q} {s} {b} {e} {at} {p} {m} {f} {all} {x} {x₁} {c} {c₁} lt i g = go p (g .low) (g .above) lt i (g .same)
+  where
+    go : (n : ℕ) (y : Expr) (a : Above q s b e at n y) → at < n → n ≡ m + 13 → grown a (g .spine) ≡ all → NextOperator f s b m c₁
+    go n y top lt′ j h = absurd (omega arith)
+    go n y (up {p = p′} {o = o} {r = r} {m = w} {t = t} j′ _ k a) lt′ j h =
+        let z : p′ ≡ m = omega (arith, j, j′) in
+        let longer : Spine = extend (given s b) (g .spine) t o (exprWith 0 (given s b) r) in
+        let below : Room (longer .tail) c = room-below a longer (subst (λ (v : Spine). Room (v .tail) c) (sym h) (g .room)) in
+        let next : Room (operator (given s b) (g .spine .alone) t o ⨟ exprWith 0 (given s b) r) c₁ = room-next below (g .laid) in
+        subst (λ (v : ℕ). NextOperator f s b v c₁) z
+        (record {
+          symbol = (t, o);
+          symbol-held = (k .1 .1, k .1 .2);
+          right = r;
+          right-held = k .1 .3;
+          room = subst (λ (v : Bool). Room (operator (given s b) v t o ⨟ exprWith 0 (given s b) r) c₁) (g .alone) next;
+        })
+
+module _ {f : Bool} {s b : List ℕ} {m : ℕ} {c : Cursor} (k : Accepted s b) (n : NextOperator f s b m c) where
+  pub operator-has : Has OperatorAt (operatorRule f) s b (stopAt b (m + 13)) c
+  operator-has = record { accepted = k; tree = n .symbol; held = n .symbol-held; room = room-first _ (n .room) }
+
+  pub right-has : {x y : List ℕ} {d : Cursor} → LaysAs OperatorAt (operatorRule f) s b (stopAt b (m + 13)) x c y d
+      → Has ExprAt (exprWith 0) s b (stopAt b (stopAt b (m + 13))) d
+  right-has l =
+      record { accepted = k; tree = n .right; held = n .right-held; room = room-next (n .room) (l .of (n .symbol) (n .symbol-held)) }
 
 pub going-step : {q : ℕ} {s b : List ℕ} {e : Expr} {at p m : ℕ} {f : Bool} {all : Spine} {x x₁ x₂ x₃ : List ℕ} {c c₁ c₂ c₃ : Cursor}
     → at < p → p ≡ m + 13 → Going q s b e at p f all x c x₁ c₁
-    → LaidAs OperatorAt (operatorRule f) s b (stopAt b (m + 13)) x₁ c₁ x₂ c₂
-    → LaidAs ExprAt (exprWith 0) s b (stopAt b (stopAt b (m + 13))) x₂ c₂ x₃ c₃ → Going q s b e at m false all x c x₃ c₃
+    → LaysAs OperatorAt (operatorRule f) s b (stopAt b (m + 13)) x₁ c₁ x₂ c₂
+    → LaysAs ExprAt (exprWith 0) s b (stopAt b (stopAt b (m + 13))) x₂ c₂ x₃ c₃ → Going q s b e at m false all x c x₃ c₃
 unfolding grown ExprAt
 going-step {q} {s} {b} {e} {at} {p} {m} {f} {all} {x} {x₁} {x₂} {x₃} {c} {c₁} {c₂} {c₃} lt i g op right = go p (g .low) (g .above) lt i (g .same)
   where
@@ -201,10 +254,10 @@ going-step {q} {s} {b} {e} {at} {p} {m} {f} {all} {x} {x₁} {x₂} {x₃} {c} {
     go n y top lt′ j h = absurd (omega arith)
     go n y (up {p = p′} {o = o} {r = r} {m = w} {t = t} j′ _ k a) lt′ j h =
         let z : m ≡ p′ = omega (arith, j, j′) in
-        let op′ : LaidAs OperatorAt (operatorRule f) s b (stopAt b (p′ + 13)) x₁ c₁ x₂ c₂ =
-        subst (λ (v : ℕ). LaidAs OperatorAt (operatorRule f) s b (stopAt b (v + 13)) x₁ c₁ x₂ c₂) z op in
-        let right′ : LaidAs ExprAt (exprWith 0) s b (stopAt b (stopAt b (p′ + 13))) x₂ c₂ x₃ c₃ =
-        subst (λ (v : ℕ). LaidAs ExprAt (exprWith 0) s b (stopAt b (stopAt b (v + 13))) x₂ c₂ x₃ c₃) z right in
+        let op′ : LaysAs OperatorAt (operatorRule f) s b (stopAt b (p′ + 13)) x₁ c₁ x₂ c₂ =
+        subst (λ (v : ℕ). LaysAs OperatorAt (operatorRule f) s b (stopAt b (v + 13)) x₁ c₁ x₂ c₂) z op in
+        let right′ : LaysAs ExprAt (exprWith 0) s b (stopAt b (stopAt b (p′ + 13))) x₂ c₂ x₃ c₃ =
+        subst (λ (v : ℕ). LaysAs ExprAt (exprWith 0) s b (stopAt b (stopAt b (v + 13))) x₂ c₂ x₃ c₃) z right in
         let here : Going q s b e at p′ false all x c x₃ c₃ =
         record {
           low = expr w (binOp y t o r);
@@ -212,19 +265,20 @@ going-step {q} {s} {b} {e} {at} {p} {m} {f} {all} {x} {x₁} {x₂} {x₃} {c} {
           spine = extend (given s b) (g .spine) t o (exprWith 0 (given s b) r);
           alone = refl;
           laid =
-              laid-then (g .laid)
-              (laid-then
-              (subst (λ (v : Bool). Laid (operator (given s b) v t o) x₁ c₁ x₂ c₂) (sym (g .alone)) (op′ .of (t, o) (k .1 .1, k .1 .2)))
+              lays-then (g .laid)
+              (lays-then
+              (subst (λ (v : Bool). Lays (operator (given s b) v t o) x₁ c₁ x₂ c₂) (sym (g .alone)) (op′ .of (t, o) (k .1 .1, k .1 .2)))
               (right′ .of r (k .1 .3)));
           same = h;
+          room = g .room;
         } in
         subst (λ (v : ℕ). Going q s b e at v false all x c x₃ c₃) (sym z) here
 
 pub going-end : {q : ℕ} {s b : List ℕ} {e : Expr} {at p : ℕ} {f : Bool} {all : Spine} {x x′ : List ℕ} {c c′ : Cursor} → p ≤ at
-    → Going q s b e at p f all x c x′ c′ → Laid (all .tail) x c x′ c′
+    → Going q s b e at p f all x c x′ c′ → Lays (all .tail) x c x′ c′
 unfolding grown
 going-end {q} {s} {b} {e} {at} {p} {f} {all} {x} {x′} {c} {c′} le g = go p (g .low) (g .above) le (g .same)
   where
-    go : (n : ℕ) (y : Expr) (a : Above q s b e at n y) → n ≤ at → grown a (g .spine) ≡ all → Laid (all .tail) x c x′ c′
-    go n y top le′ h = subst (λ (z : Spine). Laid (z .tail) x c x′ c′) h (g .laid)
+    go : (n : ℕ) (y : Expr) (a : Above q s b e at n y) → n ≤ at → grown a (g .spine) ≡ all → Lays (all .tail) x c x′ c′
+    go n y top le′ h = subst (λ (z : Spine). Lays (z .tail) x c x′ c′) h (g .laid)
     go n y (up i j k a) le′ h = absurd (omega (arith, i, above-size a .0))

@@ -12,18 +12,19 @@ use Rattle.image.specs.Read.{stopAt, kindAt}
 use Rattle.tree.specs.Syntax.{Span, Path, TypeExpr, type, TypeForm, option, typePath, never, unit, recordType, TypeArgs, noArgs, args, Types, noTypes, _∷ᵗ_, Fields}
 use Rattle.tree.specs.At.{Head, TypeAt, TypeArgsAt, TypesAt}
 use Rattle.state.specs.Act.{Given, Act}
-use Rattle.state.specs.Laid.{Laid}
+use Rattle.state.specs.Laid.{Room}
 use Rattle.state.specs.declared.Cursor.{Cursor}
-use Rattle.state.proofs.Laws.{laid-skip}
+use Rattle.state.proofs.Laws.{Lays, lays-skip}
 use Rattle.comments.specs.Listed.{given}
 use Rattle.layout.specs.declared.kinds.Element.the-variants as element
 use Rattle.layout.specs.declared.kinds.WrapStyle.the-variants.{Tight}
 use Rattle.layout.proofs.Places.{type-whole}
 use Rattle.layout.proofs.Runs.{list-of, type-elems}
 use Rattle.layout.specs.Layout.{typeExpr, typeForm, typeArgs, typeElems, variantTypes, lastSpan}
-use Rattle.layout.specs.Contracts.{Has, LaidAs, Whole}
-use Rattle.layout.specs.Elems.{ElemsAt, ListOf, LaidList}
+use Rattle.layout.specs.Contracts.{Has, Whole, Accepted}
+use Rattle.layout.specs.Elems.{ElemsAt, ListOf, HasList}
 use Rattle.layout.specs.Forms.{OfType, typeRule, two, SomeTypesAt, LastEnd}
+use Rattle.layout.proofs.Lays.{LaysAs, LaysList}
 
 -- t is of the form mk
 abbrev pub IsType : {X : Type 0} → (X → TypeForm) → TypeExpr → Type 0
@@ -65,48 +66,61 @@ module _ (s b : List ℕ) (at : ℕ) where
 
 -- a type whose form is known
 module _ {s b : List ℕ} {at : ℕ} {X : Type 0} (mk : X → TypeForm) (f : (t : TypeExpr) → TypeAt s b t at → IsType mk t) where
-  pub type-has : Has TypeAt s b at → Has (OfType mk) s b at
-  type-has h =
+  pub type-has : {c : Cursor} → Has TypeAt typeExpr s b at c → Has (OfType mk) (typeRule mk) s b at c
+  unfolding typeExpr
+  type-has {c} h =
       let x = f (h .tree) (h .held) in
-      record { accepted = h .accepted; tree = x .0; held = subst (λ (t : TypeExpr). TypeAt s b t at) (sym (x .1)) (h .held) }
+      record {
+        accepted = h .accepted;
+        tree = x .0;
+        held = subst (λ (t : TypeExpr). TypeAt s b t at) (sym (x .1)) (h .held);
+        room = subst (λ (t : TypeExpr). Room (typeExpr (given s b) t) c) (sym (x .1)) (h .room);
+      }
 
   pub type-laid : {x y : List ℕ} {c d : Cursor}
-      → LaidAs (OfType mk) (typeRule mk) s b at x c y d → LaidAs TypeAt typeExpr s b at x c y d
+      → LaysAs (OfType mk) (typeRule mk) s b at x c y d → LaysAs TypeAt typeExpr s b at x c y d
   unfolding typeExpr
   type-laid {x} {y} {c} {d} l =
       record {
         of =
             λ t a.
             let z = f t a in
-            subst (λ (u : TypeExpr). Laid (typeExpr (given s b) u) x c y d) (z .1)
+            subst (λ (u : TypeExpr). Lays (typeExpr (given s b) u) x c y d) (z .1)
             (l .of (z .0) (subst (λ (u : TypeExpr). TypeAt s b u at) (sym (z .1)) a));
       }
 
 -- ---- the arguments of a path, and the types of a variant
 module _ {s b : List ℕ} {at : ℕ} where
-  pub args-list : (be32 b at ≡ 0 → ⊥) → Has TypeArgsAt s b at → Has (ListOf element.Type) s b at
-  unfolding TypeArgsAt
-  args-list f h = go (h .tree) (h .held)
+  pub args-list : {c : Cursor} → (be32 b at ≡ 0 → ⊥) → Has TypeArgsAt typeArgs s b at c → HasList element.Type 37 38 true Tight (be32 b (at + 9)) s b at c
+  unfolding TypeArgsAt typeArgs
+  args-list {c} f h = go (h .tree) (h .held) (h .room)
     where
-      go : (a : TypeArgs) → TypeArgsAt s b a at → Has (ListOf element.Type) s b at
-      go noArgs a = absurd (f (a .zero))
-      go (args p ts) a =
-          record { accepted = h .accepted; tree = typeElems (given s b) ts; held = list-of (a .0) (type-elems s b (stopAt b at) (at + 13) ts (a .1)) }
+      go : (q : TypeArgs) → TypeArgsAt s b q at → Room (typeArgs (given s b) q) c → HasList element.Type 37 38 true Tight (be32 b (at + 9)) s b at c
+      go noArgs a room = absurd (f (a .zero))
+      go (args p ts) a room =
+          record {
+            accepted = h .accepted;
+            tree = typeElems (given s b) ts;
+            held = list-of (a .0) (type-elems s b (stopAt b at) (at + 13) ts (a .1));
+            span = p;
+            ended = a .0 .end;
+            room = room;
+          }
 
-  pub no-args : {x : List ℕ} {c : Cursor} → be32 b at ≡ 0 → LaidAs TypeArgsAt typeArgs s b at x c x c
+  pub no-args : {x : List ℕ} {c : Cursor} → be32 b at ≡ 0 → LaysAs TypeArgsAt typeArgs s b at x c x c
   unfolding TypeArgsAt typeArgs
   no-args {x} {c} e = record { of = go }
     where
-      go : (q : TypeArgs) → TypeArgsAt s b q at → Laid (typeArgs (given s b) q) x c x c
-      go noArgs a = laid-skip
+      go : (q : TypeArgs) → TypeArgsAt s b q at → Lays (typeArgs (given s b) q) x c x c
+      go noArgs a = lays-skip
       go (args p ts) a = absurd (omega (arith, e, a .0 .long))
 
-  pub some-args : {x y : List ℕ} {c d : Cursor} → (be32 b at ≡ 0 → ⊥) → LaidList element.Type 37 38 true Tight (be32 b (at + 9)) s b at x c y d
-      → LaidAs TypeArgsAt typeArgs s b at x c y d
+  pub some-args : {x y : List ℕ} {c d : Cursor} → (be32 b at ≡ 0 → ⊥) → LaysList element.Type 37 38 true Tight (be32 b (at + 9)) s b at x c y d
+      → LaysAs TypeArgsAt typeArgs s b at x c y d
   unfolding TypeArgsAt typeArgs
   some-args {x} {y} {c} {d} f l = record { of = go }
     where
-      go : (q : TypeArgs) → TypeArgsAt s b q at → Laid (typeArgs (given s b) q) x c y d
+      go : (q : TypeArgs) → TypeArgsAt s b q at → Lays (typeArgs (given s b) q) x c y d
       go noArgs a = absurd (f (a .zero))
       go (args p ts) a = l .of (typeElems (given s b) ts) (list-of (a .0) (type-elems s b (stopAt b at) (at + 13) ts (a .1))) p (a .0 .end)
 
@@ -116,15 +130,30 @@ module _ (s b : List ℕ) (from to : ℕ) where
   some-types f le noTypes a = absurd (f (a .same))
   some-types f le (t ∷ᵗ ts) a = record { source = s; first = t; more = ts; held = a; inside = le }
 
-  pub no-types : {x : List ℕ} {c : Cursor} → from ≡ to → (ts : Types) → TypesAt s b ts from to → Laid (variantTypes (given s b) ts) x c x c
+  pub no-types : {x : List ℕ} {c : Cursor} → from ≡ to → (ts : Types) → TypesAt s b ts from to → Lays (variantTypes (given s b) ts) x c x c
   unfolding TypesAt
-  no-types e noTypes a = laid-skip
+  no-types e noTypes a = lays-skip
   no-types e (t ∷ᵗ ts) a = absurd (omega (arith, e, a .1 .least, type-whole s b from t (a .0) .long))
 
 pub types-laid : {s b : List ℕ} {at r : ℕ} {x y : List ℕ} {c d : Cursor} {n : ℕ} {q : Span} → (at + 13 ≡ stopAt b at → ⊥) → Head s b n q at
-    → LastEnd b (at + 13) (stopAt b at) r → LaidList element.Type 35 36 true Tight r s b at x c y d
-    → (ts : Types) → TypesAt s b ts (at + 13) (stopAt b at) → Laid (variantTypes (given s b) ts) x c y d
+    → LastEnd b (at + 13) (stopAt b at) r → LaysList element.Type 35 36 true Tight r s b at x c y d
+    → (ts : Types) → TypesAt s b ts (at + 13) (stopAt b at) → Lays (variantTypes (given s b) ts) x c y d
 unfolding TypesAt
 types-laid f h e l noTypes a = absurd (f (a .same))
 types-laid {s} {b} {at} f h e l (t ∷ᵗ ts) a =
     l .of (typeElems (given s b) (t ∷ᵗ ts)) (list-of h (type-elems s b (stopAt b at) (at + 13) (t ∷ᵗ ts) a)) (lastSpan t ts) (e .of s t ts a)
+
+pub types-list : {s b : List ℕ} {at r : ℕ} {c : Cursor} {n : ℕ} {q : Span} → Accepted s b → (at + 13 ≡ stopAt b at → ⊥) → Head s b n q at
+    → LastEnd b (at + 13) (stopAt b at) r → (ts : Types) → TypesAt s b ts (at + 13) (stopAt b at) → Room (variantTypes (given s b) ts) c
+    → HasList element.Type 35 36 true Tight r s b at c
+unfolding TypesAt
+types-list k f h e noTypes a room = absurd (f (a .same))
+types-list {s} {b} {at} k f h e (t ∷ᵗ ts) a room =
+    record {
+      accepted = k;
+      tree = typeElems (given s b) (t ∷ᵗ ts);
+      held = list-of h (type-elems s b (stopAt b at) (at + 13) (t ∷ᵗ ts) a);
+      span = lastSpan t ts;
+      ended = e .of s t ts a;
+      room = room;
+    }

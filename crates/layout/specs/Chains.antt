@@ -6,7 +6,7 @@ use lib.ListN.{getD, length}
 use Rattle.tree.specs.Syntax.{Span, Expr, expr, Form, binOp}
 use Rattle.tree.specs.At.{ExprAt}
 use Rattle.state.specs.Act.{Act}
-use Rattle.state.specs.Laid.{Laid}
+use Rattle.state.specs.Laid.{Room, Laid}
 use Rattle.state.specs.declared.Cursor.{Cursor}
 use Rattle.comments.specs.Listed.{given}
 use Rattle.layout.specs.Layout.{Spine, lone, extend, binopPrecedence, look, whole}
@@ -51,8 +51,8 @@ pub record Leftmost (b : List ℕ) (at q : ℕ) (ops : List ℕ) (left : ℕ) : 
   pub of : (s : List ℕ) (t : Span × (Expr × Span × ℕ × Expr)) → Of (four binOp) s b t at → binopPrecedence (t .1 .2) ≡ q
       → Starts q s b (expr (t .0) (four binOp (t .1))) at left
 
--- the operators above the operand at `left`
-pub record HasTail (s b : List ℕ) (at left : ℕ) (ops : List ℕ) : Type 0 where
+-- the operators above the operand at `left`, and room for what follows that operand, which `head` lays
+pub record HasTail (s b : List ℕ) (at left : ℕ) (ops : List ℕ) (c : Cursor) : Type 0 where
   pub accepted : Accepted s b
   pub tree : Expr
   pub held : ExprAt s b tree at
@@ -60,7 +60,8 @@ pub record HasTail (s b : List ℕ) (at left : ℕ) (ops : List ℕ) : Type 0 wh
   pub low : Expr
   pub above : Above precedence s b tree at left low
   pub filled : Filled ops at left
+  pub head : Act
+  pub room : Room (grown above (lone head) .tail) c
 
-pub record LaidTail (s b : List ℕ) (at left : ℕ) (store : List ℕ) (c : Cursor) (store′ : List ℕ) (c′ : Cursor) : Type 0 where
-  pub of : (q : ℕ) (e : Expr) → ExprAt s b e at → (x : Expr) (a : Above q s b e at left x) (h : Act)
-      → Laid (grown a (lone h) .tail) store c store′ c′
+pub record LaidTail (s b : List ℕ) (at left : ℕ) (ops : List ℕ) (store : List ℕ) (c : Cursor) (store′ : List ℕ) (c′ : Cursor) : Type 0 where
+  pub of : (h : HasTail s b at left ops c) → Laid (grown (h .above) (lone (h .head)) .tail) store c store′ c′

@@ -9,7 +9,7 @@ use Rattle.image.specs.Read.{stopAt}
 use Rattle.tree.specs.Syntax.{Span}
 use Rattle.rows.specs.Words.{table}
 use Rattle.state.specs.Act.{Given, Act}
-use Rattle.state.specs.Laid.{Laid}
+use Rattle.state.specs.Laid.{Room, Laid}
 use Rattle.state.specs.declared.Cursor.{Cursor}
 use Rattle.comments.specs.Listed.{given, Listed}
 
@@ -18,27 +18,30 @@ pub record Accepted (s b : List ℕ) : Type 0 where
   pub listed : Listed s b
   pub small : length b ≤ 1048581
 
--- a part of the syntax tree stands at `at`
-pub record Has {T : Type 0} (R : List ℕ → List ℕ → T → ℕ → Type 0) (s b : List ℕ) (at : ℕ) : Type 0 where
+-- a part of the syntax tree stands at `at`, and there is room for what its rule lays
+pub record Has {T : Type 0} (R : List ℕ → List ℕ → T → ℕ → Type 0) (rule : Given → T → Act) (s b : List ℕ) (at : ℕ) (c : Cursor) : Type 0 where
   pub accepted : Accepted s b
   pub tree : T
   pub held : R s b tree at
+  pub room : Room (rule (given s b) tree) c
 
--- whichever part stands at `at` is laid by its rule
+-- the part that stands at `at` is laid by its rule
 pub record LaidAs {T : Type 0} (R : List ℕ → List ℕ → T → ℕ → Type 0) (rule : Given → T → Act)
     (s b : List ℕ) (at : ℕ) (store : List ℕ) (c : Cursor) (store′ : List ℕ) (c′ : Cursor) : Type 0 where
-  pub of : (x : T) → R s b x at → Laid (rule (given s b) x) store c store′ c′
+  pub of : (h : Has R rule s b at c) → Laid (rule (given s b) (h .tree)) store c store′ c′
 
 -- the same of parts one after the other, from `from` up to `to`
-pub record HasAll {T : Type 0} (R : List ℕ → List ℕ → T → ℕ → ℕ → Type 0) (s b : List ℕ) (from to : ℕ) : Type 0 where
+pub record HasAll {T : Type 0} (R : List ℕ → List ℕ → T → ℕ → ℕ → Type 0) (rule : Given → T → Act)
+    (s b : List ℕ) (from to : ℕ) (c : Cursor) : Type 0 where
   pub accepted : Accepted s b
   pub tree : T
   pub held : R s b tree from to
   pub inside : to ≤ length b
+  pub room : Room (rule (given s b) tree) c
 
 pub record LaidAll {T : Type 0} (R : List ℕ → List ℕ → T → ℕ → ℕ → Type 0) (rule : Given → T → Act)
     (s b : List ℕ) (from to : ℕ) (store : List ℕ) (c : Cursor) (store′ : List ℕ) (c′ : Cursor) : Type 0 where
-  pub of : (x : T) → R s b x from to → Laid (rule (given s b) x) store c store′ c′
+  pub of : (h : HasAll R rule s b from to c) → Laid (rule (given s b) (h .tree)) store c store′ c′
 
 -- a record, or the absence of one, within the image
 pub record Within (b : List ℕ) (at : ℕ) : Type 0 where

@@ -11,12 +11,13 @@ use Rattle.tree.specs.Syntax.{Span, Ident, TypeExpr, Types, Pattern, MaybeExpr,
 use Rattle.tree.specs.At.{Head, Record, Ends, Done, Before, IdentAt, TypeAt, TypesAt, ImportAt, PatternAt, MaybeExprAt, ExprAt}
 use Rattle.rows.specs.Words.{table}
 use Rattle.state.specs.Act.{Given, Act, _⨟_, says, when, grouped}
-use Rattle.state.specs.Laid.{Laid}
+use Rattle.state.specs.Laid.{Room, Laid}
 use Rattle.state.specs.declared.Cursor.{Cursor}
 use Rattle.comments.specs.Listed.{given}
 use Rattle.layout.specs.declared.kinds.Element.{Element}
 use Rattle.layout.specs.declared.kinds.Element.the-variants as element
 use Rattle.layout.specs.declared.kinds.WrapStyle.{WrapStyle}
+use Rattle.layout.specs.Contracts.{Accepted}
 use Rattle.layout.specs.Layout.{Elem, ident, named, typeExpr, importPath, elements, inside, separated, variantTypes, pattern, maybeExpr, exprRule, isBlock}
 
 -- 20: a name and its type
@@ -111,19 +112,44 @@ pub record ListOf (k : Element) (s b : List ℕ) (es : List Elem) (at : ℕ) : T
   pub fits : stopAt b at ≤ length b
   pub elems : ElemsAt k s b es (at + 13) (stopAt b at)
 
--- `separated` with the fixed words at places `left` and `right`, over each span that ends at `end`
+-- a list stands at `at`, and there is room for `separated` with the fixed words at places `left` and `right`, over a span that ends at `end`
+pub record HasList (k : Element) (left right : ℕ) (commas : Bool) (style : WrapStyle) (end : ℕ) (s b : List ℕ) (at : ℕ) (c : Cursor) : Type 0 where
+  pub accepted : Accepted s b
+  pub tree : List Elem
+  pub held : ListOf k s b tree at
+  pub span : Span
+  pub ended : end ≡ span .end
+  pub room : Room (separated (given s b) (getD table left "") (getD table right "") (mark commas) tree span style) c
+
 pub record LaidList (k : Element) (left right : ℕ) (commas : Bool) (style : WrapStyle) (end : ℕ)
     (s b : List ℕ) (at : ℕ) (store : List ℕ) (c : Cursor) (store′ : List ℕ) (c′ : Cursor) : Type 0 where
-  pub of : (es : List Elem) → ListOf k s b es at → (p : Span) → end ≡ p .end
-      → Laid (separated (given s b) (getD table left "") (getD table right "") (mark commas) es p style) store c store′ c′
+  pub of : (h : HasList k left right commas style end s b at c)
+      → Laid (separated (given s b) (getD table left "") (getD table right "") (mark commas) (h .tree) (h .span) style) store c store′ c′
 
 -- the same inside its group, whose number is id
+pub record HasInside (k : Element) (left right : ℕ) (commas : Bool) (style : WrapStyle) (end id : ℕ) (s b : List ℕ) (at : ℕ) (c : Cursor) : Type 0 where
+  pub accepted : Accepted s b
+  pub tree : List Elem
+  pub held : ListOf k s b tree at
+  pub span : Span
+  pub ended : end ≡ span .end
+  pub room : Room (inside (given s b) (getD table left "") (getD table right "") (mark commas) tree span style id) c
+
 pub record LaidInside (k : Element) (left right : ℕ) (commas : Bool) (style : WrapStyle) (end id : ℕ)
     (s b : List ℕ) (at : ℕ) (store : List ℕ) (c : Cursor) (store′ : List ℕ) (c′ : Cursor) : Type 0 where
-  pub of : (es : List Elem) → ListOf k s b es at → (p : Span) → end ≡ p .end
-      → Laid (inside (given s b) (getD table left "") (getD table right "") (mark commas) es p style id) store c store′ c′
+  pub of : (h : HasInside k left right commas style end id s b at c)
+      → Laid (inside (given s b) (getD table left "") (getD table right "") (mark commas) (h .tree) (h .span) style id) store c store′ c′
 
 -- the same where there is no element
+pub record HasHollow (left right end : ℕ) (s b : List ℕ) (c : Cursor) : Type 0 where
+  pub accepted : Accepted s b
+  pub separator : String
+  pub span : Span
+  pub style : WrapStyle
+  pub id : ℕ
+  pub ended : end ≡ span .end
+  pub room : Room (inside (given s b) (getD table left "") (getD table right "") separator [] span style id) c
+
 pub record LaidHollow (left right end : ℕ) (s b : List ℕ) (store : List ℕ) (c : Cursor) (store′ : List ℕ) (c′ : Cursor) : Type 0 where
-  pub of : (m : String) (p : Span) (style : WrapStyle) (id : ℕ) → end ≡ p .end
-      → Laid (inside (given s b) (getD table left "") (getD table right "") m [] p style id) store c store′ c′
+  pub of : (h : HasHollow left right end s b c)
+      → Laid (inside (given s b) (getD table left "") (getD table right "") (h .separator) [] (h .span) (h .style) (h .id)) store c store′ c′

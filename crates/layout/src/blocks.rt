@@ -8,7 +8,7 @@ ghost use lib.Dec.{eqb, leb};
 ghost use Rattle.image.specs.Bytes.{be32};
 ghost use Rattle.image.specs.Read.{stopAt, kindAt};
 ghost use Rattle.state.specs.Act.{when, says};
-ghost use Rattle.state.specs.Laid.{Laid};
+ghost use Rattle.state.specs.Laid.{Room, Laid};
 ghost use Rattle.comments.specs.Listed.{given};
 ghost use Rattle.layout.specs.Layout.{beforeStmt, afterStmt, blockStart, assignSymbol};
 ghost use Rattle.layout.specs.Contracts.{Accepted, Within, Whole};
@@ -50,6 +50,7 @@ pub fn is_empty(b: &[u8], at: usize) -> bool
 
 // How a block starts.
 pub fn block_start(store: &mut [u32], c: Cursor, empty: bool) -> Cursor
+    requires { ⌜ Room (blockStart empty) c ⌝ }
     ensures { λ r. ⌜ Laid (blockStart empty) (now (store .entry)) c (now (store .exit)) r ⌝ }
 {
     let d = word(store, c, BRACE_OPEN);
@@ -70,6 +71,7 @@ pub fn before_stmt(
     first: bool,
 ) -> Cursor
     requires { ⌜ Accepted (now s) (now b) ⌝ }
+    requires { ⌜ Room (beforeStmt (given (now s) (now b)) first position) c ⌝ }
     ensures { λ r. ⌜ Laid (beforeStmt (given (now (s .entry)) (now (b .entry))) first position) (now (store .entry)) c (now (store .exit)) r ⌝ }
 {
     if first {
@@ -83,6 +85,7 @@ pub fn before_stmt(
 // What comes after a statement.
 pub fn after_stmt(store: &mut [u32], c: Cursor, s: &[u8], b: &[u8], position: u32) -> Cursor
     requires { ⌜ Accepted (now s) (now b) ⌝ }
+    requires { ⌜ Room (afterStmt (given (now s) (now b)) position) c ⌝ }
     ensures { λ r. ⌜ Laid (afterStmt (given (now (s .entry)) (now (b .entry))) position) (now (store .entry)) c (now (store .exit)) r ⌝ }
 {
     let d = gap(store, c, s, b, position, false, false, false);
@@ -92,6 +95,7 @@ pub fn after_stmt(store: &mut [u32], c: Cursor, s: &[u8], b: &[u8], position: u3
 // The comma after an arm, unless its body, which is at `at`, is a block.
 pub fn arm_comma(store: &mut [u32], c: Cursor, b: &[u8], at: usize) -> Cursor
     requires { ⌜ Whole (now b) at ⌝ }
+    requires { ⌜ Room (when (not (eqb (kindAt (now b) at) 52)) (says ",")) c ⌝ }
     ensures { λ r. ⌜ Laid (when (not (eqb (kindAt (now (b .entry)) at) 52)) (says ",")) (now (store .entry)) c (now (store .exit)) r ⌝ }
 {
     if kind(b, at) == 52 {
@@ -103,6 +107,7 @@ pub fn arm_comma(store: &mut [u32], c: Cursor, b: &[u8], at: usize) -> Cursor
 // The semicolon after an expression, which is at `at`, unless it ends with a brace: block, match, if, while or for.
 pub fn semicolon(store: &mut [u32], c: Cursor, b: &[u8], at: usize) -> Cursor
     requires { ⌜ Whole (now b) at ⌝ }
+    requires { ⌜ Room (when (not (eqb (kindAt (now b) at) 52 || eqb (kindAt (now b) at) 53 || (leb 65 (kindAt (now b) at) && leb (kindAt (now b) at) 67))) (says ";")) c ⌝ }
     ensures { λ r. ⌜ Laid (when (not (eqb (kindAt (now (b .entry)) at) 52 || eqb (kindAt (now (b .entry)) at) 53 || (leb 65 (kindAt (now (b .entry)) at) && leb (kindAt (now (b .entry)) at) 67))) (says ";")) (now (store .entry)) c (now (store .exit)) r ⌝ }
 {
     let k = kind(b, at);

@@ -8,7 +8,7 @@ ghost use Rattle.rows.specs.Node.{lineOrSpace};
 ghost use Rattle.rows.specs.Words.{table};
 ghost use Rattle.tree.specs.Syntax.{binOp};
 ghost use Rattle.state.specs.Act.{when, push};
-ghost use Rattle.state.specs.Laid.{Laid};
+ghost use Rattle.state.specs.Laid.{Room, Laid};
 ghost use Rattle.layout.specs.Layout.{symbol, binopPrecedence};
 ghost use Rattle.layout.specs.Contracts.{Has, LaidAs, Within};
 ghost use Rattle.layout.specs.Forms.{OperatorAt, operatorRule};
@@ -60,6 +60,7 @@ pub fn precedence(b: &[u8], at: usize) -> usize
 
 // A line or a space, except before the first operator and after a comment.
 fn between(store: &mut [u32], c: Cursor, first: bool, whitespace: bool) -> Cursor
+    requires { ⌜ Room (when (not first && not whitespace) (push lineOrSpace)) c ⌝ }
     ensures { λ r. ⌜ Laid (when (not first && not whitespace) (push lineOrSpace)) (now (store .entry)) c (now (store .exit)) r ⌝ }
 {
     if first {
@@ -73,7 +74,7 @@ fn between(store: &mut [u32], c: Cursor, first: bool, whitespace: bool) -> Curso
 
 // What comes before the right operand of the operator whose symbol is at `at`.
 pub fn operator(store: &mut [u32], c: Cursor, s: &[u8], b: &[u8], at: usize, first: bool) -> Cursor
-    requires { ⌜ Has OperatorAt (now s) (now b) at ⌝ }
+    requires { ⌜ Has OperatorAt (operatorRule first) (now s) (now b) at c ⌝ }
     ensures { λ r. ⌜ LaidAs OperatorAt (operatorRule first) (now (s .entry)) (now (b .entry)) at (now (store .entry)) c (now (store .exit)) r ⌝ }
 {
     let k = symbol(payload(b, at));

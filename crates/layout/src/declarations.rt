@@ -1,13 +1,13 @@
-// `declaration`, and `fmt_parsed` up to its rows.
+// `declaration`, and the parts of `fmt_parsed`.
 ghost use mathlib.Core.Path.{_≡_};
 ghost use mathlib.Core.Bool.{true, not, _&&_};
 ghost use Rattle.rows.specs.Node.{line};
 ghost use Rattle.tree.specs.Syntax.{filterMap, const, recordDecl, enumDecl, function, test, importDecl};
-ghost use Rattle.tree.specs.At.{IdentAt, DeclarationsAt, TreeAt};
+ghost use Rattle.tree.specs.At.{IdentAt, DeclarationsAt};
 ghost use Rattle.state.specs.Act.{when, push};
-ghost use Rattle.state.specs.Laid.{Laid};
+ghost use Rattle.state.specs.Laid.{Room, Laid};
 ghost use Rattle.comments.specs.Listed.{given};
-ghost use Rattle.layout.specs.Layout.{opening, someTypeParams, returnType, shebangRule, fmtParsed};
+ghost use Rattle.layout.specs.Layout.{opening, someTypeParams, returnType, shebangRule};
 ghost use Rattle.layout.specs.Contracts.{Accepted, Has, LaidAs, HasAll, LaidAll};
 ghost use Rattle.layout.specs.Forms.{two, three, four, five, OfDeclaration, declarationRule, anyDeclaration, declaresAt, MaybeListAt};
 ghost use Rattle.layout.specs.Forms.{MaybeTypeAt, MaybeIdentAt, declarationsFrom};
@@ -29,6 +29,8 @@ use crate::seq;
 use crate::type_expr;
 use comments::pop_whitespace;
 use image::bytes::num16;
+use rows::store::Bytes;
+use rows::store::Columns;
 use state::Cursor;
 use state::leaves::empty_line;
 use state::leaves::line;
@@ -56,6 +58,7 @@ use text::space::trim_end;
 
 // A line, except before the file's first declaration and after white space.
 fn line_between(store: &mut [u32], c: Cursor, first: bool, whitespace: bool) -> Cursor
+    requires { ⌜ Room (when (not first && not whitespace) (push line)) c ⌝ }
     ensures { λ r. ⌜ Laid (when (not first && not whitespace) (push line)) (now (store .entry)) c (now (store .exit)) r ⌝ }
 {
     if first {
@@ -70,6 +73,7 @@ fn line_between(store: &mut [u32], c: Cursor, first: bool, whitespace: bool) -> 
 // How each declaration begins.
 fn opening(store: &mut [u32], c: Cursor, s: &[u8], b: &[u8], position: u32, first: bool) -> Cursor
     requires { ⌜ Accepted (now s) (now b) ⌝ }
+    requires { ⌜ Room (opening (given (now s) (now b)) position first) c ⌝ }
     ensures { λ r. ⌜ Laid (opening (given (now (s .entry)) (now (b .entry))) position first) (now (store .entry)) c (now (store .exit)) r ⌝ }
 {
     let a = pop_whitespace(store, c, s, b, position, !first, true, !first);
@@ -86,7 +90,7 @@ fn declares(
     k: usize,
     first: bool,
 ) -> Cursor
-    requires { ⌜ Has IdentAt (now s) (now b) at ⌝ }
+    requires { ⌜ Has IdentAt (declaresAt k first) (now s) (now b) at c ⌝ }
     ensures { λ r. ⌜ LaidAs IdentAt (declaresAt k first) (now (s .entry)) (now (b .entry)) at (now (store .entry)) c (now (store .exit)) r ⌝ }
 {
     let d = opening(store, c, s, b, start(b, at), first);
@@ -96,7 +100,7 @@ fn declares(
 
 // Type parameters, where there are any.
 fn type_params(store: &mut [u32], c: Cursor, s: &[u8], b: &[u8], at: usize) -> Cursor
-    requires { ⌜ Has MaybeListAt (now s) (now b) at ⌝ }
+    requires { ⌜ Has MaybeListAt someTypeParams (now s) (now b) at c ⌝ }
     ensures { λ r. ⌜ LaidAs MaybeListAt someTypeParams (now (s .entry)) (now (b .entry)) at (now (store .entry)) c (now (store .exit)) r ⌝ }
 {
     if is_absent(b, at) {
@@ -121,7 +125,7 @@ fn type_params(store: &mut [u32], c: Cursor, s: &[u8], b: &[u8], at: usize) -> C
 
 // The type that a function returns, where it says one.
 fn return_type(store: &mut [u32], c: Cursor, s: &[u8], b: &[u8], at: usize) -> Cursor
-    requires { ⌜ Has MaybeTypeAt (now s) (now b) at ⌝ }
+    requires { ⌜ Has MaybeTypeAt returnType (now s) (now b) at c ⌝ }
     ensures { λ r. ⌜ LaidAs MaybeTypeAt returnType (now (s .entry)) (now (b .entry)) at (now (store .entry)) c (now (store .exit)) r ⌝ }
 {
     if is_absent(b, at) {
@@ -133,7 +137,7 @@ fn return_type(store: &mut [u32], c: Cursor, s: &[u8], b: &[u8], at: usize) -> C
 }
 
 fn filter_map(store: &mut [u32], c: Cursor, s: &[u8], b: &[u8], at: usize, first: bool) -> Cursor
-    requires { ⌜ Has (OfDeclaration (four filterMap)) (now s) (now b) at ⌝ }
+    requires { ⌜ Has (OfDeclaration (four filterMap)) (declarationRule (four filterMap) first) (now s) (now b) at c ⌝ }
     ensures { λ r. ⌜ LaidAs (OfDeclaration (four filterMap)) (declarationRule (four filterMap) first) (now (s .entry)) (now (b .entry)) at (now (store .entry)) c (now (store .exit)) r ⌝ }
 {
     let p = second(b, at);
@@ -156,7 +160,7 @@ fn filter_map(store: &mut [u32], c: Cursor, s: &[u8], b: &[u8], at: usize, first
 }
 
 fn constant(store: &mut [u32], c: Cursor, s: &[u8], b: &[u8], at: usize, first: bool) -> Cursor
-    requires { ⌜ Has (OfDeclaration (three const)) (now s) (now b) at ⌝ }
+    requires { ⌜ Has (OfDeclaration (three const)) (declarationRule (three const) first) (now s) (now b) at c ⌝ }
     ensures { λ r. ⌜ LaidAs (OfDeclaration (three const)) (declarationRule (three const) first) (now (s .entry)) (now (b .entry)) at (now (store .entry)) c (now (store .exit)) r ⌝ }
 {
     let p = second(b, at);
@@ -170,7 +174,7 @@ fn constant(store: &mut [u32], c: Cursor, s: &[u8], b: &[u8], at: usize, first: 
 }
 
 fn decl_record(store: &mut [u32], c: Cursor, s: &[u8], b: &[u8], at: usize, first: bool) -> Cursor
-    requires { ⌜ Has (OfDeclaration (four recordDecl)) (now s) (now b) at ⌝ }
+    requires { ⌜ Has (OfDeclaration (four recordDecl)) (declarationRule (four recordDecl) first) (now s) (now b) at c ⌝ }
     ensures { λ r. ⌜ LaidAs (OfDeclaration (four recordDecl)) (declarationRule (four recordDecl) first) (now (s .entry)) (now (b .entry)) at (now (store .entry)) c (now (store .exit)) r ⌝ }
 {
     let p = second(b, at);
@@ -193,7 +197,7 @@ fn decl_record(store: &mut [u32], c: Cursor, s: &[u8], b: &[u8], at: usize, firs
 }
 
 fn decl_enum(store: &mut [u32], c: Cursor, s: &[u8], b: &[u8], at: usize, first: bool) -> Cursor
-    requires { ⌜ Has (OfDeclaration (four enumDecl)) (now s) (now b) at ⌝ }
+    requires { ⌜ Has (OfDeclaration (four enumDecl)) (declarationRule (four enumDecl) first) (now s) (now b) at c ⌝ }
     ensures { λ r. ⌜ LaidAs (OfDeclaration (four enumDecl)) (declarationRule (four enumDecl) first) (now (s .entry)) (now (b .entry)) at (now (store .entry)) c (now (store .exit)) r ⌝ }
 {
     let p = second(b, at);
@@ -216,7 +220,7 @@ fn decl_enum(store: &mut [u32], c: Cursor, s: &[u8], b: &[u8], at: usize, first:
 }
 
 fn function(store: &mut [u32], c: Cursor, s: &[u8], b: &[u8], at: usize, first: bool) -> Cursor
-    requires { ⌜ Has (OfDeclaration (five function)) (now s) (now b) at ⌝ }
+    requires { ⌜ Has (OfDeclaration (five function)) (declarationRule (five function) first) (now s) (now b) at c ⌝ }
     ensures { λ r. ⌜ LaidAs (OfDeclaration (five function)) (declarationRule (five function) first) (now (s .entry)) (now (b .entry)) at (now (store .entry)) c (now (store .exit)) r ⌝ }
 {
     let p = second(b, at);
@@ -240,7 +244,7 @@ fn function(store: &mut [u32], c: Cursor, s: &[u8], b: &[u8], at: usize, first: 
 }
 
 fn test(store: &mut [u32], c: Cursor, s: &[u8], b: &[u8], at: usize, first: bool) -> Cursor
-    requires { ⌜ Has (OfDeclaration (two test)) (now s) (now b) at ⌝ }
+    requires { ⌜ Has (OfDeclaration (two test)) (declarationRule (two test) first) (now s) (now b) at c ⌝ }
     ensures { λ r. ⌜ LaidAs (OfDeclaration (two test)) (declarationRule (two test) first) (now (s .entry)) (now (b .entry)) at (now (store .entry)) c (now (store .exit)) r ⌝ }
 {
     let p = second(b, at);
@@ -250,7 +254,7 @@ fn test(store: &mut [u32], c: Cursor, s: &[u8], b: &[u8], at: usize, first: bool
 }
 
 fn decl_import(store: &mut [u32], c: Cursor, s: &[u8], b: &[u8], at: usize, first: bool) -> Cursor
-    requires { ⌜ Has (OfDeclaration importDecl) (now s) (now b) at ⌝ }
+    requires { ⌜ Has (OfDeclaration importDecl) (declarationRule importDecl first) (now s) (now b) at c ⌝ }
     ensures { λ r. ⌜ LaidAs (OfDeclaration importDecl) (declarationRule importDecl first) (now (s .entry)) (now (b .entry)) at (now (store .entry)) c (now (store .exit)) r ⌝ }
 {
     let d = opening(store, c, s, b, start(b, at), first);
@@ -268,7 +272,7 @@ pub fn declaration(
     at: usize,
     first: bool,
 ) -> Cursor
-    requires { ⌜ Has (OfDeclaration anyDeclaration) (now s) (now b) at ⌝ }
+    requires { ⌜ Has (OfDeclaration anyDeclaration) (declarationRule anyDeclaration first) (now s) (now b) at c ⌝ }
     ensures { λ r. ⌜ LaidAs (OfDeclaration anyDeclaration) (declarationRule anyDeclaration first) (now (s .entry)) (now (b .entry)) at (now (store .entry)) c (now (store .exit)) r ⌝ }
 {
     match kind(b, at) {
@@ -284,16 +288,16 @@ pub fn declaration(
 
 // The shebang at `at`, without the white space at its end, where there is one.
 pub fn shebang(store: &mut [u32], c: Cursor, s: &[u8], b: &[u8], at: usize) -> Cursor
-    requires { ⌜ Has MaybeIdentAt (now s) (now b) at ⌝ }
+    requires { ⌜ Has MaybeIdentAt shebangRule (now s) (now b) at c ⌝ }
     ensures { λ r. ⌜ LaidAs MaybeIdentAt shebangRule (now (s .entry)) (now (b .entry)) at (now (store .entry)) c (now (store .exit)) r ⌝ }
 {
     if is_absent(b, at) {
         return c;
     }
     let from = at + 15;
-    let width = num16(b, at + HEAD);
-    let size = trim_end(b, from, past(b, at)) - from;
-    let d = str(store, c, from as u32, size as u32, width as u32);
+    let width = Columns(num16(b, at + HEAD));
+    let size = Bytes(trim_end(b, from, past(b, at)) - from);
+    let d = str(store, c, from as u32, size, width);
     empty_line(store, d)
 }
 
@@ -307,7 +311,7 @@ pub fn declarations(
     to: usize,
     opens: bool,
 ) -> Cursor
-    requires { ⌜ HasAll DeclarationsAt (now s) (now b) from to ⌝ }
+    requires { ⌜ HasAll DeclarationsAt (declarationsFrom opens) (now s) (now b) from to c ⌝ }
     ensures { λ r. ⌜ LaidAll DeclarationsAt (declarationsFrom opens) (now (s .entry)) (now (b .entry)) from to (now (store .entry)) c (now (store .exit)) r ⌝ }
 {
     let mut p = from;
@@ -319,14 +323,4 @@ pub fn declarations(
         first = false;
     }
     d
-}
-
-// The rows of a whole file, whose tree is at `at`.
-pub fn document(store: &mut [u32], c: Cursor, s: &[u8], b: &[u8], at: usize) -> Cursor
-    requires { ⌜ Has TreeAt (now s) (now b) at ⌝ }
-    ensures { λ r. ⌜ LaidAs TreeAt fmtParsed (now (s .entry)) (now (b .entry)) at (now (store .entry)) c (now (store .exit)) r ⌝ }
-{
-    let d = shebang(store, c, s, b, at + HEAD);
-    let e = declarations(store, d, s, b, second(b, at), past(b, at), true);
-    line(store, e)
 }

@@ -6,7 +6,7 @@ ghost use Prim.Native.Nat.{_+_};
 ghost use Rattle.image.specs.Bytes.{be32};
 ghost use Rattle.image.specs.Read.{stopAt};
 ghost use Rattle.state.specs.Act.{when, says};
-ghost use Rattle.state.specs.Laid.{Laid};
+ghost use Rattle.state.specs.Laid.{Room, Laid};
 ghost use Rattle.layout.specs.Contracts.{Has, LaidAs, Within, Whole};
 ghost use Rattle.layout.specs.Forms.{MaybePathAt, importFirst};
 use crate::numbers::HEAD;
@@ -19,7 +19,7 @@ use state::words::word;
 
 // The path of an import, where there is one.
 pub fn import_first(store: &mut [u32], c: Cursor, s: &[u8], b: &[u8], at: usize) -> Cursor
-    requires { ⌜ Has MaybePathAt (now s) (now b) at ⌝ }
+    requires { ⌜ Has MaybePathAt importFirst (now s) (now b) at c ⌝ }
     ensures { λ r. ⌜ LaidAs MaybePathAt importFirst (now (s .entry)) (now (b .entry)) at (now (store .entry)) c (now (store .exit)) r ⌝ }
 {
     if is_absent(b, at) {
@@ -32,6 +32,7 @@ pub fn import_first(store: &mut [u32], c: Cursor, s: &[u8], b: &[u8], at: usize)
 pub fn import_dot(store: &mut [u32], c: Cursor, b: &[u8], from: usize, at: usize) -> Cursor
     requires { ⌜ Within (now b) from ⌝ }
     requires { ⌜ Within (now b) at ⌝ }
+    requires { ⌜ Room (when (not (eqb (be32 (now b) from) 0) && not (eqb (be32 (now b) at) 0)) (says ".")) c ⌝ }
     ensures { λ r. ⌜ Laid (when (not (eqb (be32 (now (b .entry)) from) 0) && not (eqb (be32 (now (b .entry)) at) 0)) (says ".")) (now (store .entry)) c (now (store .exit)) r ⌝ }
 {
     if is_absent(b, from) {

@@ -20,7 +20,7 @@ ghost use Rattle.tree.specs.At.{TypeAt, ImportAt, ImportGroupAt, PatternAt, Exp
 ghost use Rattle.layout.specs.Layout.{typeExpr, importPath, importGroup, pattern, partsRule, blockRule, stmtRule, letType};
 ghost use Rattle.layout.specs.Contracts.{Has, LaidAs, HasAll, LaidAll};
 ghost use Rattle.layout.specs.Elems.{FieldAt, fieldRule, VariantAt, variantRule, EntryAt, entryRule, ArmAt, armRule, ItemAt, itemRule, ElemsAt};
-ghost use Rattle.layout.specs.Elems.{elementsRule, ListOf, LaidList, LaidInside};
+ghost use Rattle.layout.specs.Elems.{elementsRule, HasList, LaidList, HasInside, LaidInside};
 ghost use Rattle.layout.specs.Forms.{two, three, four, OfType, typeRule, exprWith, formWith, Of, formRule, afterWord, maybeAfter, ClauseAt};
 ghost use Rattle.layout.specs.Forms.{clauseRule, PartAt, partRule, bodyRule, stmtsFrom, lastFrom, LetAt, letRule, MaybeTypeAt};
 ghost use Rattle.layout.specs.Chains.{HasTail, LaidTail};
@@ -118,7 +118,7 @@ fn separated(
     commas: bool,
     style: WrapStyle,
 ) -> Cursor
-    requires { ⌜ Has (ListOf k) (now s) (now b) at ⌝ }
+    requires { ⌜ HasList k left right commas style end (now s) (now b) at c ⌝ }
     ensures { λ r. ⌜ LaidList k left right commas style end (now (s .entry)) (now (b .entry)) at (now (store .entry)) c (now (store .exit)) r ⌝ }
 {
     let g = open_group(store, c);
@@ -155,7 +155,7 @@ fn core(
     style: WrapStyle,
     id: u32,
 ) -> Cursor
-    requires { ⌜ Has (ListOf k) (now s) (now b) at ⌝ }
+    requires { ⌜ HasInside k left right commas style end id (now s) (now b) at c ⌝ }
     ensures { λ r. ⌜ LaidInside k left right commas style end id (now (s .entry)) (now (b .entry)) at (now (store .entry)) c (now (store .exit)) r ⌝ }
 {
     let from = at + HEAD;
@@ -184,7 +184,7 @@ fn seq(
     commas: bool,
     style: WrapStyle,
 ) -> Cursor
-    requires { ⌜ Has (ListOf k) (now s) (now b) at ⌝ }
+    requires { ⌜ HasList k left right commas style (be32 (now b) (at + 9)) (now s) (now b) at c ⌝ }
     ensures { λ r. ⌜ LaidList k left right commas style (be32 (now (b .entry)) (at + 9)) (now (s .entry)) (now (b .entry)) at (now (store .entry)) c (now (store .exit)) r ⌝ }
 {
     let to = end(b, at);
@@ -202,7 +202,7 @@ fn elems(
     k: Element,
     commas: bool,
 ) -> Cursor
-    requires { ⌜ HasAll (ElemsAt k) (now s) (now b) from to ⌝ }
+    requires { ⌜ HasAll (ElemsAt k) (elementsRule commas true) (now s) (now b) from to c ⌝ }
     ensures { λ r. ⌜ LaidAll (ElemsAt k) (elementsRule commas true) (now (s .entry)) (now (b .entry)) from to (now (store .entry)) c (now (store .exit)) r ⌝ }
 {
     let mut p = from;
@@ -219,7 +219,7 @@ fn elems(
 
 // An element by its kind: the closures given to `separated`.
 fn elem(store: &mut [u32], c: Cursor, s: &[u8], b: &[u8], at: usize, k: Element) -> Cursor
-    requires { ⌜ Has (ItemAt k) (now s) (now b) at ⌝ }
+    requires { ⌜ Has (ItemAt k) itemRule (now s) (now b) at c ⌝ }
     ensures { λ r. ⌜ LaidAs (ItemAt k) itemRule (now (s .entry)) (now (b .entry)) at (now (store .entry)) c (now (store .exit)) r ⌝ }
 {
     match k {
@@ -241,7 +241,7 @@ fn elem(store: &mut [u32], c: Cursor, s: &[u8], b: &[u8], at: usize, k: Element)
 }
 
 fn type_expr(store: &mut [u32], c: Cursor, s: &[u8], b: &[u8], at: usize) -> Cursor
-    requires { ⌜ Has TypeAt (now s) (now b) at ⌝ }
+    requires { ⌜ Has TypeAt typeExpr (now s) (now b) at c ⌝ }
     ensures { λ r. ⌜ LaidAs TypeAt typeExpr (now (s .entry)) (now (b .entry)) at (now (store .entry)) c (now (store .exit)) r ⌝ }
 {
     match kind(b, at) {
@@ -269,7 +269,7 @@ fn type_expr(store: &mut [u32], c: Cursor, s: &[u8], b: &[u8], at: usize) -> Cur
 
 // A path as a type, with its arguments.
 fn ty(store: &mut [u32], c: Cursor, s: &[u8], b: &[u8], at: usize) -> Cursor
-    requires { ⌜ Has (OfType (two typePath)) (now s) (now b) at ⌝ }
+    requires { ⌜ Has (OfType (two typePath)) (typeRule (two typePath)) (now s) (now b) at c ⌝ }
     ensures { λ r. ⌜ LaidAs (OfType (two typePath)) (typeRule (two typePath)) (now (s .entry)) (now (b .entry)) at (now (store .entry)) c (now (store .exit)) r ⌝ }
 {
     let p = second(b, at);
@@ -293,7 +293,7 @@ fn ty(store: &mut [u32], c: Cursor, s: &[u8], b: &[u8], at: usize) -> Cursor
 
 // A parameter, or a field of a record type.
 fn param(store: &mut [u32], c: Cursor, s: &[u8], b: &[u8], at: usize) -> Cursor
-    requires { ⌜ Has FieldAt (now s) (now b) at ⌝ }
+    requires { ⌜ Has FieldAt fieldRule (now s) (now b) at c ⌝ }
     ensures { λ r. ⌜ LaidAs FieldAt fieldRule (now (s .entry)) (now (b .entry)) at (now (store .entry)) c (now (store .exit)) r ⌝ }
 {
     let p = second(b, at);
@@ -304,7 +304,7 @@ fn param(store: &mut [u32], c: Cursor, s: &[u8], b: &[u8], at: usize) -> Cursor
 
 // A variant of an enum. The span of its types ends with the last of them.
 fn ctor(store: &mut [u32], c: Cursor, s: &[u8], b: &[u8], at: usize) -> Cursor
-    requires { ⌜ Has VariantAt (now s) (now b) at ⌝ }
+    requires { ⌜ Has VariantAt variantRule (now s) (now b) at c ⌝ }
     ensures { λ r. ⌜ LaidAs VariantAt variantRule (now (s .entry)) (now (b .entry)) at (now (store .entry)) c (now (store .exit)) r ⌝ }
 {
     let p = second(b, at);
@@ -331,7 +331,7 @@ fn ctor(store: &mut [u32], c: Cursor, s: &[u8], b: &[u8], at: usize) -> Cursor
 
 // `import_path`: a path, a group of imports, or both.
 fn item(store: &mut [u32], c: Cursor, s: &[u8], b: &[u8], at: usize) -> Cursor
-    requires { ⌜ Has ImportAt (now s) (now b) at ⌝ }
+    requires { ⌜ Has ImportAt importPath (now s) (now b) at c ⌝ }
     ensures { λ r. ⌜ LaidAs ImportAt importPath (now (s .entry)) (now (b .entry)) at (now (store .entry)) c (now (store .exit)) r ⌝ }
 {
     let p = second(b, at);
@@ -342,7 +342,7 @@ fn item(store: &mut [u32], c: Cursor, s: &[u8], b: &[u8], at: usize) -> Cursor
 
 // The group of an import: one item loses its braces.
 fn items(store: &mut [u32], c: Cursor, s: &[u8], b: &[u8], at: usize) -> Cursor
-    requires { ⌜ Has ImportGroupAt (now s) (now b) at ⌝ }
+    requires { ⌜ Has ImportGroupAt importGroup (now s) (now b) at c ⌝ }
     ensures { λ r. ⌜ LaidAs ImportGroupAt importGroup (now (s .entry)) (now (b .entry)) at (now (store .entry)) c (now (store .exit)) r ⌝ }
 {
     if is_absent(b, at) {
@@ -367,7 +367,7 @@ fn items(store: &mut [u32], c: Cursor, s: &[u8], b: &[u8], at: usize) -> Cursor
 
 // A field of a record.
 fn pair(store: &mut [u32], c: Cursor, s: &[u8], b: &[u8], at: usize) -> Cursor
-    requires { ⌜ Has EntryAt (now s) (now b) at ⌝ }
+    requires { ⌜ Has EntryAt entryRule (now s) (now b) at c ⌝ }
     ensures { λ r. ⌜ LaidAs EntryAt entryRule (now (s .entry)) (now (b .entry)) at (now (store .entry)) c (now (store .exit)) r ⌝ }
 {
     let p = second(b, at);
@@ -378,7 +378,7 @@ fn pair(store: &mut [u32], c: Cursor, s: &[u8], b: &[u8], at: usize) -> Cursor
 
 // An arm of a match.
 fn arm(store: &mut [u32], c: Cursor, s: &[u8], b: &[u8], at: usize) -> Cursor
-    requires { ⌜ Has ArmAt (now s) (now b) at ⌝ }
+    requires { ⌜ Has ArmAt armRule (now s) (now b) at c ⌝ }
     ensures { λ r. ⌜ LaidAs ArmAt armRule (now (s .entry)) (now (b .entry)) at (now (store .entry)) c (now (store .exit)) r ⌝ }
 {
     let p = second(b, at);
@@ -392,7 +392,7 @@ fn arm(store: &mut [u32], c: Cursor, s: &[u8], b: &[u8], at: usize) -> Cursor
 
 // A pattern of a match.
 fn pat(store: &mut [u32], c: Cursor, s: &[u8], b: &[u8], at: usize) -> Cursor
-    requires { ⌜ Has PatternAt (now s) (now b) at ⌝ }
+    requires { ⌜ Has PatternAt pattern (now s) (now b) at c ⌝ }
     ensures { λ r. ⌜ LaidAs PatternAt pattern (now (s .entry)) (now (b .entry)) at (now (store .entry)) c (now (store .exit)) r ⌝ }
 {
     if kind(b, at) == 82 {
@@ -419,7 +419,7 @@ fn pat(store: &mut [u32], c: Cursor, s: &[u8], b: &[u8], at: usize) -> Cursor
 
 // `expr_with_precedence`: each expression ends with `pop_trailing_comment`.
 fn expr(store: &mut [u32], c: Cursor, s: &[u8], b: &[u8], at: usize, outer: usize) -> Cursor
-    requires { ⌜ Has ExprAt (now s) (now b) at ⌝ }
+    requires { ⌜ Has ExprAt (exprWith outer) (now s) (now b) at c ⌝ }
     ensures { λ r. ⌜ LaidAs ExprAt (exprWith outer) (now (s .entry)) (now (b .entry)) at (now (store .entry)) c (now (store .exit)) r ⌝ }
 {
     let d = form(store, c, s, b, at, outer);
@@ -428,14 +428,14 @@ fn expr(store: &mut [u32], c: Cursor, s: &[u8], b: &[u8], at: usize, outer: usiz
 
 // An expression by its form.
 fn form(store: &mut [u32], c: Cursor, s: &[u8], b: &[u8], at: usize, outer: usize) -> Cursor
-    requires { ⌜ Has ExprAt (now s) (now b) at ⌝ }
+    requires { ⌜ Has ExprAt (formWith outer) (now s) (now b) at c ⌝ }
     ensures { λ r. ⌜ LaidAs ExprAt (formWith outer) (now (s .entry)) (now (b .entry)) at (now (store .entry)) c (now (store .exit)) r ⌝ }
 {
     match kind(b, at) {
         50 => ret(store, c, s, b, at),
         51 => literal(store, c, s, b, at + HEAD),
         52 => block(store, c, s, b, at + HEAD),
-        53 => cases(store, c, s, b, at),
+        53 => arms(store, c, s, b, at),
         54 => call(store, c, s, b, at, outer),
         55 => access(store, c, s, b, at, outer),
         56 => path(store, c, s, b, at + HEAD, outer < CHAIN, true),
@@ -498,7 +498,7 @@ fn then(
     k: usize,
     outer: usize,
 ) -> Cursor
-    requires { ⌜ Has ExprAt (now s) (now b) at ⌝ }
+    requires { ⌜ Has ExprAt (afterWord k outer) (now s) (now b) at c ⌝ }
     ensures { λ r. ⌜ LaidAs ExprAt (afterWord k outer) (now (s .entry)) (now (b .entry)) at (now (store .entry)) c (now (store .exit)) r ⌝ }
 {
     let d = word(store, c, k);
@@ -507,7 +507,7 @@ fn then(
 
 // The same, where the expression is there.
 fn opt(store: &mut [u32], c: Cursor, s: &[u8], b: &[u8], at: usize, k: usize) -> Cursor
-    requires { ⌜ Has MaybeExprAt (now s) (now b) at ⌝ }
+    requires { ⌜ Has MaybeExprAt (maybeAfter k) (now s) (now b) at c ⌝ }
     ensures { λ r. ⌜ LaidAs MaybeExprAt (maybeAfter k) (now (s .entry)) (now (b .entry)) at (now (store .entry)) c (now (store .exit)) r ⌝ }
 {
     if is_absent(b, at) {
@@ -518,7 +518,7 @@ fn opt(store: &mut [u32], c: Cursor, s: &[u8], b: &[u8], at: usize, k: usize) ->
 
 // The condition of `if`, `while` and `for`, after its word, and the block after it.
 fn cond(store: &mut [u32], c: Cursor, s: &[u8], b: &[u8], at: usize, k: usize) -> Cursor
-    requires { ⌜ Has ClauseAt (now s) (now b) at ⌝ }
+    requires { ⌜ Has ClauseAt (clauseRule k) (now s) (now b) at c ⌝ }
     ensures { λ r. ⌜ LaidAs ClauseAt (clauseRule k) (now (s .entry)) (now (b .entry)) at (now (store .entry)) c (now (store .exit)) r ⌝ }
 {
     let d = word(store, c, k);
@@ -533,7 +533,7 @@ fn cond(store: &mut [u32], c: Cursor, s: &[u8], b: &[u8], at: usize, k: usize) -
 
 // `return`, `accept` and `reject`.
 fn ret(store: &mut [u32], c: Cursor, s: &[u8], b: &[u8], at: usize) -> Cursor
-    requires { ⌜ Has (Of (two return′)) (now s) (now b) at ⌝ }
+    requires { ⌜ Has (Of (two return′)) (formRule (two return′) 0) (now s) (now b) at c ⌝ }
     ensures { λ r. ⌜ LaidAs (Of (two return′)) (formRule (two return′) 0) (now (s .entry)) (now (b .entry)) at (now (store .entry)) c (now (store .exit)) r ⌝ }
 {
     let k = payload(b, at);
@@ -542,8 +542,8 @@ fn ret(store: &mut [u32], c: Cursor, s: &[u8], b: &[u8], at: usize) -> Cursor
 }
 
 // `match`: the expression and its arms.
-fn cases(store: &mut [u32], c: Cursor, s: &[u8], b: &[u8], at: usize) -> Cursor
-    requires { ⌜ Has (Of (three match′)) (now s) (now b) at ⌝ }
+fn arms(store: &mut [u32], c: Cursor, s: &[u8], b: &[u8], at: usize) -> Cursor
+    requires { ⌜ Has (Of (three match′)) (formRule (three match′) 0) (now s) (now b) at c ⌝ }
     ensures { λ r. ⌜ LaidAs (Of (three match′)) (formRule (three match′) 0) (now (s .entry)) (now (b .entry)) at (now (store .entry)) c (now (store .exit)) r ⌝ }
 {
     let p = second(b, at);
@@ -566,7 +566,7 @@ fn cases(store: &mut [u32], c: Cursor, s: &[u8], b: &[u8], at: usize) -> Cursor
 
 // A function call. The numbers of its `Call` row are taken before its parts.
 fn call(store: &mut [u32], c: Cursor, s: &[u8], b: &[u8], at: usize, outer: usize) -> Cursor
-    requires { ⌜ Has (Of (three functionCall)) (now s) (now b) at ⌝ }
+    requires { ⌜ Has (Of (three functionCall)) (formRule (three functionCall) outer) (now s) (now b) at c ⌝ }
     ensures { λ r. ⌜ LaidAs (Of (three functionCall)) (formRule (three functionCall) outer) (now (s .entry)) (now (b .entry)) at (now (store .entry)) c (now (store .exit)) r ⌝ }
 {
     let p = second(b, at);
@@ -606,7 +606,7 @@ fn call(store: &mut [u32], c: Cursor, s: &[u8], b: &[u8], at: usize, outer: usiz
 
 // `access`: a field of an expression.
 fn access(store: &mut [u32], c: Cursor, s: &[u8], b: &[u8], at: usize, outer: usize) -> Cursor
-    requires { ⌜ Has (Of (two access)) (now s) (now b) at ⌝ }
+    requires { ⌜ Has (Of (two access)) (formRule (two access) outer) (now s) (now b) at c ⌝ }
     ensures { λ r. ⌜ LaidAs (Of (two access)) (formRule (two access) outer) (now (s .entry)) (now (b .entry)) at (now (store .entry)) c (now (store .exit)) r ⌝ }
 {
     let p = second(b, at);
@@ -625,7 +625,7 @@ fn access(store: &mut [u32], c: Cursor, s: &[u8], b: &[u8], at: usize, outer: us
 
 // A record after its type's path.
 fn rec(store: &mut [u32], c: Cursor, s: &[u8], b: &[u8], at: usize) -> Cursor
-    requires { ⌜ Has (Of (three typedRecord)) (now s) (now b) at ⌝ }
+    requires { ⌜ Has (Of (three typedRecord)) (formRule (three typedRecord) 0) (now s) (now b) at c ⌝ }
     ensures { λ r. ⌜ LaidAs (Of (three typedRecord)) (formRule (three typedRecord) 0) (now (s .entry)) (now (b .entry)) at (now (store .entry)) c (now (store .exit)) r ⌝ }
 {
     let p = second(b, at);
@@ -647,7 +647,7 @@ fn rec(store: &mut [u32], c: Cursor, s: &[u8], b: &[u8], at: usize) -> Cursor
 
 // The chain of operators at `at`.
 fn binop(store: &mut [u32], c: Cursor, s: &[u8], b: &[u8], at: usize) -> Cursor
-    requires { ⌜ Has (Of (four binOp)) (now s) (now b) at ⌝ }
+    requires { ⌜ Has (Of (four binOp)) (formRule (four binOp) 0) (now s) (now b) at c ⌝ }
     ensures { λ r. ⌜ LaidAs (Of (four binOp)) (formRule (four binOp) 0) (now (s .entry)) (now (b .entry)) at (now (store .entry)) c (now (store .exit)) r ⌝ }
 {
     let q = precedence(b, at);
@@ -673,8 +673,8 @@ fn tail(
     left: usize,
     ops: &[usize; 64],
 ) -> Cursor
-    requires { ⌜ HasTail (now s) (now b) at left (now ops) ⌝ }
-    ensures { λ r. ⌜ LaidTail (now (s .entry)) (now (b .entry)) at left (now (store .entry)) c (now (store .exit)) r ⌝ }
+    requires { ⌜ HasTail (now s) (now b) at left (now ops) c ⌝ }
+    ensures { λ r. ⌜ LaidTail (now (s .entry)) (now (b .entry)) at left (now (ops .entry)) (now (store .entry)) c (now (store .exit)) r ⌝ }
 {
     let mut n = (left - at) / HEAD;
     let mut d = c;
@@ -691,7 +691,7 @@ fn tail(
 
 // `if`, with `else` where it is there.
 fn alt(store: &mut [u32], c: Cursor, s: &[u8], b: &[u8], at: usize) -> Cursor
-    requires { ⌜ Has (Of (three ifElse)) (now s) (now b) at ⌝ }
+    requires { ⌜ Has (Of (three ifElse)) (formRule (three ifElse) 0) (now s) (now b) at c ⌝ }
     ensures { λ r. ⌜ LaidAs (Of (three ifElse)) (formRule (three ifElse) 0) (now (s .entry)) (now (b .entry)) at (now (store .entry)) c (now (store .exit)) r ⌝ }
 {
     let p = third(b, at);
@@ -705,7 +705,7 @@ fn alt(store: &mut [u32], c: Cursor, s: &[u8], b: &[u8], at: usize) -> Cursor
 
 // `for`
 fn each(store: &mut [u32], c: Cursor, s: &[u8], b: &[u8], at: usize) -> Cursor
-    requires { ⌜ Has (Of (three for)) (now s) (now b) at ⌝ }
+    requires { ⌜ Has (Of (three for)) (formRule (three for) 0) (now s) (now b) at c ⌝ }
     ensures { λ r. ⌜ LaidAs (Of (three for)) (formRule (three for) 0) (now (s .entry)) (now (b .entry)) at (now (store .entry)) c (now (store .exit)) r ⌝ }
 {
     let p = second(b, at);
@@ -716,7 +716,7 @@ fn each(store: &mut [u32], c: Cursor, s: &[u8], b: &[u8], at: usize) -> Cursor
 
 // An f-string.
 fn fstr(store: &mut [u32], c: Cursor, s: &[u8], b: &[u8], at: usize) -> Cursor
-    requires { ⌜ Has (Of fString) (now s) (now b) at ⌝ }
+    requires { ⌜ Has (Of fString) (formRule fString 0) (now s) (now b) at c ⌝ }
     ensures { λ r. ⌜ LaidAs (Of fString) (formRule fString 0) (now (s .entry)) (now (b .entry)) at (now (store .entry)) c (now (store .exit)) r ⌝ }
 {
     let d = gap(store, c, s, b, start(b, at), true, true, false);
@@ -727,7 +727,7 @@ fn fstr(store: &mut [u32], c: Cursor, s: &[u8], b: &[u8], at: usize) -> Cursor
 
 // The parts of an f-string, from `from` up to `to`.
 fn parts(store: &mut [u32], c: Cursor, s: &[u8], b: &[u8], from: usize, to: usize) -> Cursor
-    requires { ⌜ HasAll PartsAt (now s) (now b) from to ⌝ }
+    requires { ⌜ HasAll PartsAt partsRule (now s) (now b) from to c ⌝ }
     ensures { λ r. ⌜ LaidAll PartsAt partsRule (now (s .entry)) (now (b .entry)) from to (now (store .entry)) c (now (store .exit)) r ⌝ }
 {
     let mut p = from;
@@ -741,7 +741,7 @@ fn parts(store: &mut [u32], c: Cursor, s: &[u8], b: &[u8], from: usize, to: usiz
 
 // A part of an f-string: text, or an expression in braces.
 fn part(store: &mut [u32], c: Cursor, s: &[u8], b: &[u8], at: usize) -> Cursor
-    requires { ⌜ Has PartAt (now s) (now b) at ⌝ }
+    requires { ⌜ Has PartAt partRule (now s) (now b) at c ⌝ }
     ensures { λ r. ⌜ LaidAs PartAt partRule (now (s .entry)) (now (b .entry)) at (now (store .entry)) c (now (store .exit)) r ⌝ }
 {
     if kind(b, at) == 84 {
@@ -754,7 +754,7 @@ fn part(store: &mut [u32], c: Cursor, s: &[u8], b: &[u8], at: usize) -> Cursor
 
 // An expression in parentheses.
 fn par(store: &mut [u32], c: Cursor, s: &[u8], b: &[u8], at: usize) -> Cursor
-    requires { ⌜ Has (Of parentheses) (now s) (now b) at ⌝ }
+    requires { ⌜ Has (Of parentheses) (formRule parentheses 0) (now s) (now b) at c ⌝ }
     ensures { λ r. ⌜ LaidAs (Of parentheses) (formRule parentheses 0) (now (s .entry)) (now (b .entry)) at (now (store .entry)) c (now (store .exit)) r ⌝ }
 {
     let d = gap(store, c, s, b, start(b, at), true, true, false);
@@ -764,7 +764,7 @@ fn par(store: &mut [u32], c: Cursor, s: &[u8], b: &[u8], at: usize) -> Cursor
 }
 
 fn block(store: &mut [u32], c: Cursor, s: &[u8], b: &[u8], at: usize) -> Cursor
-    requires { ⌜ Has BlockAt (now s) (now b) at ⌝ }
+    requires { ⌜ Has BlockAt blockRule (now s) (now b) at c ⌝ }
     ensures { λ r. ⌜ LaidAs BlockAt blockRule (now (s .entry)) (now (b .entry)) at (now (store .entry)) c (now (store .exit)) r ⌝ }
 {
     let empty = is_empty(b, at);
@@ -779,7 +779,7 @@ fn block(store: &mut [u32], c: Cursor, s: &[u8], b: &[u8], at: usize) -> Cursor
 
 // What stands between the braces of a block.
 fn body(store: &mut [u32], c: Cursor, s: &[u8], b: &[u8], at: usize) -> Cursor
-    requires { ⌜ Has BlockAt (now s) (now b) at ⌝ }
+    requires { ⌜ Has BlockAt bodyRule (now s) (now b) at c ⌝ }
     ensures { λ r. ⌜ LaidAs BlockAt bodyRule (now (s .entry)) (now (b .entry)) at (now (store .entry)) c (now (store .exit)) r ⌝ }
 {
     let p = second(b, at);
@@ -795,7 +795,7 @@ fn body(store: &mut [u32], c: Cursor, s: &[u8], b: &[u8], at: usize) -> Cursor
 
 // The statements from `from` up to `to`.
 fn stmts(store: &mut [u32], c: Cursor, s: &[u8], b: &[u8], from: usize, to: usize) -> Cursor
-    requires { ⌜ HasAll StmtsAt (now s) (now b) from to ⌝ }
+    requires { ⌜ HasAll StmtsAt (stmtsFrom true) (now s) (now b) from to c ⌝ }
     ensures { λ r. ⌜ LaidAll StmtsAt (stmtsFrom true) (now (s .entry)) (now (b .entry)) from to (now (store .entry)) c (now (store .exit)) r ⌝ }
 {
     let mut p = from;
@@ -813,7 +813,7 @@ fn stmts(store: &mut [u32], c: Cursor, s: &[u8], b: &[u8], from: usize, to: usiz
 
 // The last expression of a block, where it is there.
 fn last(store: &mut [u32], c: Cursor, s: &[u8], b: &[u8], at: usize, first: bool) -> Cursor
-    requires { ⌜ Has MaybeExprAt (now s) (now b) at ⌝ }
+    requires { ⌜ Has MaybeExprAt (lastFrom first) (now s) (now b) at c ⌝ }
     ensures { λ r. ⌜ LaidAs MaybeExprAt (lastFrom first) (now (s .entry)) (now (b .entry)) at (now (store .entry)) c (now (store .exit)) r ⌝ }
 {
     if is_absent(b, at) {
@@ -825,7 +825,7 @@ fn last(store: &mut [u32], c: Cursor, s: &[u8], b: &[u8], at: usize, first: bool
 }
 
 fn stmt(store: &mut [u32], c: Cursor, s: &[u8], b: &[u8], at: usize) -> Cursor
-    requires { ⌜ Has StmtAt (now s) (now b) at ⌝ }
+    requires { ⌜ Has StmtAt stmtRule (now s) (now b) at c ⌝ }
     ensures { λ r. ⌜ LaidAs StmtAt stmtRule (now (s .entry)) (now (b .entry)) at (now (store .entry)) c (now (store .exit)) r ⌝ }
 {
     match kind(b, at) {
@@ -847,7 +847,7 @@ fn stmt(store: &mut [u32], c: Cursor, s: &[u8], b: &[u8], at: usize) -> Cursor
 
 // `let`
 fn bind(store: &mut [u32], c: Cursor, s: &[u8], b: &[u8], at: usize) -> Cursor
-    requires { ⌜ Has LetAt (now s) (now b) at ⌝ }
+    requires { ⌜ Has LetAt letRule (now s) (now b) at c ⌝ }
     ensures { λ r. ⌜ LaidAs LetAt letRule (now (s .entry)) (now (b .entry)) at (now (store .entry)) c (now (store .exit)) r ⌝ }
 {
     let p = second(b, at);
@@ -862,7 +862,7 @@ fn bind(store: &mut [u32], c: Cursor, s: &[u8], b: &[u8], at: usize) -> Cursor
 
 // The type of a `let`, where it is there.
 fn ann(store: &mut [u32], c: Cursor, s: &[u8], b: &[u8], at: usize) -> Cursor
-    requires { ⌜ Has MaybeTypeAt (now s) (now b) at ⌝ }
+    requires { ⌜ Has MaybeTypeAt letType (now s) (now b) at c ⌝ }
     ensures { λ r. ⌜ LaidAs MaybeTypeAt letType (now (s .entry)) (now (b .entry)) at (now (store .entry)) c (now (store .exit)) r ⌝ }
 {
     if is_absent(b, at) {

@@ -6,6 +6,7 @@ use crate::numbers::end;
 use crate::numbers::payload;
 use crate::numbers::start;
 use crate::pieces::gap;
+use rows::store::Bytes;
 use state::Cursor;
 use state::leaves::ascii;
 use state::words::FALSE;
@@ -15,16 +16,17 @@ use state::words::word;
 
 // `Node::Ascii` of `span_content`: the source between the ends of the record's span.
 pub fn content(store: &mut [u32], c: Cursor, s: &[u8], b: &[u8], at: usize) -> Cursor
-    requires { ⌜ Has SpanAt (now s) (now b) at ⌝ }
+    requires { ⌜ Has SpanAt contentRule (now s) (now b) at c ⌝ }
     ensures { λ r. ⌜ LaidAs SpanAt contentRule (now (s .entry)) (now (b .entry)) at (now (store .entry)) c (now (store .exit)) r ⌝ }
 {
     let from = start(b, at);
     let to = end(b, at);
-    ascii(store, c, from, to - from)
+    let size = Bytes((to - from) as usize);
+    ascii(store, c, from, size)
 }
 
 pub fn literal(store: &mut [u32], c: Cursor, s: &[u8], b: &[u8], at: usize) -> Cursor
-    requires { ⌜ Has LiteralAt (now s) (now b) at ⌝ }
+    requires { ⌜ Has LiteralAt literalRule (now s) (now b) at c ⌝ }
     ensures { λ r. ⌜ LaidAs LiteralAt literalRule (now (s .entry)) (now (b .entry)) at (now (store .entry)) c (now (store .exit)) r ⌝ }
 {
     let position = end(b, at);

@@ -3,7 +3,7 @@ ghost use mathlib.Core.Path.{_≡_};
 ghost use Rattle.tree.specs.At.{IdentAt, IdentsAt, PathAt};
 ghost use Rattle.rows.specs.Node.{line};
 ghost use Rattle.state.specs.Act.{when, push};
-ghost use Rattle.state.specs.Laid.{Laid};
+ghost use Rattle.state.specs.Laid.{Room, Laid};
 ghost use Rattle.layout.specs.Layout.{ident, pathNext, pathMore, pathRule};
 ghost use Rattle.layout.specs.Contracts.{Has, LaidAs, HasAll, LaidAll};
 ghost use Rattle.layout.specs.Forms.{fieldName};
@@ -14,6 +14,8 @@ use crate::numbers::second;
 use crate::pieces::gap;
 use comments::pop_trailing_comment;
 use image::bytes::num16;
+use rows::store::Bytes;
+use rows::store::Columns;
 use state::Cursor;
 use state::leaves::line;
 use state::leaves::str;
@@ -25,17 +27,18 @@ use state::words::word;
 
 // `Node::ident`: the text at `at`, with its width.
 pub fn ident(store: &mut [u32], c: Cursor, s: &[u8], b: &[u8], at: usize) -> Cursor
-    requires { ⌜ Has IdentAt (now s) (now b) at ⌝ }
+    requires { ⌜ Has IdentAt ident (now s) (now b) at c ⌝ }
     ensures { λ r. ⌜ LaidAs IdentAt ident (now (s .entry)) (now (b .entry)) at (now (store .entry)) c (now (store .exit)) r ⌝ }
 {
     let from = at + 15;
-    let width = num16(b, at + HEAD);
-    let size = past(b, at) - from;
-    str(store, c, from as u32, size as u32, width as u32)
+    let width = Columns(num16(b, at + HEAD));
+    let size = Bytes(past(b, at) - from);
+    str(store, c, from as u32, size, width)
 }
 
 // A line, where line breaks are allowed.
 fn line_if(store: &mut [u32], c: Cursor, breaks: bool) -> Cursor
+    requires { ⌜ Room (when breaks (push line)) c ⌝ }
     ensures { λ r. ⌜ Laid (when breaks (push line)) (now (store .entry)) c (now (store .exit)) r ⌝ }
 {
     if breaks {
@@ -46,7 +49,7 @@ fn line_if(store: &mut [u32], c: Cursor, breaks: bool) -> Cursor
 
 // An identifier of a path, after the first.
 fn path_next(store: &mut [u32], c: Cursor, s: &[u8], b: &[u8], at: usize, breaks: bool) -> Cursor
-    requires { ⌜ Has IdentAt (now s) (now b) at ⌝ }
+    requires { ⌜ Has IdentAt (λ g. pathNext g breaks) (now s) (now b) at c ⌝ }
     ensures { λ r. ⌜ LaidAs IdentAt (λ g. pathNext g breaks) (now (s .entry)) (now (b .entry)) at (now (store .entry)) c (now (store .exit)) r ⌝ }
 {
     let position = end(b, at);
@@ -66,7 +69,7 @@ fn path_more(
     to: usize,
     breaks: bool,
 ) -> Cursor
-    requires { ⌜ HasAll IdentsAt (now s) (now b) from to ⌝ }
+    requires { ⌜ HasAll IdentsAt (λ g. pathMore g breaks) (now s) (now b) from to c ⌝ }
     ensures { λ r. ⌜ LaidAll IdentsAt (λ g. pathMore g breaks) (now (s .entry)) (now (b .entry)) from to (now (store .entry)) c (now (store .exit)) r ⌝ }
 {
     let mut p = from;
@@ -87,7 +90,7 @@ pub fn path(
     group: bool,
     breaks: bool,
 ) -> Cursor
-    requires { ⌜ Has PathAt (now s) (now b) at ⌝ }
+    requires { ⌜ Has PathAt (λ g p. pathRule g p group breaks) (now s) (now b) at c ⌝ }
     ensures { λ r. ⌜ LaidAs PathAt (λ g p. pathRule g p group breaks) (now (s .entry)) (now (b .entry)) at (now (store .entry)) c (now (store .exit)) r ⌝ }
 {
     let from = second(b, at);
@@ -108,7 +111,7 @@ pub fn path(
 
 // The field of an access, after its dot.
 pub fn field_name(store: &mut [u32], c: Cursor, s: &[u8], b: &[u8], at: usize) -> Cursor
-    requires { ⌜ Has IdentAt (now s) (now b) at ⌝ }
+    requires { ⌜ Has IdentAt fieldName (now s) (now b) at c ⌝ }
     ensures { λ r. ⌜ LaidAs IdentAt fieldName (now (s .entry)) (now (b .entry)) at (now (store .entry)) c (now (store .exit)) r ⌝ }
 {
     let d = line(store, c);

@@ -2,14 +2,13 @@
 ghost use mathlib.Core.Path.{_≡_};
 ghost use lib.ListN.{getD};
 ghost use Rattle.rows.specs.Words.{table};
-ghost use Rattle.tree.specs.Syntax.{Span};
 ghost use Rattle.rows.specs.Node.{wrapParent};
 ghost use Rattle.state.specs.Act.{_⨟_, says, when, push};
-ghost use Rattle.state.specs.Laid.{Laid};
-ghost use Rattle.comments.specs.Listed.{given};
+ghost use Rattle.state.specs.Laid.{Room, Laid};
+ghost use Rattle.comments.specs.Listed.{span, given};
 ghost use Rattle.layout.specs.Layout.{gap, trailing, edge, isWrap, opens, beforeElem, ends};
 ghost use Rattle.layout.specs.Contracts.{Accepted};
-ghost use Rattle.layout.specs.Elems.{mark, LaidHollow};
+ghost use Rattle.layout.specs.Elems.{mark, HasHollow, LaidHollow};
 use crate::kinds::WrapStyle;
 use comments::pop_trailing_comment;
 use comments::pop_whitespace;
@@ -35,6 +34,7 @@ pub fn gap(
     only: bool,
 ) -> Cursor
     requires { ⌜ Accepted (now s) (now b) ⌝ }
+    requires { ⌜ Room (gap (given (now s) (now b)) position leading trailing only) c ⌝ }
     ensures { λ r. ⌜ Laid (gap (given (now (s .entry)) (now (b .entry))) position leading trailing only) (now (store .entry)) c (now (store .exit)) r ⌝ }
 {
     let a = pop_whitespace(store, c, s, b, position, leading, trailing, only);
@@ -43,6 +43,7 @@ pub fn gap(
 
 // The line or the space inside the brackets of `separated`.
 pub fn edge(store: &mut [u32], c: Cursor, style: WrapStyle) -> Cursor
+    requires { ⌜ Room (edge style) c ⌝ }
     ensures { λ r. ⌜ Laid (edge style) (now (store .entry)) c (now (store .exit)) r ⌝ }
 {
     match style {
@@ -54,6 +55,7 @@ pub fn edge(store: &mut [u32], c: Cursor, style: WrapStyle) -> Cursor
 
 // `WrapParent`, where the list always wraps.
 fn must_wrap(store: &mut [u32], c: Cursor, style: WrapStyle) -> Cursor
+    requires { ⌜ Room (when (isWrap style) (push wrapParent)) c ⌝ }
     ensures { λ r. ⌜ Laid (when (isWrap style) (push wrapParent)) (now (store .entry)) c (now (store .exit)) r ⌝ }
 {
     match style {
@@ -65,6 +67,7 @@ fn must_wrap(store: &mut [u32], c: Cursor, style: WrapStyle) -> Cursor
 
 // What comes before the elements.
 pub fn open_list(store: &mut [u32], c: Cursor, left: usize, style: WrapStyle) -> Cursor
+    requires { ⌜ Room (opens (getD table left "") style) c ⌝ }
     ensures { λ r. ⌜ Laid (opens (getD table left "") style) (now (store .entry)) c (now (store .exit)) r ⌝ }
 {
     let d = must_wrap(store, c, style);
@@ -83,6 +86,7 @@ pub fn before_elem(
     commas: bool,
 ) -> Cursor
     requires { ⌜ Accepted (now s) (now b) ⌝ }
+    requires { ⌜ Room (beforeElem (given (now s) (now b)) (mark commas) first position) c ⌝ }
     ensures { λ r. ⌜ Laid (beforeElem (given (now (s .entry)) (now (b .entry))) (mark commas) first position) (now (store .entry)) c (now (store .exit)) r ⌝ }
 {
     if first {
@@ -108,7 +112,8 @@ pub fn end_elems(
     commas: bool,
 ) -> Cursor
     requires { ⌜ Accepted (now s) (now b) ⌝ }
-    ensures { λ r. ⌜ ((p : Span) → end ≡ p .end → Laid (ends (given (now (s .entry)) (now (b .entry))) (mark commas) id p) (now (store .entry)) c (now (store .exit)) r) ⌝ }
+    requires { ⌜ Room (ends (given (now s) (now b)) (mark commas) id (span 0 end)) c ⌝ }
+    ensures { λ r. ⌜ Laid (ends (given (now (s .entry)) (now (b .entry))) (mark commas) id (span 0 end)) (now (store .entry)) c (now (store .exit)) r ⌝ }
 {
     if commas {
         let d = if_wrap(store, c, id, COMMA);
@@ -127,6 +132,7 @@ pub fn close_list(
     style: WrapStyle,
 ) -> Cursor
     requires { ⌜ Accepted (now s) (now b) ⌝ }
+    requires { ⌜ Room (edge style ⨟ says (getD table right "") ⨟ trailing (given (now s) (now b))) c ⌝ }
     ensures { λ r. ⌜ Laid (edge style ⨟ says (getD table right "") ⨟ trailing (given (now (s .entry)) (now (b .entry)))) (now (store .entry)) c (now (store .exit)) r ⌝ }
 {
     let d = edge(store, c, style);
@@ -144,7 +150,7 @@ pub fn hollow(
     left: usize,
     right: usize,
 ) -> Cursor
-    requires { ⌜ Accepted (now s) (now b) ⌝ }
+    requires { ⌜ HasHollow left right end (now s) (now b) c ⌝ }
     ensures { λ r. ⌜ LaidHollow left right end (now (s .entry)) (now (b .entry)) (now (store .entry)) c (now (store .exit)) r ⌝ }
 {
     let d = word(store, c, left);

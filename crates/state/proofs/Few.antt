@@ -1,5 +1,5 @@
 -- How many rows and numbers a step takes at most: k rows, and two more for each comment that it places; t numbers. A bound on a whole tree
--- put together from these says that there is room, so that what `Laid` promises under `Room` holds.
+-- put together from these says that there is room for what a layout function requires it for.
 -- Assumes nothing.
 use mathlib.Core.Bool.{Bool, true, false, cond}
 use Prim.Native.Nat.{ℕ, _+_, _*_, _≤_}
@@ -21,7 +21,7 @@ pub record Few (k t : ℕ) (a : Act) : Type 0 where
   pub at : (s : St) → FewAt k t s (a s)
 
 pub few-room : {k t : ℕ} {a : Act} (c : Cursor) (n : ℕ) → Few k t a → a (st c) .placed ≤ n → c .row + (k + 2 * n) ≤ top → c .number + t ≤ top
-    → Room (a (st c)) c
+    → Room a c
 few-room {k} {t} {a} c n f h rows numbers =
     let g = f .at (st c) in
     record { rows-fit = omega (arith, g .rows); numbers-fit = omega (arith, g .numbers) }

@@ -1,8 +1,7 @@
 -- What a function of layout does to the store and to the cursor: one contract for all of them.
 use mathlib.Core.Path.{_≡_}
-use Prim.Native.Nat.{ℕ, _+_, _*_, _≤_}
+use Prim.Native.Nat.{ℕ, _+_, _*_, _≤_, _<_}
 use mathlib.Core.List.{List}
-use mathlib.Core.Bool.{Bool}
 use lib.Seq.{sets}
 use Rattle.rows.specs.Node.{Text}
 use Rattle.rows.specs.Rows.{sizes, row, rows, noText}
@@ -31,30 +30,31 @@ abbrev pub top : ℕ
 top = 4294967295
 
 -- the rows and the group numbers of a step can be numbered
-pub record Room (o : Out) (c : Cursor) : Type 0 where
-  pub rows-fit : c .row + sizes (o .nodes) ≤ top
-  pub numbers-fit : c .number + o .taken ≤ top
+pub record Room (a : Act) (c : Cursor) : Type 0 where
+  pub rows-fit : c .row + sizes (a (st c) .nodes) ≤ top
+  pub numbers-fit : c .number + a (st c) .taken ≤ top
 
--- the rows of a step are in the store, as far as it reaches, and the cursor is where the step leaves it
-pub record Done (o : Out) (s : List ℕ) (c : Cursor) (s′ : List ℕ) (c′ : Cursor) : Type 0 where
-  pub stored : s′ ≡ sets s (9 * c .row) (rows (o .nodes) (c .row))
-  pub moved : c′ ≡ after c o
+-- the row of a node with parts can be numbered, and so can the node
+pub record Opens (taken : ℕ) (c : Cursor) : Type 0 where
+  pub row-fits : c .row < top
+  pub numbers-fit : c .number + taken ≤ top
 
--- a step is laid: the store s and the cursor c become s′ and c′
+-- a step is laid: its rows are in the store, as far as it reaches, and the cursor is where the step leaves it
 pub record Laid (a : Act) (s : List ℕ) (c : Cursor) (s′ : List ℕ) (c′ : Cursor) : Type 0 where
-  pub does : Room (a (st c)) c → Done (a (st c)) s c s′ c′
+  pub stored : s′ ≡ sets s (9 * c .row) (rows (a (st c) .nodes) (c .row))
+  pub moved : c′ ≡ after c (a (st c))
 
 -- a step that answers is laid, and r holds its answer
 pub record LaidAsking (a : Asking) (s : List ℕ) (c : Cursor) (s′ : List ℕ) (r : Asked) : Type 0 where
   pub laid : Laid (told a) s c s′ (r .cursor)
-  pub answers : Room (told a (st c)) c → r .answer ≡ a (st c) .1
+  pub answers : r .answer ≡ a (st c) .1
 
 -- a row is written, as one without parts
 pub record Written (kind n k : ℕ) (t : Text) (w : ℕ) (s : List ℕ) (c : Cursor) (s′ : List ℕ) (c′ : Cursor) : Type 0 where
-  pub stored : c .row + 1 ≤ top → s′ ≡ sets s (9 * c .row) (row kind n k 0 (c .row + 1) t w)
-  pub moved : c .row + 1 ≤ top → c′ ≡ cursor (c .row + 1) (c .number) (c .pos) (c .placed)
+  pub stored : s′ ≡ sets s (9 * c .row) (row kind n k 0 (c .row + 1) t w)
+  pub moved : c′ ≡ cursor (c .row + 1) (c .number) (c .pos) (c .placed)
 
 -- the row of a node with parts is written, as one without them, and the node's numbers are taken
 pub record Opened (kind n k taken : ℕ) (s : List ℕ) (c : Cursor) (s′ : List ℕ) (c′ : Cursor) : Type 0 where
-  pub stored : c .row + 1 ≤ top → c .number + taken ≤ top → s′ ≡ sets s (9 * c .row) (row kind n k 0 (c .row + 1) noText 0)
-  pub moved : c .row + 1 ≤ top → c .number + taken ≤ top → c′ ≡ cursor (c .row + 1) (c .number + taken) (c .pos) (c .placed)
+  pub stored : s′ ≡ sets s (9 * c .row) (row kind n k 0 (c .row + 1) noText 0)
+  pub moved : c′ ≡ cursor (c .row + 1) (c .number + taken) (c .pos) (c .placed)

@@ -2,20 +2,20 @@
 ghost use mathlib.Core.Path.{_≡_};
 ghost use Prim.Native.Nat.{_+_, _*_};
 ghost use lib.ListN.{set};
-ghost use Rattle.state.specs.Laid.{Opened};
+ghost use Rattle.state.specs.Laid.{Opens, Opened};
 use crate::Cursor;
-use crate::store::next;
 use crate::store::plain_row;
 use crate::store::put;
 
 // `Node::Group`, which takes the next number.
 pub fn open_group(store: &mut [u32], c: Cursor) -> Cursor
+    requires { ⌜ Opens 1 c ⌝ }
     ensures { λ r. ⌜ Opened 0 (c .number) 0 1 (now (store .entry)) c (now (store .exit)) r ⌝ }
 {
     let d = plain_row(store, c, 0, c.number, 0);
     Cursor {
         row: d.row,
-        number: next(c.number),
+        number: c.number + 1,
         pos: c.pos,
         placed: c.placed,
     }
@@ -23,6 +23,7 @@ pub fn open_group(store: &mut [u32], c: Cursor) -> Cursor
 
 // `Node::Indent`
 pub fn open_indent(store: &mut [u32], c: Cursor) -> Cursor
+    requires { ⌜ Opens 0 c ⌝ }
     ensures { λ r. ⌜ Opened 1 0 0 0 (now (store .entry)) c (now (store .exit)) r ⌝ }
 {
     plain_row(store, c, 1, 0, 0)
@@ -30,6 +31,7 @@ pub fn open_indent(store: &mut [u32], c: Cursor) -> Cursor
 
 // `Node::IndentNext`
 pub fn open_indent_next(store: &mut [u32], c: Cursor) -> Cursor
+    requires { ⌜ Opens 0 c ⌝ }
     ensures { λ r. ⌜ Opened 2 0 0 0 (now (store .entry)) c (now (store .exit)) r ⌝ }
 {
     plain_row(store, c, 2, 0, 0)
@@ -37,13 +39,14 @@ pub fn open_indent_next(store: &mut [u32], c: Cursor) -> Cursor
 
 // `Node::Call`, which takes the next two numbers.
 pub fn open_call(store: &mut [u32], c: Cursor) -> Cursor
+    requires { ⌜ Opens 2 c ⌝ }
     ensures { λ r. ⌜ Opened 11 (c .number) (c .number + 1) 2 (now (store .entry)) c (now (store .exit)) r ⌝ }
 {
-    let second = next(c.number);
+    let second = c.number + 1;
     let d = plain_row(store, c, 11, c.number, second);
     Cursor {
         row: d.row,
-        number: next(second),
+        number: second + 1,
         pos: c.pos,
         placed: c.placed,
     }

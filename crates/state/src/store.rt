@@ -1,12 +1,13 @@
-// Writing rows. A place past the end of the store is dropped, and the numbers of rows and groups stop at the largest: a run over an empty
-// store still counts the rows.
+// Writing rows. A place past the end of the store is dropped: a run over an empty store still counts the rows.
 ghost use mathlib.Core.Path.{_≡_};
 ghost use Prim.Native.Nat.{_+_, _*_, _≤_, _<_, _^_};
 ghost use lib.ListN.{length, set};
 ghost use lib.Seq.{sets};
 ghost use Rattle.rows.specs.Rows.{row as cells, noText};
-ghost use Rattle.state.specs.Laid.{text, Written};
+ghost use Rattle.state.specs.Laid.{text, top, Written};
 use crate::Cursor;
+use rows::store::Bytes;
+use rows::store::Columns;
 
 // Stores v at i, or nothing where i is past the end.
 pub fn put(store: &mut [u32], i: usize, v: u32)
@@ -15,13 +16,6 @@ pub fn put(store: &mut [u32], i: usize, v: u32)
     if i < store.len() {
         store[i] = v;
     }
-}
-
-// One more, up to the largest number.
-pub fn next(x: u32) -> u32
-    ensures { λ r. ⌜ (x + 1 ≤ 4294967295 → r ≡ x + 1) ⌝ }
-{
-    if x < 4294967295 { x + 1 } else { x }
 }
 
 // Writes the nine places of a row from i on, which the store has.
@@ -125,12 +119,12 @@ fn write_row(
 
 // A row without a text.
 pub fn plain_row(store: &mut [u32], c: Cursor, kind: u32, number: u32, number2: u32) -> Cursor
+    requires { ⌜ c .row < top ⌝ }
     ensures { λ r. ⌜ Written kind number number2 noText 0 (now (store .entry)) c (now (store .exit)) r ⌝ }
 {
-    let after = next(c.row);
-    write_row(store, c.row, kind, number, number2, after, 0, 0, 0, 0);
+    write_row(store, c.row, kind, number, number2, c.row + 1, 0, 0, 0, 0);
     Cursor {
-        row: after,
+        row: c.row + 1,
         number: c.number,
         pos: c.pos,
         placed: c.placed,
@@ -144,13 +138,29 @@ pub fn text_row(
     kind: u32,
     origin: u32,
     start: u32,
-    size: u32,
-    width: u32,
+    size: Bytes,
+    width: Columns,
 ) -> Cursor
-    ensures { λ r. ⌜ Written kind 0 0 (text origin start size) width (now (store .entry)) c (now (store .exit)) r ⌝ }
+    requires { ⌜ c .row < top ⌝ }
+    requires { ⌜ size .0 ≤ top ⌝ }
+    requires { ⌜ width .0 ≤ top ⌝ }
+    ensures { λ r. ⌜ Written kind 0 0 (text origin start (size .0)) (width .0) (now (store .entry)) c (now (store .exit)) r ⌝ }
 {
-    let after = next(c.row);
-    write_row(store, c.row, kind, 0, 0, after, origin, start, size, width);
+    let after = c.row + 1;
+    let length = size.0 as u32;
+    let columns = width.0 as u32;
+    write_row(
+        store,
+        c.row,
+        kind,
+        0,
+        0,
+        after,
+        origin,
+        start,
+        length,
+        columns,
+    );
     Cursor {
         row: after,
         number: c.number,

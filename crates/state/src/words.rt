@@ -1,17 +1,20 @@
-// The fixed words of fmt.rs. A word is named by its place in the list of words, and NO_WORD is the empty word.
+// The fixed words of fmt.rs. A word is named by its place in the list of words, and NO_WORD is the empty word. RETURN, ADD_ASSIGN and AND are
+// the first of a run of words, whose others are found by their distance from it.
 ghost use mathlib.Core.Path.{_≡_};
 ghost use Prim.Native.Nat.{_≤_};
 ghost use lib.ListN.{getD};
 ghost use Rattle.rows.specs.Node.{ascii, ifWrap};
 ghost use Rattle.rows.specs.Words.{table, word};
 ghost use Rattle.state.specs.Act.{push, says};
-ghost use Rattle.state.specs.Laid.{Laid};
+ghost use Rattle.state.specs.Laid.{Room, Laid};
 ghost use Rattle.state.specs.Place.{Place};
 use crate::Cursor;
 use crate::parts::close;
 use crate::parts::set_second;
 use crate::store::plain_row;
 use crate::store::text_row;
+use rows::store::Bytes;
+use rows::store::Columns;
 
 pub const FILTERMAP: usize = 0;
 
@@ -33,10 +36,6 @@ pub const LET: usize = 8;
 
 pub const RETURN: usize = 9;
 
-pub const ACCEPT: usize = 10;
-
-pub const REJECT: usize = 11;
-
 pub const MATCH: usize = 12;
 
 pub const IF: usize = 13;
@@ -56,14 +55,6 @@ pub const FAT_ARROW: usize = 19;
 pub const ASSIGN: usize = 20;
 
 pub const ADD_ASSIGN: usize = 21;
-
-pub const SUB_ASSIGN: usize = 22;
-
-pub const MUL_ASSIGN: usize = 23;
-
-pub const DIV_ASSIGN: usize = 24;
-
-pub const REM_ASSIGN: usize = 25;
 
 pub const COLON: usize = 26;
 
@@ -106,30 +97,6 @@ pub const TRUE: usize = 44;
 pub const FALSE: usize = 45;
 
 pub const AND: usize = 46;
-
-pub const OR: usize = 47;
-
-pub const EQ: usize = 48;
-
-pub const NE: usize = 49;
-
-pub const LT: usize = 50;
-
-pub const LE: usize = 51;
-
-pub const GT: usize = 52;
-
-pub const GE: usize = 53;
-
-pub const PLUS: usize = 54;
-
-pub const TIMES: usize = 55;
-
-pub const DIVIDE: usize = 56;
-
-pub const REMAINDER: usize = 57;
-
-pub const POWER: usize = 58;
 
 pub const NO_WORD: usize = 59;
 
@@ -213,14 +180,24 @@ fn later_place(k: usize) -> u32
 
 // `Node::Ascii` of the word at place k.
 pub fn word(store: &mut [u32], c: Cursor, k: usize) -> Cursor
+    requires { ⌜ Room (says (getD table k "")) c ⌝ }
     ensures { λ r. ⌜ Laid (says (getD table k "")) (now (store .entry)) c (now (store .exit)) r ⌝ }
 {
     let place = place_of(k);
-    text_row(store, c, 6, 2, place / 16, place % 16, 0)
+    text_row(
+        store,
+        c,
+        6,
+        2,
+        place / 16,
+        Bytes((place % 16) as usize),
+        Columns(0),
+    )
 }
 
 // `Node::IfWrap` of `separated`: the word at place k where the group with the number wraps, and nothing where it doesn't.
 pub fn if_wrap(store: &mut [u32], c: Cursor, number: u32, k: usize) -> Cursor
+    requires { ⌜ Room (push (ifWrap number (ascii (word (getD table k ""))) (ascii (word "")))) c ⌝ }
     ensures { λ r. ⌜ Laid (push (ifWrap number (ascii (word (getD table k ""))) (ascii (word "")))) (now (store .entry)) c (now (store .exit)) r ⌝ }
 {
     let d = plain_row(store, c, 10, number, 0);

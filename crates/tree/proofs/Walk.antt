@@ -9,12 +9,7 @@ use lib.ListN.{take, drop}
 use Rattle.image.specs.Read.{stopAt}
 use Rattle.tree.specs.Syntax.{Declaration}
 use Rattle.tree.specs.At.{DeclarationsAt}
-
--- where declaration k of those from `at` on starts; past the last, where they end
-unfoldable pub walked : List ℕ → List Declaration → ℕ → ℕ → ℕ
-walked b ds zero at = at
-walked b [] (suc k) at = at
-walked b (d ∷ ds) (suc k) at = walked b ds k (stopAt b at)
+use Rattle.tree.specs.Walk.{walked}
 
 module _ (s b : List ℕ) where
   pub declarations-from : (ds : List Declaration) (k at end : ℕ) → DeclarationsAt s b ds at end → DeclarationsAt s b (drop k ds) (walked b ds k at) end

@@ -1,41 +1,28 @@
 -- The loop, and then one of three ends, by the tests that led there.
-use mathlib.Core.Path.{sym, _∙_}
-use Rattle.comments.proofs.Pops.{laid-ignored, laid-trailing, laid-only, laid-neither}
-use Rattle.comments.specs.Listed.{given}
-use mathlib.Core.Logic.{⊎-elim, inl, inr}
+-- Assumes nothing.
 use borrow.Author.Needs.{needs}
+use mathlib.Core.Path.{sym, _∙_}
+use mathlib.Core.List.{[]}
+use mathlib.Core.Logic.{⊎-elim, inl, inr}
+use Rattle.comments.proofs.Pops.{laid-ignored, any-image, room-comments, room-trailing, laid-trailing, room-only, laid-only, laid-neither}
+use Rattle.comments.specs.Listed.{given}
 use Rattle.comments.proofs.place_comments.Statement.{statement}
 use Rattle.comments.proofs.place_comments.Tie as tie
 
-is-waiting-requires : tie.Need-is-waiting-requires
-is-waiting-requires c κs = search needs
-
 pop-comments-requires : tie.Need-pop-comments-requires
-pop-comments-requires c κs = search needs
+pop-comments-requires c κs = (c .before .before .before .before .before .pre .0, room-comments (given (c .before .before .before .before .before .args .source .now) (c .before .before .before .before .before .args .image .now)) (c .before .before .before .before .before .args .position) (c .before .before .before .before .before .args .leading) (c .before .before .before .before .before .args .trailing) (c .before .before .before .before .before .args .only) (c .before .before .before .before .before .pre .1))
 
 newlines-requires : tie.Need-newlines-requires
-newlines-requires c κs = search needs
-
-same-length : tie.Need-same-length
-same-length c = search needs
+newlines-requires c κs = any-image (c .before .before .before .before .before .before .before .before .before .before .before .args .source .now) (c .before .before .before .before .before .before .before .before .before .before .before .args .image .now) [] (c .before .before .before .before .before .before .before .before .before .before .before .args .position) (room-trailing (given (c .before .before .before .before .before .before .before .before .before .before .before .args .source .now) (c .before .before .before .before .before .before .before .before .before .before .before .args .image .now)) (c .before .before .before .before .before .before .before .before .before .before .before .args .position) (c .before .before .before .before .before .before .before .before .before .before .before .args .leading) (c .before .before .before .before .before .before .before .before .before .before .before .args .trailing) (c .before .before .before .before .before .before .before .before .before .before .before .args .only) (sym (c .before .before .before .before .before .before .before .is-waiting .ensures (c .before .before .before .before .before .before .before .before .before .before .before .args .source .now)) ∙ c .before .before .if1 .taken) (c .before .if2 .taken) (c .before .before .before .before .before .pop-comments .ensures) (c .before .before .before .before .before .before .before .before .before .before .before .pre .1))
 
 returns : tie.Need-returns
 returns c = laid-trailing (given (c .before .before .before .before .before .before .before .before .before .before .before .before .before .before .before .args .source .now) (c .before .before .before .before .before .before .before .before .before .before .before .before .before .before .before .args .image .now)) (c .before .before .before .before .before .before .before .before .before .before .before .before .before .before .before .args .position) (c .before .before .before .before .before .before .before .before .before .before .before .before .before .before .before .args .leading) (c .before .before .before .before .before .before .before .before .before .before .before .before .before .before .before .args .only) (sym (c .before .before .before .before .before .before .before .before .before .before .before .is-waiting .ensures (c .before .before .before .before .before .before .before .before .before .before .before .before .before .before .before .args .source .now)) ∙ c .before .before .before .before .before .before .if1 .taken) (c .before .before .before .before .before .if2 .taken) (c .before .before .before .before .before .before .before .before .before .pop-comments .ensures) (c .before .before .before .newlines .ensures (c .before .before .before .before .before .before .before .before .before .before .before .before .before .before .before .args .image .now) .laid)
 
 newlines-requires-2 : tie.Need-newlines-requires-2
-newlines-requires-2 c κs = search needs
-
-same-length-2 : tie.Need-same-length-2
-same-length-2 c = search needs
+newlines-requires-2 c κs = any-image (c .before .before .before .before .before .before .before .before .before .before .before .args .source .now) (c .before .before .before .before .before .before .before .before .before .before .before .args .image .now) [] (c .before .before .before .before .before .before .before .before .before .before .before .args .position) (room-only (given (c .before .before .before .before .before .before .before .before .before .before .before .args .source .now) (c .before .before .before .before .before .before .before .before .before .before .before .args .image .now)) (c .before .before .before .before .before .before .before .before .before .before .before .args .position) (c .before .before .before .before .before .before .before .before .before .before .before .args .leading) (c .before .before .before .before .before .before .before .before .before .before .before .args .trailing) (c .before .before .before .before .before .before .before .before .before .before .before .args .only) (⊎-elim (λ w. inl (w .1 .left)) (λ w. inr (sym (c .before .before .before .before .before .before .before .is-waiting .ensures (c .before .before .before .before .before .before .before .before .before .before .before .args .source .now)) ∙ w .left)) (c .before .before .if1 .came)) (c .before .if3 .taken) (c .before .before .before .before .before .pop-comments .ensures) (c .before .before .before .before .before .before .before .before .before .before .before .pre .1))
 
 returns-2 : tie.Need-returns-2
 returns-2 c = laid-only (given (c .before .before .before .before .before .before .before .before .before .before .before .before .before .before .args .source .now) (c .before .before .before .before .before .before .before .before .before .before .before .before .before .before .args .image .now)) (c .before .before .before .before .before .before .before .before .before .before .before .before .before .before .args .position) (c .before .before .before .before .before .before .before .before .before .before .before .before .before .before .args .leading) (c .before .before .before .before .before .before .before .before .before .before .before .before .before .before .args .trailing) (⊎-elim (λ w. inl (w .1 .left)) (λ w. inr (sym (c .before .before .before .before .before .before .before .before .before .before .is-waiting .ensures (c .before .before .before .before .before .before .before .before .before .before .before .before .before .before .args .source .now)) ∙ w .left)) (c .before .before .before .before .before .if1 .came)) (c .before .before .before .before .if3 .taken) (c .before .before .before .before .before .before .before .before .pop-comments .ensures) (c .before .before .newlines2 .ensures (c .before .before .before .before .before .before .before .before .before .before .before .before .before .before .args .image .now))
-
-ignore-newlines-requires : tie.Need-ignore-newlines-requires
-ignore-newlines-requires c κs = search needs
-
-same-length-3 : tie.Need-same-length-3
-same-length-3 c = search needs
 
 returns-3 : tie.Need-returns-3
 returns-3 c = laid-neither (given (c .before .before .before .before .before .before .before .before .before .before .before .args .source .now) (c .before .before .before .before .before .before .before .before .before .before .before .args .image .now)) (c .before .before .before .before .before .before .before .before .before .before .before .args .position) (c .before .before .before .before .before .before .before .before .before .before .before .args .leading) (c .before .before .before .before .before .before .before .before .before .before .before .args .trailing) (⊎-elim (λ w. inl (w .1 .left)) (λ w. inr (sym (c .before .before .before .before .before .before .before .is-waiting .ensures (c .before .before .before .before .before .before .before .before .before .before .before .args .source .now)) ∙ w .left)) (c .before .before .if1 .came)) (c .before .if3 .left) (c .before .before .before .before .before .pop-comments .ensures) (laid-ignored (given (c .before .before .before .before .before .before .before .before .before .before .before .args .source .now) (c .before .before .before .before .before .before .before .before .before .before .before .args .image .now)) (c .before .before .before .before .before .before .before .before .before .before .before .args .position) (c .ignore-newlines .ensures (c .before .before .before .before .before .before .before .before .before .before .before .args .source .now)))
@@ -44,14 +31,14 @@ pub place-comments-spec : {M : Type 1} → statement M
 place-comments-spec =
     tie.close
     (tie.spec
-    is-waiting-requires
+    (λ c κs. search needs)
     pop-comments-requires
     newlines-requires
-    same-length
+    (λ c. search needs)
     returns
     newlines-requires-2
-    same-length-2
+    (λ c. search needs)
     returns-2
-    ignore-newlines-requires
-    same-length-3
+    (λ c κs. search needs)
+    (λ c. search needs)
     returns-3)

@@ -1,13 +1,14 @@
 -- The invariant: whatever finishes the loop from here finishes it from its start. The measure: the comments that are left.
+-- Assumes nothing.
+use borrow.Author.Needs.{needs}
 use mathlib.Core.Path.{_≡_, refl, _∙_}
 use Prim.Native.Nat.{_-_}
 use native.Mathlib.Omega.{arith}
 use Rattle.comments.proofs.Fronts.{count-of, inside, is-none, is-some}
-use Rattle.comments.proofs.Pops.{Going, begin, go-on, end-none, end-late}
+use Rattle.comments.proofs.Pops.{Going, begin, going-room, one-more, go-on, end-none, end-late}
 use Rattle.comments.specs.Listed.{given}
 use Rattle.image.specs.Bytes.{be16}
 use lib.ListN.{length}
-use borrow.Author.Needs.{needs}
 use Rattle.comments.proofs.pop_comments.Statement.{statement}
 use Rattle.comments.proofs.pop_comments.Tie as tie
 
@@ -19,10 +20,10 @@ abbrev μ-loop : tie.MeasureT-loop
 μ-loop store₀ source image position leading d₀ keep₀ store d keep = be16 image 5 - d .placed
 
 loop-holds : tie.Need-loop-holds Inv-loop μ-loop
-loop-holds c = (refl, begin (given (c .before .before .before .args .source .now) (c .before .before .before .args .image .now)) (c .before .before .before .args .position) (c .before .before .before .args .leading) (c .before .before .before .args .store .now) (c .before .before .before .args .c))
+loop-holds c = (refl, begin (given (c .before .before .before .args .source .now) (c .before .before .before .args .image .now)) (c .before .before .before .args .position) (c .before .before .before .args .leading) (c .before .before .before .args .store .now) (c .before .before .before .args .c) (c .before .before .before .pre .1))
 
 front-requires : tie.Need-front-requires Inv-loop μ-loop
-front-requires c κs = c .before .before .before .before .pre .within
+front-requires c κs = c .before .before .before .before .pre .0 .within
 
 enum-told : tie.Need-enum-told Inv-loop μ-loop
 enum-told c = search needs
@@ -43,13 +44,13 @@ returns-2 : tie.Need-returns-2 Inv-loop μ-loop
 returns-2 c = end-late (given (c .before .before .before .before .before .before .before .before .before .args .source .now) (c .before .before .before .before .before .before .before .before .before .args .image .now)) _ (is-some _ (c .before .before .before .before .front .ensures) (c .before .before .start .given .1)) (c .if1 .taken) (c .before .before .before .before .before .loop .inv .1)
 
 pop-comment-requires : tie.Need-pop-comment-requires Inv-loop μ-loop
-pop-comment-requires c κs = (c .before .before .before .before .before .before .before .before .before .before .pre, (is-some _ (c .before .before .before .before .before .front .ensures) (c .before .before .before .start .given .1)))
+pop-comment-requires c κs = (c .before .before .before .before .before .before .before .before .before .before .pre .0, (is-some _ (c .before .before .before .before .before .front .ensures) (c .before .before .before .start .given .1), going-room (given (c .before .before .before .before .before .before .before .before .before .before .args .source .now) (c .before .before .before .before .before .before .before .before .before .before .args .image .now)) _ (is-some _ (c .before .before .before .before .before .front .ensures) (c .before .before .before .start .given .1)) (c .before .if1 .left) (omega (arith, count-of (c .before .before .before .before .before .before .before .before .before .before .args .image .now), inside _ _ _ (is-some _ (c .before .before .before .before .before .front .ensures) (c .before .before .before .start .given .1)))) (c .before .before .before .before .before .before .loop .inv .1)))
 
 loop-less : tie.Need-loop-less Inv-loop μ-loop
-loop-less c = omega (arith, inside _ _ _ (is-some _ (c .before .before .before .before .before .before .before .before .front .ensures) (c .before .before .before .before .before .before .start .given .1)), c .before .before .pop-comment .ensures .1)
+loop-less c = omega (arith, inside _ _ _ (is-some _ (c .before .before .before .before .before .before .before .before .front .ensures) (c .before .before .before .before .before .before .start .given .1)), one-more (given (c .before .before .before .before .before .before .before .before .before .before .before .before .before .args .source .now) (c .before .before .before .before .before .before .before .before .before .before .before .before .before .args .image .now)) (c .before .before .before .before .before .before .before .before .before .loop .keep) _ (c .before .before .pop-comment .ensures))
 
 loop-again : tie.Need-loop-again Inv-loop μ-loop
-loop-again c = (c .before .before .pop-comment .kept .0 ∙ c .before .before .before .before .before .before .before .before .before .loop .inv .0, go-on (given (c .before .before .before .before .before .before .before .before .before .before .before .before .before .args .source .now) (c .before .before .before .before .before .before .before .before .before .before .before .before .before .args .image .now)) _ (is-some _ (c .before .before .before .before .before .before .before .before .front .ensures) (c .before .before .before .before .before .before .start .given .1)) (c .before .before .before .before .if1 .left) (omega (arith, count-of (c .before .before .before .before .before .before .before .before .before .before .before .before .before .args .image .now), inside _ _ _ (is-some _ (c .before .before .before .before .before .before .before .before .front .ensures) (c .before .before .before .before .before .before .start .given .1)))) (c .before .before .pop-comment .ensures .0) (c .before .before .pop-comment .ensures .1) (c .before .before .before .before .before .before .before .before .before .loop .inv .1))
+loop-again c = (c .before .before .pop-comment .kept .0 ∙ c .before .before .before .before .before .before .before .before .before .loop .inv .0, go-on (given (c .before .before .before .before .before .before .before .before .before .before .before .before .before .args .source .now) (c .before .before .before .before .before .before .before .before .before .before .before .before .before .args .image .now)) _ (is-some _ (c .before .before .before .before .before .before .before .before .front .ensures) (c .before .before .before .before .before .before .start .given .1)) (c .before .before .before .before .if1 .left) (omega (arith, count-of (c .before .before .before .before .before .before .before .before .before .before .before .before .before .args .image .now), inside _ _ _ (is-some _ (c .before .before .before .before .before .before .before .before .front .ensures) (c .before .before .before .before .before .before .start .given .1)))) (c .before .before .pop-comment .ensures) (c .before .before .before .before .before .before .before .before .before .loop .inv .1))
 
 pub pop-comments-spec : {M : Type 1} → statement M
 pop-comments-spec =

@@ -1,43 +1,29 @@
-use Rattle.state.proofs.Laws.{laid-then}
-use Rattle.layout.specs.Layout.{beforeStmt}
 use borrow.Author.Needs.{needs}
+use Rattle.state.proofs.Laws.{room-first, room-past, laid-then}
+use Rattle.layout.specs.Layout.{beforeStmt}
 use Rattle.layout.proofs.blocks.before_stmt.Statement.{statement}
 use Rattle.layout.proofs.blocks.before_stmt.Tie as tie
-use Rattle.layout.proofs.blocks.before_stmt.Reads as reads
-use Rattle.layout.proofs.blocks.before_stmt.Lts as lts
-use Rattle.layout.proofs.pieces.gap.Reads as gap-reads
-use Rattle.state.proofs.leaves.line.Reads as line-reads
 
--- src/blocks.rt:69:13
 gap-requires : tie.Need-gap-requires
-gap-requires c κs = search needs
+unfolding beforeStmt
+gap-requires c κs = (c .before .before .before .before .before .pre .0, room-first _ (rw (c .before .if1 .taken) at (c .before .before .before .before .before .pre .1)))
 
--- src/blocks.rt:70:9
 line-requires : tie.Need-line-requires
-line-requires c κs = search needs
+unfolding beforeStmt
+line-requires c κs = room-past (rw (c .before .before .before .before .before .if1 .taken) at (c .before .before .before .before .before .before .before .before .before .pre .1)) (c .before .before .before .gap .ensures)
 
--- src/blocks.rt:70:9
-same-length : tie.Need-same-length
-same-length c = search needs
-
--- src/blocks.rt:70:9
 returns : tie.Need-returns
 unfolding beforeStmt
 returns c = rw (c .before .before .before .before .before .before .before .before .if1 .taken) (laid-then (c .before .before .before .before .before .before .gap .ensures) (c .before .before .line .ensures))
 
--- src/blocks.rt:72:9
 gap-requires-2 : tie.Need-gap-requires-2
-gap-requires-2 c κs = search needs
+unfolding beforeStmt
+gap-requires-2 c κs = (c .before .before .before .before .before .pre .0, room-first _ (rw (c .before .if1 .left) at (c .before .before .before .before .before .pre .1)))
 
--- src/blocks.rt:73:5
 line-requires-2 : tie.Need-line-requires-2
-line-requires-2 c κs = search needs
+unfolding beforeStmt
+line-requires-2 c κs = room-past (rw (c .before .before .before .before .before .if1 .left) at (c .before .before .before .before .before .before .before .before .before .pre .1)) (c .before .before .before .gap2 .ensures)
 
--- src/blocks.rt:64:1
-same-length-2 : tie.Need-same-length-2
-same-length-2 c = search needs
-
--- src/blocks.rt:64:1
 returns-2 : tie.Need-returns-2
 unfolding beforeStmt
 returns-2 c = rw (c .before .before .before .before .before .before .before .before .if1 .left) (laid-then (c .before .before .before .before .before .before .gap2 .ensures) (c .before .before .line2 .ensures))
@@ -48,9 +34,9 @@ before-stmt-spec =
     (tie.spec
     gap-requires
     line-requires
-    same-length
+    (λ c. search needs)
     returns
     gap-requires-2
     line-requires-2
-    same-length-2
+    (λ c. search needs)
     returns-2)

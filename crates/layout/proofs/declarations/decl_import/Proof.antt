@@ -1,52 +1,35 @@
-use Rattle.state.proofs.Laws.{laid-then}
-use Rattle.tree.specs.At.{DeclarationAt}
-use Rattle.layout.specs.Layout as rules
-use Rattle.layout.proofs.Places.{import-whole, import-start}
 use borrow.Author.Needs.{needs}
+use Rattle.state.proofs.Laws.{lays, room-first, room-next, lays-then}
+use Rattle.layout.specs.Layout as rules
+use Rattle.tree.specs.At.{DeclarationAt}
+use Rattle.layout.proofs.Places.{import-whole, import-start}
+use Rattle.layout.proofs.Lays.{lays-as, laid-as}
 use Rattle.layout.proofs.declarations.decl_import.Statement.{statement}
 use Rattle.layout.proofs.declarations.decl_import.Tie as tie
-use Rattle.layout.proofs.declarations.decl_import.Reads as reads
-use Rattle.layout.proofs.declarations.decl_import.Lts as lts
-use Rattle.layout.proofs.declarations.opening.Reads as opening-reads
-use Rattle.layout.proofs.item.Reads as item-reads
-use Rattle.layout.proofs.numbers.start.Reads as start-reads
-use Rattle.state.proofs.words.word.Reads as word-reads
 
--- src/declarations.rt:205:37
 start-requires : tie.Need-start-requires
 unfolding DeclarationAt
 start-requires c κs = import-whole _ _ _ (c .before .before .before .before .pre .tree) (c .before .before .before .before .pre .held)
 
--- src/declarations.rt:205:9
 opening-requires : tie.Need-opening-requires
-opening-requires c κs = search needs
+unfolding DeclarationAt rules.declaration
+opening-requires c κs = (c .before .before .before .before .before .pre .accepted, room-first _ (rw (← (import-start _ _ _ (c .before .before .before .before .before .pre .tree) (c .before .before .before .before .before .pre .held)), ← (c .start .ensures)) at (c .before .before .before .before .before .pre .room)))
 
--- src/declarations.rt:206:9
 word-requires : tie.Need-word-requires
-word-requires c κs = search needs
+unfolding DeclarationAt rules.declaration
+word-requires c κs = room-first _ (room-next (rw (← (import-start _ _ _ (c .before .before .before .before .before .before .before .before .before .pre .tree) (c .before .before .before .before .before .before .before .before .before .pre .held)), ← (c .before .before .before .before .start .ensures)) at (c .before .before .before .before .before .before .before .before .before .pre .room)) (lays (c .before .before .before .opening .ensures)))
 
--- src/declarations.rt:207:9
 item-requires : tie.Need-item-requires
-unfolding DeclarationAt
-item-requires c κs = record { accepted = c .before .before .before .before .before .before .before .before .before .before .before .before .before .pre .accepted; tree = c .before .before .before .before .before .before .before .before .before .before .before .before .before .pre .tree; held = c .before .before .before .before .before .before .before .before .before .before .before .before .before .pre .held }
+unfolding DeclarationAt rules.declaration
+item-requires c κs = record { accepted = c .before .before .before .before .before .before .before .before .before .before .before .before .before .pre .accepted; tree = c .before .before .before .before .before .before .before .before .before .before .before .before .before .pre .tree; held = c .before .before .before .before .before .before .before .before .before .before .before .before .before .pre .held; room = room-first _ (room-next (room-next (rw (← (import-start _ _ _ (c .before .before .before .before .before .before .before .before .before .before .before .before .before .pre .tree) (c .before .before .before .before .before .before .before .before .before .before .before .before .before .pre .held)), ← (c .before .before .before .before .before .before .before .before .start .ensures)) at (c .before .before .before .before .before .before .before .before .before .before .before .before .before .pre .room)) (lays (c .before .before .before .before .before .before .before .opening .ensures))) (lays (c .before .before .before .word .ensures))) }
 
--- src/declarations.rt:208:5
 word-requires-2 : tie.Need-word-requires-2
-word-requires-2 c κs = search needs
+unfolding DeclarationAt rules.declaration
+word-requires-2 c κs = room-next (room-next (room-next (rw (← (import-start _ _ _ (c .before .before .before .before .before .before .before .before .before .before .before .before .before .before .before .before .before .pre .tree) (c .before .before .before .before .before .before .before .before .before .before .before .before .before .before .before .before .before .pre .held)), ← (c .before .before .before .before .before .before .before .before .before .before .before .before .start .ensures)) at (c .before .before .before .before .before .before .before .before .before .before .before .before .before .before .before .before .before .pre .room)) (lays (c .before .before .before .before .before .before .before .before .before .before .before .opening .ensures))) (lays (c .before .before .before .before .before .before .before .word .ensures))) (lays-as (c .before .before .before .before .before .before .before .before .before .before .before .before .before .before .before .before .before .pre .accepted) (c .before .before .before .item .ensures) .of (c .before .before .before .before .before .before .before .before .before .before .before .before .before .before .before .before .before .pre .tree) (c .before .before .before .before .before .before .before .before .before .before .before .before .before .before .before .before .before .pre .held))
 
--- src/declarations.rt:201:1
-same-length : tie.Need-same-length
-same-length c = search needs
-
--- src/declarations.rt:201:1
 returns : tie.Need-returns
 unfolding DeclarationAt rules.declaration
-returns c = record {
-  of =
-      λ x a.
-      rw (← (import-start _ _ _ x a), ← (c .before .before .before .before .before .before .before .before .before .before .before .before .before .before .before .start .ensures))
-      (laid-then (c .before .before .before .before .before .before .before .before .before .before .before .before .before .before .opening .ensures) (laid-then (c .before .before .before .before .before .before .before .before .before .before .word .ensures) (laid-then (c .before .before .before .before .before .before .item .ensures .of x a) (c .before .before .word2 .ensures))));
-}
+returns c = laid-as (record { of = λ x a. rw (← (import-start _ _ _ x a), ← (c .before .before .before .before .before .before .before .before .before .before .before .before .before .before .before .start .ensures)) (lays-then (lays (c .before .before .before .before .before .before .before .before .before .before .before .before .before .before .opening .ensures)) (lays-then (lays (c .before .before .before .before .before .before .before .before .before .before .word .ensures)) (lays-then (lays-as (c .before .before .before .before .before .before .before .before .before .before .before .before .before .before .before .before .before .before .before .before .pre .accepted) (c .before .before .before .before .before .before .item .ensures) .of x a) (lays (c .before .before .word2 .ensures))))) })
 
 pub decl-import-spec : {M : Type 1} → statement M
 decl-import-spec =
@@ -57,5 +40,5 @@ decl-import-spec =
     word-requires
     item-requires
     word-requires-2
-    same-length
+    (λ c. search needs)
     returns)

@@ -1,73 +1,40 @@
-use Rattle.state.proofs.Laws.{laid-then}
-use Rattle.tree.specs.At.{DeclarationAt}
+use borrow.Author.Needs.{needs}
+use Rattle.state.proofs.Laws.{lays, room-first, room-next, lays-then}
 use Rattle.layout.specs.Layout as rules
+use Rattle.tree.specs.At.{DeclarationAt}
 use Rattle.layout.proofs.Places.{within, ident-whole, maybe-list}
 use Rattle.layout.proofs.Runs.{list-of, field-elems}
-use borrow.Author.Needs.{needs}
+use Rattle.layout.proofs.Lays.{lays-as, lays-list, laid-as}
 use Rattle.layout.proofs.declarations.decl_record.Statement.{statement}
 use Rattle.layout.proofs.declarations.decl_record.Tie as tie
-use Rattle.layout.proofs.declarations.decl_record.Reads as reads
-use Rattle.layout.proofs.declarations.decl_record.Lts as lts
-use Rattle.layout.proofs.declarations.declares.Reads as declares-reads
-use Rattle.layout.proofs.declarations.type_params.Reads as type-params-reads
-use Rattle.layout.proofs.seq.Reads as seq-reads
-use Rattle.layout.proofs.numbers.second.Reads as second-reads
-use Rattle.layout.proofs.numbers.third.Reads as third-reads
-use Rattle.state.proofs.words.word.Reads as word-reads
 
--- src/declarations.rt:158:9
 second-requires : tie.Need-second-requires
 unfolding DeclarationAt
 second-requires c κs = within (ident-whole (c .before .before .before .pre .held .1))
 
--- src/declarations.rt:159:9
 third-requires : tie.Need-third-requires
 unfolding DeclarationAt
 third-requires c κs = (within (ident-whole (c .before .before .before .before .pre .held .1)), maybe-list _ _ _ (c .before .before .before .before .pre .tree .1) (c .before .before .before .before .pre .held .2))
 
--- src/declarations.rt:160:38
-add-declares : tie.Need-add-declares
-add-declares c = search needs
-
--- src/declarations.rt:160:9
 declares-requires : tie.Need-declares-requires
-unfolding DeclarationAt
-declares-requires c κs = record { accepted = c .before .before .before .before .before .before .pre .accepted; tree = c .before .before .before .before .before .before .pre .tree .0; held = c .before .before .before .before .before .before .pre .held .1 }
+unfolding DeclarationAt rules.declaration rules.recordTypeRule
+declares-requires c κs = record { accepted = c .before .before .before .before .before .before .pre .accepted; tree = c .before .before .before .before .before .before .pre .tree .0; held = c .before .before .before .before .before .before .pre .held .1; room = room-first _ (c .before .before .before .before .before .before .pre .room) }
 
--- src/declarations.rt:161:9
 type-params-requires : tie.Need-type-params-requires
-unfolding DeclarationAt
-type-params-requires c κs = rw (c .before .before .before .before .before .before .second .ensures) (record { accepted = c .before .before .before .before .before .before .before .before .before .before .pre .accepted; tree = c .before .before .before .before .before .before .before .before .before .before .pre .tree .1; held = c .before .before .before .before .before .before .before .before .before .before .pre .held .2 })
+unfolding DeclarationAt rules.declaration rules.recordTypeRule
+type-params-requires c κs = rw (c .before .before .before .before .before .before .second .ensures) (record { accepted = c .before .before .before .before .before .before .before .before .before .before .pre .accepted; tree = c .before .before .before .before .before .before .before .before .before .before .pre .tree .1; held = c .before .before .before .before .before .before .before .before .before .before .pre .held .2; room = room-first _ (room-next (c .before .before .before .before .before .before .before .before .before .before .pre .room) (lays-as (c .before .before .before .before .before .before .before .before .before .before .pre .accepted) (c .before .before .before .declares .ensures) .of (c .before .before .before .before .before .before .before .before .before .before .pre .tree .0) (c .before .before .before .before .before .before .before .before .before .before .pre .held .1))) })
 
--- src/declarations.rt:162:9
 word-requires : tie.Need-word-requires
-word-requires c κs = search needs
+unfolding DeclarationAt rules.declaration rules.recordTypeRule
+word-requires c κs = room-first _ (room-next (room-next (c .before .before .before .before .before .before .before .before .before .before .before .before .before .before .pre .room) (lays-as (c .before .before .before .before .before .before .before .before .before .before .before .before .before .before .pre .accepted) (c .before .before .before .before .before .before .before .declares .ensures) .of (c .before .before .before .before .before .before .before .before .before .before .before .before .before .before .pre .tree .0) (c .before .before .before .before .before .before .before .before .before .before .before .before .before .before .pre .held .1))) (lays-as (c .before .before .before .before .before .before .before .before .before .before .before .before .before .before .pre .accepted) (c .before .before .before .type-params .ensures) .of (c .before .before .before .before .before .before .before .before .before .before .before .before .before .before .pre .tree .1) (rw (c .before .before .before .before .before .before .before .before .before .before .second .ensures) (c .before .before .before .before .before .before .before .before .before .before .before .before .before .before .pre .held .2))))
 
--- src/declarations.rt:163:5
 seq-requires : tie.Need-seq-requires
-unfolding DeclarationAt
-seq-requires c κs = rw (c .before .before .before .before .before .before .before .before .before .before .before .before .before .third .ensures)
-    (record {
-      accepted = c .before .before .before .before .before .before .before .before .before .before .before .before .before .before .before .before .before .before .pre .accepted;
-      tree = rules.fieldElems _ (c .before .before .before .before .before .before .before .before .before .before .before .before .before .before .before .before .before .before .pre .tree .3);
-      held = list-of (c .before .before .before .before .before .before .before .before .before .before .before .before .before .before .before .before .before .before .pre .held .3) (field-elems _ _ _ _ (c .before .before .before .before .before .before .before .before .before .before .before .before .before .before .before .before .before .before .pre .tree .3) (c .before .before .before .before .before .before .before .before .before .before .before .before .before .before .before .before .before .before .pre .held .4));
-    })
+unfolding DeclarationAt rules.declaration rules.recordTypeRule
+seq-requires c κs = rw (c .before .before .before .before .before .before .before .before .before .before .before .before .before .third .ensures) (record { accepted = c .before .before .before .before .before .before .before .before .before .before .before .before .before .before .before .before .before .before .pre .accepted; tree = rules.fieldElems _ (c .before .before .before .before .before .before .before .before .before .before .before .before .before .before .before .before .before .before .pre .tree .3); held = list-of (c .before .before .before .before .before .before .before .before .before .before .before .before .before .before .before .before .before .before .pre .held .3) (field-elems _ _ _ _ (c .before .before .before .before .before .before .before .before .before .before .before .before .before .before .before .before .before .before .pre .tree .3) (c .before .before .before .before .before .before .before .before .before .before .before .before .before .before .before .before .before .before .pre .held .4)); span = c .before .before .before .before .before .before .before .before .before .before .before .before .before .before .before .before .before .before .pre .tree .2; ended = c .before .before .before .before .before .before .before .before .before .before .before .before .before .before .before .before .before .before .pre .held .3 .end; room = room-next (room-next (room-next (c .before .before .before .before .before .before .before .before .before .before .before .before .before .before .before .before .before .before .pre .room) (lays-as (c .before .before .before .before .before .before .before .before .before .before .before .before .before .before .before .before .before .before .pre .accepted) (c .before .before .before .before .before .before .before .before .before .before .before .declares .ensures) .of (c .before .before .before .before .before .before .before .before .before .before .before .before .before .before .before .before .before .before .pre .tree .0) (c .before .before .before .before .before .before .before .before .before .before .before .before .before .before .before .before .before .before .pre .held .1))) (lays-as (c .before .before .before .before .before .before .before .before .before .before .before .before .before .before .before .before .before .before .pre .accepted) (c .before .before .before .before .before .before .before .type-params .ensures) .of (c .before .before .before .before .before .before .before .before .before .before .before .before .before .before .before .before .before .before .pre .tree .1) (rw (c .before .before .before .before .before .before .before .before .before .before .before .before .before .before .second .ensures) (c .before .before .before .before .before .before .before .before .before .before .before .before .before .before .before .before .before .before .pre .held .2)))) (lays (c .before .before .before .word .ensures)) })
 
--- src/declarations.rt:154:1
-same-length : tie.Need-same-length
-same-length c = search needs
-
--- src/declarations.rt:154:1
 returns : tie.Need-returns
 unfolding DeclarationAt rules.declaration rules.recordTypeRule
-returns c = let l = rw (c .before .before .before .before .before .before .before .before .before .before .before .before .before .before .before .before .third .ensures) at (c .before .before .seq .ensures) in
-    record {
-      of =
-          λ x a.
-          laid-then (c .before .before .before .before .before .before .before .before .before .before .before .before .before .before .declares .ensures .of (x .0) (a .1))
-          (laid-then (c .before .before .before .before .before .before .before .before .before .before .type-params .ensures .of (x .1) (rw (c .before .before .before .before .before .before .before .before .before .before .before .before .before .before .before .before .before .second .ensures) (a .2)))
-          (laid-then (c .before .before .before .before .before .before .word .ensures) (l .of (rules.fieldElems _ (x .3)) (list-of (a .3) (field-elems _ _ _ _ (x .3) (a .4))) (x .2) (a .3 .end))));
-    }
+returns c = laid-as (record { of = λ x a. lays-then (lays-as (c .before .before .before .before .before .before .before .before .before .before .before .before .before .before .before .before .before .before .before .before .before .pre .accepted) (c .before .before .before .before .before .before .before .before .before .before .before .before .before .before .declares .ensures) .of (x .0) (a .1)) (lays-then (lays-as (c .before .before .before .before .before .before .before .before .before .before .before .before .before .before .before .before .before .before .before .before .before .pre .accepted) (c .before .before .before .before .before .before .before .before .before .before .type-params .ensures) .of (x .1) (rw (c .before .before .before .before .before .before .before .before .before .before .before .before .before .before .before .before .before .second .ensures) (a .2))) (lays-then (lays (c .before .before .before .before .before .before .word .ensures)) ((rw (c .before .before .before .before .before .before .before .before .before .before .before .before .before .before .before .before .third .ensures) at (lays-list (c .before .before .before .before .before .before .before .before .before .before .before .before .before .before .before .before .before .before .before .before .before .pre .accepted) (c .before .before .seq .ensures))) .of (rules.fieldElems _ (x .3)) (list-of (a .3) (field-elems _ _ _ _ (x .3) (a .4))) (x .2) (a .3 .end)))) })
 
 pub decl-record-spec : {M : Type 1} → statement M
 decl-record-spec =
@@ -75,10 +42,10 @@ decl-record-spec =
     (tie.spec
     second-requires
     third-requires
-    add-declares
+    (λ c. search needs)
     declares-requires
     type-params-requires
     word-requires
     seq-requires
-    same-length
+    (λ c. search needs)
     returns)

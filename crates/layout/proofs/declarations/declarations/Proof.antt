@@ -1,63 +1,50 @@
--- Whatever lays the declarations that are left after some of them lays all of them with these before.
-use Prim.Native.Nat.{_≤_, _-_}
+-- The invariant: whatever finishes from here finishes from the start, and there is room for it.
+-- Assumes nothing.
+use borrow.Author.Needs.{needs}
 use mathlib.Core.Path.{_≡_, refl, _∙_}
-use mathlib.Core.Bool.{true}
-use mathlib.Core.List.{List}
+use Prim.Native.Nat.{ℕ, _-_}
 use native.Mathlib.Omega.{arith}
-use Prim.Native.Nat.{ℕ}
+use mathlib.Core.List.{List}
 use lib.ListN.{length}
-use Rattle.state.specs.declared.Cursor.{Cursor}
 use Rattle.tree.specs.At.{DeclarationsAt}
-use Rattle.layout.specs.Contracts.{HasAll, LaidAll}
+use Rattle.state.specs.declared.Cursor.{Cursor}
+use Rattle.layout.specs.Contracts.{HasAll}
 use Rattle.layout.specs.Forms.{declarationsFrom}
-use Rattle.layout.proofs.DeclarationForms.{declarations-first, declarations-none, declarations-more}
+use Rattle.layout.proofs.DeclarationForms.{declarations-first, first-has, rest-has, declarations-none, declarations-more}
+use Rattle.layout.proofs.Lays.{LaysAll, lays-as, laid-all}
 use Rattle.layout.proofs.declarations.declarations.Statement.{statement}
 use Rattle.layout.proofs.declarations.declarations.Tie as tie
-use Rattle.layout.proofs.declarations.declarations.Reads as reads
-use Rattle.layout.proofs.declarations.declarations.Lts as lts
-use Rattle.layout.proofs.declarations.declaration.Reads as declaration-reads
-use Rattle.layout.proofs.numbers.past.Reads as past-reads
 
 abbrev Inv-loop : tie.InvT-loop
-Inv-loop store₀ s b from to opens p₀ d₀ first₀ store p d first = (length store ≡ length store₀)
-    × HasAll DeclarationsAt s b p to
-    × ((x : List ℕ) (e : Cursor) → LaidAll DeclarationsAt (declarationsFrom first) s b p to store d x e
-    → LaidAll DeclarationsAt (declarationsFrom opens) s b from to store₀ d₀ x e)
+Inv-loop store₀ s b from to opens p₀ d₀ first₀ store p d first =
+    (length store ≡ length store₀)
+    × HasAll DeclarationsAt (declarationsFrom first) s b p to d
+    × ((x : List ℕ) (e : Cursor) → LaysAll DeclarationsAt (declarationsFrom first) s b p to store d x e
+    → LaysAll DeclarationsAt (declarationsFrom opens) s b from to store₀ d₀ x e)
 
 abbrev μ-loop : tie.MeasureT-loop
 μ-loop store₀ s b from to opens p₀ d₀ first₀ store p d first = to - p
 
--- src/declarations.rt:250:5
 loop-holds : tie.Need-loop-holds Inv-loop μ-loop
 loop-holds c = (refl, c .before .before .before .pre, λ x e l. l)
 
--- src/declarations.rt:251:9
 declaration-requires : tie.Need-declaration-requires Inv-loop μ-loop
-declaration-requires c κs = declarations-first (c .before .loop-test .taken) (c .before .before .loop .inv .1) .first
+declaration-requires c κs = let m = declarations-first (c .before .before .loop .first) (c .before .loop-test .taken) (c .before .before .loop .inv .1) in first-has _ m
 
--- src/declarations.rt:252:9
 past-requires : tie.Need-past-requires Inv-loop μ-loop
-past-requires c κs = let m = declarations-first (c .before .before .before .before .loop-test .taken) (c .before .before .before .before .before .loop .inv .1) in record { fits = m .whole .fits }
+past-requires c κs = let m = declarations-first (c .before .before .before .before .before .loop .first) (c .before .before .before .before .loop-test .taken) (c .before .before .before .before .before .loop .inv .1) in record { fits = m .whole .fits }
 
--- src/declarations.rt:250:5
 loop-less : tie.Need-loop-less Inv-loop μ-loop
-loop-less c = let m = declarations-first (c .before .before .before .before .before .loop-test .taken) (c .before .before .before .before .before .before .loop .inv .1) in omega (arith, m .least, m .whole .long, c .past .ensures, c .before .before .before .before .before .loop-test .taken)
+loop-less c = let m = declarations-first (c .before .before .before .before .before .before .loop .first) (c .before .before .before .before .before .loop-test .taken) (c .before .before .before .before .before .before .loop .inv .1) in omega (arith, m .least, m .whole .long, c .past .ensures, c .before .before .before .before .before .loop-test .taken)
 
--- src/declarations.rt:250:5
 loop-again : tie.Need-loop-again Inv-loop μ-loop
-loop-again c = let m = declarations-first (c .before .before .before .before .before .loop-test .taken) (c .before .before .before .before .before .before .loop .inv .1) in (
-  c .before .before .before .declaration .kept .0 ∙ c .before .before .before .before .before .before .loop .inv .0,
-  rw (c .past .ensures) (m .rest),
-  λ x e l. c .before .before .before .before .before .before .loop .inv .2 x e (declarations-more (c .before .before .before .before .before .before .loop .first) (c .before .before .before .before .before .loop-test .taken) (c .before .before .before .declaration .ensures) (rw (c .past .ensures) at l)),
-)
+loop-again c = let m = declarations-first (c .before .before .before .before .before .before .loop .first) (c .before .before .before .before .before .loop-test .taken) (c .before .before .before .before .before .before .loop .inv .1) in (c .before .before .before .declaration .kept .0 ∙ c .before .before .before .before .before .before .loop .inv .0, rw (c .past .ensures) (rest-has _ m (lays-as (c .before .before .before .before .before .before .before .before .before .before .pre .accepted) (c .before .before .before .declaration .ensures))), λ x e l. c .before .before .before .before .before .before .loop .inv .2 x e (declarations-more (c .before .before .before .before .before .before .loop .first) (c .before .before .before .before .before .loop-test .taken) (lays-as (c .before .before .before .before .before .before .before .before .before .before .pre .accepted) (c .before .before .before .declaration .ensures)) (rw (c .past .ensures) at l)))
 
--- src/declarations.rt:243:1
 same-length : tie.Need-same-length Inv-loop μ-loop
 same-length c = c .before .loop .inv .0
 
--- src/declarations.rt:243:1
 returns : tie.Need-returns Inv-loop μ-loop
-returns c = c .before .loop .inv .2 _ _ (declarations-none (c .before .loop .first) (c .loop-test .left))
+returns c = laid-all (c .before .loop .inv .2 _ _ (declarations-none (c .before .loop .first) (c .loop-test .left)))
 
 pub declarations-spec : {M : Type 1} → statement M
 declarations-spec =

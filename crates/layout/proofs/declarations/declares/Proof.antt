@@ -1,43 +1,26 @@
-use Rattle.state.proofs.Laws.{laid-then}
-use Rattle.layout.specs.Layout as rules
 use borrow.Author.Needs.{needs}
+use Rattle.layout.specs.Layout as rules
+use Rattle.state.proofs.Laws.{lays, room-first, room-next, lays-then}
+use Rattle.layout.proofs.Places.{ident-whole}
+use Rattle.layout.proofs.Lays.{lays-as, laid-as, has-at}
 use Rattle.layout.proofs.declarations.declares.Statement.{statement}
 use Rattle.layout.proofs.declarations.declares.Tie as tie
-use Rattle.layout.proofs.declarations.declares.Reads as reads
-use Rattle.layout.proofs.declarations.declares.Lts as lts
-use Rattle.layout.proofs.declarations.opening.Reads as opening-reads
-use Rattle.layout.proofs.numbers.start.Reads as start-reads
-use Rattle.layout.proofs.paths.ident.Reads as ident-reads
-use Rattle.state.proofs.words.word.Reads as word-reads
 
--- src/declarations.rt:96:37
-start-requires : tie.Need-start-requires
-start-requires c κs = search needs
-
--- src/declarations.rt:96:9
 opening-requires : tie.Need-opening-requires
-opening-requires c κs = search needs
+unfolding rules.declares
+opening-requires c κs = (c .before .before .before .before .before .pre .accepted, room-first _ (rw (← (c .before .before .before .before .before .pre .held .head .start), ← (c .start .ensures)) at (c .before .before .before .before .before .pre .room)))
 
--- src/declarations.rt:97:9
 word-requires : tie.Need-word-requires
-word-requires c κs = search needs
+unfolding rules.declares
+word-requires c κs = room-first _ (room-next (rw (← (c .before .before .before .before .before .before .before .before .before .pre .held .head .start), ← (c .before .before .before .before .start .ensures)) at (c .before .before .before .before .before .before .before .before .before .pre .room)) (lays (c .before .before .before .opening .ensures)))
 
--- src/declarations.rt:98:5
 ident-requires : tie.Need-ident-requires
-ident-requires c κs = search needs
+unfolding rules.declares
+ident-requires c κs = has-at (c .before .before .before .before .before .before .before .before .before .before .before .before .before .pre) (room-next (room-next (rw (← (c .before .before .before .before .before .before .before .before .before .before .before .before .before .pre .held .head .start), ← (c .before .before .before .before .before .before .before .before .start .ensures)) at (c .before .before .before .before .before .before .before .before .before .before .before .before .before .pre .room)) (lays (c .before .before .before .before .before .before .before .opening .ensures))) (lays (c .before .before .before .word .ensures)))
 
--- src/declarations.rt:92:1
-same-length : tie.Need-same-length
-same-length c = search needs
-
--- src/declarations.rt:92:1
 returns : tie.Need-returns
 unfolding rules.declares
-returns c = record {
-  of = λ i h. rw (← (h .head .start), ← (c .before .before .before .before .before .before .before .before .before .before .before .start .ensures)) (laid-then (c .before .before .before .before .before .before .before .before .before .before .opening .ensures) (laid-then (c .before .before .before .before .before .before .word .ensures) (c .before .before .ident .ensures .of i h)));
-}
+returns c = laid-as (record { of = λ i h. rw (← (h .head .start), ← (c .before .before .before .before .before .before .before .before .before .before .before .start .ensures)) (lays-then (lays (c .before .before .before .before .before .before .before .before .before .before .opening .ensures)) (lays-then (lays (c .before .before .before .before .before .before .word .ensures)) (lays-as (c .before .before .before .before .before .before .before .before .before .before .before .before .before .before .before .before .pre .accepted) (c .before .before .ident .ensures) .of i h))) })
 
 pub declares-spec : {M : Type 1} → statement M
-declares-spec =
-    tie.close
-    (tie.spec start-requires opening-requires word-requires ident-requires same-length returns)
+declares-spec = tie.close (tie.spec (λ c κs. search needs) opening-requires word-requires ident-requires (λ c. search needs) returns)

@@ -1,30 +1,20 @@
-use Rattle.state.proofs.Laws.{laid-asks}
-use Rattle.layout.specs.Layout as rules
 use borrow.Author.Needs.{needs}
+use Rattle.layout.specs.Layout as rules
+use Rattle.state.proofs.Laws.{lays, lays-asking, room-asked, room-asks, lays-asks}
 use Rattle.layout.proofs.declarations.opening.Statement.{statement}
 use Rattle.layout.proofs.declarations.opening.Tie as tie
-use Rattle.layout.proofs.declarations.opening.Reads as reads
-use Rattle.layout.proofs.declarations.opening.Lts as lts
-use Rattle.comments.proofs.pop_whitespace.Reads as pop-whitespace-reads
-use Rattle.layout.proofs.declarations.line_between.Reads as line-between-reads
 
--- src/declarations.rt:87:9
 pop-whitespace-requires : tie.Need-pop-whitespace-requires
-pop-whitespace-requires c κs = search needs
+unfolding rules.opening
+pop-whitespace-requires c κs = (c .before .before .before .before .pre .0 .listed, room-asked _ _ (c .before .before .before .before .pre .1))
 
--- src/declarations.rt:88:5
 line-between-requires : tie.Need-line-between-requires
-line-between-requires c κs = search needs
+unfolding rules.opening
+line-between-requires c κs = room-asks _ (c .before .before .before .before .before .before .before .before .pre .1) (lays-asking (c .before .before .before .pop-whitespace .ensures))
 
--- src/declarations.rt:83:1
-same-length : tie.Need-same-length
-same-length c = search needs
-
--- src/declarations.rt:83:1
 returns : tie.Need-returns
 unfolding rules.opening
-returns c = laid-asks _ (c .before .before .before .before .before .before .pop-whitespace .ensures) (c .before .before .line-between .ensures)
+returns c = lays-asks _ (lays-asking (c .before .before .before .before .before .before .pop-whitespace .ensures)) (lays (c .before .before .line-between .ensures)) .does (c .before .before .before .before .before .before .before .before .before .before .before .pre .1)
 
 pub opening-spec : {M : Type 1} → statement M
-opening-spec =
-    tie.close (tie.spec pop-whitespace-requires line-between-requires same-length returns)
+opening-spec = tie.close (tie.spec pop-whitespace-requires line-between-requires (λ c. search needs) returns)

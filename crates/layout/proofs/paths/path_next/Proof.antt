@@ -1,53 +1,39 @@
-use Rattle.state.proofs.Laws.{laid-then}
-use Rattle.layout.specs.Layout.{pathNext}
 use borrow.Author.Needs.{needs}
+use Rattle.state.proofs.Laws.{lays, room-first, room-next, lays-then}
+use Rattle.layout.specs.Layout.{pathNext}
+use Rattle.layout.proofs.Places.{ident-whole}
+use Rattle.layout.proofs.Lays.{lays-as, laid-as, has-at}
 use Rattle.layout.proofs.paths.path_next.Statement.{statement}
 use Rattle.layout.proofs.paths.path_next.Tie as tie
-use Rattle.layout.proofs.paths.path_next.Reads as reads
-use Rattle.layout.proofs.paths.path_next.Lts as lts
-use Rattle.layout.proofs.numbers.end.Reads as end-reads
-use Rattle.layout.proofs.paths.ident.Reads as ident-reads
-use Rattle.layout.proofs.paths.line_if.Reads as line-if-reads
-use Rattle.layout.proofs.pieces.gap.Reads as gap-reads
-use Rattle.state.proofs.words.word.Reads as word-reads
 
--- src/paths.rt:50:9
-end-requires : tie.Need-end-requires
-end-requires c κs = search needs
-
--- src/paths.rt:51:9
 line-if-requires : tie.Need-line-if-requires
-line-if-requires c κs = search needs
+unfolding pathNext
+line-if-requires c κs = room-first _ (c .before .before .before .before .before .pre .room)
 
--- src/paths.rt:52:9
 gap-requires : tie.Need-gap-requires
-gap-requires c κs = search needs
+unfolding pathNext
+gap-requires c κs = (c .before .before .before .before .before .before .before .before .before .pre .accepted, rw (c .before .before .before .before .before .end .ensures, c .before .before .before .before .before .before .before .before .before .pre .held .head .end) (room-first _ (room-next (c .before .before .before .before .before .before .before .before .before .pre .room) (lays (c .before .before .before .line-if .ensures)))))
 
--- src/paths.rt:53:9
 word-requires : tie.Need-word-requires
-word-requires c κs = search needs
+unfolding pathNext
+word-requires c κs = room-first _ (room-next (room-next (c .before .before .before .before .before .before .before .before .before .before .before .before .before .pre .room) (lays (c .before .before .before .before .before .before .before .line-if .ensures))) (rw (c .before .before .before .before .before .before .before .before .before .end .ensures, c .before .before .before .before .before .before .before .before .before .before .before .before .before .pre .held .head .end) at (lays (c .before .before .before .gap .ensures))))
 
--- src/paths.rt:54:5
 ident-requires : tie.Need-ident-requires
-ident-requires c κs = search needs
+unfolding pathNext
+ident-requires c κs = has-at (c .before .before .before .before .before .before .before .before .before .before .before .before .before .before .before .before .before .pre) (room-next (room-next (room-next (c .before .before .before .before .before .before .before .before .before .before .before .before .before .before .before .before .before .pre .room) (lays (c .before .before .before .before .before .before .before .before .before .before .before .line-if .ensures))) (rw (c .before .before .before .before .before .before .before .before .before .before .before .before .before .end .ensures, c .before .before .before .before .before .before .before .before .before .before .before .before .before .before .before .before .before .pre .held .head .end) at (lays (c .before .before .before .before .before .before .before .gap .ensures)))) (lays (c .before .before .before .word .ensures)))
 
--- src/paths.rt:46:1
-same-length : tie.Need-same-length
-same-length c = search needs
-
--- src/paths.rt:46:1
 returns : tie.Need-returns
 unfolding pathNext
-returns c = record { of = λ i h. laid-then (c .before .before .before .before .before .before .before .before .before .before .before .before .before .before .line-if .ensures) (laid-then (rw (← (h .head .end), ← (c .before .before .before .before .before .before .before .before .before .before .before .before .before .before .before .before .end .ensures)) (c .before .before .before .before .before .before .before .before .before .before .gap .ensures)) (laid-then (c .before .before .before .before .before .before .word .ensures) (c .before .before .ident .ensures .of i h))) }
+returns c = laid-as (record { of = λ i h. lays-then (lays (c .before .before .before .before .before .before .before .before .before .before .before .before .before .before .line-if .ensures)) (lays-then (rw (c .before .before .before .before .before .before .before .before .before .before .before .before .before .before .before .before .end .ensures, h .head .end) at (lays (c .before .before .before .before .before .before .before .before .before .before .gap .ensures))) (lays-then (lays (c .before .before .before .before .before .before .word .ensures)) (lays-as (c .before .before .before .before .before .before .before .before .before .before .before .before .before .before .before .before .before .before .before .before .pre .accepted) (c .before .before .ident .ensures) .of i h))) })
 
 pub path-next-spec : {M : Type 1} → statement M
 path-next-spec =
     tie.close
     (tie.spec
-    end-requires
+    (λ c κs. search needs)
     line-if-requires
     gap-requires
     word-requires
     ident-requires
-    same-length
+    (λ c. search needs)
     returns)

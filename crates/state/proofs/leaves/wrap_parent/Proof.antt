@@ -1,20 +1,18 @@
+use borrow.Author.Needs.{needs}
+use mathlib.Core.Path.{refl}
 use Rattle.rows.specs.Node.{wrapParent}
 use Rattle.rows.specs.Rows.{size, rowsOf}
-use Rattle.state.proofs.Laws.{laid-leaf}
-use mathlib.Core.Path.{refl}
-use borrow.Author.Needs.{needs}
+use Rattle.state.proofs.Laws.{room-leaf, laid-leaf}
 use Rattle.state.proofs.leaves.wrap_parent.Statement.{statement}
 use Rattle.state.proofs.leaves.wrap_parent.Tie as tie
 
 plain-row-requires : tie.Need-plain-row-requires
-plain-row-requires c κs = search needs
-
-same-length : tie.Need-same-length
-same-length c = search needs
+unfolding size
+plain-row-requires c κs = room-leaf wrapParent refl (c .before .before .pre)
 
 returns : tie.Need-returns
 unfolding size rowsOf
 returns c = laid-leaf wrapParent refl refl (c .before .before .plain-row .ensures)
 
 pub wrap-parent-spec : {M : Type 1} → statement M
-wrap-parent-spec = tie.close (tie.spec plain-row-requires same-length returns)
+wrap-parent-spec = tie.close (tie.spec plain-row-requires (λ c. search needs) returns)

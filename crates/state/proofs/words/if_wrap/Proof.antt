@@ -1,25 +1,16 @@
-use Rattle.state.proofs.Nested.{laid-ifWrap}
 use borrow.Author.Needs.{needs}
+use Rattle.state.proofs.Nested.{room-ifWrap, room-ifWrap-first, room-ifWrap-second, laid-ifWrap}
 use Rattle.state.proofs.words.if_wrap.Statement.{statement}
 use Rattle.state.proofs.words.if_wrap.Tie as tie
 
 plain-row-requires : tie.Need-plain-row-requires
-plain-row-requires c κs = search needs
+plain-row-requires c κs = room-ifWrap (c .before .before .args .number) _ _ (c .before .before .pre)
 
 word-requires : tie.Need-word-requires
-word-requires c κs = search needs
+word-requires c κs = room-ifWrap-first (c .before .before .before .before .before .before .args .number) _ _ (c .before .before .before .before .before .before .pre) (c .before .before .before .plain-row .ensures)
 
 word-requires-2 : tie.Need-word-requires-2
-word-requires-2 c κs = search needs
-
-set-second-requires : tie.Need-set-second-requires
-set-second-requires c κs = search needs
-
-close-requires : tie.Need-close-requires
-close-requires c κs = search needs
-
-same-length : tie.Need-same-length
-same-length c = search needs
+word-requires-2 c κs = room-ifWrap-second (c .before .before .before .before .before .before .before .before .before .before .args .number) _ _ (c .before .before .before .before .before .before .before .before .before .before .pre) (c .before .before .before .before .before .before .before .plain-row .ensures) (c .before .before .before .word .ensures)
 
 returns : tie.Need-returns
 returns c = laid-ifWrap (c .before .before .before .before .before .before .before .before .before .before .before .before .before .before .before .before .before .before .plain-row .ensures) (c .before .before .before .before .before .before .before .before .before .before .before .before .before .before .word .ensures) (c .before .before .before .before .before .before .before .before .before .before .word2 .ensures) (c .before .before .before .before .before .before .set-second .ensures) (c .before .before .close .ensures)
@@ -31,7 +22,7 @@ if-wrap-spec =
     plain-row-requires
     word-requires
     word-requires-2
-    set-second-requires
-    close-requires
-    same-length
+    (λ c κs. search needs)
+    (λ c κs. search needs)
+    (λ c. search needs)
     returns)
