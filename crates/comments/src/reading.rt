@@ -34,14 +34,14 @@ fn next_something<'a>(r: Reading<'a>) -> Found
 }
 
 // The newlines of the source from `at` up to `to`.
-pub fn newlines_from(source: &[u8], at: usize, to: usize) -> usize
+pub(crate) fn newlines_from(source: &[u8], at: usize, to: usize) -> usize
     ensures { λ n. ⌜ n ≡ countNewlines (now (source .entry)) at to ⌝ }
 {
     newlines_up_to(read_from(source, at), to)
 }
 
 // The first place of the source from `at` on that is not white space or is a newline.
-pub fn something_from(source: &[u8], at: usize) -> Found
+pub(crate) fn something_from(source: &[u8], at: usize) -> Found
     ensures { λ p. ⌜ p ≡ something (now (source .entry)) at ⌝ }
 {
     next_something(read_from(source, at))

@@ -55,7 +55,7 @@ fn comments_from(s: &[u8], b: &[u8], ordered: bool, count: usize) -> Step
 }
 
 // Reads the comment list, to the tree.
-pub fn read_comments(s: &[u8], b: &[u8], ordered: bool) -> Step
+pub(crate) fn read_comments(s: &[u8], b: &[u8], ordered: bool) -> Step
     ensures { λ r. ⌜ r ≡ stepOf (comments ordered (now (s .entry)) (now (b .entry))) ⌝ }
 {
     if b.len() < 7 {

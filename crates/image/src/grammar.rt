@@ -180,7 +180,7 @@ fn row_of(k: usize) -> usize
 }
 
 // The row of a record of kind k at place p.
-pub fn row_under(p: usize, k: usize) -> usize
+pub(crate) fn row_under(p: usize, k: usize) -> usize
     ensures { λ r. ⌜ r ≡ rowUnder p k ⌝ }
 {
     if p / LIST % 2 == 1 {
@@ -190,7 +190,7 @@ pub fn row_under(p: usize, k: usize) -> usize
 }
 
 // The row that is left when a child has been read at the first place.
-pub fn after_row(row: usize) -> usize
+pub(crate) fn after_row(row: usize) -> usize
     ensures { λ r. ⌜ r ≡ after row ⌝ }
 {
     if row / MANY % 2 == 1 {
@@ -200,7 +200,7 @@ pub fn after_row(row: usize) -> usize
 }
 
 // Whether no child is due any more.
-pub fn is_over(row: usize) -> bool
+pub(crate) fn is_over(row: usize) -> bool
     ensures { λ r. ⌜ r ≡ over row ⌝ }
 {
     if row == 0 {
@@ -210,7 +210,7 @@ pub fn is_over(row: usize) -> bool
 }
 
 // Whether kind k is right at place p.
-pub fn kind_fits(p: usize, k: usize) -> bool
+pub(crate) fn kind_fits(p: usize, k: usize) -> bool
     ensures { λ r. ⌜ r ≡ kindFits p k ⌝ }
 {
     if p / LIST % 2 == 1 {
@@ -263,7 +263,7 @@ fn is_text(b: &[u8], from: usize, to: usize) -> bool
 }
 
 // Whether what follows the span, from `from` to `stop`, starts with a payload right for kind k at place p. A text's width has v bytes.
-pub fn payload_fits(b: &[u8], v: usize, p: usize, k: usize, from: usize, stop: usize) -> bool
+pub(crate) fn payload_fits(b: &[u8], v: usize, p: usize, k: usize, from: usize, stop: usize) -> bool
     requires { ⌜ (from ≤ stop) × (stop ≤ length (now b)) ⌝ }
     ensures { λ r. ⌜ r ≡ payloadFits (now (b .entry)) v p k from stop ⌝ }
 {
@@ -283,7 +283,7 @@ pub fn payload_fits(b: &[u8], v: usize, p: usize, k: usize, from: usize, stop: u
 }
 
 // Where the payload ends and the children start.
-pub fn first_child(k: usize, from: usize, stop: usize) -> usize
+pub(crate) fn first_child(k: usize, from: usize, stop: usize) -> usize
     requires { ⌜ from + 1 < 2 ^ 64 ⌝ }
     ensures { λ r. ⌜ r ≡ firstChild k from stop ⌝ }
 {

@@ -94,7 +94,7 @@ fn stop_fits(state: LayoutState, stop: usize, close: bool, declarations: usize) 
 }
 
 // Whether the state is one that a call to this stop may have, for a source of `size` bytes and a store of `rows` rows.
-pub fn state_fits(
+pub(crate) fn state_fits(
     state: LayoutState,
     stop: usize,
     close: bool,

@@ -79,7 +79,7 @@ fn end(store: &mut [u32], c: Cursor, close: bool) -> Cursor
 }
 
 // The shebang if nothing is laid yet, the declarations from one up to another, the final `Line` if the call closes.
-pub fn lay(
+pub(crate) fn lay(
     store: &mut [u32],
     c: Cursor,
     s: &[u8],

@@ -29,7 +29,7 @@ use state::words::SEMICOLON;
 use state::words::word;
 
 // Whether the block at `at` has no statements.
-pub fn no_stmts(b: &[u8], at: usize) -> bool
+pub(crate) fn no_stmts(b: &[u8], at: usize) -> bool
     requires { ⌜ Whole (now b) (at + 13) ⌝ }
     ensures { λ r. ⌜ r ≡ eqb (stopAt (now (b .entry)) (at + 13)) (at + 13 + 13) ⌝ }
 {
@@ -37,7 +37,7 @@ pub fn no_stmts(b: &[u8], at: usize) -> bool
 }
 
 // Whether it has no last expression either.
-pub fn is_empty(b: &[u8], at: usize) -> bool
+pub(crate) fn is_empty(b: &[u8], at: usize) -> bool
     requires { ⌜ Whole (now b) (at + 13) ⌝ }
     requires { ⌜ Within (now b) (stopAt (now b) (at + 13)) ⌝ }
     ensures { λ r. ⌜ r ≡ (eqb (stopAt (now (b .entry)) (at + 13)) (at + 13 + 13) && eqb (be32 (now (b .entry)) (stopAt (now (b .entry)) (at + 13))) 0) ⌝ }
@@ -49,7 +49,7 @@ pub fn is_empty(b: &[u8], at: usize) -> bool
 }
 
 // How a block starts.
-pub fn block_start(store: &mut [u32], c: Cursor, empty: bool) -> Cursor
+pub(crate) fn block_start(store: &mut [u32], c: Cursor, empty: bool) -> Cursor
     requires { ⌜ Room (blockStart empty) c ⌝ }
     ensures { λ r. ⌜ Laid (blockStart empty) (now (store .entry)) c (now (store .exit)) r ⌝ }
 {
@@ -62,7 +62,7 @@ pub fn block_start(store: &mut [u32], c: Cursor, empty: bool) -> Cursor
 }
 
 // What comes before a statement, or before the last expression.
-pub fn before_stmt(
+pub(crate) fn before_stmt(
     store: &mut [u32],
     c: Cursor,
     s: &[u8],
@@ -83,7 +83,7 @@ pub fn before_stmt(
 }
 
 // What comes after a statement.
-pub fn after_stmt(store: &mut [u32], c: Cursor, s: &[u8], b: &[u8], position: u32) -> Cursor
+pub(crate) fn after_stmt(store: &mut [u32], c: Cursor, s: &[u8], b: &[u8], position: u32) -> Cursor
     requires { ⌜ Accepted (now s) (now b) ⌝ }
     requires { ⌜ Room (afterStmt (given (now s) (now b)) position) c ⌝ }
     ensures { λ r. ⌜ Laid (afterStmt (given (now (s .entry)) (now (b .entry))) position) (now (store .entry)) c (now (store .exit)) r ⌝ }
@@ -93,7 +93,7 @@ pub fn after_stmt(store: &mut [u32], c: Cursor, s: &[u8], b: &[u8], position: u3
 }
 
 // The comma after an arm, unless its body, which is at `at`, is a block.
-pub fn arm_comma(store: &mut [u32], c: Cursor, b: &[u8], at: usize) -> Cursor
+pub(crate) fn arm_comma(store: &mut [u32], c: Cursor, b: &[u8], at: usize) -> Cursor
     requires { ⌜ Whole (now b) at ⌝ }
     requires { ⌜ Room (when (not (eqb (kindAt (now b) at) 52)) (says ",")) c ⌝ }
     ensures { λ r. ⌜ Laid (when (not (eqb (kindAt (now (b .entry)) at) 52)) (says ",")) (now (store .entry)) c (now (store .exit)) r ⌝ }
@@ -105,7 +105,7 @@ pub fn arm_comma(store: &mut [u32], c: Cursor, b: &[u8], at: usize) -> Cursor
 }
 
 // The semicolon after an expression, which is at `at`, unless it ends with a brace: block, match, if, while or for.
-pub fn semicolon(store: &mut [u32], c: Cursor, b: &[u8], at: usize) -> Cursor
+pub(crate) fn semicolon(store: &mut [u32], c: Cursor, b: &[u8], at: usize) -> Cursor
     requires { ⌜ Whole (now b) at ⌝ }
     requires { ⌜ Room (when (not (eqb (kindAt (now b) at) 52 || eqb (kindAt (now b) at) 53 || (leb 65 (kindAt (now b) at) && leb (kindAt (now b) at) 67))) (says ";")) c ⌝ }
     ensures { λ r. ⌜ Laid (when (not (eqb (kindAt (now (b .entry)) at) 52 || eqb (kindAt (now (b .entry)) at) 53 || (leb 65 (kindAt (now (b .entry)) at) && leb (kindAt (now (b .entry)) at) 67))) (says ";")) (now (store .entry)) c (now (store .exit)) r ⌝ }
@@ -127,7 +127,7 @@ pub fn semicolon(store: &mut [u32], c: Cursor, b: &[u8], at: usize) -> Cursor
 }
 
 // The place among the words of the symbol of the compound assignment at `at`.
-pub fn assign_word(b: &[u8], at: usize) -> usize
+pub(crate) fn assign_word(b: &[u8], at: usize) -> usize
     requires { ⌜ Within (now b) (at + 13) ⌝ }
     requires { ⌜ stopAt (now b) (at + 13) + 14 ≤ length (now b) ⌝ }
     requires { ⌜ getD (now b) (stopAt (now b) (at + 13) + 13) 0 < 5 ⌝ }

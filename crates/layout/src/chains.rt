@@ -50,7 +50,7 @@ fn symbol(op: usize) -> usize
 }
 
 // The precedence of the operator at `at`.
-pub fn precedence(b: &[u8], at: usize) -> usize
+pub(crate) fn precedence(b: &[u8], at: usize) -> usize
     requires { ⌜ Within (now b) (at + 13) ⌝ }
     requires { ⌜ stopAt (now b) (at + 13) + 14 ≤ length (now b) ⌝ }
     ensures { λ r. ⌜ r ≡ binopPrecedence (getD (now (b .entry)) (stopAt (now (b .entry)) (at + 13) + 13) 0) ⌝ }
@@ -73,7 +73,7 @@ fn between(store: &mut [u32], c: Cursor, first: bool, whitespace: bool) -> Curso
 }
 
 // What comes before the right operand of the operator whose symbol is at `at`.
-pub fn operator(store: &mut [u32], c: Cursor, s: &[u8], b: &[u8], at: usize, first: bool) -> Cursor
+pub(crate) fn operator(store: &mut [u32], c: Cursor, s: &[u8], b: &[u8], at: usize, first: bool) -> Cursor
     requires { ⌜ Has OperatorAt (operatorRule first) (now s) (now b) at c ⌝ }
     ensures { λ r. ⌜ LaidAs OperatorAt (operatorRule first) (now (s .entry)) (now (b .entry)) at (now (store .entry)) c (now (store .exit)) r ⌝ }
 {
@@ -85,7 +85,7 @@ pub fn operator(store: &mut [u32], c: Cursor, s: &[u8], b: &[u8], at: usize, fir
 }
 
 // The offset of the operand that starts the chain of operators of precedence q at `at`. The operators go onto the stack, the top first.
-pub fn leftmost(b: &[u8], at: usize, q: usize, ops: &mut [usize; 64]) -> usize
+pub(crate) fn leftmost(b: &[u8], at: usize, q: usize, ops: &mut [usize; 64]) -> usize
     requires { ⌜ HasChain (now b) at q ⌝ }
     requires { ⌜ length (now ops) ≡ 64 ⌝ }
     ensures { λ r. ⌜ Leftmost (now (b .entry)) at q (now (ops .exit)) r ⌝ }

@@ -264,7 +264,7 @@ fn decl_import(store: &mut [u32], c: Cursor, s: &[u8], b: &[u8], at: usize, firs
 }
 
 // The declaration at `at`, which is the file's first or not.
-pub fn declaration(
+pub(crate) fn declaration(
     store: &mut [u32],
     c: Cursor,
     s: &[u8],

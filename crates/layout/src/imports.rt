@@ -18,7 +18,7 @@ use state::words::DOT;
 use state::words::word;
 
 // The path of an import, where there is one.
-pub fn import_first(store: &mut [u32], c: Cursor, s: &[u8], b: &[u8], at: usize) -> Cursor
+pub(crate) fn import_first(store: &mut [u32], c: Cursor, s: &[u8], b: &[u8], at: usize) -> Cursor
     requires { ⌜ Has MaybePathAt importFirst (now s) (now b) at c ⌝ }
     ensures { λ r. ⌜ LaidAs MaybePathAt importFirst (now (s .entry)) (now (b .entry)) at (now (store .entry)) c (now (store .exit)) r ⌝ }
 {
@@ -29,7 +29,7 @@ pub fn import_first(store: &mut [u32], c: Cursor, s: &[u8], b: &[u8], at: usize)
 }
 
 // The dot between the path at `from` and the group at `at`, where both are there.
-pub fn import_dot(store: &mut [u32], c: Cursor, b: &[u8], from: usize, at: usize) -> Cursor
+pub(crate) fn import_dot(store: &mut [u32], c: Cursor, b: &[u8], from: usize, at: usize) -> Cursor
     requires { ⌜ Within (now b) from ⌝ }
     requires { ⌜ Within (now b) at ⌝ }
     requires { ⌜ Room (when (not (eqb (be32 (now b) from) 0) && not (eqb (be32 (now b) at) 0)) (says ".")) c ⌝ }
@@ -45,7 +45,7 @@ pub fn import_dot(store: &mut [u32], c: Cursor, b: &[u8], from: usize, at: usize
 }
 
 // Whether the list at `at` has one element.
-pub fn is_single(b: &[u8], at: usize) -> bool
+pub(crate) fn is_single(b: &[u8], at: usize) -> bool
     requires { ⌜ Whole (now b) at ⌝ }
     requires { ⌜ ((stopAt (now b) at ≡ at + 13 → ⊥) → Within (now b) (at + 13)) ⌝ }
     ensures { λ r. ⌜ r ≡ (not (eqb (stopAt (now (b .entry)) at) (at + 13)) && eqb (stopAt (now (b .entry)) (at + 13)) (stopAt (now (b .entry)) at)) ⌝ }

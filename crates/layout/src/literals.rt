@@ -15,7 +15,7 @@ use state::words::UNIT;
 use state::words::word;
 
 // `Node::Ascii` of `span_content`: the source between the ends of the record's span.
-pub fn content(store: &mut [u32], c: Cursor, s: &[u8], b: &[u8], at: usize) -> Cursor
+pub(crate) fn content(store: &mut [u32], c: Cursor, s: &[u8], b: &[u8], at: usize) -> Cursor
     requires { ⌜ Has SpanAt contentRule (now s) (now b) at c ⌝ }
     ensures { λ r. ⌜ LaidAs SpanAt contentRule (now (s .entry)) (now (b .entry)) at (now (store .entry)) c (now (store .exit)) r ⌝ }
 {
@@ -25,7 +25,7 @@ pub fn content(store: &mut [u32], c: Cursor, s: &[u8], b: &[u8], at: usize) -> C
     ascii(store, c, from, size)
 }
 
-pub fn literal(store: &mut [u32], c: Cursor, s: &[u8], b: &[u8], at: usize) -> Cursor
+pub(crate) fn literal(store: &mut [u32], c: Cursor, s: &[u8], b: &[u8], at: usize) -> Cursor
     requires { ⌜ Has LiteralAt literalRule (now s) (now b) at c ⌝ }
     ensures { λ r. ⌜ LaidAs LiteralAt literalRule (now (s .entry)) (now (b .entry)) at (now (store .entry)) c (now (store .exit)) r ⌝ }
 {

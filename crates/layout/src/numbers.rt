@@ -28,7 +28,7 @@ pub fn second(b: &[u8], at: usize) -> usize
 }
 
 // Where the third child of the record at `at` starts.
-pub fn third(b: &[u8], at: usize) -> usize
+pub(crate) fn third(b: &[u8], at: usize) -> usize
     requires { ⌜ Within (now b) (at + 13) ⌝ }
     requires { ⌜ Within (now b) (stopAt (now b) (at + 13)) ⌝ }
     ensures { λ r. ⌜ r ≡ stopAt (now (b .entry)) (stopAt (now (b .entry)) (at + 13)) ⌝ }
@@ -37,14 +37,14 @@ pub fn third(b: &[u8], at: usize) -> usize
 }
 
 // Whether an optional child is absent.
-pub fn is_absent(b: &[u8], at: usize) -> bool
+pub(crate) fn is_absent(b: &[u8], at: usize) -> bool
     requires { ⌜ Within (now b) at ⌝ }
     ensures { λ r. ⌜ r ≡ eqb (be32 (now (b .entry)) at) 0 ⌝ }
 {
     num32(b, at) == 0
 }
 
-pub fn kind(b: &[u8], at: usize) -> u8
+pub(crate) fn kind(b: &[u8], at: usize) -> u8
     requires { ⌜ Whole (now b) at ⌝ }
     ensures { λ r. ⌜ r ≡ kindAt (now (b .entry)) at ⌝ }
 {
@@ -52,7 +52,7 @@ pub fn kind(b: &[u8], at: usize) -> u8
 }
 
 // The start of the record's span.
-pub fn start(b: &[u8], at: usize) -> u32
+pub(crate) fn start(b: &[u8], at: usize) -> u32
     requires { ⌜ Whole (now b) at ⌝ }
     ensures { λ r. ⌜ r ≡ be32 (now (b .entry)) (at + 5) ⌝ }
 {
@@ -60,7 +60,7 @@ pub fn start(b: &[u8], at: usize) -> u32
 }
 
 // The end of the record's span.
-pub fn end(b: &[u8], at: usize) -> u32
+pub(crate) fn end(b: &[u8], at: usize) -> u32
     requires { ⌜ Whole (now b) at ⌝ }
     ensures { λ r. ⌜ r ≡ be32 (now (b .entry)) (at + 9) ⌝ }
 {
@@ -68,7 +68,7 @@ pub fn end(b: &[u8], at: usize) -> u32
 }
 
 // The payload byte.
-pub fn payload(b: &[u8], at: usize) -> usize
+pub(crate) fn payload(b: &[u8], at: usize) -> usize
     requires { ⌜ at + 14 ≤ length (now b) ⌝ }
     ensures { λ r. ⌜ r ≡ getD (now (b .entry)) (at + 13) 0 ⌝ }
 {

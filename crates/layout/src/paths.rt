@@ -26,7 +26,7 @@ use state::words::DOT;
 use state::words::word;
 
 // `Node::ident`: the text at `at`, with its width.
-pub fn ident(store: &mut [u32], c: Cursor, s: &[u8], b: &[u8], at: usize) -> Cursor
+pub(crate) fn ident(store: &mut [u32], c: Cursor, s: &[u8], b: &[u8], at: usize) -> Cursor
     requires { ⌜ Has IdentAt ident (now s) (now b) at c ⌝ }
     ensures { λ r. ⌜ LaidAs IdentAt ident (now (s .entry)) (now (b .entry)) at (now (store .entry)) c (now (store .exit)) r ⌝ }
 {
@@ -81,7 +81,7 @@ fn path_more(
     d
 }
 
-pub fn path(
+pub(crate) fn path(
     store: &mut [u32],
     c: Cursor,
     s: &[u8],
@@ -110,7 +110,7 @@ pub fn path(
 }
 
 // The field of an access, after its dot.
-pub fn field_name(store: &mut [u32], c: Cursor, s: &[u8], b: &[u8], at: usize) -> Cursor
+pub(crate) fn field_name(store: &mut [u32], c: Cursor, s: &[u8], b: &[u8], at: usize) -> Cursor
     requires { ⌜ Has IdentAt fieldName (now s) (now b) at c ⌝ }
     ensures { λ r. ⌜ LaidAs IdentAt fieldName (now (s .entry)) (now (b .entry)) at (now (store .entry)) c (now (store .exit)) r ⌝ }
 {

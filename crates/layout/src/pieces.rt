@@ -23,7 +23,7 @@ use state::words::if_wrap;
 use state::words::word;
 
 // `pop_whitespace` where its answer isn't looked at.
-pub fn gap(
+pub(crate) fn gap(
     store: &mut [u32],
     c: Cursor,
     s: &[u8],
@@ -42,7 +42,7 @@ pub fn gap(
 }
 
 // The line or the space inside the brackets of `separated`.
-pub fn edge(store: &mut [u32], c: Cursor, style: WrapStyle) -> Cursor
+pub(crate) fn edge(store: &mut [u32], c: Cursor, style: WrapStyle) -> Cursor
     requires { ⌜ Room (edge style) c ⌝ }
     ensures { λ r. ⌜ Laid (edge style) (now (store .entry)) c (now (store .exit)) r ⌝ }
 {
@@ -66,7 +66,7 @@ fn must_wrap(store: &mut [u32], c: Cursor, style: WrapStyle) -> Cursor
 }
 
 // What comes before the elements.
-pub fn open_list(store: &mut [u32], c: Cursor, left: usize, style: WrapStyle) -> Cursor
+pub(crate) fn open_list(store: &mut [u32], c: Cursor, left: usize, style: WrapStyle) -> Cursor
     requires { ⌜ Room (opens (getD table left "") style) c ⌝ }
     ensures { λ r. ⌜ Laid (opens (getD table left "") style) (now (store .entry)) c (now (store .exit)) r ⌝ }
 {
@@ -76,7 +76,7 @@ pub fn open_list(store: &mut [u32], c: Cursor, left: usize, style: WrapStyle) ->
 }
 
 // What comes before an element.
-pub fn before_elem(
+pub(crate) fn before_elem(
     store: &mut [u32],
     c: Cursor,
     s: &[u8],
@@ -102,7 +102,7 @@ pub fn before_elem(
 }
 
 // What comes after the elements of a list whose group has the number id.
-pub fn end_elems(
+pub(crate) fn end_elems(
     store: &mut [u32],
     c: Cursor,
     s: &[u8],
@@ -123,7 +123,7 @@ pub fn end_elems(
 }
 
 // The end of a list: its line or space, its word and the comment after it.
-pub fn close_list(
+pub(crate) fn close_list(
     store: &mut [u32],
     c: Cursor,
     s: &[u8],
@@ -141,7 +141,7 @@ pub fn close_list(
 }
 
 // A list without elements, inside its group.
-pub fn hollow(
+pub(crate) fn hollow(
     store: &mut [u32],
     c: Cursor,
     s: &[u8],

@@ -6,7 +6,7 @@ use crate::numbers::end;
 use crate::numbers::past;
 
 // Where the span of the last type ends, of those from `from` up to `to`.
-pub fn last_end(b: &[u8], from: usize, to: usize) -> u32
+pub(crate) fn last_end(b: &[u8], from: usize, to: usize) -> u32
     requires { ⌜ SomeTypesAt (now b) from to ⌝ }
     ensures { λ r. ⌜ LastEnd (now (b .entry)) from to r ⌝ }
 {

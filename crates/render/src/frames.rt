@@ -15,7 +15,7 @@ fn bit(b: bool) -> u32
 }
 
 // The number of an open row.
-pub fn pack(f: Frame) -> u32
+pub(crate) fn pack(f: Frame) -> u32
     requires { ⌜ f .row < 2097152 ⌝ }
     ensures { λ r. ⌜ unpacked r ≡ f ⌝ }
 {
@@ -23,7 +23,7 @@ pub fn pack(f: Frame) -> u32
 }
 
 // The open row of a number.
-pub fn unpack(n: u32) -> Frame
+pub(crate) fn unpack(n: u32) -> Frame
     ensures { λ r. ⌜ r ≡ unpacked n ⌝ }
 {
     Frame {

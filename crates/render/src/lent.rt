@@ -50,7 +50,7 @@ fn break_line(n: &mut Numbers)
 }
 
 // The numbers with another margin, by lending them.
-pub fn with_margin(n: Numbers, indent: usize, next_indent: usize) -> Numbers
+pub(crate) fn with_margin(n: Numbers, indent: usize, next_indent: usize) -> Numbers
     ensures { λ r. ⌜ r ≡ moved n indent «next_indent» ⌝ }
 {
     let mut m = n;
@@ -59,7 +59,7 @@ pub fn with_margin(n: Numbers, indent: usize, next_indent: usize) -> Numbers
 }
 
 // The numbers on a new line, by lending them.
-pub fn on_new_line(n: Numbers) -> Numbers
+pub(crate) fn on_new_line(n: Numbers) -> Numbers
     requires { ⌜ n .indent + n .«next_indent» ≤ 384 ⌝ }
     ensures { λ r. ⌜ r ≡ broken n ⌝ }
 {

@@ -12,7 +12,7 @@ use rows::store::Bytes;
 use rows::words::WORDS;
 
 // Writes a byte at a place below the limit.
-pub fn emit(out: &mut [u8], limit: usize, at: usize, b: u8)
+pub(crate) fn emit(out: &mut [u8], limit: usize, at: usize, b: u8)
     requires { ⌜ limit ≤ length (now out) ⌝ }
     ensures { λ r. ⌜ now (out .exit) ≡ over limit (now (out .entry)) at (b ∷ []) ⌝ }
 {
@@ -35,7 +35,7 @@ fn put_blanks(out: &mut [u8], at: usize, n: usize)
 }
 
 // Writes n blanks.
-pub fn spaces(out: &mut [u8], limit: usize, at: usize, n: Bytes)
+pub(crate) fn spaces(out: &mut [u8], limit: usize, at: usize, n: Bytes)
     requires { ⌜ limit ≤ length (now out) ⌝ }
     ensures { λ r. ⌜ now (out .exit) ≡ over limit (now (out .entry)) at (replicate (n .0) 0x20) ⌝ }
 {
@@ -103,7 +103,7 @@ fn put_origin(
 }
 
 // Writes the text of a row; how many bytes that is. What lies past the limit is only counted.
-pub fn copy(
+pub(crate) fn copy(
     out: &mut [u8],
     limit: usize,
     at: usize,

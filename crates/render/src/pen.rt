@@ -23,7 +23,7 @@ pub struct Pen {
 }
 
 // The pen's numbers, to be lent.
-pub fn numbers(p: Pen) -> Numbers
+pub(crate) fn numbers(p: Pen) -> Numbers
     ensures { λ r. ⌜ r ≡ numbersOf p ⌝ }
 {
     Numbers {
@@ -34,7 +34,7 @@ pub fn numbers(p: Pen) -> Numbers
 }
 
 // The pen with these numbers, once `at` bytes are written.
-pub fn pen_of(n: Numbers, at: Bytes) -> Pen
+pub(crate) fn pen_of(n: Numbers, at: Bytes) -> Pen
     ensures { λ r. ⌜ r ≡ penOf n (at .0) ⌝ }
 {
     Pen {
@@ -94,7 +94,7 @@ pub fn margin_bytes(indent: usize) -> Bytes
 }
 
 // The same margin in columns.
-pub fn margin_columns(indent: usize) -> Columns
+pub(crate) fn margin_columns(indent: usize) -> Columns
     requires { ⌜ indent ≤ 384 ⌝ }
     ensures { λ r. ⌜ r .0 ≡ 4 * indent ⌝ }
 {
@@ -119,7 +119,7 @@ fn start_line(p: Pen, out: &mut [u8], limit: usize) -> Pen
 }
 
 // `new_line`
-pub fn new_line(p: Pen, out: &mut [u8], limit: usize) -> Pen
+pub(crate) fn new_line(p: Pen, out: &mut [u8], limit: usize) -> Pen
     requires { ⌜ Room 2305843009213693952 limit (now out) p ⌝ }
     ensures { λ r. ⌜ Drawn limit (newLine (shown p [])) (now (out .entry)) p (now (out .exit)) r ⌝ }
 {
@@ -133,7 +133,7 @@ pub fn new_line(p: Pen, out: &mut [u8], limit: usize) -> Pen
 }
 
 // An `EmptyLine`.
-pub fn empty_line(p: Pen, out: &mut [u8], limit: usize) -> Pen
+pub(crate) fn empty_line(p: Pen, out: &mut [u8], limit: usize) -> Pen
     requires { ⌜ Room 1152921504606846976 limit (now out) p ⌝ }
     ensures { λ r. ⌜ Drawn limit (newLine (push (0x0A ∷ []) (shown p []))) (now (out .entry)) p (now (out .exit)) r ⌝ }
 {
@@ -141,7 +141,7 @@ pub fn empty_line(p: Pen, out: &mut [u8], limit: usize) -> Pen
 }
 
 // The blank of a `LineOrSpace`: `text(" ", 1)`.
-pub fn space(p: Pen, out: &mut [u8], limit: usize) -> Pen
+pub(crate) fn space(p: Pen, out: &mut [u8], limit: usize) -> Pen
     requires { ⌜ Room 1152921504606846976 limit (now out) p ⌝ }
     ensures { λ r. ⌜ Drawn limit (text (0x20 ∷ []) 1 (shown p [])) (now (out .entry)) p (now (out .exit)) r ⌝ }
 {
@@ -152,7 +152,7 @@ pub fn space(p: Pen, out: &mut [u8], limit: usize) -> Pen
 }
 
 // `text`
-pub fn text(
+pub(crate) fn text(
     p: Pen,
     out: &mut [u8],
     limit: usize,
@@ -208,7 +208,7 @@ fn end_line(
 }
 
 // `comment`
-pub fn comment(
+pub(crate) fn comment(
     p: Pen,
     out: &mut [u8],
     limit: usize,

@@ -33,7 +33,7 @@ pub struct Needs {
 }
 
 // What the rows from `from` up to `stop` need, where lines start `margin` steps in.
-pub fn rows_need(store: &[u32], from: usize, stop: usize, margin: usize) -> Needs
+pub(crate) fn rows_need(store: &[u32], from: usize, stop: usize, margin: usize) -> Needs
     requires { ⌜ (from ≤ stop) × ((stop * 9 ≤ length (now store)) × ((stop ≤ 2097152) × (margin ≤ 128))) ⌝ }
     ensures { λ r. ⌜ (r .marks ≡ marksNeeded (stop - from) (now (store .entry)) from) × (r .bytes .0 ≡ 4 * margin + rowsMost (stop - from) margin (now (store .entry)) from) ⌝ }
 {

@@ -10,7 +10,7 @@ use rows::store::Bytes;
 use rows::store::Columns;
 
 // Stores v at i, or nothing where i is past the end.
-pub fn put(store: &mut [u32], i: usize, v: u32)
+pub(crate) fn put(store: &mut [u32], i: usize, v: u32)
     ensures { λ _. ⌜ now (store .exit) ≡ set (now (store .entry)) i v ⌝ }
 {
     if i < store.len() {
@@ -118,7 +118,7 @@ fn write_row(
 }
 
 // A row without a text.
-pub fn plain_row(store: &mut [u32], c: Cursor, kind: u32, number: u32, number2: u32) -> Cursor
+pub(crate) fn plain_row(store: &mut [u32], c: Cursor, kind: u32, number: u32, number2: u32) -> Cursor
     requires { ⌜ c .row < top ⌝ }
     ensures { λ r. ⌜ Written kind number number2 noText 0 (now (store .entry)) c (now (store .exit)) r ⌝ }
 {
@@ -132,7 +132,7 @@ pub fn plain_row(store: &mut [u32], c: Cursor, kind: u32, number: u32, number2: 
 }
 
 // A row with a text.
-pub fn text_row(
+pub(crate) fn text_row(
     store: &mut [u32],
     c: Cursor,
     kind: u32,

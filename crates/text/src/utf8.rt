@@ -20,13 +20,13 @@ pub enum Decoded {
 pub struct Lead(pub u8, pub u8, pub usize);
 
 // The byte at a place, 0 past the end.
-pub fn byte(s: &[u8], at: usize) -> u8
+pub(crate) fn byte(s: &[u8], at: usize) -> u8
     ensures { λ r. ⌜ r ≡ getD (now (s .entry)) at 0 ⌝ }
 {
     if at < s.len() { s[at] } else { 0 }
 }
 
-pub fn is_continuation(b: u8) -> bool
+pub(crate) fn is_continuation(b: u8) -> bool
     ensures { λ r. ⌜ r ≡ continues b ⌝ }
 {
     if b < 0x80 { false } else { b <= 0xBF }
@@ -66,7 +66,7 @@ fn lead_of(b: u8) -> Lead
 }
 
 // How many bytes the sequence that starts at `at` has, 0 where none does.
-pub fn sequence(s: &[u8], at: usize) -> usize
+pub(crate) fn sequence(s: &[u8], at: usize) -> usize
     ensures { λ r. ⌜ r ≡ sequence (now (s .entry)) at ⌝ }
 {
     if s.len() <= at {
@@ -166,7 +166,7 @@ pub fn check(s: &[u8]) -> Checked
 }
 
 // A character boundary: the end of the text, or a byte that starts a sequence.
-pub fn is_boundary(s: &[u8], at: usize) -> bool
+pub(crate) fn is_boundary(s: &[u8], at: usize) -> bool
     ensures { λ r. ⌜ r ≡ boundary (now (s .entry)) at ⌝ }
 {
     if s.len() < at {

@@ -14,7 +14,7 @@ pub enum Outcome {
 }
 
 // 1 if two numbers differ, else 0.
-pub fn differs(x: usize, y: usize) -> usize
+pub(crate) fn differs(x: usize, y: usize) -> usize
     ensures { λ r. ⌜ r ≡ differs x y ⌝ }
 {
     if x == y { 0 } else { 1 }

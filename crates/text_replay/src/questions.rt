@@ -104,7 +104,7 @@ fn width(q: Question) -> usize
 }
 
 // How many answers to a question differ, where the first is stored at `at`.
-pub fn differing(s: &[u8], q: Question, d: &[u8], at: usize) -> usize
+pub(crate) fn differing(s: &[u8], q: Question, d: &[u8], at: usize) -> usize
     requires { ⌜ length (now s) < 256 ⌝ }
     requires { ⌜ at + Sections·width q * Sections·answers (now s) q ≤ length (now d) ⌝ }
     ensures { λ r. ⌜ r ≡ Sections·differing (now (s .entry)) q (now (d .entry)) at ⌝ }

@@ -111,7 +111,7 @@ fn samples_from(d: &[u8], at: usize, m: usize) -> Outcome
     }
 }
 
-pub fn samples(d: &[u8], at: usize) -> Outcome
+pub(crate) fn samples(d: &[u8], at: usize) -> Outcome
     ensures { λ r. ⌜ r ≡ Sections·samples (now (d .entry)) at ⌝ }
 {
     if d.len() < 2 {

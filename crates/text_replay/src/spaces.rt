@@ -49,7 +49,7 @@ fn spaces_differ(d: &[u8], at: usize, k: usize) -> usize
     n
 }
 
-pub fn spaces(d: &[u8], at: usize) -> Outcome
+pub(crate) fn spaces(d: &[u8], at: usize) -> Outcome
     ensures { λ r. ⌜ r ≡ spaces (now (d .entry)) at ⌝ }
 {
     if d.len() < 2 {

@@ -11,7 +11,7 @@ use text::utf8::Checked;
 use text::utf8::check;
 
 // A check as the file has it.
-pub fn check_answer(s: &[u8]) -> usize
+pub(crate) fn check_answer(s: &[u8]) -> usize
     ensures { λ r. ⌜ r ≡ checkAnswer (now (s .entry)) ⌝ }
 {
     match check(s) {
@@ -47,7 +47,7 @@ fn strings_differ(d: &[u8]) -> usize
     n
 }
 
-pub fn strings(d: &[u8]) -> Outcome
+pub(crate) fn strings(d: &[u8]) -> Outcome
     ensures { λ r. ⌜ r ≡ strings (now (d .entry)) ⌝ }
 {
     if d.len() < 65792 {
