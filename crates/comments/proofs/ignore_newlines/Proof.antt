@@ -9,26 +9,8 @@ use borrow.Author.Needs.{needs}
 use Rattle.comments.proofs.ignore_newlines.Statement.{statement}
 use Rattle.comments.proofs.ignore_newlines.Tie as tie
 
-front-requires : tie.Need-front-requires
-front-requires c κs = search needs
-
-enum-told : tie.Need-enum-told
-enum-told c = search needs
-
-move-to-requires : tie.Need-move-to-requires
-move-to-requires c κs = search needs
-
-enum-known-start : tie.Need-enum-known-start
-enum-known-start c = search needs
-
-move-to-requires-2 : tie.Need-move-to-requires-2
-move-to-requires-2 c κs = search needs
-
 returns : tie.Need-returns
 returns c = λ s. c .move-to2 .ensures ∙ ap (λ (p : ℕ). cursor (c .before .before .before .before .before .before .before .args .c .row) (c .before .before .before .before .before .before .before .args .c .number) p (c .before .before .before .before .before .before .before .args .c .placed)) (omega (arith, c .before .if1 .taken, ignored-some (given s (c .before .before .before .before .before .before .before .args .image .now)) (c .before .before .before .before .before .before .before .args .position) (st (c .before .before .before .before .before .before .before .args .c)) _ (is-some _ (c .before .before .before .before .before .front .ensures) (c .before .before .before .start .given .1))))
-
-move-to-requires-3 : tie.Need-move-to-requires-3
-move-to-requires-3 c κs = search needs
 
 returns-2 : tie.Need-returns-2
 returns-2 c = λ s. c .move-to .ensures ∙ ap (λ (p : ℕ). cursor (c .before .before .before .before .before .args .c .row) (c .before .before .before .before .before .args .c .number) p (c .before .before .before .before .before .args .c .placed)) (sym (ignored-none (given s (c .before .before .before .before .before .args .image .now)) (c .before .before .before .before .before .args .position) (st (c .before .before .before .before .before .args .c)) (is-none _ (c .before .before .before .front .ensures) (c .before .enum-told .given .1))))
@@ -40,12 +22,12 @@ pub ignore-newlines-spec : {M : Type 1} → statement M
 ignore-newlines-spec =
     tie.close
     (tie.spec
-    front-requires
-    enum-told
-    move-to-requires
-    enum-known-start
-    move-to-requires-2
+    (λ c κs. search needs)
+    (λ c. search needs)
+    (λ c κs. search needs)
+    (λ c. search needs)
+    (λ c κs. search needs)
     returns
-    move-to-requires-3
+    (λ c κs. search needs)
     returns-2
     returns-3)

@@ -7,15 +7,6 @@ use borrow.Author.Needs.{needs}
 use Rattle.comments.proofs.is_waiting.Statement.{statement}
 use Rattle.comments.proofs.is_waiting.Tie as tie
 
-front-requires : tie.Need-front-requires
-front-requires c κs = search needs
-
-enum-told : tie.Need-enum-told
-enum-told c = search needs
-
-enum-known-start : tie.Need-enum-known-start
-enum-known-start c = search needs
-
 returns : tie.Need-returns
 returns c = λ s. sym (waits-none (given s (c .before .before .before .before .args .image .now)) _ (st (c .before .before .before .before .args .c)) (is-none _ (c .before .before .front .ensures) (c .enum-told .given .1)))
 
@@ -23,4 +14,4 @@ returns-2 : tie.Need-returns-2
 returns-2 c = λ s. sym (waits-some (given s (c .before .before .before .before .before .args .image .now)) _ (st (c .before .before .before .before .before .args .c)) _ (is-some _ (c .before .before .before .front .ensures) (c .before .start .given .1)))
 
 pub is-waiting-spec : {M : Type 1} → statement M
-is-waiting-spec = tie.close (tie.spec front-requires enum-told enum-known-start returns returns-2)
+is-waiting-spec = tie.close (tie.spec (λ c κs. search needs) (λ c. search needs) (λ c. search needs) returns returns-2)

@@ -25,17 +25,11 @@ loop-holds c = (refl, begin (given (c .before .before .before .args .source .now
 front-requires : tie.Need-front-requires Inv-loop μ-loop
 front-requires c κs = c .before .before .before .before .pre .0 .within
 
-enum-told : tie.Need-enum-told Inv-loop μ-loop
-enum-told c = search needs
-
 same-length : tie.Need-same-length Inv-loop μ-loop
 same-length c = c .before .before .before .loop .inv .0
 
 returns : tie.Need-returns Inv-loop μ-loop
 returns c = end-none (given (c .before .before .before .before .before .before .before .args .source .now) (c .before .before .before .before .before .before .before .args .image .now)) (is-none _ (c .before .before .front .ensures) (c .enum-told .given .1)) (c .before .before .before .loop .inv .1)
-
-enum-known-start : tie.Need-enum-known-start Inv-loop μ-loop
-enum-known-start c = search needs
 
 same-length-2 : tie.Need-same-length-2 Inv-loop μ-loop
 same-length-2 c = c .before .before .before .before .before .loop .inv .0
@@ -60,10 +54,10 @@ pop-comments-spec =
     μ-loop
     loop-holds
     front-requires
-    enum-told
+    (λ c. search needs)
     same-length
     returns
-    enum-known-start
+    (λ c. search needs)
     same-length-2
     returns-2
     pop-comment-requires

@@ -12,24 +12,9 @@ use Rattle.image.proofs.Texts.{checked-well, checked-bad, checked-place
 use Rattle.image.proofs.check.Statement.{statement}
 use Rattle.image.proofs.check.Tie as tie
 
-source-fits-requires : tie.Need-source-fits-requires
-source-fits-requires c κs = search needs
-
 returns : tie.Need-returns
 unfolding readAll
 returns c = simp (sym (c .before .source-fits .ensures) ∙ not-true _ (c .if1 .taken))
-
-check-requires : tie.Need-check-requires
-check-requires c κs = search needs
-
-enum-known-at : tie.Need-enum-known-at
-enum-known-at c = search needs
-
-enum-told : tie.Need-enum-told
-enum-told c = search needs
-
-read-image-requires : tie.Need-read-image-requires
-read-image-requires c κs = search needs
 
 returns-2 : tie.Need-returns-2
 unfolding readAll
@@ -43,11 +28,11 @@ pub check-spec : {M : Type 1} → statement M
 check-spec =
     tie.close
     (tie.spec
-    source-fits-requires
+    (λ c κs. search needs)
     returns
-    check-requires
-    enum-known-at
-    enum-told
-    read-image-requires
+    (λ c κs. search needs)
+    (λ c. search needs)
+    (λ c. search needs)
+    (λ c κs. search needs)
     returns-2
     returns-3)

@@ -10,21 +10,9 @@ returns : tie.Need-returns
 unfolding header
 returns c = simp (lt-leb _ _ (c .if1 .taken))
 
-shared-slice-read-wide : tie.Need-shared-slice-read-wide
-shared-slice-read-wide c = search needs
-
-wide-requires : tie.Need-wide-requires
-wide-requires c κs = search needs
-
 returns-2 : tie.Need-returns-2
 unfolding header
 returns-2 c = simp (le-leb _ _ (c .before .before .before .if1 .left), ← c .before .wide .ensures .0, ne-eqb _ _ (c .if2 .taken))
-
-num32-requires : tie.Need-num32-requires
-num32-requires c κs = search needs
-
-add-if3 : tie.Need-add-if3
-add-if3 c = search needs
 
 returns-3 : tie.Need-returns-3
 unfolding header
@@ -39,10 +27,10 @@ header-fits-spec =
     tie.close
     (tie.spec
     returns
-    shared-slice-read-wide
-    wide-requires
+    (λ c. search needs)
+    (λ c κs. search needs)
     returns-2
-    num32-requires
-    add-if3
+    (λ c κs. search needs)
+    (λ c. search needs)
     returns-3
     returns-4)

@@ -10,21 +10,9 @@ use Rattle.image.proofs.CommentList.{listed}
 use Rattle.image.proofs.read_image.Statement.{statement}
 use Rattle.image.proofs.read_image.Tie as tie
 
-header-fits-requires : tie.Need-header-fits-requires
-header-fits-requires c κs = search needs
-
 returns : tie.Need-returns
 unfolding readImage
 returns c = simp (sym (c .before .header-fits .ensures) ∙ not-true _ (c .if1 .taken))
-
-read-comments-requires : tie.Need-read-comments-requires
-read-comments-requires c κs = search needs
-
-enum-known-n : tie.Need-enum-known-n
-enum-known-n c = search needs
-
-enum-known-at : tie.Need-enum-known-at
-enum-known-at c = search needs
 
 read-tree-requires : tie.Need-read-tree-requires
 read-tree-requires c κs = let w = listed _ _ _ _ (sym (c .before .before .before .read-comments .ensures) ∙ c .before .at .given .1) in omega (arith, w .within, w .list .stop)
@@ -39,11 +27,11 @@ pub read-image-spec : {M : Type 1} → statement M
 read-image-spec =
     tie.close
     (tie.spec
-    header-fits-requires
+    (λ c κs. search needs)
     returns
-    read-comments-requires
-    enum-known-n
-    enum-known-at
+    (λ c κs. search needs)
+    (λ c. search needs)
+    (λ c. search needs)
     read-tree-requires
     returns-2
     returns-3)

@@ -7,20 +7,8 @@ use Rattle.image.proofs.Whole.{tree-bad, tree-spare, tree-whole}
 use Rattle.image.proofs.read_tree.Statement.{statement}
 use Rattle.image.proofs.read_tree.Tie as tie
 
-read-record-requires : tie.Need-read-record-requires
-read-record-requires c κs = search needs
-
-enum-known-n : tie.Need-enum-known-n
-enum-known-n c = search needs
-
-enum-known-next : tie.Need-enum-known-next
-enum-known-next c = search needs
-
 returns : tie.Need-returns
 returns c = sym (tree-spare _ _ _ _ _ (sym (c .before .before .before .before .read-record .ensures) ∙ c .before .before .next .given .1) (c .if1 .taken))
-
-num16-requires : tie.Need-num16-requires
-num16-requires c κs = search needs
 
 returns-2 : tie.Need-returns-2
 returns-2 c = sym (tree-bad _ _ _ _ _ _ (sym (c .before .before .before .read-record .ensures) ∙ c .before .n .given .1))
@@ -32,10 +20,10 @@ pub read-tree-spec : {M : Type 1} → statement M
 read-tree-spec =
     tie.close
     (tie.spec
-    read-record-requires
-    enum-known-n
-    enum-known-next
+    (λ c κs. search needs)
+    (λ c. search needs)
+    (λ c. search needs)
     returns
-    num16-requires
+    (λ c κs. search needs)
     returns-2
     returns-3)

@@ -3,40 +3,20 @@ use native.Mathlib.Omega.{arith}
 use borrow.Author.Needs.{needs}
 use Rattle.laying.proofs.rows_wanted.Statement.{statement}
 use Rattle.laying.proofs.rows_wanted.Tie as tie
-use Rattle.laying.proofs.rows_wanted.Reads as reads
-use Rattle.laying.proofs.rows_wanted.Lts as lts
-use Rattle.laying.proofs.rows_needed.Reads as rows-needed-reads
-use Rattle.rows.proofs.store.wide.Reads as wide-reads
 
--- src/lib.rt:88:16
-wide-requires : tie.Need-wide-requires
-wide-requires c κs = search needs
-
--- src/lib.rt:88:16
-add-most : tie.Need-add-most
-add-most c = search needs
-
--- src/lib.rt:88:40
 mul-most : tie.Need-mul-most
 mul-most c = omega (arith, few-comments (c .before .before .before .pre .0))
 
--- src/lib.rt:88:16
 add-most-2 : tie.Need-add-most-2
 add-most-2 c = omega (arith, few-comments (c .before .before .before .pre .0), stands (c .before .before .before .pre .0) .small, c .wide .ensures, c .before .before .before .pre .1 .1 .1 .row)
 
--- src/lib.rt:90:9
 returns : tie.Need-returns
 returns c = record { short = λ h. absurd (omega arith); enough = λ h. omega (arith, few-rows (c .before .before .before .before .pre .0) (c .before .before .before .before .args .from) (c .before .before .before .before .args .to) (c .before .before .before .before .pre .1 .0) (c .before .before .before .before .args .c) (c .before .before .before .before .args .begun) (c .before .before .before .before .args .close) (c .before .before .before .before .pre .1 .1 .1), c .before .wide .ensures, c .if1 .taken) }
 
--- src/lib.rt:92:5
-rows-needed-requires : tie.Need-rows-needed-requires
-rows-needed-requires c κs = search needs
-
--- src/lib.rt:73:1
 returns-2 : tie.Need-returns-2
 returns-2 c = record { short = λ h. c .rows-needed .ensures; enough = λ h. omega (arith, c .rows-needed .ensures) }
 
 pub rows-wanted-spec : {M : Type 1} → statement M
 rows-wanted-spec =
     tie.close
-    (tie.spec wide-requires add-most mul-most add-most-2 returns rows-needed-requires returns-2)
+    (tie.spec (λ c κs. search needs) (λ c. search needs) mul-most add-most-2 returns (λ c κs. search needs) returns-2)

@@ -4,35 +4,14 @@ use borrow.Author.Needs.{needs}
 use Rattle.marks.proofs.row_marks.Statement.{statement}
 use Rattle.marks.proofs.row_marks.Tie as tie
 
-place-requires : tie.Need-place-requires
-place-requires c κs = search needs
-
-place-requires-2 : tie.Need-place-requires-2
-place-requires-2 c κs = search needs
-
-place-requires-3 : tie.Need-place-requires-3
-place-requires-3 c κs = search needs
-
-larger-requires : tie.Need-larger-requires
-larger-requires c κs = search needs
-
-add-result : tie.Need-add-result
-add-result c = search needs
-
 returns : tie.Need-returns
 returns c = (
   row-call (c .before .before .before .before .before .before .args .store .now) (c .before .before .before .before .before .before .args .row) _ _ _ _ (c .before .before .before .before .place .ensures .0) (c .before .before .before .place2 .ensures .0) (c .before .place3 .ensures .0) (c .larger .ensures) (c .before .before .if1 .taken),
   omega (arith, c .larger .ensures, c .before .before .before .place2 .ensures .1, c .before .place3 .ensures .1),
 )
 
-add-result-2 : tie.Need-add-result-2
-add-result-2 c = search needs
-
 returns-2 : tie.Need-returns-2
 returns-2 c = (row-group (c .before .before .before .before .before .args .store .now) (c .before .before .before .before .before .args .row) _ _ (c .before .before .before .place .ensures .0) (c .before .before .place2 .ensures .0) (c .if2 .taken), omega (arith, c .before .before .place2 .ensures .1))
-
-add-result-3 : tie.Need-add-result-3
-add-result-3 c = search needs
 
 returns-3 : tie.Need-returns-3
 returns-3 c = (row-if (c .before .before .before .before .before .before .args .store .now) (c .before .before .before .before .before .before .args .row) _ _ (c .before .before .before .before .place .ensures .0) (c .before .before .before .place2 .ensures .0) (c .if3 .taken), omega (arith, c .before .before .before .place2 .ensures .1))
@@ -44,14 +23,14 @@ pub row-marks-spec : {M : Type 1} → statement M
 row-marks-spec =
     tie.close
     (tie.spec
-    place-requires
-    place-requires-2
-    place-requires-3
-    larger-requires
-    add-result
+    (λ c κs. search needs)
+    (λ c κs. search needs)
+    (λ c κs. search needs)
+    (λ c κs. search needs)
+    (λ c. search needs)
     returns
-    add-result-2
+    (λ c. search needs)
     returns-2
-    add-result-3
+    (λ c. search needs)
     returns-3
     returns-4)

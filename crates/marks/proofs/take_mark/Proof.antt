@@ -7,18 +7,6 @@ use Rattle.marks.proofs.take_mark.Tie as tie
 returns : tie.Need-returns
 returns c = (past-mark (c .before .before .args .marks .now) (c .before .before .args .number) (c .if1 .taken), (omega arith, clear-past (c .before .before .args .in-use) (c .before .before .args .marks .now) (c .before .before .args .number) (c .if1 .taken)))
 
-slice-read-wide-mark : tie.Need-slice-read-wide-mark
-slice-read-wide-mark c = search needs
-
-wide-mark-requires : tie.Need-wide-mark-requires
-wide-mark-requires c κs = search needs
-
-slice-write-marks : tie.Need-slice-write-marks
-slice-write-marks c = search needs
-
-same-length : tie.Need-same-length
-same-length c = search needs
-
 returns-2 : tie.Need-returns-2
 returns-2 c = (c .before .wide-mark .ensures .0, (c .before .wide-mark .ensures .1, clear-new (c .before .before .before .before .before .args .in-use) (c .before .before .before .before .before .args .marks .now) (c .before .before .before .before .before .args .number) (c .if2 .taken)))
 
@@ -30,9 +18,9 @@ take-mark-spec =
     tie.close
     (tie.spec
     returns
-    slice-read-wide-mark
-    wide-mark-requires
-    slice-write-marks
-    same-length
+    (λ c. search needs)
+    (λ c κs. search needs)
+    (λ c. search needs)
+    (λ c. search needs)
     returns-2
     returns-3)

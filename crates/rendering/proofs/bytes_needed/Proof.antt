@@ -6,9 +6,6 @@ use borrow.Author.Needs.{needs}
 use Rattle.rendering.proofs.bytes_needed.Statement.{statement}
 use Rattle.rendering.proofs.bytes_needed.Tie as tie
 
-start-pen-requires : tie.Need-start-pen-requires
-start-pen-requires c κs = search needs
-
 put-aside-requires : tie.Need-put-aside-requires
 put-aside-requires c κs = rows-within _ _ _ _ _ _ (c .before .before .before .before .before .before .before .before .pre)
 
@@ -18,15 +15,6 @@ run-rows-requires c κs = dry-starts _ _ _ _ _ _ (c .before .before .before .bef
 put-back-requires : tie.Need-put-back-requires
 put-back-requires c κs = let w = back-within _ _ _ _ _ _ (c .before .before .before .before .before .before .before .before .before .before .before .before .before .before .before .before .before .before .before .before .before .before .before .pre) _ _ (c .before .before .before .before .before .before .before .before .before .before .before .before .before .before .put-aside .ensures) in (omega arith, omega arith)
 
-same-length : tie.Need-same-length
-same-length c = search needs
-
-same-length-2 : tie.Need-same-length-2
-same-length-2 c = search needs
-
-same-length-3 : tie.Need-same-length-3
-same-length-3 c = search needs
-
 returns : tie.Need-returns
 returns c = dry-ends _ _ _ _ _ _ (c .before .before .before .before .before .before .before .before .before .before .before .before .before .before .before .before .before .before .before .before .before .before .before .before .before .before .before .before .before .pre) _ _ (c .before .before .before .before .before .before .before .before .before .before .before .before .before .before .before .before .before .before .before .before .put-aside .ensures) _ _ (c .before .before .before .before .before .before .before .before .before .before .before .before .before .before .before .before .before .before .before .before .before .before .before .start-pen .ensures) (λ k. omega (arith, c .before .before .before .before .before .before .before .before .before .before .before .before .before .before .before .before .before .before .before .before .before .before .before .before .before .slice-known2 .given k)) _ _ _ _ _ (c .before .before .before .before .before .before .before .before .before .before .before .before .run-rows .ensures) (c .before .before .before .before .before .put-back .ensures)
 
@@ -34,11 +22,11 @@ pub bytes-needed-spec : {M : Type 1} → statement M
 bytes-needed-spec =
     tie.close
     (tie.spec
-    start-pen-requires
+    (λ c κs. search needs)
     put-aside-requires
     run-rows-requires
     put-back-requires
-    same-length
-    same-length-2
-    same-length-3
+    (λ c. search needs)
+    (λ c. search needs)
+    (λ c. search needs)
     returns)

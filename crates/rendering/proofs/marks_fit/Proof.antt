@@ -9,11 +9,8 @@ use Rattle.rendering.proofs.marks_fit.Tie as tie
 returns : tie.Need-returns
 returns c = simp (lt-ltb _ _ (c .if1 .taken))
 
-has-odd-mark-requires : tie.Need-has-odd-mark-requires
-has-odd-mark-requires c κs = search needs
-
 returns-2 : tie.Need-returns-2
 returns-2 c = simp (le-ltb _ _ (c .before .if1 .left), c .has-odd-mark .ensures, or-none)
 
 pub marks-fit-spec : {M : Type 1} → statement M
-marks-fit-spec = tie.close (tie.spec returns has-odd-mark-requires returns-2)
+marks-fit-spec = tie.close (tie.spec returns (λ c κs. search needs) returns-2)

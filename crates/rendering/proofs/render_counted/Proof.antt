@@ -5,32 +5,11 @@ use borrow.Author.Needs.{needs}
 use Rattle.rendering.proofs.render_counted.Statement.{statement}
 use Rattle.rendering.proofs.render_counted.Tie as tie
 
-bytes-needed-requires : tie.Need-bytes-needed-requires
-bytes-needed-requires c κs = search needs
-
-same-length : tie.Need-same-length
-same-length c = search needs
-
-same-length-2 : tie.Need-same-length-2
-same-length-2 c = search needs
-
-same-length-3 : tie.Need-same-length-3
-same-length-3 c = search needs
-
 returns : tie.Need-returns
 returns c = ends-ten _ _ _ _ _ _ (c .before .before .before .before .before .before .before .before .before .before .before .before .before .before .before .before .pre .0) _ _ _ _ _ (c .before .before .before .before .before .before .before .bytes-needed .ensures) (c .if1 .taken)
 
 write-rows-requires : tie.Need-write-rows-requires
 write-rows-requires c κs = (has-room _ _ _ _ _ _ (c .before .before .before .before .before .before .before .before .before .before .before .before .before .before .before .before .before .before .before .pre .0) _ _ _ _ _ (c .before .before .before .before .before .before .before .before .before .before .bytes-needed .ensures) (c .before .before .before .if1 .left), still-needed _ _ _ _ _ _ (c .before .before .before .before .before .before .before .before .before .before .before .before .before .before .before .before .before .before .before .pre .0) _ _ _ _ _ (c .before .before .before .before .before .before .before .before .before .before .bytes-needed .ensures) _ (c .before .before .before .before .before .before .before .before .before .before .before .before .before .before .before .before .before .before .before .pre .1))
-
-same-length-4 : tie.Need-same-length-4
-same-length-4 c = search needs
-
-same-length-5 : tie.Need-same-length-5
-same-length-5 c = search needs
-
-same-length-6 : tie.Need-same-length-6
-same-length-6 c = search needs
 
 returns-2 : tie.Need-returns-2
 returns-2 c = then-run _ _ _ _ _ _ (c .before .before .before .before .before .before .before .before .before .before .before .before .before .before .before .before .before .before .before .before .before .before .before .before .pre .0) _ _ _ _ _ (c .before .before .before .before .before .before .before .before .before .before .before .before .before .before .before .bytes-needed .ensures) _ _ _ (c .before .before .before .before .write-rows .ensures)
@@ -39,13 +18,13 @@ pub render-counted-spec : {M : Type 1} → statement M
 render-counted-spec =
     tie.close
     (tie.spec
-    bytes-needed-requires
-    same-length
-    same-length-2
-    same-length-3
+    (λ c κs. search needs)
+    (λ c. search needs)
+    (λ c. search needs)
+    (λ c. search needs)
     returns
     write-rows-requires
-    same-length-4
-    same-length-5
-    same-length-6
+    (λ c. search needs)
+    (λ c. search needs)
+    (λ c. search needs)
     returns-2)

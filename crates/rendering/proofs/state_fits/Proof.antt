@@ -16,14 +16,8 @@ returns-2 c = λ P. past-stop P (c .before .before .before .before .before .befo
 returns-3 : tie.Need-returns-3
 returns-3 c = λ P. past-limit P (c .before .before .before .before .before .before .before .before .args .state) (c .before .before .before .before .before .before .before .before .args .stop) (c .before .before .before .before .before .before .before .before .args .store .now) (c .before .before .before .before .before .before .before .before .args .marks .now) (c .before .before .before .before .if1 .left) (c .before .before .if2 .left) (c .if3 .taken)
 
-pen-fits-requires : tie.Need-pen-fits-requires
-pen-fits-requires c κs = search needs
-
 returns-4 : tie.Need-returns-4
 returns-4 c = λ P. wrong-pen P (c .before .before .before .before .before .before .before .before .before .before .args .state) (c .before .before .before .before .before .before .before .before .before .before .args .stop) (c .before .before .before .before .before .before .before .before .before .before .args .store .now) (c .before .before .before .before .before .before .before .before .before .before .args .marks .now) (c .before .before .before .before .before .before .if1 .left) (c .before .before .before .before .if2 .left) (c .before .before .if3 .left) (sym (c .before .pen-fits .ensures) ∙ not-true _ (c .if4 .taken))
-
-marks-fit-requires : tie.Need-marks-fit-requires
-marks-fit-requires c κs = search needs
 
 returns-5 : tie.Need-returns-5
 returns-5 c = λ P. right-pen P (c .before .before .before .before .before .before .before .before .before .before .before .args .state) (c .before .before .before .before .before .before .before .before .before .before .before .args .stop) (c .before .before .before .before .before .before .before .before .before .before .before .args .store .now) (c .before .before .before .before .before .before .before .before .before .before .before .args .marks .now) (c .before .before .before .before .before .before .before .if1 .left) (c .before .before .before .before .before .if2 .left) (c .before .before .before .if3 .left) _ (sym (c .before .before .pen-fits .ensures) ∙ not-false _ (c .before .if4 .left)) (c .marks-fit .ensures)
@@ -31,4 +25,4 @@ returns-5 c = λ P. right-pen P (c .before .before .before .before .before .befo
 pub state-fits-spec : {M : Type 1} → statement M
 state-fits-spec =
     tie.close
-    (tie.spec returns returns-2 returns-3 pen-fits-requires returns-4 marks-fit-requires returns-5)
+    (tie.spec returns returns-2 returns-3 (λ c κs. search needs) returns-4 (λ c κs. search needs) returns-5)

@@ -8,9 +8,6 @@ use borrow.Author.Needs.{needs}
 use Rattle.rendering.proofs.state_refusal.Statement.{statement}
 use Rattle.rendering.proofs.state_refusal.Tie as tie
 
-state-fits-requires : tie.Need-state-fits-requires
-state-fits-requires c κs = search needs
-
 returns : tie.Need-returns
 returns c = λ s b. state-unfit s b (c .before .before .before .before .args .state) (c .before .before .before .before .args .stop) (c .before .before .before .before .args .store .now) (c .before .before .before .before .args .marks .now) (sym (c .before .state-fits .ensures (parts s b)) ∙ not-true _ (c .if1 .taken))
 
@@ -18,4 +15,4 @@ returns-2 : tie.Need-returns-2
 returns-2 c = λ s b. state-fit s b (c .before .before .before .before .args .state) (c .before .before .before .before .args .stop) (c .before .before .before .before .args .store .now) (c .before .before .before .before .args .marks .now) (sym (c .before .state-fits .ensures (parts s b)) ∙ not-false _ (c .if1 .left))
 
 pub state-refusal-spec : {M : Type 1} → statement M
-state-refusal-spec = tie.close (tie.spec state-fits-requires returns returns-2)
+state-refusal-spec = tie.close (tie.spec (λ c κs. search needs) returns returns-2)

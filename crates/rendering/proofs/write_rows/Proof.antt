@@ -5,23 +5,11 @@ use borrow.Author.Needs.{needs}
 use Rattle.rendering.proofs.write_rows.Statement.{statement}
 use Rattle.rendering.proofs.write_rows.Tie as tie
 
-start-pen-requires : tie.Need-start-pen-requires
-start-pen-requires c κs = search needs
-
 clear-marks-requires : tie.Need-clear-marks-requires
 clear-marks-requires c κs = marks-within _ _ _ _ _ _ _ (c .before .before .before .before .before .before .before .pre .0) _ (c .before .before .before .before .before .before .before .pre .1)
 
 run-rows-requires : tie.Need-run-rows-requires
 run-rows-requires c κs = run-starts _ _ _ _ _ _ _ (c .before .before .before .before .before .before .before .before .before .before .before .before .pre .0) _ (c .before .before .before .before .before .before .start-pen .ensures)
-
-larger-requires : tie.Need-larger-requires
-larger-requires c κs = search needs
-
-same-length : tie.Need-same-length
-same-length c = search needs
-
-same-length-2 : tie.Need-same-length-2
-same-length-2 c = search needs
 
 returns : tie.Need-returns
 returns c = run-ends _ _ _ _ _ _ _ (c .before .before .before .before .before .before .before .before .before .before .before .before .before .before .before .before .before .before .before .before .pre .0) _ _ (c .before .before .before .before .before .before .before .before .before .before .before .before .before .before .start-pen .ensures) _ (c .before .before .before .before .before .before .before .before .before .before .before .before .before .before .before .before .before .before .before .before .pre .1) _ (c .before .before .before .before .before .before .before .before .before .before .before .before .clear-marks .ensures) _ _ (c .before .before .before .before .before .before .before .run-rows .ensures) _ (c .larger .ensures)
@@ -30,10 +18,10 @@ pub write-rows-spec : {M : Type 1} → statement M
 write-rows-spec =
     tie.close
     (tie.spec
-    start-pen-requires
+    (λ c κs. search needs)
     clear-marks-requires
     run-rows-requires
-    larger-requires
-    same-length
-    same-length-2
+    (λ c κs. search needs)
+    (λ c. search needs)
+    (λ c. search needs)
     returns)

@@ -7,17 +7,11 @@ use Rattle.rowcheck.proofs.check_rows.Tie as tie
 returns : tie.Need-returns
 returns c = sym (ap refused (stop-far _ _ _ _ _ (c .if1 .taken)))
 
-mul-if2 : tie.Need-mul-if2
-mul-if2 c = search needs
-
 returns-2 : tie.Need-returns-2
 returns-2 c = sym (ap refused (stop-past _ _ _ _ _ (c .before .if1 .left) (c .if2 .taken)))
-
-wrong-row-requires : tie.Need-wrong-row-requires
-wrong-row-requires c κs = search needs
 
 returns-3 : tie.Need-returns-3
 returns-3 c = c .wrong-row .ensures ∙ sym (ap refused (stop-fits _ _ _ _ _ (c .before .before .if1 .left) (c .before .if2 .left)))
 
 pub check-rows-spec : {M : Type 1} → statement M
-check-rows-spec = tie.close (tie.spec returns mul-if2 returns-2 wrong-row-requires returns-3)
+check-rows-spec = tie.close (tie.spec returns (λ c. search needs) returns-2 (λ c κs. search needs) returns-3)

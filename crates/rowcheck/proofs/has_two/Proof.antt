@@ -3,29 +3,14 @@ use borrow.Author.Needs.{needs}
 use Rattle.rowcheck.proofs.has_two.Statement.{statement}
 use Rattle.rowcheck.proofs.has_two.Tie as tie
 
-place-requires : tie.Need-place-requires
-place-requires c κs = search needs
-
-add-if1 : tie.Need-add-if1
-add-if1 c = search needs
-
 returns : tie.Need-returns
 returns c = two-low _ _ _ _ (c .before .place .ensures .0) (c .before .before .before .pre .1 .1 .1) (c .if1 .taken)
 
 returns-2 : tie.Need-returns-2
 returns-2 c = two-high _ _ _ _ (c .before .before .place .ensures .0) (c .before .before .before .before .pre .1 .1 .1) (c .before .if1 .left) (c .if2 .taken)
 
-add-place : tie.Need-add-place
-add-place c = search needs
-
-place-requires-2 : tie.Need-place-requires-2
-place-requires-2 c κs = search needs
-
 returns-3 : tie.Need-returns-3
 returns-3 c = two-first _ _ _ _ (c .before .before .before .before .place .ensures .0) (c .before .before .before .before .before .before .pre .1 .1 .1) (c .before .before .before .if1 .left) (c .before .before .if2 .left) _ (c .before .place2 .ensures .0) (c .if3 .taken)
-
-place-requires-3 : tie.Need-place-requires-3
-place-requires-3 c κs = search needs
 
 returns-4 : tie.Need-returns-4
 returns-4 c = two-second _ _ _ _ (c .before .before .before .before .before .place .ensures .0) (c .before .before .before .before .before .before .before .pre .1 .1 .1) (c .before .before .before .before .if1 .left) (c .before .before .before .if2 .left) _ (c .before .before .place2 .ensures .0) _ (c .place3 .ensures .0) (c .before .if3 .left)
@@ -34,12 +19,12 @@ pub has-two-spec : {M : Type 1} → statement M
 has-two-spec =
     tie.close
     (tie.spec
-    place-requires
-    add-if1
+    (λ c κs. search needs)
+    (λ c. search needs)
     returns
     returns-2
-    add-place
-    place-requires-2
+    (λ c. search needs)
+    (λ c κs. search needs)
     returns-3
-    place-requires-3
+    (λ c κs. search needs)
     returns-4)

@@ -3,20 +3,11 @@ use borrow.Author.Needs.{needs}
 use Rattle.rowcheck.proofs.no_text_fits.Statement.{statement}
 use Rattle.rowcheck.proofs.no_text_fits.Tie as tie
 
-place-requires : tie.Need-place-requires
-place-requires c κs = search needs
-
 returns : tie.Need-returns
 returns c = no-text-1 (c .before .before .before .args .store .now) (c .before .before .before .args .row) _ (c .before .place .ensures .0) (c .if1 .taken)
 
-place-requires-2 : tie.Need-place-requires-2
-place-requires-2 c κs = search needs
-
 returns-2 : tie.Need-returns-2
 returns-2 c = no-text-2 (c .before .before .before .before .before .args .store .now) (c .before .before .before .before .before .args .row) _ _ (c .before .before .before .place .ensures .0) (c .before .place2 .ensures .0) (c .before .before .if1 .left) (c .if2 .taken)
-
-place-requires-3 : tie.Need-place-requires-3
-place-requires-3 c κs = search needs
 
 returns-3 : tie.Need-returns-3
 returns-3 c = no-text-3 (c .before .before .before .before .before .before .args .store .now) (c .before .before .before .before .before .before .args .row) _ _ _ (c .before .before .before .before .place .ensures .0) (c .before .before .place2 .ensures .0) (c .place3 .ensures .0) (c .before .before .before .if1 .left) (c .before .if2 .left)
@@ -24,4 +15,4 @@ returns-3 c = no-text-3 (c .before .before .before .before .before .before .args
 pub no-text-fits-spec : {M : Type 1} → statement M
 no-text-fits-spec =
     tie.close
-    (tie.spec place-requires returns place-requires-2 returns-2 place-requires-3 returns-3)
+    (tie.spec (λ c κs. search needs) returns (λ c κs. search needs) returns-2 (λ c κs. search needs) returns-3)

@@ -8,30 +8,6 @@ use borrow.Author.Needs.{needs}
 use Rattle.rowcheck.proofs.numbers_fit.Statement.{statement}
 use Rattle.rowcheck.proofs.numbers_fit.Tie as tie
 
-uses-number-requires : tie.Need-uses-number-requires
-uses-number-requires c κs = search needs
-
-place-requires : tie.Need-place-requires
-place-requires c κs = search needs
-
-used-or-none-requires : tie.Need-used-or-none-requires
-used-or-none-requires c κs = search needs
-
-place-requires-2 : tie.Need-place-requires-2
-place-requires-2 c κs = search needs
-
-used-or-none-requires-2 : tie.Need-used-or-none-requires-2
-used-or-none-requires-2 c κs = search needs
-
-uses-second-requires : tie.Need-uses-second-requires
-uses-second-requires c κs = search needs
-
-place-requires-3 : tie.Need-place-requires-3
-place-requires-3 c κs = search needs
-
-used-or-none-requires-3 : tie.Need-used-or-none-requires-3
-used-or-none-requires-3 c κs = search needs
-
 returns : tie.Need-returns
 returns c =
     three-on _ _ _ _ _ _
@@ -56,14 +32,14 @@ pub numbers-fit-spec : {M : Type 1} → statement M
 numbers-fit-spec =
     tie.close
     (tie.spec
-    uses-number-requires
-    place-requires
-    used-or-none-requires
-    place-requires-2
-    used-or-none-requires-2
-    uses-second-requires
-    place-requires-3
-    used-or-none-requires-3
+    (λ c κs. search needs)
+    (λ c κs. search needs)
+    (λ c κs. search needs)
+    (λ c κs. search needs)
+    (λ c κs. search needs)
+    (λ c κs. search needs)
+    (λ c κs. search needs)
+    (λ c κs. search needs)
     returns
     returns-2
     returns-3)

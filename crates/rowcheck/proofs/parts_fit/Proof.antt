@@ -7,20 +7,11 @@ use Rattle.rowcheck.proofs.parts_fit.Tie as tie
 returns : tie.Need-returns
 returns c = parts-block _ _ _ (c .if1 .taken)
 
-add-result : tie.Need-add-result
-add-result c = search needs
-
 returns-2 : tie.Need-returns-2
 returns-2 c = parts-leaf _ _ _ _ (c .before .before .before .pre .1 .1 .1) (c .before .if1 .left) (c .if2 .taken)
 
-has-two-requires : tie.Need-has-two-requires
-has-two-requires c κs = search needs
-
 returns-3 : tie.Need-returns-3
 returns-3 c = c .has-two .ensures ∙ parts-two _ _ _ (c .before .if3 .taken)
-
-is-split-requires : tie.Need-is-split-requires
-is-split-requires c κs = search needs
 
 returns-4 : tie.Need-returns-4
 returns-4 c = c .is-split .ensures ∙ parts-call _ _ _ (c .before .if4 .taken)
@@ -33,10 +24,10 @@ parts-fit-spec =
     tie.close
     (tie.spec
     returns
-    add-result
+    (λ c. search needs)
     returns-2
-    has-two-requires
+    (λ c κs. search needs)
     returns-3
-    is-split-requires
+    (λ c κs. search needs)
     returns-4
     returns-5)

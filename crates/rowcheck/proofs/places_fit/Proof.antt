@@ -5,24 +5,6 @@ use borrow.Author.Needs.{needs}
 use Rattle.rowcheck.proofs.places_fit.Statement.{statement}
 use Rattle.rowcheck.proofs.places_fit.Tie as tie
 
-place-requires : tie.Need-place-requires
-place-requires c κs = search needs
-
-numbers-fit-requires : tie.Need-numbers-fit-requires
-numbers-fit-requires c κs = search needs
-
-place-requires-2 : tie.Need-place-requires-2
-place-requires-2 c κs = search needs
-
-used-or-none-requires : tie.Need-used-or-none-requires
-used-or-none-requires c κs = search needs
-
-uses-text-requires : tie.Need-uses-text-requires
-uses-text-requires c κs = search needs
-
-text-fits-requires : tie.Need-text-fits-requires
-text-fits-requires c κs = search needs
-
 returns : tie.Need-returns
 returns c =
     places-text _ _ _ _ _ (c .before .before .before .before .before .before .before .before .place .ensures .0) _ (c .before .before .before .before .before .before .before .numbers-fit .ensures) _ (used-is (eqb (c .before .before .before .before .before .before .before .before .place .result) 5) _ _ _ _ (c .before .before .before .before .used-or-none .ensures) refl (c .before .before .before .before .before .place2 .ensures .0)) (c .before .before .before .before .before .before .if1 .taken) _ _
@@ -30,9 +12,6 @@ returns c =
     (c .text-fits .ensures)
     (c .before .before .before .if2 .taken)
     (c .before .if3 .taken)
-
-no-text-fits-requires : tie.Need-no-text-fits-requires
-no-text-fits-requires c κs = search needs
 
 returns-2 : tie.Need-returns-2
 returns-2 c =
@@ -54,14 +33,14 @@ pub places-fit-spec : {M : Type 1} → statement M
 places-fit-spec =
     tie.close
     (tie.spec
-    place-requires
-    numbers-fit-requires
-    place-requires-2
-    used-or-none-requires
-    uses-text-requires
-    text-fits-requires
+    (λ c κs. search needs)
+    (λ c κs. search needs)
+    (λ c κs. search needs)
+    (λ c κs. search needs)
+    (λ c κs. search needs)
+    (λ c κs. search needs)
     returns
-    no-text-fits-requires
+    (λ c κs. search needs)
     returns-2
     returns-3
     returns-4)

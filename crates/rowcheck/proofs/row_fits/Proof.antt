@@ -3,9 +3,6 @@ use borrow.Author.Needs.{needs}
 use Rattle.rowcheck.proofs.row_fits.Statement.{statement}
 use Rattle.rowcheck.proofs.row_fits.Tie as tie
 
-place-requires : tie.Need-place-requires
-place-requires c κs = search needs
-
 returns : tie.Need-returns
 returns c = fits-deep _ _ _ _ _ _ (c .before .place .ensures .0) (c .if1 .taken)
 
@@ -14,15 +11,6 @@ returns-2 c = fits-low _ _ _ _ _ _ (c .before .before .place .ensures .0) (c .be
 
 returns-3 : tie.Need-returns-3
 returns-3 c = fits-past _ _ _ _ _ _ (c .before .before .before .place .ensures .0) (c .before .before .if1 .left) (c .before .if2 .left) (c .if3 .taken)
-
-place-requires-2 : tie.Need-place-requires-2
-place-requires-2 c κs = search needs
-
-parts-fit-requires : tie.Need-parts-fit-requires
-parts-fit-requires c κs = search needs
-
-places-fit-requires : tie.Need-places-fit-requires
-places-fit-requires c κs = search needs
 
 returns-4 : tie.Need-returns-4
 returns-4 c = fits-places _ _ _ _ _ _ (c .before .before .before .before .before .before .before .place .ensures .0) (c .before .before .before .before .before .before .if1 .left) (c .before .before .before .before .before .if2 .left) (c .before .before .before .before .if3 .left) _ (c .before .before .before .place2 .ensures .0) _ (c .before .before .parts-fit .ensures) _ (c .places-fit .ensures) (c .before .if4 .taken)
@@ -34,12 +22,12 @@ pub row-fits-spec : {M : Type 1} → statement M
 row-fits-spec =
     tie.close
     (tie.spec
-    place-requires
+    (λ c κs. search needs)
     returns
     returns-2
     returns-3
-    place-requires-2
-    parts-fit-requires
-    places-fit-requires
+    (λ c κs. search needs)
+    (λ c κs. search needs)
+    (λ c κs. search needs)
     returns-4
     returns-5)

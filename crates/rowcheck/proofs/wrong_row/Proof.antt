@@ -10,11 +10,6 @@ use Rattle.renderer.proofs.Checked.{fits-row}
 use Rattle.rowcheck.proofs.Pending.{refused, Checking, checkLeft, check-start, check-wrong, check-right, check-out-at, check-in, check-past, check-as}
 use Rattle.rowcheck.proofs.wrong_row.Statement.{statement}
 use Rattle.rowcheck.proofs.wrong_row.Tie as tie
-use Rattle.rowcheck.proofs.wrong_row.Reads as reads
-use Rattle.rowcheck.proofs.wrong_row.Lts as lts
-use Rattle.rowcheck.proofs.row_fits.Reads as row-fits-reads
-use Rattle.rows.proofs.store.place.Reads as place-reads
-use Rattle.rows.proofs.store.wide.Reads as wide-reads
 
 abbrev Inv-loop : tie.InvT-loop
 Inv-loop store source image from stop ends₀ depth₀ end₀ row₀ ends depth end row =
@@ -38,9 +33,6 @@ mul-wide c = omega (arith, c .before .before .loop .inv .deep)
 
 array-read-wide : tie.Need-array-read-wide Inv-loop μ-loop
 array-read-wide c = omega (arith, leaves c, c .before .before .loop .inv .deep)
-
-wide-requires : tie.Need-wide-requires Inv-loop μ-loop
-wide-requires c κs = search needs
 
 loop-less : tie.Need-loop-less Inv-loop μ-loop
 loop-less c = omega (arith, leaves (c .before))
@@ -99,7 +91,7 @@ wrong-row-spec =
     sub-depth
     mul-wide
     array-read-wide
-    wide-requires
+    (λ c κs. search needs)
     loop-less
     loop-again
     row-fits-requires

@@ -6,15 +6,6 @@ use Rattle.image.specs.Read.{commentFits}
 use Rattle.image.proofs.comments.comment_fits.Statement.{statement}
 use Rattle.image.proofs.comments.comment_fits.Tie as tie
 
-num32-requires : tie.Need-num32-requires
-num32-requires c κs = search needs
-
-add-num32 : tie.Need-add-num32
-add-num32 c = search needs
-
-num32-requires-2 : tie.Need-num32-requires-2
-num32-requires-2 c κs = search needs
-
 returns : tie.Need-returns
 unfolding commentFits
 returns c = simp (← c .before .before .num32 .ensures .same, ← c .before .num322 .ensures .same, lt-leb _ _ (c .if1 .taken))
@@ -22,9 +13,6 @@ returns c = simp (← c .before .before .num32 .ensures .same, ← c .before .nu
 returns-2 : tie.Need-returns-2
 unfolding commentFits
 returns-2 c = simp (← c .before .before .before .num32 .ensures .same, ← c .before .before .num322 .ensures .same, le-leb _ _ (c .before .if1 .left), le-ltb _ _ (c .if2 .taken))
-
-is-range-requires : tie.Need-is-range-requires
-is-range-requires c κs = search needs
 
 returns-3 : tie.Need-returns-3
 unfolding commentFits
@@ -34,10 +22,10 @@ pub comment-fits-spec : {M : Type 1} → statement M
 comment-fits-spec =
     tie.close
     (tie.spec
-    num32-requires
-    add-num32
-    num32-requires-2
+    (λ c κs. search needs)
+    (λ c. search needs)
+    (λ c κs. search needs)
     returns
     returns-2
-    is-range-requires
+    (λ c κs. search needs)
     returns-3)

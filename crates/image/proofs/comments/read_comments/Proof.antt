@@ -10,25 +10,13 @@ returns : tie.Need-returns
 unfolding comments
 returns c = simp (lt-leb _ _ (c .if1 .taken))
 
-num16-requires : tie.Need-num16-requires
-num16-requires c κs = search needs
-
 returns-2 : tie.Need-returns-2
 unfolding comments
 returns-2 c = simp (le-leb _ _ (c .before .before .if1 .left), ← c .before .num16 .ensures .same, lt-leb _ _ (c .if2 .taken))
 
-mul-if3 : tie.Need-mul-if3
-mul-if3 c = search needs
-
-add-if3 : tie.Need-add-if3
-add-if3 c = search needs
-
 returns-3 : tie.Need-returns-3
 unfolding comments
 returns-3 c = simp (le-leb _ _ (c .before .before .before .if1 .left), ← c .before .before .num16 .ensures .same, le-leb _ _ (c .before .if2 .left), lt-leb _ _ (c .if3 .taken))
-
-comments-from-requires : tie.Need-comments-from-requires
-comments-from-requires c κs = search needs
 
 returns-4 : tie.Need-returns-4
 unfolding comments
@@ -39,10 +27,10 @@ read-comments-spec =
     tie.close
     (tie.spec
     returns
-    num16-requires
+    (λ c κs. search needs)
     returns-2
-    mul-if3
-    add-if3
+    (λ c. search needs)
+    (λ c. search needs)
     returns-3
-    comments-from-requires
+    (λ c κs. search needs)
     returns-4)

@@ -9,12 +9,6 @@ returns : tie.Need-returns
 unfolding firstChild
 returns c = simp (eq-eqb _ _ (c .if1 .taken))
 
-has-byte-requires : tie.Need-has-byte-requires
-has-byte-requires c κs = search needs
-
-add-result : tie.Need-add-result
-add-result c = search needs
-
 returns-2 : tie.Need-returns-2
 unfolding firstChild
 returns-2 c = simp (ne-eqb _ _ (c .before .before .if1 .left), sym (c .before .has-byte .ensures) ∙ c .if2 .taken)
@@ -24,4 +18,4 @@ unfolding firstChild
 returns-3 c = simp (ne-eqb _ _ (c .before .before .if1 .left), sym (c .before .has-byte .ensures) ∙ c .if2 .left)
 
 pub first-child-spec : {M : Type 1} → statement M
-first-child-spec = tie.close (tie.spec returns has-byte-requires add-result returns-2 returns-3)
+first-child-spec = tie.close (tie.spec returns (λ c κs. search needs) (λ c. search needs) returns-2 returns-3)

@@ -7,24 +7,6 @@ use Rattle.image.proofs.Texts.{checked-well, checked-bad}
 use Rattle.image.proofs.grammar.is_text.Statement.{statement}
 use Rattle.image.proofs.grammar.is_text.Tie as tie
 
-sub-check : tie.Need-sub-check
-sub-check c = search needs
-
-part-check-start : tie.Need-part-check-start
-part-check-start c = search needs
-
-part-check-end : tie.Need-part-check-end
-part-check-end c = search needs
-
-check-requires : tie.Need-check-requires
-check-requires c κs = search needs
-
-enum-told : tie.Need-enum-told
-enum-told c = search needs
-
-enum-told-2 : tie.Need-enum-told-2
-enum-told-2 c = search needs
-
 returns : tie.Need-returns
 returns c = sym (checked-well _ (sym (c .before .before .check .ensures) ∙ ap refusalOf (c .enum-told .given .1)))
 
@@ -35,11 +17,11 @@ pub is-text-spec : {M : Type 1} → statement M
 is-text-spec =
     tie.close
     (tie.spec
-    sub-check
-    part-check-start
-    part-check-end
-    check-requires
-    enum-told
-    enum-told-2
+    (λ c. search needs)
+    (λ c. search needs)
+    (λ c. search needs)
+    (λ c κs. search needs)
+    (λ c. search needs)
+    (λ c. search needs)
     returns
     returns-2)

@@ -9,38 +9,17 @@ use Rattle.image.specs.Grammar.{payloadFits}
 use Rattle.image.proofs.grammar.payload_fits.Statement.{statement}
 use Rattle.image.proofs.grammar.payload_fits.Tie as tie
 
-sub-if2 : tie.Need-sub-if2
-sub-if2 c = search needs
-
 returns : tie.Need-returns
 unfolding payloadFits
 returns c = simp (eq-eqb _ _ (c .before .if1 .taken), lt-leb (c .before .before .before .args .from + c .before .before .before .args .v) (c .before .before .before .args .stop) (omega arith))
-
-add-is-text : tie.Need-add-is-text
-add-is-text c = search needs
-
-is-text-requires : tie.Need-is-text-requires
-is-text-requires c κs = search needs
 
 returns-2 : tie.Need-returns-2
 unfolding payloadFits
 returns-2 c = simp (eq-eqb _ _ (c .before .before .if1 .taken), le-leb (c .before .before .before .before .args .from + c .before .before .before .before .args .v) (c .before .before .before .before .args .stop) (omega arith)) (c .is-text .ensures)
 
-has-byte-requires : tie.Need-has-byte-requires
-has-byte-requires c κs = search needs
-
 returns-3 : tie.Need-returns-3
 unfolding payloadFits
 returns-3 c = simp (ne-eqb _ _ (c .before .before .before .if1 .left), sym (c .before .before .has-byte .ensures) ∙ c .before .if3 .taken, le-ltb _ _ (c .if4 .taken))
-
-shared-slice-read-wide : tie.Need-shared-slice-read-wide
-shared-slice-read-wide c = search needs
-
-wide-requires : tie.Need-wide-requires
-wide-requires c κs = search needs
-
-top-byte-requires : tie.Need-top-byte-requires
-top-byte-requires c κs = search needs
 
 returns-4 : tie.Need-returns-4
 unfolding payloadFits
@@ -54,15 +33,15 @@ pub payload-fits-spec : {M : Type 1} → statement M
 payload-fits-spec =
     tie.close
     (tie.spec
-    sub-if2
+    (λ c. search needs)
     returns
-    add-is-text
-    is-text-requires
+    (λ c. search needs)
+    (λ c κs. search needs)
     returns-2
-    has-byte-requires
+    (λ c κs. search needs)
     returns-3
-    shared-slice-read-wide
-    wide-requires
-    top-byte-requires
+    (λ c. search needs)
+    (λ c κs. search needs)
+    (λ c κs. search needs)
     returns-4
     returns-5)

@@ -10,9 +10,6 @@ use Rattle.image.proofs.Shapes.{shaped}
 use Rattle.image.proofs.records.opening.Statement.{statement}
 use Rattle.image.proofs.records.opening.Tie as tie
 
-shape-fits-requires : tie.Need-shape-fits-requires
-shape-fits-requires c κs = search needs
-
 returns : tie.Need-returns
 unfolding opens
 returns c = simp (sym (c .before .shape-fits .ensures) ∙ not-true _ (c .if1 .taken))
@@ -21,51 +18,21 @@ returns-2 : tie.Need-returns-2
 unfolding opens
 returns-2 c = simp (sym (c .before .before .shape-fits .ensures) ∙ not-false _ (c .before .if1 .left), eq-eqb _ _ (c .if2 .taken))
 
-add-num32 : tie.Need-add-num32
-add-num32 c = search needs
-
 num32-requires : tie.Need-num32-requires
 num32-requires c κs = let w = shaped _ _ _ _ _ (sym (c .before .before .shape-fits .ensures) ∙ not-false _ (c .before .if1 .left)) in omega (arith, w .long, w .within)
 
-add-num32-2 : tie.Need-add-num32-2
-add-num32-2 c = search needs
-
 num32-requires-2 : tie.Need-num32-requires-2
 num32-requires-2 c κs = let w = shaped _ _ _ _ _ (sym (c .before .before .before .shape-fits .ensures) ∙ not-false _ (c .before .before .if1 .left)) in omega (arith, w .long, w .within)
-
-is-range-requires : tie.Need-is-range-requires
-is-range-requires c κs = search needs
 
 returns-3 : tie.Need-returns-3
 unfolding opens
 returns-3 c = simp (sym (c .before .before .before .before .before .before .shape-fits .ensures) ∙ not-false _ (c .before .before .before .before .before .if1 .left), ne-eqb _ _ (c .before .before .before .before .if2 .left), ← c .before .before .before .num32 .ensures .same, ← c .before .before .num322 .ensures .same, sym (c .before .is-range .ensures) ∙ not-true _ (c .if3 .taken))
 
-add-wide : tie.Need-add-wide
-add-wide c = search needs
-
 shared-slice-read-wide : tie.Need-shared-slice-read-wide
 shared-slice-read-wide c = let w = shaped _ _ _ _ _ (sym (c .before .before .before .before .before .before .before .shape-fits .ensures) ∙ not-false _ (c .before .before .before .before .before .before .if1 .left)) in omega (arith, w .long, w .within)
 
-wide-requires : tie.Need-wide-requires
-wide-requires c κs = search needs
-
-add-stop : tie.Need-add-stop
-add-stop c = search needs
-
 num32-requires-3 : tie.Need-num32-requires-3
 num32-requires-3 c κs = let w = shaped _ _ _ _ _ (sym (c .before .before .before .before .before .before .before .before .shape-fits .ensures) ∙ not-false _ (c .before .before .before .before .before .before .before .if1 .left)) in omega (arith, w .long, w .within)
-
-add-stop-2 : tie.Need-add-stop-2
-add-stop-2 c = search needs
-
-add-first-child : tie.Need-add-first-child
-add-first-child c = search needs
-
-first-child-requires : tie.Need-first-child-requires
-first-child-requires c κs = search needs
-
-row-under-requires : tie.Need-row-under-requires
-row-under-requires c κs = search needs
 
 returns-4 : tie.Need-returns-4
 returns-4 c = is-record _ _ _ _ _ _ _ _ _ _ _ (record { more = c .before .before .before .before .before .before .before .before .before .if2 .left; right = shaped _ _ _ _ _ (sym (c .before .before .before .before .before .before .before .before .before .before .before .shape-fits .ensures) ∙ not-false _ (c .before .before .before .before .before .before .before .before .before .before .if1 .left)); span = rw (← c .before .before .before .before .before .before .before .before .num32 .ensures .same, ← c .before .before .before .before .before .before .before .num322 .ensures .same) (sym (c .before .before .before .before .before .before .is-range .ensures) ∙ not-false _ (c .before .before .before .before .before .if3 .left)) }) (c .before .before .before .wide .ensures .0) (c .before .before .num323 .ensures .same) (c .before .first-child .ensures) (c .row-under .ensures)
@@ -74,22 +41,22 @@ pub opening-spec : {M : Type 1} → statement M
 opening-spec =
     tie.close
     (tie.spec
-    shape-fits-requires
+    (λ c κs. search needs)
     returns
     returns-2
-    add-num32
+    (λ c. search needs)
     num32-requires
-    add-num32-2
+    (λ c. search needs)
     num32-requires-2
-    is-range-requires
+    (λ c κs. search needs)
     returns-3
-    add-wide
+    (λ c. search needs)
     shared-slice-read-wide
-    wide-requires
-    add-stop
+    (λ c κs. search needs)
+    (λ c. search needs)
     num32-requires-3
-    add-stop-2
-    add-first-child
-    first-child-requires
-    row-under-requires
+    (λ c. search needs)
+    (λ c. search needs)
+    (λ c κs. search needs)
+    (λ c κs. search needs)
     returns-4)

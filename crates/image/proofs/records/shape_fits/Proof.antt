@@ -9,53 +9,17 @@ use Rattle.image.specs.Read.{shape, stopAt}
 use Rattle.image.proofs.records.shape_fits.Statement.{statement}
 use Rattle.image.proofs.records.shape_fits.Tie as tie
 
-sub-if1 : tie.Need-sub-if1
-sub-if1 c = search needs
-
 returns : tie.Need-returns
 unfolding shape
 returns c = simp (lt-leb (stopAt (c .before .before .args .b .now) (c .before .before .args .at)) (c .before .before .args .end) (omega arith)) (sym (simp and-false))
-
-num32-requires : tie.Need-num32-requires
-num32-requires c κs = search needs
 
 returns-2 : tie.Need-returns-2
 unfolding shape
 returns-2 c = simp (← c .before .num32 .ensures .same, lt-leb _ _ (c .if2 .taken))
 
-add-if3 : tie.Need-add-if3
-add-if3 c = search needs
-
-add-if3-2 : tie.Need-add-if3-2
-add-if3-2 c = search needs
-
 returns-3 : tie.Need-returns-3
 unfolding shape
 returns-3 c = simp (← c .before .before .num32 .ensures .same, le-leb _ _ (c .before .if2 .left), lt-leb _ _ (c .if3 .taken))
-
-add-wide : tie.Need-add-wide
-add-wide c = search needs
-
-shared-slice-read-wide : tie.Need-shared-slice-read-wide
-shared-slice-read-wide c = search needs
-
-wide-requires : tie.Need-wide-requires
-wide-requires c κs = search needs
-
-kind-fits-requires : tie.Need-kind-fits-requires
-kind-fits-requires c κs = search needs
-
-add-payload-fits : tie.Need-add-payload-fits
-add-payload-fits c = search needs
-
-add-payload-fits-2 : tie.Need-add-payload-fits-2
-add-payload-fits-2 c = search needs
-
-add-payload-fits-3 : tie.Need-add-payload-fits-3
-add-payload-fits-3 c = search needs
-
-payload-fits-requires : tie.Need-payload-fits-requires
-payload-fits-requires c κs = search needs
 
 returns-4 : tie.Need-returns-4
 unfolding shape
@@ -69,20 +33,20 @@ pub shape-fits-spec : {M : Type 1} → statement M
 shape-fits-spec =
     tie.close
     (tie.spec
-    sub-if1
+    (λ c. search needs)
     returns
-    num32-requires
+    (λ c κs. search needs)
     returns-2
-    add-if3
-    add-if3-2
+    (λ c. search needs)
+    (λ c. search needs)
     returns-3
-    add-wide
-    shared-slice-read-wide
-    wide-requires
-    kind-fits-requires
-    add-payload-fits
-    add-payload-fits-2
-    add-payload-fits-3
-    payload-fits-requires
+    (λ c. search needs)
+    (λ c. search needs)
+    (λ c κs. search needs)
+    (λ c κs. search needs)
+    (λ c. search needs)
+    (λ c. search needs)
+    (λ c. search needs)
+    (λ c κs. search needs)
     returns-4
     returns-5)

@@ -6,15 +6,9 @@ use Rattle.image.specs.Read.{skips}
 use Rattle.image.proofs.records.skip_fits.Statement.{statement}
 use Rattle.image.proofs.records.skip_fits.Tie as tie
 
-sub-if2 : tie.Need-sub-if2
-sub-if2 c = search needs
-
 returns : tie.Need-returns
 unfolding skips
 returns c = simp (eq-eqb _ _ (c .before .if1 .taken), lt-leb (c .before .before .before .args .at + 4) (c .before .before .before .args .end) (omega arith))
-
-num32-requires : tie.Need-num32-requires
-num32-requires c κs = search needs
 
 returns-2 : tie.Need-returns-2
 unfolding skips
@@ -25,4 +19,4 @@ unfolding skips
 returns-3 c = simp (ne-eqb _ _ (c .if1 .left))
 
 pub skip-fits-spec : {M : Type 1} → statement M
-skip-fits-spec = tie.close (tie.spec sub-if2 returns num32-requires returns-2 returns-3)
+skip-fits-spec = tie.close (tie.spec (λ c. search needs) returns (λ c κs. search needs) returns-2 returns-3)

@@ -1,26 +1,19 @@
 use borrow.Author.Tests.{ne-eqb, eq-eqb}
 use Rattle.laying.proofs.fits.is_zero.Statement.{statement}
 use Rattle.laying.proofs.fits.is_zero.Tie as tie
-use Rattle.laying.proofs.fits.is_zero.Reads as reads
-use Rattle.laying.proofs.fits.is_zero.Lts as lts
 
--- src/fits.rt:43:9
 returns : tie.Need-returns
 returns c = rw (ne-eqb _ _ (c .if1 .taken))
 
--- src/fits.rt:46:9
 returns-2 : tie.Need-returns-2
 returns-2 c = rw (eq-eqb _ _ (c .before .before .if1 .left), ne-eqb _ _ (c .if2 .taken))
 
--- src/fits.rt:49:9
 returns-3 : tie.Need-returns-3
 returns-3 c = rw (eq-eqb _ _ (c .before .before .before .before .if1 .left), eq-eqb _ _ (c .before .before .if2 .left), ne-eqb _ _ (c .if3 .taken))
 
--- src/fits.rt:52:9
 returns-4 : tie.Need-returns-4
 returns-4 c = rw (eq-eqb _ _ (c .before .before .before .before .before .before .if1 .left), eq-eqb _ _ (c .before .before .before .before .if2 .left), eq-eqb _ _ (c .before .before .if3 .left), ne-eqb _ _ (c .if4 .taken))
 
--- src/fits.rt:39:1
 returns-5 : tie.Need-returns-5
 returns-5 c = rw (eq-eqb _ _ (c .before .before .before .before .before .before .before .if1 .left), eq-eqb _ _ (c .before .before .before .before .before .if2 .left), eq-eqb _ _ (c .before .before .before .if3 .left), eq-eqb _ _ (c .before .if4 .left))
 

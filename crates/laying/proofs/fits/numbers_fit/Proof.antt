@@ -2,14 +2,10 @@ use Rattle.laying.proofs.Tests.{at-most}
 use borrow.Author.Tests.{lt-ltb, le-ltb}
 use Rattle.laying.proofs.fits.numbers_fit.Statement.{statement}
 use Rattle.laying.proofs.fits.numbers_fit.Tie as tie
-use Rattle.laying.proofs.fits.numbers_fit.Reads as reads
-use Rattle.laying.proofs.fits.numbers_fit.Lts as lts
 
--- src/fits.rt:33:9
 returns : tie.Need-returns
 returns c = rw (lt-ltb _ _ (c .if1 .taken))
 
--- src/fits.rt:29:1
 returns-2 : tie.Need-returns-2
 returns-2 c = rw (le-ltb _ _ (c .before .if1 .left)) (at-most (c .before .before .before .args .state .number) 1048576)
 

@@ -2,22 +2,16 @@ use Rattle.laying.proofs.Tests.{at-most}
 use borrow.Author.Tests.{lt-ltb, le-ltb}
 use Rattle.laying.proofs.fits.places_fit.Statement.{statement}
 use Rattle.laying.proofs.fits.places_fit.Tie as tie
-use Rattle.laying.proofs.fits.places_fit.Reads as reads
-use Rattle.laying.proofs.fits.places_fit.Lts as lts
 
--- src/fits.rt:17:9
 returns : tie.Need-returns
 returns c = rw (lt-ltb _ _ (c .if1 .taken))
 
--- src/fits.rt:20:9
 returns-2 : tie.Need-returns-2
 returns-2 c = rw (le-ltb _ _ (c .before .before .if1 .left), lt-ltb _ _ (c .if2 .taken))
 
--- src/fits.rt:23:9
 returns-3 : tie.Need-returns-3
 returns-3 c = rw (le-ltb _ _ (c .before .before .before .before .if1 .left), le-ltb _ _ (c .before .before .if2 .left), lt-ltb _ _ (c .if3 .taken))
 
--- src/fits.rt:13:1
 returns-4 : tie.Need-returns-4
 returns-4 c = rw (le-ltb _ _ (c .before .before .before .before .before .if1 .left), le-ltb _ _ (c .before .before .before .if2 .left), le-ltb _ _ (c .before .if3 .left)) (at-most (c .before .before .before .before .before .before .before .args .state .row) (c .before .before .before .before .before .before .before .args .rows))
 

@@ -2,26 +2,19 @@ use Rattle.laying.proofs.Tests.{last}
 use borrow.Author.Tests.{lt-ltb, le-ltb}
 use Rattle.laying.proofs.fits.stop_fits.Statement.{statement}
 use Rattle.laying.proofs.fits.stop_fits.Tie as tie
-use Rattle.laying.proofs.fits.stop_fits.Reads as reads
-use Rattle.laying.proofs.fits.stop_fits.Lts as lts
 
--- src/fits.rt:75:9
 returns : tie.Need-returns
 returns c = rw (lt-ltb _ _ (c .if1 .taken))
 
--- src/fits.rt:78:9
 returns-2 : tie.Need-returns-2
 returns-2 c = rw (le-ltb _ _ (c .before .if1 .left), lt-ltb _ _ (c .if2 .taken))
 
--- src/fits.rt:81:9
 returns-3 : tie.Need-returns-3
 returns-3 c = rw (le-ltb _ _ (c .before .before .if1 .left), le-ltb _ _ (c .before .if2 .left), c .if3 .taken)
 
--- src/fits.rt:84:9
 returns-4 : tie.Need-returns-4
 returns-4 c = rw (le-ltb _ _ (c .before .before .before .if1 .left), le-ltb _ _ (c .before .before .if2 .left), c .before .if3 .left, c .if4 .taken) (last _)
 
--- src/fits.rt:71:1
 returns-5 : tie.Need-returns-5
 returns-5 c = rw (le-ltb _ _ (c .before .before .before .if1 .left), le-ltb _ _ (c .before .before .if2 .left), c .before .if3 .left, c .if4 .left)
 

@@ -8,10 +8,6 @@ use mathlib.Core.Path.{_≡_, refl, sym, ap, _∙_}
 use Prim.Native.Nat.{_-_, _≤_, _+_}
 use Rattle.laying.proofs.steps.count_declarations.Statement.{statement}
 use Rattle.laying.proofs.steps.count_declarations.Tie as tie
-use Rattle.laying.proofs.steps.count_declarations.Reads as reads
-use Rattle.laying.proofs.steps.count_declarations.Lts as lts
-use Rattle.layout.proofs.numbers.past.Reads as past-reads
-use Rattle.layout.proofs.numbers.second.Reads as second-reads
 
 abbrev Inv-loop : tie.InvT-loop
 Inv-loop s b n at end p₀ count₀ p count = (count ≤ length (declared s b)) × (_≡_ {A = ℕ} p (startOf s b at count)) × (_≡_ {A = ℕ} end (stopAt b at))
@@ -19,35 +15,27 @@ Inv-loop s b n at end p₀ count₀ p count = (count ≤ length (declared s b)) 
 abbrev μ-loop : tie.MeasureT-loop
 μ-loop s b n at end p₀ count₀ p count = length (declared s b) - count
 
--- src/steps.rt:26:9
 past-requires : tie.Need-past-requires Inv-loop μ-loop
 past-requires c κs = tree-in (c .before .before .pre)
 
--- src/steps.rt:27:9
 second-requires : tie.Need-second-requires Inv-loop μ-loop
 second-requires c κs = first-in (c .before .before .before .pre)
 
--- src/steps.rt:29:5
 loop-holds : tie.Need-loop-holds Inv-loop μ-loop
 loop-holds c = (omega arith, c .second .ensures ∙ sym (starts-first (c .before .before .before .before .pre)), c .before .past .ensures)
 
--- src/steps.rt:30:9
 past-requires-2 : tie.Need-past-requires-2 Inv-loop μ-loop
 past-requires-2 c κs = rw (c .before .loop .inv .1) (record-in (c .before .before .before .before .before .before .pre) (c .before .loop .count) (another (c .before .before .before .before .before .before .pre) (c .before .loop .count) (rw (c .before .loop .inv .1, c .before .loop .inv .2) at (c .loop-test .taken))))
 
--- src/steps.rt:31:9
 add-count : tie.Need-add-count Inv-loop μ-loop
 add-count c = omega (arith, few-declarations (c .before .before .before .before .before .before .before .pre), c .before .before .loop .inv .0)
 
--- src/steps.rt:29:5
 loop-less : tie.Need-loop-less Inv-loop μ-loop
 loop-less c = omega (arith, another (c .before .before .before .before .before .before .before .pre) (c .before .before .loop .count) (rw (c .before .before .loop .inv .1, c .before .before .loop .inv .2) at (c .before .loop-test .taken)))
 
--- src/steps.rt:29:5
 loop-again : tie.Need-loop-again Inv-loop μ-loop
 loop-again c = let h = another (c .before .before .before .before .before .before .before .pre) (c .before .before .loop .count) (rw (c .before .before .loop .inv .1, c .before .before .loop .inv .2) at (c .before .loop-test .taken)) in (omega (arith, h), c .past2 .ensures ∙ ap (stopAt _) (c .before .before .loop .inv .1) ∙ goes-on (c .before .before .before .before .before .before .before .pre) (c .before .before .loop .count) h, c .before .before .loop .inv .2)
 
--- src/steps.rt:22:1
 returns : tie.Need-returns Inv-loop μ-loop
 returns c = no-more (c .before .before .before .before .before .before .pre) (c .before .loop .count) (c .before .loop .inv .0) (rw (c .before .loop .inv .1, c .before .loop .inv .2) at (c .loop-test .left))
 

@@ -8,10 +8,6 @@ use mathlib.Core.Path.{_≡_, refl, sym, ap, _∙_}
 use Prim.Native.Nat.{_-_, _≤_, _+_}
 use Rattle.laying.proofs.steps.declaration_at.Statement.{statement}
 use Rattle.laying.proofs.steps.declaration_at.Tie as tie
-use Rattle.laying.proofs.steps.declaration_at.Reads as reads
-use Rattle.laying.proofs.steps.declaration_at.Lts as lts
-use Rattle.layout.proofs.numbers.past.Reads as past-reads
-use Rattle.layout.proofs.numbers.second.Reads as second-reads
 
 abbrev Inv-loop : tie.InvT-loop
 Inv-loop s b n at k p₀ i₀ p i = (i ≤ k) × (_≡_ {A = ℕ} p (startOf s b at i))
@@ -19,31 +15,24 @@ Inv-loop s b n at k p₀ i₀ p i = (i ≤ k) × (_≡_ {A = ℕ} p (startOf s b
 abbrev μ-loop : tie.MeasureT-loop
 μ-loop s b n at k p₀ i₀ p i = k - i
 
--- src/steps.rt:41:9
 second-requires : tie.Need-second-requires Inv-loop μ-loop
 second-requires c κs = first-in (c .before .before .pre .0)
 
--- src/steps.rt:43:5
 loop-holds : tie.Need-loop-holds Inv-loop μ-loop
 loop-holds c = (omega arith, c .second .ensures ∙ sym (starts-first (c .before .before .before .pre .0)))
 
--- src/steps.rt:44:9
 past-requires : tie.Need-past-requires Inv-loop μ-loop
 past-requires c κs = rw (c .before .loop .inv .1) (record-in (c .before .before .before .before .before .pre .0) (c .before .loop .i) (omega (arith, c .before .before .before .before .before .pre .1, c .loop-test .taken)))
 
--- src/steps.rt:45:9
 add-i : tie.Need-add-i Inv-loop μ-loop
 add-i c = omega (arith, c .before .loop-test .taken)
 
--- src/steps.rt:43:5
 loop-less : tie.Need-loop-less Inv-loop μ-loop
 loop-less c = omega (arith, c .before .loop-test .taken)
 
--- src/steps.rt:43:5
 loop-again : tie.Need-loop-again Inv-loop μ-loop
 loop-again c = (omega (arith, c .before .loop-test .taken), c .past .ensures ∙ ap (stopAt _) (c .before .before .loop .inv .1) ∙ goes-on (c .before .before .before .before .before .before .pre .0) (c .before .before .loop .i) (omega (arith, c .before .before .before .before .before .before .pre .1, c .before .loop-test .taken)))
 
--- src/steps.rt:37:1
 returns : tie.Need-returns Inv-loop μ-loop
 returns c = c .before .loop .inv .1 ∙ ap (startOf _ _ _) (omega (arith, c .before .loop .inv .0, c .loop-test .left))
 

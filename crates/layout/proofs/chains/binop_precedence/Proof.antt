@@ -4,24 +4,9 @@ use lib.ListN.{List·getD-eq-default}
 use borrow.Author.Needs.{needs}
 use Rattle.layout.proofs.chains.binop_precedence.Statement.{statement}
 use Rattle.layout.proofs.chains.binop_precedence.Tie as tie
-use Rattle.layout.proofs.chains.binop_precedence.Reads as reads
-use Rattle.layout.proofs.chains.binop_precedence.Lts as lts
 
--- src/chains.rt:35:18
-mul-result : tie.Need-mul-result
-mul-result c = search needs
-
--- src/chains.rt:35:18
-array-read-result : tie.Need-array-read-result
-array-read-result c = search needs
-
--- src/chains.rt:32:1
-returns : tie.Need-returns
-returns c = search needs
-
--- src/chains.rt:32:1
 returns-2 : tie.Need-returns-2
 returns-2 c = sym (List·getD-eq-default (2 ∷ 1 ∷ 3 ∷ 3 ∷ 3 ∷ 3 ∷ 3 ∷ 3 ∷ 4 ∷ 4 ∷ 5 ∷ 5 ∷ 5 ∷ 6 ∷ []) 0 (c .if1 .left))
 
 pub binop-precedence-spec : {M : Type 1} → statement M
-binop-precedence-spec = tie.close (tie.spec mul-result array-read-result returns returns-2)
+binop-precedence-spec = tie.close (tie.spec (λ c. search needs) (λ c. search needs) (λ c. search needs) returns-2)

@@ -15,10 +15,6 @@ use Rattle.layout.proofs.Places.{expr-whole}
 use Rattle.layout.proofs.Spines.{down, stop-kind, stop-op, symbol-of, filled-more, room-left}
 use Rattle.layout.proofs.chains.leftmost.Statement.{statement}
 use Rattle.layout.proofs.chains.leftmost.Tie as tie
-use Rattle.layout.proofs.chains.leftmost.Reads as reads
-use Rattle.layout.proofs.chains.leftmost.Lts as lts
-use Rattle.layout.proofs.chains.precedence.Reads as precedence-reads
-use Rattle.layout.proofs.numbers.kind.Reads as kind-reads
 
 abbrev Inv-loop : tie.InvT-loop
 Inv-loop b at q ops₀ n₀ p₀ ops n p = (length ops ≡ 64)
@@ -32,15 +28,9 @@ Inv-loop b at q ops₀ n₀ p₀ ops n p = (length ops ≡ 64)
 abbrev μ-loop : tie.MeasureT-loop
 μ-loop b at q ops₀ n₀ p₀ ops n p = length b - p
 
--- src/chains.rt:92:5
-element-write-ops : tie.Need-element-write-ops Inv-loop μ-loop
-element-write-ops c = search needs
-
--- src/chains.rt:94:17
 add-p : tie.Need-add-p Inv-loop μ-loop
 add-p c = let w = expr-whole _ _ _ _ (c .before .pre .0 .held) in omega (arith, w .long, w .fits)
 
--- src/chains.rt:95:9
 loop-holds : tie.Need-loop-holds Inv-loop μ-loop
 unfolding ExprAt
 loop-holds c = let h : length (c .before .args .ops .now) ≡ 64 = c .before .pre .1 in
@@ -53,37 +43,29 @@ loop-holds c = let h : length (c .before .args .ops .now) ≡ 64 = c .before .pr
       λ s t a e. (t .1 .0, up refl e a top, a .1 .0),
     )
 
--- src/chains.rt:96:12
 kind-requires : tie.Need-kind-requires Inv-loop μ-loop
 kind-requires c κs = let z = c .loop .inv .5 (c .before .before .pre .0 .source) (c .before .before .pre .0 .tree) (c .before .before .pre .0 .held) (c .before .before .pre .0 .same) in expr-whole _ _ _ (z .0) (z .2)
 
--- src/chains.rt:99:12
 precedence-requires : tie.Need-precedence-requires Inv-loop μ-loop
 precedence-requires c κs = let z = c .before .before .loop .inv .5 (c .before .before .before .before .pre .0 .source) (c .before .before .before .before .pre .0 .tree) (c .before .before .before .before .pre .0 .held) (c .before .before .before .before .pre .0 .same) in
     let w = symbol-of _ _ _ (sym (c .before .kind .ensures) ∙ c .if1 .left) (z .0) (z .2) in
     (w .operand, w .byte)
 
--- src/chains.rt:102:9
 mul-ops : tie.Need-mul-ops Inv-loop μ-loop
 mul-ops c = omega (arith, c .before .before .before .before .loop .inv .3)
 
--- src/chains.rt:102:9
 element-write-ops-2 : tie.Need-element-write-ops-2 Inv-loop μ-loop
 element-write-ops-2 c = let z = c .before .before .before .before .loop .inv .5 (c .before .before .before .before .before .before .pre .0 .source) (c .before .before .before .before .before .before .pre .0 .tree) (c .before .before .before .before .before .before .pre .0 .held) (c .before .before .before .before .before .before .pre .0 .same) in let f = room-left _ _ (c .before .before .before .before .before .before .pre .0 .tree) _ _ _ _ (z .0) (c .before .before .before .before .before .before .pre .0 .held) (z .1) (z .2) (sym (c .before .before .before .kind .ensures) ∙ c .before .before .if1 .left) (c .before .before .before .before .loop .inv .1) in omega (arith, f, c .before .before .before .before .loop .inv .0)
 
--- src/chains.rt:103:13
 add-n : tie.Need-add-n Inv-loop μ-loop
 add-n c = omega (arith, c .before .before .before .before .loop .inv .3)
 
--- src/chains.rt:104:13
 add-p-2 : tie.Need-add-p-2 Inv-loop μ-loop
 add-p-2 c = let z = c .before .before .before .before .loop .inv .5 (c .before .before .before .before .before .before .pre .0 .source) (c .before .before .before .before .before .before .pre .0 .tree) (c .before .before .before .before .before .before .pre .0 .held) (c .before .before .before .before .before .before .pre .0 .same) in let w = expr-whole _ _ _ (z .0) (z .2) in omega (arith, w .long, w .fits)
 
--- src/chains.rt:95:9
 loop-less : tie.Need-loop-less Inv-loop μ-loop
 loop-less c = let z = c .before .before .before .before .loop .inv .5 (c .before .before .before .before .before .before .pre .0 .source) (c .before .before .before .before .before .before .pre .0 .tree) (c .before .before .before .before .before .before .pre .0 .held) (c .before .before .before .before .before .before .pre .0 .same) in let w = expr-whole _ _ _ (z .0) (z .2) in omega (arith, w .long, w .fits)
 
--- src/chains.rt:95:9
 loop-again : tie.Need-loop-again Inv-loop μ-loop
 loop-again c = let z = c .before .before .before .before .loop .inv .5 (c .before .before .before .before .before .before .pre .0 .source) (c .before .before .before .before .before .before .pre .0 .tree) (c .before .before .before .before .before .before .pre .0 .held) (c .before .before .before .before .before .before .pre .0 .same) in
     let f = room-left _ _ (c .before .before .before .before .before .before .pre .0 .tree) _ _ _ _ (z .0) (c .before .before .before .before .before .before .pre .0 .held) (z .1) (z .2) (sym (c .before .before .before .kind .ensures) ∙ c .before .before .if1 .left) (c .before .before .before .before .loop .inv .1) in (
@@ -97,7 +79,6 @@ loop-again c = let z = c .before .before .before .before .loop .inv .5 (c .befor
           down s _ _ _ _ (sym (c .before .before .before .kind .ensures) ∙ c .before .before .if1 .left) (c .before .precedence .ensures) (c .if2 .left) (y .1) (y .2),
     )
 
--- src/chains.rt:87:1
 returns : tie.Need-returns Inv-loop μ-loop
 returns c = record {
   filled = record { count = c .before .before .loop .n; far = c .before .before .loop .inv .1; few = c .before .before .loop .inv .3; each = c .before .before .loop .inv .4 };
@@ -108,7 +89,6 @@ returns c = record {
       record { tree = z .0; above = z .1; held = z .2; stop = stop-kind s _ _ _ (z .0) (z .2) (λ e. c .if1 .taken (c .before .kind .ensures ∙ e)) };
 }
 
--- src/chains.rt:87:1
 returns-2 : tie.Need-returns-2 Inv-loop μ-loop
 returns-2 c = record {
   filled = record { count = c .before .before .before .before .loop .n; far = c .before .before .before .before .loop .inv .1; few = c .before .before .before .before .loop .inv .3; each = c .before .before .before .before .loop .inv .4 };
@@ -125,7 +105,7 @@ leftmost-spec =
     (tie.spec
     Inv-loop
     μ-loop
-    element-write-ops
+    (λ c. search needs)
     add-p
     loop-holds
     kind-requires

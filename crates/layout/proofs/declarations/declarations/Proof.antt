@@ -1,6 +1,5 @@
 -- The invariant: whatever finishes from here finishes from the start, and there is room for it.
 -- Assumes nothing.
-use borrow.Author.Needs.{needs}
 use mathlib.Core.Path.{_≡_, refl, _∙_}
 use Prim.Native.Nat.{ℕ, _-_}
 use native.Mathlib.Omega.{arith}

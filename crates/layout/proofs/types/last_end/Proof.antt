@@ -9,10 +9,6 @@ use Rattle.layout.specs.Forms.{SomeTypesAt, LastEnd}
 use Rattle.layout.proofs.Lasts.{first-whole, first-least, types-rest, last-more, last-one}
 use Rattle.layout.proofs.types.last_end.Statement.{statement}
 use Rattle.layout.proofs.types.last_end.Tie as tie
-use Rattle.layout.proofs.types.last_end.Reads as reads
-use Rattle.layout.proofs.types.last_end.Lts as lts
-use Rattle.layout.proofs.numbers.end.Reads as end-reads
-use Rattle.layout.proofs.numbers.past.Reads as past-reads
 
 abbrev Inv-loop : tie.InvT-loop
 Inv-loop b from to p₀ next₀ p next = SomeTypesAt b p to × (next ≡ stopAt b p) × ((r : ℕ) → LastEnd b p to r → LastEnd b from to r)
@@ -20,35 +16,28 @@ Inv-loop b from to p₀ next₀ p next = SomeTypesAt b p to × (next ≡ stopAt 
 abbrev μ-loop : tie.MeasureT-loop
 μ-loop b from to p₀ next₀ p next = to - next
 
--- src/types.rt:14:9
 past-requires : tie.Need-past-requires Inv-loop μ-loop
 past-requires c κs = record { fits = first-whole (c .before .pre) .fits }
 
--- src/types.rt:15:5
 loop-holds : tie.Need-loop-holds Inv-loop μ-loop
 loop-holds c = (c .before .before .pre, c .past .ensures, λ r l. l)
 
--- src/types.rt:17:9
 past-requires-2 : tie.Need-past-requires-2 Inv-loop μ-loop
 past-requires-2 c κs = let lt = rw (c .before .loop .inv .1) at (c .loop-test .taken) in
     record { fits = rw (c .before .loop .inv .1) (first-whole (types-rest lt (c .before .loop .inv .0)) .fits) }
 
--- src/types.rt:15:5
 loop-less : tie.Need-loop-less Inv-loop μ-loop
 loop-less c = let lt = rw (c .before .before .loop .inv .1) at (c .before .loop-test .taken) in
     let w = first-whole (types-rest lt (c .before .before .loop .inv .0)) in
     omega (arith, w .long, c .before .loop-test .taken, ap (λ (n : ℕ). n + 4 + be32 (c .before .before .before .before .before .args .b .now) n) (c .before .before .loop .inv .1), c .past2 .ensures)
 
--- src/types.rt:15:5
 loop-again : tie.Need-loop-again Inv-loop μ-loop
 loop-again c = let lt = rw (c .before .before .loop .inv .1) at (c .before .loop-test .taken) in
     (rw (c .before .before .loop .inv .1) (types-rest lt (c .before .before .loop .inv .0)), c .past2 .ensures, λ r l. c .before .before .loop .inv .2 r (last-more lt (rw (c .before .before .loop .inv .1) at l)))
 
--- src/types.rt:19:5
 end-requires : tie.Need-end-requires Inv-loop μ-loop
 end-requires c κs = first-whole (c .before .loop .inv .0)
 
--- src/types.rt:9:1
 returns : tie.Need-returns Inv-loop μ-loop
 returns c = c .before .before .loop .inv .2 _ (rw (c .end .ensures) (last-one (rw (c .before .before .loop .inv .1) at (c .before .loop-test .left))))
 

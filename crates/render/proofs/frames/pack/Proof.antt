@@ -5,29 +5,17 @@ use borrow.Author.Needs.{needs}
 use Rattle.render.proofs.frames.pack.Statement.{statement}
 use Rattle.render.proofs.frames.pack.Tie as tie
 
-mul-result : tie.Need-mul-result
-mul-result c = search needs
-
-bit-requires : tie.Need-bit-requires
-bit-requires c κs = search needs
-
 mul-result-2 : tie.Need-mul-result-2
 mul-result-2 c = omega (arith, one-low (c .before .before .args .f .wrap) (c .bit .result) (c .bit .ensures))
 
 add-result : tie.Need-add-result
 add-result c = omega (arith, c .before .before .pre, one-low (c .before .before .args .f .wrap) (c .bit .result) (c .bit .ensures))
 
-bit-requires-2 : tie.Need-bit-requires-2
-bit-requires-2 c κs = search needs
-
 mul-result-3 : tie.Need-mul-result-3
 mul-result-3 c = omega (arith, one-low (c .before .before .before .args .f .early) (c .bit2 .result) (c .bit2 .ensures))
 
 add-result-2 : tie.Need-add-result-2
 add-result-2 c = omega (arith, c .before .before .before .pre, one-low (c .before .before .before .args .f .wrap) (c .before .bit .result) (c .before .bit .ensures), one-low (c .before .before .before .args .f .early) (c .bit2 .result) (c .bit2 .ensures))
-
-bit-requires-3 : tie.Need-bit-requires-3
-bit-requires-3 c κs = search needs
 
 add-result-3 : tie.Need-add-result-3
 add-result-3 c = omega (arith, c .before .before .before .before .pre, one-low (c .before .before .before .before .args .f .wrap) (c .before .before .bit .result) (c .before .before .bit .ensures), one-low (c .before .before .before .before .args .f .early) (c .before .bit2 .result) (c .before .bit2 .ensures), one-low (c .before .before .before .before .args .f .deep) (c .bit3 .result) (c .bit3 .ensures))
@@ -39,13 +27,13 @@ pub pack-spec : {M : Type 1} → statement M
 pack-spec =
     tie.close
     (tie.spec
-    mul-result
-    bit-requires
+    (λ c. search needs)
+    (λ c κs. search needs)
     mul-result-2
     add-result
-    bit-requires-2
+    (λ c κs. search needs)
     mul-result-3
     add-result-2
-    bit-requires-3
+    (λ c κs. search needs)
     add-result-3
     returns)

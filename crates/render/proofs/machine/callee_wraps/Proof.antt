@@ -5,23 +5,8 @@ use borrow.Author.Needs.{needs}
 use Rattle.render.proofs.machine.callee_wraps.Statement.{statement}
 use Rattle.render.proofs.machine.callee_wraps.Tie as tie
 
-group-wraps-requires : tie.Need-group-wraps-requires
-group-wraps-requires c κs = search needs
-
 returns : tie.Need-returns
 returns c = c .group-wraps .ensures ∙ callee-own _ _ _ _ _ _ (c .before .if1 .taken)
-
-width-past-requires : tie.Need-width-past-requires
-width-past-requires c κs = search needs
-
-width-past-requires-2 : tie.Need-width-past-requires-2
-width-past-requires-2 c κs = search needs
-
-add-w : tie.Need-add-w
-add-w c = search needs
-
-virtual-column-requires : tie.Need-virtual-column-requires
-virtual-column-requires c κs = search needs
 
 add-result : tie.Need-add-result
 add-result c =
@@ -38,11 +23,11 @@ pub callee-wraps-spec : {M : Type 1} → statement M
 callee-wraps-spec =
     tie.close
     (tie.spec
-    group-wraps-requires
+    (λ c κs. search needs)
     returns
-    width-past-requires
-    width-past-requires-2
-    add-w
-    virtual-column-requires
+    (λ c κs. search needs)
+    (λ c κs. search needs)
+    (λ c. search needs)
+    (λ c κs. search needs)
     add-result
     returns-2)

@@ -13,9 +13,6 @@ place-requires c κs = omega (arith, enters _ _ _ _ _ _ _ _ _ (c .before .before
 enter-group-requires : tie.Need-enter-group-requires
 enter-group-requires c κs = (enters _ _ _ _ _ _ _ _ _ (c .before .before .before .before .before .before .before .before .before .before .pre .0), group-range _ _ _ _ _ _ _ _ _ (c .before .before .before .before .before .before .before .before .before .before .pre .0) (sym (c .before .before .before .place .ensures .0) ∙ c .before .before .if1 .taken))
 
-same-length : tie.Need-same-length
-same-length c = search needs
-
 returns : tie.Need-returns
 returns c = group-follows _ _ _ _ _ _ _ _ _ _ (sym (c .before .before .before .before .before .before .place .ensures .0) ∙ c .before .before .before .before .before .if1 .taken) (c .before .before .enter-group .ensures)
 
@@ -25,17 +22,11 @@ enter-call-requires c κs = (
   (callee-range _ _ _ _ _ _ _ _ _ (c .before .before .before .before .before .before .before .before .before .before .before .pre .0) (sym (c .before .before .before .before .place .ensures .0) ∙ c .before .before .if2 .taken), argument-range _ _ _ _ _ _ _ _ _ (c .before .before .before .before .before .before .before .before .before .before .before .pre .0) (sym (c .before .before .before .before .place .ensures .0) ∙ c .before .before .if2 .taken)),
 )
 
-same-length-2 : tie.Need-same-length-2
-same-length-2 c = search needs
-
 returns-2 : tie.Need-returns-2
 returns-2 c = call-follows _ _ _ _ _ _ _ _ _ _ (sym (c .before .before .before .before .before .before .before .place .ensures .0) ∙ c .before .before .before .before .before .if2 .taken) (c .before .before .enter-call .ensures)
 
 enter-if-requires : tie.Need-enter-if-requires
 enter-if-requires c κs = enters _ _ _ _ _ _ _ _ _ (c .before .before .before .before .before .before .before .before .before .before .before .before .pre .0)
-
-same-length-3 : tie.Need-same-length-3
-same-length-3 c = search needs
 
 returns-3 : tie.Need-returns-3
 returns-3 c = if-follows _ _ _ _ _ _ _ _ _ _ (sym (c .before .before .before .before .before .before .place .ensures .0) ∙ c .before .before .before .if3 .taken) (c .before .before .before .before .before .before .before .before .before .before .before .before .before .pre .1) (c .enter-if .ensures)
@@ -59,9 +50,6 @@ leaf-requires c κs =
 add-t29 : tie.Need-add-t29
 add-t29 c = omega (arith, enters _ _ _ _ _ _ _ _ _ (c .before .before .before .before .before .before .before .before .before .before .before .before .before .before .before .pre .0) .few)
 
-same-length-4 : tie.Need-same-length-4
-same-length-4 c = search needs
-
 returns-5 : tie.Need-returns-5
 returns-5 c =
     let k = kind-low _ _ _ _ _ _ _ _ _ (c .before .before .before .before .before .before .before .before .before .before .before .before .before .before .before .pre .0) in
@@ -73,17 +61,17 @@ enter-spec =
     (tie.spec
     place-requires
     enter-group-requires
-    same-length
+    (λ c. search needs)
     returns
     enter-call-requires
-    same-length-2
+    (λ c. search needs)
     returns-2
     enter-if-requires
-    same-length-3
+    (λ c. search needs)
     returns-3
     enter-indent-requires
     returns-4
     leaf-requires
     add-t29
-    same-length-4
+    (λ c. search needs)
     returns-5)

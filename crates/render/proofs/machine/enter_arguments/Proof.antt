@@ -7,38 +7,14 @@ use borrow.Author.Needs.{needs}
 use Rattle.render.proofs.machine.enter_arguments.Statement.{statement}
 use Rattle.render.proofs.machine.enter_arguments.Tie as tie
 
-sub-d : tie.Need-sub-d
-sub-d c = search needs
-
-wide-requires : tie.Need-wide-requires
-wide-requires c κs = search needs
-
-place-requires : tie.Need-place-requires
-place-requires c κs = search needs
-
-place-requires-2 : tie.Need-place-requires-2
-place-requires-2 c κs = search needs
-
 group-wraps-requires : tie.Need-group-wraps-requires
 group-wraps-requires c κs = (
   nested-to _ _ _ _ (c .before .before .place .ensures .0 ∙ ap (λ (x : ℕ). cell (c .before .before .before .before .before .before .before .before .args .store .now) x 4) (c .before .before .before .wide .ensures)) (c .before .before .before .before .before .before .before .before .pre .1 .1 .1 .1 .0),
   (c .before .before .before .before .before .before .before .before .pre .1 .1 .1 .1 .1 .0, c .before .before .before .before .before .before .before .before .pre .1 .1 .1 .1 .1 .1),
 )
 
-insert-requires : tie.Need-insert-requires
-insert-requires c κs = search needs
-
 pack-requires : tie.Need-pack-requires
 pack-requires c κs = c .before .before .before .before .before .before .before .before .before .before .before .before .before .pre .1 .1 .1 .0
-
-mul-frames : tie.Need-mul-frames
-mul-frames c = search needs
-
-element-write-frames : tie.Need-element-write-frames
-element-write-frames c = search needs
-
-same-length : tie.Need-same-length
-same-length c = search needs
 
 returns : tie.Need-returns
 returns c =
@@ -48,14 +24,14 @@ pub enter-arguments-spec : {M : Type 1} → statement M
 enter-arguments-spec =
     tie.close
     (tie.spec
-    sub-d
-    wide-requires
-    place-requires
-    place-requires-2
+    (λ c. search needs)
+    (λ c κs. search needs)
+    (λ c κs. search needs)
+    (λ c κs. search needs)
     group-wraps-requires
-    insert-requires
+    (λ c κs. search needs)
     pack-requires
-    mul-frames
-    element-write-frames
-    same-length
+    (λ c. search needs)
+    (λ c. search needs)
+    (λ c. search needs)
     returns)

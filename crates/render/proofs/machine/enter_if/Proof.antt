@@ -4,27 +4,12 @@ use borrow.Author.Needs.{needs}
 use Rattle.render.proofs.machine.enter_if.Statement.{statement}
 use Rattle.render.proofs.machine.enter_if.Tie as tie
 
-place-requires : tie.Need-place-requires
-place-requires c κs = search needs
-
-is-wrapped-requires : tie.Need-is-wrapped-requires
-is-wrapped-requires c κs = search needs
-
-cast-t11 : tie.Need-cast-t11
-cast-t11 c = search needs
-
-add-opened : tie.Need-add-opened
-add-opened c = search needs
-
 opened-requires : tie.Need-opened-requires
 opened-requires c κs = (c .before .before .before .before .before .before .before .pre .depth, c .before .before .before .before .before .before .before .pre .few)
 
 returns : tie.Need-returns
 returns c =
     if-first (c .before .before .before .before .before .before .before .before .args .store .now) (c .before .before .before .before .before .before .before .before .args .marks .now) (whole (c .before .before .before .before .before .before .before .before .args .frames .now) (c .before .before .before .before .before .before .before .before .args .r)) (c .before .before .before .before .before .before .before .before .args .wrap) (c .before .before .before .before .place .result) (c .before .before .before .is-wrapped .result) _ (c .before .before .before .before .place .ensures .0) (c .before .before .before .is-wrapped .ensures) (c .before .before .if1 .taken) (c .opened .ensures)
-
-place-requires-2 : tie.Need-place-requires-2
-place-requires-2 c κs = search needs
 
 opened-requires-2 : tie.Need-opened-requires-2
 opened-requires-2 c κs = (c .before .before .before .before .before .before .before .before .pre .depth, c .before .before .before .before .before .before .before .before .pre .few)
@@ -37,12 +22,12 @@ pub enter-if-spec : {M : Type 1} → statement M
 enter-if-spec =
     tie.close
     (tie.spec
-    place-requires
-    is-wrapped-requires
-    cast-t11
-    add-opened
+    (λ c κs. search needs)
+    (λ c κs. search needs)
+    (λ c. search needs)
+    (λ c. search needs)
     opened-requires
     returns
-    place-requires-2
+    (λ c κs. search needs)
     opened-requires-2
     returns-2)

@@ -4,26 +4,11 @@ use borrow.Author.Needs.{needs}
 use Rattle.render.proofs.machine.enter_indent.Statement.{statement}
 use Rattle.render.proofs.machine.enter_indent.Tie as tie
 
-cast-t8 : tie.Need-cast-t8
-cast-t8 c = search needs
-
-add-opened : tie.Need-add-opened
-add-opened c = search needs
-
-indent-requires : tie.Need-indent-requires
-indent-requires c κs = search needs
-
 opened-requires : tie.Need-opened-requires
 opened-requires c κs = (c .before .before .before .before .pre .0, c .before .before .before .before .pre .1 .0)
 
 returns : tie.Need-returns
 returns c = indent-kind _ (whole (c .before .before .before .before .before .args .frames .now) (c .before .before .before .before .before .args .r)) _ _ _ (c .before .before .before .if1 .taken) (c .before .indent .ensures) (c .opened .ensures)
-
-add-opened-2 : tie.Need-add-opened-2
-add-opened-2 c = search needs
-
-indent-next-requires : tie.Need-indent-next-requires
-indent-next-requires c κs = search needs
 
 opened-requires-2 : tie.Need-opened-requires-2
 opened-requires-2 c κs = (c .before .before .before .before .pre .0, c .before .before .before .before .pre .1 .0)
@@ -35,12 +20,12 @@ pub enter-indent-spec : {M : Type 1} → statement M
 enter-indent-spec =
     tie.close
     (tie.spec
-    cast-t8
-    add-opened
-    indent-requires
+    (λ c. search needs)
+    (λ c. search needs)
+    (λ c κs. search needs)
     opened-requires
     returns
-    add-opened-2
-    indent-next-requires
+    (λ c. search needs)
+    (λ c κs. search needs)
     opened-requires-2
     returns-2)

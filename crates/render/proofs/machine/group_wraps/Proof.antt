@@ -5,17 +5,8 @@ use borrow.Author.Needs.{needs}
 use Rattle.render.proofs.machine.group_wraps.Statement.{statement}
 use Rattle.render.proofs.machine.group_wraps.Tie as tie
 
-must-wrap-requires : tie.Need-must-wrap-requires
-must-wrap-requires c κs = search needs
-
 returns : tie.Need-returns
 returns c = group-must _ _ _ _ (sym (c .if1 .taken) ∙ c .before .must-wrap .ensures)
-
-width-past-requires : tie.Need-width-past-requires
-width-past-requires c κs = search needs
-
-virtual-column-requires : tie.Need-virtual-column-requires
-virtual-column-requires c κs = search needs
 
 add-result : tie.Need-add-result
 add-result c =
@@ -28,9 +19,9 @@ pub group-wraps-spec : {M : Type 1} → statement M
 group-wraps-spec =
     tie.close
     (tie.spec
-    must-wrap-requires
+    (λ c κs. search needs)
     returns
-    width-past-requires
-    virtual-column-requires
+    (λ c κs. search needs)
+    (λ c κs. search needs)
     add-result
     returns-2)

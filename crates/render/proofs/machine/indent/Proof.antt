@@ -4,12 +4,6 @@ use borrow.Author.Needs.{needs}
 use Rattle.render.proofs.machine.indent.Statement.{statement}
 use Rattle.render.proofs.machine.indent.Tie as tie
 
-add-with-margin : tie.Need-add-with-margin
-add-with-margin c = search needs
-
-with-margin-requires : tie.Need-with-margin-requires
-with-margin-requires c κs = search needs
-
 returns : tie.Need-returns
 returns c = c .with-margin .ensures ∙ indent-on _ _ (c .before .before .if1 .taken)
 
@@ -17,4 +11,4 @@ returns-2 : tie.Need-returns-2
 returns-2 c = indent-off _ _ (c .if1 .left)
 
 pub indent-spec : {M : Type 1} → statement M
-indent-spec = tie.close (tie.spec add-with-margin with-margin-requires returns returns-2)
+indent-spec = tie.close (tie.spec (λ c. search needs) (λ c κs. search needs) returns returns-2)

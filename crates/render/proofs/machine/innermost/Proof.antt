@@ -6,18 +6,6 @@ use borrow.Author.Needs.{needs}
 use Rattle.render.proofs.machine.innermost.Statement.{statement}
 use Rattle.render.proofs.machine.innermost.Tie as tie
 
-sub-unpack : tie.Need-sub-unpack
-sub-unpack c = search needs
-
-mul-unpack : tie.Need-mul-unpack
-mul-unpack c = search needs
-
-element-copy-out-unpack : tie.Need-element-copy-out-unpack
-element-copy-out-unpack c = search needs
-
-unpack-requires : tie.Need-unpack-requires
-unpack-requires c κs = search needs
-
 returns : tie.Need-returns
 returns c = some-open (c .before .before .before .args .depth) _ _ _ (c .before .before .if1 .taken) (c .unpack .ensures ∙ at-packed (c .before .before .before .args .frames .now) (c .before .before .before .args .depth - 1))
 
@@ -27,4 +15,4 @@ returns-2 c = none-open (c .before .args .depth) _ _ (c .if1 .left)
 pub innermost-spec : {M : Type 1} → statement M
 innermost-spec =
     tie.close
-    (tie.spec sub-unpack mul-unpack element-copy-out-unpack unpack-requires returns returns-2)
+    (tie.spec (λ c. search needs) (λ c. search needs) (λ c. search needs) (λ c κs. search needs) returns returns-2)

@@ -3,20 +3,11 @@ use borrow.Author.Needs.{needs}
 use Rattle.render.proofs.machine.insert.Statement.{statement}
 use Rattle.render.proofs.machine.insert.Tie as tie
 
-slice-write-marks : tie.Need-slice-write-marks
-slice-write-marks c = search needs
-
-same-length : tie.Need-same-length
-same-length c = search needs
-
 returns : tie.Need-returns
 returns c = insert-in (c .before .before .args .marks .now) (c .before .before .args .number) _ (c .before .if1 .taken)
 
 returns-2 : tie.Need-returns-2
 returns-2 c = insert-past (c .before .before .args .marks .now) (c .before .before .args .number) _ (c .before .if1 .taken) (c .if2 .left)
 
-returns-3 : tie.Need-returns-3
-returns-3 c = search needs
-
 pub insert-spec : {M : Type 1} → statement M
-insert-spec = tie.close (tie.spec slice-write-marks same-length returns returns-2 returns-3)
+insert-spec = tie.close (tie.spec (λ c. search needs) (λ c. search needs) returns returns-2 (λ c. search needs))

@@ -5,15 +5,6 @@ use borrow.Author.Needs.{needs}
 use Rattle.render.proofs.machine.leave.Statement.{statement}
 use Rattle.render.proofs.machine.leave.Tie as tie
 
-wide-requires : tie.Need-wide-requires
-wide-requires c κs = search needs
-
-place-requires : tie.Need-place-requires
-place-requires c κs = search needs
-
-finish-requires : tie.Need-finish-requires
-finish-requires c κs = search needs
-
 returns : tie.Need-returns
 returns c =
     ends (λ k. absurd (c .before .if1 .taken (sym (kind-at (c .before .before .before .before .before .before .args .store .now) (c .before .before .before .before .before .before .args .f) _ _ (c .before .before .before .wide .ensures) (c .before .before .place .ensures .0)) ∙ k))) refl (ap (whole (c .before .before .before .before .before .before .args .frames .now)) (c .finish .ensures))
@@ -36,14 +27,8 @@ enter-arguments-requires c κs = (
   ),
 )
 
-same-length : tie.Need-same-length
-same-length c = search needs
-
 returns-2 : tie.Need-returns-2
 returns-2 c = goesOn (kind-at (c .before .before .before .before .before .before .before .before .before .before .before .args .store .now) (c .before .before .before .before .before .before .before .before .before .before .before .args .f) _ _ (c .before .before .before .before .before .before .before .before .wide .ensures) (c .before .before .before .before .before .before .before .place .ensures .0) ∙ c .before .before .before .before .before .before .if1 .left) (c .before .before .before .before .before .if2 .taken) (c .before .before .enter-arguments .ensures)
-
-finish-requires-2 : tie.Need-finish-requires-2
-finish-requires-2 c κs = search needs
 
 returns-3 : tie.Need-returns-3
 returns-3 c = ends (λ k. c .before .if2 .left) refl (ap (whole (c .before .before .before .before .before .before .before .args .frames .now)) (c .finish2 .ensures))
@@ -52,12 +37,12 @@ pub leave-spec : {M : Type 1} → statement M
 leave-spec =
     tie.close
     (tie.spec
-    wide-requires
-    place-requires
-    finish-requires
+    (λ c κs. search needs)
+    (λ c κs. search needs)
+    (λ c κs. search needs)
     returns
     enter-arguments-requires
-    same-length
+    (λ c. search needs)
     returns-2
-    finish-requires-2
+    (λ c κs. search needs)
     returns-3)

@@ -3,12 +3,6 @@ use borrow.Author.Needs.{needs}
 use Rattle.render.proofs.machine.line.Statement.{statement}
 use Rattle.render.proofs.machine.line.Tie as tie
 
-new-line-requires : tie.Need-new-line-requires
-new-line-requires c κs = search needs
-
-same-length : tie.Need-same-length
-same-length c = search needs
-
 returns : tie.Need-returns
 returns c = drawn-as _ _ _ _ _ _ _ (on-true _ _ _ (c .before .before .before .before .if1 .taken)) (c .before .before .new-line .ensures)
 
@@ -16,4 +10,4 @@ returns-2 : tie.Need-returns-2
 returns-2 c = drawn-as _ _ _ _ _ _ _ (on-false _ _ _ (c .if1 .left)) (still-drawn _ _ _)
 
 pub line-spec : {M : Type 1} → statement M
-line-spec = tie.close (tie.spec new-line-requires same-length returns returns-2)
+line-spec = tie.close (tie.spec (λ c κs. search needs) (λ c. search needs) returns returns-2)

@@ -3,20 +3,8 @@ use borrow.Author.Needs.{needs}
 use Rattle.render.proofs.machine.line_or_space.Statement.{statement}
 use Rattle.render.proofs.machine.line_or_space.Tie as tie
 
-new-line-requires : tie.Need-new-line-requires
-new-line-requires c κs = search needs
-
-same-length : tie.Need-same-length
-same-length c = search needs
-
 returns : tie.Need-returns
 returns c = drawn-as _ _ _ _ _ _ _ (on-true _ _ _ (c .before .before .before .before .if1 .taken)) (c .before .before .new-line .ensures)
-
-space-requires : tie.Need-space-requires
-space-requires c κs = search needs
-
-same-length-2 : tie.Need-same-length-2
-same-length-2 c = search needs
 
 returns-2 : tie.Need-returns-2
 returns-2 c = drawn-as _ _ _ _ _ _ _ (on-false _ _ _ (c .before .before .before .before .if1 .left)) (c .before .before .space .ensures)
@@ -24,4 +12,4 @@ returns-2 c = drawn-as _ _ _ _ _ _ _ (on-false _ _ _ (c .before .before .before 
 pub line-or-space-spec : {M : Type 1} → statement M
 line-or-space-spec =
     tie.close
-    (tie.spec new-line-requires same-length returns space-requires same-length-2 returns-2)
+    (tie.spec (λ c κs. search needs) (λ c. search needs) returns (λ c κs. search needs) (λ c. search needs) returns-2)

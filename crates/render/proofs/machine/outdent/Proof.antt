@@ -8,9 +8,6 @@ use Rattle.render.proofs.machine.outdent.Tie as tie
 sub-with-margin : tie.Need-sub-with-margin
 sub-with-margin c = omega (arith, c .before .before .pre (c .before .if1 .taken))
 
-with-margin-requires : tie.Need-with-margin-requires
-with-margin-requires c κs = search needs
-
 returns : tie.Need-returns
 returns c = c .with-margin .ensures ∙ out-on _ _ (c .before .before .if1 .taken)
 
@@ -18,4 +15,4 @@ returns-2 : tie.Need-returns-2
 returns-2 c = out-off _ _ (c .if1 .left)
 
 pub outdent-spec : {M : Type 1} → statement M
-outdent-spec = tie.close (tie.spec sub-with-margin with-margin-requires returns returns-2)
+outdent-spec = tie.close (tie.spec sub-with-margin (λ c κs. search needs) returns returns-2)

@@ -5,20 +5,11 @@ use borrow.Author.Needs.{needs}
 use Rattle.render.proofs.machine.outdent_next.Statement.{statement}
 use Rattle.render.proofs.machine.outdent_next.Tie as tie
 
-sub-with-margin : tie.Need-sub-with-margin
-sub-with-margin c = search needs
-
-with-margin-requires : tie.Need-with-margin-requires
-with-margin-requires c κs = search needs
-
 returns : tie.Need-returns
 returns c = c .with-margin .ensures ∙ back-next _ _ (c .before .before .before .before .if1 .taken) (c .before .before .if2 .taken)
 
 sub-with-margin-2 : tie.Need-sub-with-margin-2
 sub-with-margin-2 c = omega (arith, c .before .before .before .before .pre (c .before .before .before .if1 .taken), c .before .if2 .left)
-
-with-margin-requires-2 : tie.Need-with-margin-requires-2
-with-margin-requires-2 c κs = search needs
 
 returns-2 : tie.Need-returns-2
 returns-2 c = c .with-margin2 .ensures ∙ back-indent _ _ (c .before .before .before .before .if1 .taken) (c .before .before .if2 .left)
@@ -30,10 +21,10 @@ pub outdent-next-spec : {M : Type 1} → statement M
 outdent-next-spec =
     tie.close
     (tie.spec
-    sub-with-margin
-    with-margin-requires
+    (λ c. search needs)
+    (λ c κs. search needs)
     returns
     sub-with-margin-2
-    with-margin-requires-2
+    (λ c κs. search needs)
     returns-2
     returns-3)

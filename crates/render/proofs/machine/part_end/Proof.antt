@@ -3,20 +3,8 @@ use borrow.Author.Needs.{needs}
 use Rattle.render.proofs.machine.part_end.Statement.{statement}
 use Rattle.render.proofs.machine.part_end.Tie as tie
 
-wide-requires : tie.Need-wide-requires
-wide-requires c κs = search needs
-
-place-requires : tie.Need-place-requires
-place-requires c κs = search needs
-
 returns : tie.Need-returns
 returns c = part-early _ (c .before .before .before .before .args .f) _ _ (c .before .wide .ensures) (c .before .before .if1 .taken) (c .place .ensures .0)
-
-wide-requires-2 : tie.Need-wide-requires-2
-wide-requires-2 c κs = search needs
-
-place-requires-2 : tie.Need-place-requires-2
-place-requires-2 c κs = search needs
 
 returns-2 : tie.Need-returns-2
 returns-2 c = part-late _ (c .before .before .before .before .args .f) _ _ (c .before .wide2 .ensures) (c .before .before .if1 .left) (c .place2 .ensures .0)
@@ -24,4 +12,4 @@ returns-2 c = part-late _ (c .before .before .before .before .args .f) _ _ (c .b
 pub part-end-spec : {M : Type 1} → statement M
 part-end-spec =
     tie.close
-    (tie.spec wide-requires place-requires returns wide-requires-2 place-requires-2 returns-2)
+    (tie.spec (λ c κs. search needs) (λ c κs. search needs) returns (λ c κs. search needs) (λ c κs. search needs) returns-2)

@@ -4,9 +4,6 @@ use borrow.Author.Needs.{needs}
 use Rattle.render.proofs.machine.step.Statement.{statement}
 use Rattle.render.proofs.machine.step.Tie as tie
 
-innermost-requires : tie.Need-innermost-requires
-innermost-requires c κs = search needs
-
 is-done-requires : tie.Need-is-done-requires
 is-done-requires c κs = λ h. top-row _ _ _ _ _ _ _ _ _ (c .before .before .before .before .before .before .before .pre .0) _ h (innermost-is _ _ _ _ _ _ _ _ _ (c .before .before .before .before .before .before .before .pre .0) (c .before .before .before .before .before .before .before .pre .1) _ (c .innermost .ensures) h)
 
@@ -14,9 +11,6 @@ leave-requires : tie.Need-leave-requires
 leave-requires c κs =
     let t = turn-leaves _ _ _ _ _ _ _ _ _ (c .before .before .before .before .before .before .before .before .before .before .before .pre .0) (c .before .before .before .before .before .before .before .before .before .before .before .pre .1) _ (c .before .before .before .before .innermost .ensures) (sym (c .before .before .before .is-done .ensures) ∙ c .before .before .if1 .taken) in
     leaves _ _ _ _ _ _ _ _ _ (c .before .before .before .before .before .before .before .before .before .before .before .pre .0) _ (t .0) (innermost-is _ _ _ _ _ _ _ _ _ (c .before .before .before .before .before .before .before .before .before .before .before .pre .0) (c .before .before .before .before .before .before .before .before .before .before .before .pre .1) _ (c .before .before .before .before .innermost .ensures) (t .0)) (t .1)
-
-same-length : tie.Need-same-length
-same-length c = search needs
 
 returns : tie.Need-returns
 returns c =
@@ -26,12 +20,6 @@ returns c =
 enter-requires : tie.Need-enter-requires
 enter-requires c κs = turn-enters _ _ _ _ _ _ _ _ _ (c .before .before .before .before .before .before .before .before .before .before .before .before .pre .0) (c .before .before .before .before .before .before .before .before .before .before .before .before .pre .1) _ (c .before .before .before .before .before .innermost .ensures) (sym (c .before .before .before .before .is-done .ensures) ∙ c .before .before .before .if1 .left)
 
-same-length-2 : tie.Need-same-length-2
-same-length-2 c = search needs
-
-same-length-3 : tie.Need-same-length-3
-same-length-3 c = search needs
-
 returns-2 : tie.Need-returns-2
 returns-2 c = turns _ _ _ _ _ _ _ _ _ _ _ _ ((turn-enters _ _ _ _ _ _ _ _ _ (c .before .before .before .before .before .before .before .before .before .before .before .before .before .before .before .before .before .pre .0) (c .before .before .before .before .before .before .before .before .before .before .before .before .before .before .before .before .before .pre .1) _ (c .before .before .before .before .before .before .before .before .before .before .innermost .ensures) (sym (c .before .before .before .before .before .before .before .before .before .is-done .ensures) ∙ c .before .before .before .before .before .before .before .before .if1 .left)) .0) (c .before .before .before .before .enter .ensures)
 
@@ -39,12 +27,12 @@ pub step-spec : {M : Type 1} → statement M
 step-spec =
     tie.close
     (tie.spec
-    innermost-requires
+    (λ c κs. search needs)
     is-done-requires
     leave-requires
-    same-length
+    (λ c. search needs)
     returns
     enter-requires
-    same-length-2
-    same-length-3
+    (λ c. search needs)
+    (λ c. search needs)
     returns-2)

@@ -6,30 +6,15 @@ use borrow.Author.Needs.{needs}
 use Rattle.render.proofs.machine.trails.Statement.{statement}
 use Rattle.render.proofs.machine.trails.Tie as tie
 
-must-wrap-requires : tie.Need-must-wrap-requires
-must-wrap-requires c κs = search needs
-
 returns : tie.Need-returns
 returns c = trail-callee _ _ _ _ _ (sym (c .if1 .taken) ∙ c .before .must-wrap .ensures)
-
-must-wrap-requires-2 : tie.Need-must-wrap-requires-2
-must-wrap-requires-2 c κs = search needs
 
 returns-2 : tie.Need-returns-2
 returns-2 c = trail-arguments _ _ _ _ _ (sym (c .before .before .if1 .left) ∙ c .before .before .before .must-wrap .ensures) (sym (c .if2 .taken) ∙ c .before .must-wrap2 .ensures)
 
-virtual-column-requires : tie.Need-virtual-column-requires
-virtual-column-requires c κs = search needs
-
-width-past-requires : tie.Need-width-past-requires
-width-past-requires c κs = search needs
-
 add-start : tie.Need-add-start
 add-start c =
     record { fits = sum-fits _ _ (lower-column _ (virtual-small _ _ (c .before .before .before .virtual-column .ensures) (c .before .before .before .before .before .before .before .before .before .before .pre .1 .1 .0) (c .before .before .before .before .before .before .before .before .before .before .pre .1 .1 .1))) (lower _ (c .before .before .width-past .ensures .1)) }
-
-width-past-requires-2 : tie.Need-width-past-requires-2
-width-past-requires-2 c κs = search needs
 
 add-if3 : tie.Need-add-if3
 add-if3 c =
@@ -59,14 +44,14 @@ pub trails-spec : {M : Type 1} → statement M
 trails-spec =
     tie.close
     (tie.spec
-    must-wrap-requires
+    (λ c κs. search needs)
     returns
-    must-wrap-requires-2
+    (λ c κs. search needs)
     returns-2
-    virtual-column-requires
-    width-past-requires
+    (λ c κs. search needs)
+    (λ c κs. search needs)
     add-start
-    width-past-requires-2
+    (λ c κs. search needs)
     add-if3
     add-result
     returns-3

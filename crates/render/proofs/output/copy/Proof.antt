@@ -4,21 +4,6 @@ use borrow.Author.Needs.{needs}
 use Rattle.render.proofs.output.copy.Statement.{statement}
 use Rattle.render.proofs.output.copy.Tie as tie
 
-origin-size-requires : tie.Need-origin-size-requires
-origin-size-requires c κs = search needs
-
-clipped-requires : tie.Need-clipped-requires
-clipped-requires c κs = search needs
-
-clipped-requires-2 : tie.Need-clipped-requires-2
-clipped-requires-2 c κs = search needs
-
-put-origin-requires : tie.Need-put-origin-requires
-put-origin-requires c κs = search needs
-
-same-length : tie.Need-same-length
-same-length c = search needs
-
 returns : tie.Need-returns
 returns c = (c .before .before .put-origin .ensures ∙ text-below (c .before .before .before .before .before .before .before .before .before .before .args .limit) (c .before .before .before .before .before .before .before .before .before .before .args .out .now) (c .before .before .before .before .before .before .before .before .before .before .args .at) (c .before .before .before .before .before .before .before .before .before .before .args .source .now) (c .before .before .before .before .before .before .before .before .before .before .args .image .now) (c .before .before .before .before .before .before .before .before .before .before .args .origin) (c .before .before .before .before .before .before .before .before .before .before .args .start) (c .before .before .before .before .before .before .before .before .before .before .args .size .0) _ _ (c .before .before .before .before .before .before .before .before .before .before .pre) (text-count (c .before .before .before .before .before .before .before .before .before .before .args .source .now) (c .before .before .before .before .before .before .before .before .before .before .args .image .now) (c .before .before .before .before .before .before .before .before .before .before .args .origin) (c .before .before .before .before .before .before .before .before .before .before .args .start) (c .before .before .before .before .before .before .before .before .before .before .args .size .0) _ _ (c .before .before .before .before .before .before .origin-size .ensures) (c .before .before .before .before .before .clipped .ensures)) (c .before .before .before .clipped2 .ensures), (text-count (c .before .before .before .before .before .before .before .before .before .before .args .source .now) (c .before .before .before .before .before .before .before .before .before .before .args .image .now) (c .before .before .before .before .before .before .before .before .before .before .args .origin) (c .before .before .before .before .before .before .before .before .before .before .args .start) (c .before .before .before .before .before .before .before .before .before .before .args .size .0) _ _ (c .before .before .before .before .before .before .origin-size .ensures) (c .before .before .before .before .before .clipped .ensures)))
 
@@ -26,9 +11,9 @@ pub copy-spec : {M : Type 1} → statement M
 copy-spec =
     tie.close
     (tie.spec
-    origin-size-requires
-    clipped-requires
-    clipped-requires-2
-    put-origin-requires
-    same-length
+    (λ c κs. search needs)
+    (λ c κs. search needs)
+    (λ c κs. search needs)
+    (λ c κs. search needs)
+    (λ c. search needs)
     returns)

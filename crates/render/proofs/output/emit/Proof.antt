@@ -3,12 +3,6 @@ use borrow.Author.Needs.{needs}
 use Rattle.render.proofs.output.emit.Statement.{statement}
 use Rattle.render.proofs.output.emit.Tie as tie
 
-slice-write-out : tie.Need-slice-write-out
-slice-write-out c = search needs
-
-same-length : tie.Need-same-length
-same-length c = search needs
-
 returns : tie.Need-returns
 returns c = emit-in _ _ _ _ (c .if1 .taken)
 
@@ -16,4 +10,4 @@ returns-2 : tie.Need-returns-2
 returns-2 c = emit-past _ _ _ _ (c .if1 .left)
 
 pub emit-spec : {M : Type 1} → statement M
-emit-spec = tie.close (tie.spec slice-write-out same-length returns returns-2)
+emit-spec = tie.close (tie.spec (λ c. search needs) (λ c. search needs) returns returns-2)

@@ -6,14 +6,8 @@ use Rattle.rows.proofs.Table.{words-size}
 use Rattle.render.proofs.output.put_words.Statement.{statement}
 use Rattle.render.proofs.output.put_words.Tie as tie
 
-slice-aggregate-put-part : tie.Need-slice-aggregate-put-part
-slice-aggregate-put-part c = search needs
-
 put-part-requires : tie.Need-put-part-requires
 put-part-requires c κs = (c .before .before .before .pre .0, omega (arith, words-size, c .before .before .before .pre .1))
-
-same-length : tie.Need-same-length
-same-length c = search needs
 
 returns : tie.Need-returns
 unfolding words joined bytes
@@ -21,4 +15,4 @@ returns c = c .before .before .put-part .ensures
 
 pub put-words-spec : {M : Type 1} → statement M
 put-words-spec =
-    tie.close (tie.spec slice-aggregate-put-part put-part-requires same-length returns)
+    tie.close (tie.spec (λ c. search needs) put-part-requires (λ c. search needs) returns)

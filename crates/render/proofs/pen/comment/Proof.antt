@@ -4,26 +4,14 @@ use borrow.Author.Needs.{needs}
 use Rattle.render.proofs.pen.comment.Statement.{statement}
 use Rattle.render.proofs.pen.comment.Tie as tie
 
-put-requires : tie.Need-put-requires
-put-requires c κs = search needs
-
 end-line-requires : tie.Need-end-line-requires
 end-line-requires c κs = (room-put _ _ _ _ _ _ _ (c .before .before .before .before .before .before .before .before .before .pre .0) (c .before .before .before .put .ensures) (omega arith) (omega arith), search needs)
-
-same-length : tie.Need-same-length
-same-length c = search needs
 
 returns : tie.Need-returns
 returns c = remark-drawn-on _ _ _ _ _ _ _ _ _ (c .before .before .before .before .before .before .before .before .if1 .taken) (c .before .before .before .before .before .before .put .ensures) (c .before .before .end-line .ensures)
 
-start-line-requires : tie.Need-start-line-requires
-start-line-requires c κs = search needs
-
 end-line-requires-2 : tie.Need-end-line-requires-2
 end-line-requires-2 c κs = (room-margin _ _ _ _ _ (c .before .before .before .before .before .before .before .before .before .pre .0) (c .before .before .before .start-line .ensures), search needs)
-
-same-length-2 : tie.Need-same-length-2
-same-length-2 c = search needs
 
 returns-2 : tie.Need-returns-2
 returns-2 c = remark-drawn-new _ _ _ _ _ _ _ _ (c .before .before .before .before .before .before .before .before .if1 .left) (c .before .before .before .before .before .before .start-line .ensures) (c .before .before .end-line2 .ensures)
@@ -32,11 +20,11 @@ pub comment-spec : {M : Type 1} → statement M
 comment-spec =
     tie.close
     (tie.spec
-    put-requires
+    (λ c κs. search needs)
     end-line-requires
-    same-length
+    (λ c. search needs)
     returns
-    start-line-requires
+    (λ c κs. search needs)
     end-line-requires-2
-    same-length-2
+    (λ c. search needs)
     returns-2)

@@ -4,17 +4,11 @@ use borrow.Author.Needs.{needs}
 use Rattle.render.proofs.pen.empty_line.Statement.{statement}
 use Rattle.render.proofs.pen.empty_line.Tie as tie
 
-put-requires : tie.Need-put-requires
-put-requires c κs = search needs
-
 new-line-requires : tie.Need-new-line-requires
 new-line-requires c κs = room-put _ _ _ _ _ _ _ (c .before .before .before .before .before .before .pre) (c .before .before .before .put .ensures) (omega arith) (omega arith)
-
-same-length : tie.Need-same-length
-same-length c = search needs
 
 returns : tie.Need-returns
 returns c = empty-drawn _ _ _ _ _ _ _ (c .before .before .before .before .before .before .put .ensures) (c .before .before .new-line .ensures)
 
 pub empty-line-spec : {M : Type 1} → statement M
-empty-line-spec = tie.close (tie.spec put-requires new-line-requires same-length returns)
+empty-line-spec = tie.close (tie.spec (λ c κs. search needs) new-line-requires (λ c. search needs) returns)

@@ -3,23 +3,11 @@ use borrow.Author.Needs.{needs}
 use Rattle.render.proofs.pen.space.Statement.{statement}
 use Rattle.render.proofs.pen.space.Tie as tie
 
-put-requires : tie.Need-put-requires
-put-requires c κs = search needs
-
-same-length : tie.Need-same-length
-same-length c = search needs
-
 returns : tie.Need-returns
 returns c = text-drawn-on _ _ _ _ _ _ _ (c .before .before .before .before .if1 .taken) (c .before .before .put .ensures)
 
-start-line-requires : tie.Need-start-line-requires
-start-line-requires c κs = search needs
-
 put-requires-2 : tie.Need-put-requires-2
 put-requires-2 c κs = (room-margin _ _ _ _ _ (c .before .before .before .before .before .before .before .before .pre) (c .before .before .before .start-line .ensures), search needs)
-
-same-length-2 : tie.Need-same-length-2
-same-length-2 c = search needs
 
 returns-2 : tie.Need-returns-2
 returns-2 c = text-drawn-new _ _ _ _ _ _ _ _ _ (c .before .before .before .before .before .before .before .before .if1 .left) (c .before .before .before .before .before .before .start-line .ensures) (c .before .before .put2 .ensures)
@@ -28,10 +16,10 @@ pub space-spec : {M : Type 1} → statement M
 space-spec =
     tie.close
     (tie.spec
-    put-requires
-    same-length
+    (λ c κs. search needs)
+    (λ c. search needs)
     returns
-    start-line-requires
+    (λ c κs. search needs)
     put-requires-2
-    same-length-2
+    (λ c. search needs)
     returns-2)

@@ -15,23 +15,8 @@ abbrev μ-loop : tie.MeasureT-loop
 loop-holds : tie.Need-loop-holds Inv-loop μ-loop
 loop-holds c = filling-start _ _ _ _
 
-byte-requires : tie.Need-byte-requires Inv-loop μ-loop
-byte-requires c κs = search needs
-
-cast-b : tie.Need-cast-b Inv-loop μ-loop
-cast-b c = search needs
-
 slice-write-b : tie.Need-slice-write-b Inv-loop μ-loop
 slice-write-b c = omega (arith, c .before .before .loop .inv .size, c .before .loop-test .taken)
-
-past-requires : tie.Need-past-requires Inv-loop μ-loop
-past-requires c κs = search needs
-
-add-i : tie.Need-add-i Inv-loop μ-loop
-add-i c = search needs
-
-loop-less : tie.Need-loop-less Inv-loop μ-loop
-loop-less c = search needs
 
 loop-again : tie.Need-loop-again Inv-loop μ-loop
 loop-again c = filling-more _ _ _ _ _ _ _ _ _ (c .before .before .before .loop .inv) (omega (arith, c .before .before .before .loop .inv .size, c .before .before .loop-test .taken)) (c .before .byte .ensures .0) (c .past .ensures)
@@ -49,12 +34,12 @@ copy-spec =
     Inv-loop
     μ-loop
     loop-holds
-    byte-requires
-    cast-b
+    (λ c κs. search needs)
+    (λ c. search needs)
     slice-write-b
-    past-requires
-    add-i
-    loop-less
+    (λ c κs. search needs)
+    (λ c. search needs)
+    (λ c. search needs)
     loop-again
     same-length
     returns)

@@ -6,17 +6,8 @@ use borrow.Author.Needs.{needs}
 use Rattle.replay.proofs.numbers.byte.Statement.{statement}
 use Rattle.replay.proofs.numbers.byte.Tie as tie
 
-shared-slice-read-wide : tie.Need-shared-slice-read-wide
-shared-slice-read-wide c = search needs
-
-wide-requires : tie.Need-wide-requires
-wide-requires c κs = search needs
-
-returns : tie.Need-returns
-returns c = search needs
-
 returns-2 : tie.Need-returns-2
 returns-2 c = let h : length (c .before .before .args .d .now) ≤ c .before .before .args .at = omega arith in (sym (List·getD-eq-default (c .before .before .args .d .now) _ h), omega arith)
 
 pub byte-spec : {M : Type 1} → statement M
-byte-spec = tie.close (tie.spec shared-slice-read-wide wide-requires returns returns-2)
+byte-spec = tie.close (tie.spec (λ c. search needs) (λ c κs. search needs) (λ c. search needs) returns-2)

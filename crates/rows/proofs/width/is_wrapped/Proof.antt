@@ -6,14 +6,8 @@ use borrow.Author.Needs.{needs}
 use Rattle.rows.proofs.width.is_wrapped.Statement.{statement}
 use Rattle.rows.proofs.width.is_wrapped.Tie as tie
 
-shared-slice-read-result : tie.Need-shared-slice-read-result
-shared-slice-read-result c = search needs
-
-returns : tie.Need-returns
-returns c = search needs
-
 returns-2 : tie.Need-returns-2
 returns-2 c = sym (ap (λ (x : ℕ). eqb x 1) (List·getD-eq-default (c .before .args .marks .now) 0 (c .if1 .left)))
 
 pub is-wrapped-spec : {M : Type 1} → statement M
-is-wrapped-spec = tie.close (tie.spec shared-slice-read-result returns returns-2)
+is-wrapped-spec = tie.close (tie.spec (λ c. search needs) (λ c. search needs) returns-2)

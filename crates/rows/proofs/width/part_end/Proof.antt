@@ -6,21 +6,6 @@ use borrow.Author.Needs.{needs}
 use Rattle.rows.proofs.width.part_end.Statement.{statement}
 use Rattle.rows.proofs.width.part_end.Tie as tie
 
-returns : tie.Need-returns
-returns c = search needs
-
-sub-wide : tie.Need-sub-wide
-sub-wide c = search needs
-
-mul-wide : tie.Need-mul-wide
-mul-wide c = search needs
-
-element-copy-out-wide : tie.Need-element-copy-out-wide
-element-copy-out-wide c = search needs
-
-wide-requires : tie.Need-wide-requires
-wide-requires c κs = search needs
-
 place-requires : tie.Need-place-requires
 place-requires c κs = let h = c .before .before .before .before .pre .1 (omega (arith, c .before .before .if1 .left)) in let e = c .wide .ensures in omega arith
 
@@ -31,10 +16,10 @@ pub part-end-spec : {M : Type 1} → statement M
 part-end-spec =
     tie.close
     (tie.spec
-    returns
-    sub-wide
-    mul-wide
-    element-copy-out-wide
-    wide-requires
+    (λ c. search needs)
+    (λ c. search needs)
+    (λ c. search needs)
+    (λ c. search needs)
+    (λ c κs. search needs)
     place-requires
     returns-2)

@@ -46,9 +46,6 @@ mul-wide c = omega (arith, c .before .before .loop .inv .w .deep)
 array-read-wide : tie.Need-array-read-wide Inv-loop μ-loop
 array-read-wide c = omega (arith, leaves c, c .before .before .loop .inv .w .deep)
 
-wide-requires : tie.Need-wide-requires Inv-loop μ-loop
-wide-requires c κs = search needs
-
 place-requires : tie.Need-place-requires Inv-loop μ-loop
 place-requires c κs =
     let r = popped-row _ _ _ _ _ _ _ _ _ (c .before .before .before .loop .inv) (leaves (c .before)) in
@@ -93,9 +90,6 @@ loop-again-2 c =
 
 place-requires-3 : tie.Need-place-requires-3 Inv-loop μ-loop
 place-requires-3 c κs = omega (arith, inside (c .before .before), c .before .before .before .before .before .before .before .pre .room)
-
-is-wrapped-requires : tie.Need-is-wrapped-requires Inv-loop μ-loop
-is-wrapped-requires c κs = search needs
 
 cast-firsts : tie.Need-cast-firsts Inv-loop μ-loop
 cast-firsts c = omega (arith, inside (c .before .before .before .before .before), c .before .before .before .before .before .before .before .before .before .before .pre .few)
@@ -148,7 +142,7 @@ width-spec =
     sub-depth
     mul-wide
     array-read-wide
-    wide-requires
+    (λ c κs. search needs)
     place-requires
     part-end-requires
     loop-less
@@ -160,7 +154,7 @@ width-spec =
     loop-less-2
     loop-again-2
     place-requires-3
-    is-wrapped-requires
+    (λ c κs. search needs)
     cast-firsts
     mul-firsts
     array-write-firsts

@@ -5,20 +5,8 @@ use borrow.Author.Needs.{needs}
 use Rattle.state.proofs.store.put.Statement.{statement}
 use Rattle.state.proofs.store.put.Tie as tie
 
-mul-store : tie.Need-mul-store
-mul-store c = search needs
-
-slice-write-store : tie.Need-slice-write-store
-slice-write-store c = search needs
-
-same-length : tie.Need-same-length
-same-length c = search needs
-
-returns : tie.Need-returns
-returns c = search needs
-
 returns-2 : tie.Need-returns-2
 returns-2 c = sym (set-out _ _ _ (c .if1 .left))
 
 pub put-spec : {M : Type 1} → statement M
-put-spec = tie.close (tie.spec mul-store slice-write-store same-length returns returns-2)
+put-spec = tie.close (tie.spec (λ c. search needs) (λ c. search needs) (λ c. search needs) (λ c. search needs) returns-2)

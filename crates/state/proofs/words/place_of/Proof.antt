@@ -131,9 +131,6 @@ returns-30 : tie.Need-returns-30
 unfolding word placeIn
 returns-30 c = here (c .match .keys30) (record { start = refl; size = refl })
 
-returns-31 : tie.Need-returns-31
-returns-31 c = search needs
-
 pub place-of-spec : {M : Type 1} → statement M
 place-of-spec =
     tie.close
@@ -169,4 +166,4 @@ place-of-spec =
     returns-28
     returns-29
     returns-30
-    returns-31)
+    (λ c. search needs))

@@ -5,9 +5,6 @@ use borrow.Author.Needs.{needs}
 use Rattle.text.proofs.newlines.count_newlines.Statement.{statement}
 use Rattle.text.proofs.newlines.count_newlines.Tie as tie
 
-is-range-requires : tie.Need-is-range-requires
-is-range-requires c κs = search needs
-
 newlines-between-requires : tie.Need-newlines-between-requires
 newlines-between-requires c κs = range-inside _ _ _ (sym (c .before .is-range .ensures) ∙ c .if1 .taken)
 
@@ -21,4 +18,4 @@ returns-2 c = sym (simp (sym (c .before .is-range .ensures) ∙ c .if1 .left))
 
 pub count-newlines-spec : {M : Type 1} → statement M
 count-newlines-spec =
-    tie.close (tie.spec is-range-requires newlines-between-requires returns returns-2)
+    tie.close (tie.spec (λ c κs. search needs) newlines-between-requires returns returns-2)

@@ -9,12 +9,6 @@ returns : tie.Need-returns
 unfolding isRange
 returns c = sym (simp (lt-leb _ _ (c .if1 .taken)))
 
-is-boundary-requires : tie.Need-is-boundary-requires
-is-boundary-requires c κs = search needs
-
-is-boundary-requires-2 : tie.Need-is-boundary-requires-2
-is-boundary-requires-2 c κs = search needs
-
 returns-2 : tie.Need-returns-2
 unfolding isRange
 returns-2 c = simp (le-leb _ _ (c .before .before .before .if1 .left), sym (c .before .before .is-boundary .ensures) ∙ c .before .if2 .taken) (c .is-boundary2 .ensures)
@@ -25,4 +19,4 @@ returns-3 c = sym (simp (le-leb _ _ (c .before .before .if1 .left), sym (c .befo
 
 pub is-range-spec : {M : Type 1} → statement M
 is-range-spec =
-    tie.close (tie.spec returns is-boundary-requires is-boundary-requires-2 returns-2 returns-3)
+    tie.close (tie.spec returns (λ c κs. search needs) (λ c κs. search needs) returns-2 returns-3)

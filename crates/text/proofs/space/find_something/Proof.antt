@@ -19,20 +19,8 @@ abbrev μ-loop : tie.MeasureT-loop
 loop-holds : tie.Need-loop-holds Inv-loop μ-loop
 loop-holds c = seek-start _ _
 
-char-at-requires : tie.Need-char-at-requires Inv-loop μ-loop
-char-at-requires c κs = search needs
-
-enum-told : tie.Need-enum-told Inv-loop μ-loop
-enum-told c = search needs
-
 returns : tie.Need-returns Inv-loop μ-loop
 returns c = seek-nothing _ _ _ (sym (c .before .before .char-at .ensures) ∙ c .enum-told .given .1) (c .before .before .before .before .loop .inv)
-
-enum-known-c : tie.Need-enum-known-c Inv-loop μ-loop
-enum-known-c c = search needs
-
-is-passed-requires : tie.Need-is-passed-requires Inv-loop μ-loop
-is-passed-requires c κs = search needs
 
 returns-2 : tie.Need-returns-2 Inv-loop μ-loop
 returns-2 c = seek-found _ _ _ _ _ (c .before .before .before .before .before .before .loop-test .taken) (sym (c .before .before .before .before .before .char-at .ensures) ∙ c .before .before .before .c .given .1) (sym (c .before .is-passed .ensures) ∙ not-true _ (c .if1 .taken)) (c .before .before .before .before .before .before .before .loop .inv)
@@ -56,11 +44,11 @@ find-something-spec =
     Inv-loop
     μ-loop
     loop-holds
-    char-at-requires
-    enum-told
+    (λ c κs. search needs)
+    (λ c. search needs)
     returns
-    enum-known-c
-    is-passed-requires
+    (λ c. search needs)
+    (λ c κs. search needs)
     returns-2
     add-here
     loop-less

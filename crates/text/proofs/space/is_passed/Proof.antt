@@ -9,11 +9,8 @@ use Rattle.text.proofs.space.is_passed.Tie as tie
 returns : tie.Need-returns
 returns c = sym (simp (eq-eqb _ _ (c .if1 .taken)) (and-false (isWhite (c .before .args .c))))
 
-is-whitespace-requires : tie.Need-is-whitespace-requires
-is-whitespace-requires c κs = search needs
-
 returns-2 : tie.Need-returns-2
 returns-2 c = c .is-whitespace .ensures ∙ sym (simp (ne-eqb _ _ (c .before .if1 .left)) (and-true (isWhite (c .before .before .args .c))))
 
 pub is-passed-spec : {M : Type 1} → statement M
-is-passed-spec = tie.close (tie.spec returns is-whitespace-requires returns-2)
+is-passed-spec = tie.close (tie.spec returns (λ c κs. search needs) returns-2)

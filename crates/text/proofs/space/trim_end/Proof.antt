@@ -18,20 +18,8 @@ abbrev μ-loop : tie.MeasureT-loop
 loop-holds : tie.Need-loop-holds Inv-loop μ-loop
 loop-holds c = trim-start _ _ _
 
-char-before-requires : tie.Need-char-before-requires Inv-loop μ-loop
-char-before-requires c κs = search needs
-
-enum-told : tie.Need-enum-told Inv-loop μ-loop
-enum-told c = search needs
-
 returns : tie.Need-returns Inv-loop μ-loop
 returns c = trim-nothing _ _ _ _ (sym (c .before .before .char-before .ensures) ∙ c .enum-told .given .1) (c .before .before .before .before .loop .inv)
-
-enum-known-c : tie.Need-enum-known-c Inv-loop μ-loop
-enum-known-c c = search needs
-
-is-whitespace-requires : tie.Need-is-whitespace-requires Inv-loop μ-loop
-is-whitespace-requires c κs = search needs
 
 returns-2 : tie.Need-returns-2 Inv-loop μ-loop
 returns-2 c = trim-text _ _ _ _ _ _ (sym (c .before .before .before .before .before .char-before .ensures) ∙ c .before .before .before .c .given .1) (sym (c .before .is-whitespace .ensures) ∙ not-true _ (c .if1 .taken)) (c .before .before .before .before .before .before .before .loop .inv)
@@ -55,11 +43,11 @@ trim-end-spec =
     Inv-loop
     μ-loop
     loop-holds
-    char-before-requires
-    enum-told
+    (λ c κs. search needs)
+    (λ c. search needs)
     returns
-    enum-known-c
-    is-whitespace-requires
+    (λ c. search needs)
+    (λ c κs. search needs)
     returns-2
     sub-end
     loop-less

@@ -5,9 +5,6 @@ use borrow.Author.Needs.{needs}
 use Rattle.text.proofs.utf8.char_at.Statement.{statement}
 use Rattle.text.proofs.utf8.char_at.Tie as tie
 
-sequence-requires : tie.Need-sequence-requires
-sequence-requires c κs = search needs
-
 returns : tie.Need-returns
 returns c = at-decoded _ _ _ _ (c .before .sequence .ensures) (decoded-none _ _ _ (c .if1 .taken))
 
@@ -18,4 +15,4 @@ returns-2 : tie.Need-returns-2
 returns-2 c = at-decoded _ _ _ _ (c .before .before .sequence .ensures) (decoded-char _ _ _ _ (c .before .if1 .left) (c .code-point .ensures))
 
 pub char-at-spec : {M : Type 1} → statement M
-char-at-spec = tie.close (tie.spec sequence-requires returns code-point-requires returns-2)
+char-at-spec = tie.close (tie.spec (λ c κs. search needs) returns code-point-requires returns-2)

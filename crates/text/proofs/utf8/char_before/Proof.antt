@@ -7,9 +7,6 @@ use borrow.Author.Needs.{needs}
 use Rattle.text.proofs.utf8.char_before.Statement.{statement}
 use Rattle.text.proofs.utf8.char_before.Tie as tie
 
-ending-requires : tie.Need-ending-requires
-ending-requires c κs = search needs
-
 returns : tie.Need-returns
 returns c = before-decoded _ _ _ _ _ (c .before .ending .ensures) (decoded-none _ _ _ (c .if1 .taken))
 
@@ -24,4 +21,4 @@ returns-2 c = before-decoded _ _ _ _ _ (c .before .before .ending .ensures) (dec
 
 pub char-before-spec : {M : Type 1} → statement M
 char-before-spec =
-    tie.close (tie.spec ending-requires returns sub-code-point code-point-requires returns-2)
+    tie.close (tie.spec (λ c κs. search needs) returns sub-code-point code-point-requires returns-2)

@@ -11,15 +11,9 @@ returns : tie.Need-returns
 unfolding boundary
 returns c = simp (lt-leb _ _ (c .if1 .taken))
 
-byte-requires : tie.Need-byte-requires
-byte-requires c κs = search needs
-
-is-continuation-requires : tie.Need-is-continuation-requires
-is-continuation-requires c κs = search needs
-
 returns-2 : tie.Need-returns-2
 unfolding boundary
 returns-2 c = simp (le-leb _ _ (c .before .before .if1 .left)) (ap not (c .is-continuation .ensures ∙ ap continues (c .before .byte .ensures)))
 
 pub is-boundary-spec : {M : Type 1} → statement M
-is-boundary-spec = tie.close (tie.spec returns byte-requires is-continuation-requires returns-2)
+is-boundary-spec = tie.close (tie.spec returns (λ c κs. search needs) (λ c κs. search needs) returns-2)

@@ -16,12 +16,9 @@ returns-2 : tie.Need-returns-2
 unfolding ends
 returns-2 c = sym (simp (lt-leb (c .before .before .before .args .from + c .before .before .before .args .k) (c .before .before .before .args .to) (omega arith)))
 
-sequence-requires : tie.Need-sequence-requires
-sequence-requires c κs = search needs
-
 returns-3 : tie.Need-returns-3
 unfolding ends
 returns-3 c = simp (le-leb (c .before .before .before .before .args .from + c .before .before .before .before .args .k) (c .before .before .before .before .args .to) (omega arith)) (ap (λ n. eqb n (c .before .before .before .before .args .k)) (c .sequence .ensures))
 
 pub is-ending-spec : {M : Type 1} → statement M
-is-ending-spec = tie.close (tie.spec returns returns-2 sequence-requires returns-3)
+is-ending-spec = tie.close (tie.spec returns returns-2 (λ c κs. search needs) returns-3)

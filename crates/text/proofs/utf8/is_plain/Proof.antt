@@ -4,17 +4,11 @@ use borrow.Author.Needs.{needs}
 use Rattle.text.proofs.utf8.is_plain.Statement.{statement}
 use Rattle.text.proofs.utf8.is_plain.Tie as tie
 
-sub-if1 : tie.Need-sub-if1
-sub-if1 c = search needs
-
 returns : tie.Need-returns
 returns c = plain-short (c .before .before .args .s .now) (c .before .before .args .at) (c .before .before .pre) (c .if1 .taken)
-
-count-high-requires : tie.Need-count-high-requires
-count-high-requires c κs = search needs
 
 returns-2 : tie.Need-returns-2
 returns-2 c = plain-long (c .before .before .before .args .s .now) (c .before .before .before .args .at) _ (omega (arith, c .before .before .before .pre, c .before .if1 .left)) (c .count-high .ensures)
 
 pub is-plain-spec : {M : Type 1} → statement M
-is-plain-spec = tie.close (tie.spec sub-if1 returns count-high-requires returns-2)
+is-plain-spec = tie.close (tie.spec (λ c. search needs) returns (λ c κs. search needs) returns-2)

@@ -54,12 +54,6 @@ module _ (s : List ℕ) (at : ℕ) (l : Lead) (inside : at < length s) (led : l 
 returns : tie.Need-returns
 returns c = by-first _ _ _ (c .before .before .pre .0) (c .before .before .pre .1) (c .if1 .taken)
 
-add-byte : tie.Need-add-byte
-add-byte c = search needs
-
-byte-requires : tie.Need-byte-requires
-byte-requires c κs = search needs
-
 returns-2 : tie.Need-returns-2
 returns-2 c = second-low _ _ _ (c .before .before .before .before .before .pre .0) (c .before .before .before .before .before .pre .1) (c .before .before .before .if1 .left) (omega (arith, c .before .before .byte .ensures))
 
@@ -69,29 +63,11 @@ returns-3 c = second-high _ _ _ (c .before .before .before .before .before .befo
 returns-4 : tie.Need-returns-4
 returns-4 c = by-second _ _ _ (c .before .before .before .before .before .before .before .before .pre .0) (c .before .before .before .before .before .before .before .before .pre .1) (omega (arith, c .before .before .before .before .before .byte .ensures)) (omega (arith, c .before .before .before .before .before .byte .ensures)) (c .if4 .taken)
 
-add-byte-2 : tie.Need-add-byte-2
-add-byte-2 c = search needs
-
-byte-requires-2 : tie.Need-byte-requires-2
-byte-requires-2 c κs = search needs
-
-is-continuation-requires : tie.Need-is-continuation-requires
-is-continuation-requires c κs = search needs
-
 returns-5 : tie.Need-returns-5
 returns-5 c = third-off _ _ _ (c .before .before .before .before .before .before .before .before .before .before .before .pre .0) (c .before .before .before .before .before .before .before .before .before .before .before .pre .1) (omega (arith, c .before .before .before .before .before .before .before .before .byte .ensures)) (omega (arith, c .before .before .before .before .before .before .before .before .byte .ensures)) (omega arith) (ap continues (sym (c .before .before .byte2 .ensures)) ∙ sym (c .before .is-continuation .ensures) ∙ not-true _ (c .if5 .taken))
 
 returns-6 : tie.Need-returns-6
 returns-6 c = by-third _ _ _ (c .before .before .before .before .before .before .before .before .before .before .before .before .pre .0) (c .before .before .before .before .before .before .before .before .before .before .before .before .pre .1) (omega (arith, c .before .before .before .before .before .before .before .before .before .byte .ensures)) (omega (arith, c .before .before .before .before .before .before .before .before .before .byte .ensures)) (c .if6 .taken) (ap continues (sym (c .before .before .before .byte2 .ensures)) ∙ sym (c .before .before .is-continuation .ensures) ∙ not-false _ (c .before .if5 .left))
-
-add-byte-3 : tie.Need-add-byte-3
-add-byte-3 c = search needs
-
-byte-requires-3 : tie.Need-byte-requires-3
-byte-requires-3 c κs = search needs
-
-is-continuation-requires-2 : tie.Need-is-continuation-requires-2
-is-continuation-requires-2 c κs = search needs
 
 returns-7 : tie.Need-returns-7
 returns-7 c = fourth-off _ _ _ (c .before .before .before .before .before .before .before .before .before .before .before .before .before .before .before .pre .0) (c .before .before .before .before .before .before .before .before .before .before .before .before .before .before .before .pre .1) (omega (arith, c .before .before .before .before .before .before .before .before .before .before .before .before .byte .ensures)) (omega (arith, c .before .before .before .before .before .before .before .before .before .before .before .before .byte .ensures)) (omega arith) (ap continues (sym (c .before .before .before .before .before .before .byte2 .ensures)) ∙ sym (c .before .before .before .before .before .is-continuation .ensures) ∙ not-false _ (c .before .before .before .before .if5 .left)) (ap continues (sym (c .before .before .byte3 .ensures)) ∙ sym (c .before .is-continuation2 .ensures) ∙ not-true _ (c .if7 .taken))
@@ -104,18 +80,18 @@ led-by-spec =
     tie.close
     (tie.spec
     returns
-    add-byte
-    byte-requires
+    (λ c. search needs)
+    (λ c κs. search needs)
     returns-2
     returns-3
     returns-4
-    add-byte-2
-    byte-requires-2
-    is-continuation-requires
+    (λ c. search needs)
+    (λ c κs. search needs)
+    (λ c κs. search needs)
     returns-5
     returns-6
-    add-byte-3
-    byte-requires-3
-    is-continuation-requires-2
+    (λ c. search needs)
+    (λ c κs. search needs)
+    (λ c κs. search needs)
     returns-7
     returns-8)

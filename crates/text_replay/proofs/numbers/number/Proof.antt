@@ -5,12 +5,6 @@ use borrow.Author.Needs.{needs}
 use Rattle.text_replay.proofs.numbers.number.Statement.{statement}
 use Rattle.text_replay.proofs.numbers.number.Tie as tie
 
-shared-slice-read-wide : tie.Need-shared-slice-read-wide
-shared-slice-read-wide c = search needs
-
-wide-requires : tie.Need-wide-requires
-wide-requires c κs = search needs
-
 returns : tie.Need-returns
 unfolding number
 returns c = simp (eq-eqb _ _ (c .before .before .if1 .taken)) (c .wide .ensures .0)
@@ -24,4 +18,4 @@ returns-2 c = simp (ne-eqb _ _ (c .before .if1 .left)) (c .long .ensures)
 
 pub number-spec : {M : Type 1} → statement M
 number-spec =
-    tie.close (tie.spec shared-slice-read-wide wide-requires returns long-requires returns-2)
+    tie.close (tie.spec (λ c. search needs) (λ c κs. search needs) returns long-requires returns-2)

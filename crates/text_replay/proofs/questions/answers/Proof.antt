@@ -8,29 +8,11 @@ use borrow.Author.Needs.{needs}
 use Rattle.text_replay.proofs.questions.answers.Statement.{statement}
 use Rattle.text_replay.proofs.questions.answers.Tie as tie
 
-add-k : tie.Need-add-k
-add-k c = search needs
-
-enum-told : tie.Need-enum-told
-enum-told c = search needs
-
 mul-result : tie.Need-mul-result
 mul-result c = omega (arith, square-small (length (c .before .before .args .s .now) + 2) (omega arith))
 
-enum-told-2 : tie.Need-enum-told-2
-enum-told-2 c = search needs
-
 mul-result-2 : tie.Need-mul-result-2
 mul-result-2 c = omega (arith, square-small (length (c .before .before .args .s .now) + 2) (omega arith))
-
-enum-told-3 : tie.Need-enum-told-3
-enum-told-3 c = search needs
-
-enum-told-4 : tie.Need-enum-told-4
-enum-told-4 c = search needs
-
-enum-told-5 : tie.Need-enum-told-5
-enum-told-5 c = search needs
 
 returns : tie.Need-returns
 unfolding answers
@@ -56,14 +38,14 @@ pub answers-spec : {M : Type 1} → statement M
 answers-spec =
     tie.close
     (tie.spec
-    add-k
-    enum-told
+    (λ c. search needs)
+    (λ c. search needs)
     mul-result
-    enum-told-2
+    (λ c. search needs)
     mul-result-2
-    enum-told-3
-    enum-told-4
-    enum-told-5
+    (λ c. search needs)
+    (λ c. search needs)
+    (λ c. search needs)
     returns
     returns-2
     returns-3

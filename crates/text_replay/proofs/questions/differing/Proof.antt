@@ -20,9 +20,6 @@ abbrev μ-loop : tie.MeasureT-loop
 answers-requires : tie.Need-answers-requires Inv-loop μ-loop
 answers-requires c κs = c .before .before .pre .0
 
-width-requires : tie.Need-width-requires Inv-loop μ-loop
-width-requires c κs = search needs
-
 loop-holds : tie.Need-loop-holds Inv-loop μ-loop
 loop-holds c = (omega arith, omega arith, sum-start _)
 
@@ -31,9 +28,6 @@ number-requires c κs = (omega (arith, c .before .loop .inv .1, answer-inside (c
 
 answer-requires : tie.Need-answer-requires Inv-loop μ-loop
 answer-requires c κs = c .before .before .before .before .before .before .before .pre .0
-
-differs-requires : tie.Need-differs-requires Inv-loop μ-loop
-differs-requires c κs = search needs
 
 add-n : tie.Need-add-n Inv-loop μ-loop
 add-n c = omega (arith, c .before .before .before .before .loop .inv .2 .few, c .differs .ensures, differs-one (c .before .before .number .result) (c .before .answer .result))
@@ -61,11 +55,11 @@ differing-spec =
     Inv-loop
     μ-loop
     answers-requires
-    width-requires
+    (λ c κs. search needs)
     loop-holds
     number-requires
     answer-requires
-    differs-requires
+    (λ c κs. search needs)
     add-n
     add-here
     add-i

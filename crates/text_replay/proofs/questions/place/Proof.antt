@@ -4,12 +4,6 @@ use borrow.Author.Needs.{needs}
 use Rattle.text_replay.proofs.questions.place.Statement.{statement}
 use Rattle.text_replay.proofs.questions.place.Tie as tie
 
-enum-known-f : tie.Need-enum-known-f
-enum-known-f c = search needs
-
-enum-told : tie.Need-enum-told
-enum-told c = search needs
-
 returns : tie.Need-returns
 unfolding place
 returns c = sym (ap place (c .before .f .given .1))
@@ -19,4 +13,4 @@ unfolding place
 returns-2 c = sym (ap place (c .enum-told .given .1))
 
 pub place-spec : {M : Type 1} → statement M
-place-spec = tie.close (tie.spec enum-known-f enum-told returns returns-2)
+place-spec = tie.close (tie.spec (λ c. search needs) (λ c. search needs) returns returns-2)

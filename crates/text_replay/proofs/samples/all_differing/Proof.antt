@@ -6,24 +6,9 @@ use borrow.Author.Needs.{needs}
 use Rattle.text_replay.proofs.samples.all_differing.Statement.{statement}
 use Rattle.text_replay.proofs.samples.all_differing.Tie as tie
 
-add-k : tie.Need-add-k
-add-k c = search needs
-
-mul-square : tie.Need-mul-square
-mul-square c = search needs
-
-mul-search : tie.Need-mul-search
-mul-search c = search needs
-
-add-search : tie.Need-add-search
-add-search c = search needs
-
 differing-requires : tie.Need-differing-requires
 unfolding answers width
 differing-requires c κs = (c .before .before .pre .0, omega (arith, c .before .before .pre .1))
-
-add-differing : tie.Need-add-differing
-add-differing c = search needs
 
 differing-requires-2 : tie.Need-differing-requires-2
 unfolding answers width
@@ -39,21 +24,12 @@ differing-requires-3 c κs = (c .before .before .before .before .pre .0, omega (
 add-result-2 : tie.Need-add-result-2
 add-result-2 c = omega (arith, differing-small _ _ _ _ _ (c .before .before .before .before .before .pre .0) (c .before .before .differing .ensures), differing-small _ _ _ _ _ (c .before .before .before .before .before .pre .0) (c .before .differing2 .ensures), differing-small _ _ _ _ _ (c .before .before .before .before .before .pre .0) (c .differing3 .ensures))
 
-add-differing-2 : tie.Need-add-differing-2
-add-differing-2 c = search needs
-
 differing-requires-4 : tie.Need-differing-requires-4
 unfolding answers width
 differing-requires-4 c κs = (c .before .before .before .before .before .pre .0, omega (arith, c .before .before .before .before .before .pre .1))
 
 add-result-3 : tie.Need-add-result-3
 add-result-3 c = omega (arith, differing-small _ _ _ _ _ (c .before .before .before .before .before .before .pre .0) (c .before .before .before .differing .ensures), differing-small _ _ _ _ _ (c .before .before .before .before .before .before .pre .0) (c .before .before .differing2 .ensures), differing-small _ _ _ _ _ (c .before .before .before .before .before .before .pre .0) (c .before .differing3 .ensures), differing-small _ _ _ _ _ (c .before .before .before .before .before .before .pre .0) (c .differing4 .ensures))
-
-mul-differing : tie.Need-mul-differing
-mul-differing c = search needs
-
-add-differing-3 : tie.Need-add-differing-3
-add-differing-3 c = search needs
 
 differing-requires-5 : tie.Need-differing-requires-5
 unfolding answers width
@@ -70,21 +46,21 @@ pub all-differing-spec : {M : Type 1} → statement M
 all-differing-spec =
     tie.close
     (tie.spec
-    add-k
-    mul-square
-    mul-search
-    add-search
+    (λ c. search needs)
+    (λ c. search needs)
+    (λ c. search needs)
+    (λ c. search needs)
     differing-requires
-    add-differing
+    (λ c. search needs)
     differing-requires-2
     add-result
     differing-requires-3
     add-result-2
-    add-differing-2
+    (λ c. search needs)
     differing-requires-4
     add-result-3
-    mul-differing
-    add-differing-3
+    (λ c. search needs)
+    (λ c. search needs)
     differing-requires-5
     add-result-4
     returns)

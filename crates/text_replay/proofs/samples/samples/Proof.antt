@@ -7,20 +7,8 @@ use Rattle.text_replay.proofs.samples.samples.Tie as tie
 returns : tie.Need-returns
 returns c = samples-cut _ _ (omega arith)
 
-sub-if2 : tie.Need-sub-if2
-sub-if2 c = search needs
-
 returns-2 : tie.Need-returns-2
 returns-2 c = samples-cut _ _ (omega arith)
-
-add-samples-from : tie.Need-add-samples-from
-add-samples-from c = search needs
-
-short-requires : tie.Need-short-requires
-short-requires c κs = search needs
-
-samples-from-requires : tie.Need-samples-from-requires
-samples-from-requires c κs = search needs
 
 returns-3 : tie.Need-returns-3
 returns-3 c = samples-there _ _ _ _ (c .samples-from .ensures) (c .before .short .ensures .0) (omega arith)
@@ -30,9 +18,9 @@ samples-spec =
     tie.close
     (tie.spec
     returns
-    sub-if2
+    (λ c. search needs)
     returns-2
-    add-samples-from
-    short-requires
-    samples-from-requires
+    (λ c. search needs)
+    (λ c κs. search needs)
+    (λ c κs. search needs)
     returns-3)

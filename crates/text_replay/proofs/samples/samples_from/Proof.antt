@@ -19,17 +19,8 @@ abbrev μ-loop : tie.MeasureT-loop
 loop-holds : tie.Need-loop-holds Inv-loop μ-loop
 loop-holds c = (c .before .pre, omega arith, omega arith, refl)
 
-sample-requires : tie.Need-sample-requires Inv-loop μ-loop
-sample-requires c κs = search needs
-
-enum-told : tie.Need-enum-told Inv-loop μ-loop
-enum-told c = search needs
-
 returns : tie.Need-returns Inv-loop μ-loop
 returns c = sym (c .before .before .before .before .loop .inv .3 ∙ from-cut _ _ _ _ _ (c .before .before .before .loop-test .taken) (sym (c .before .before .sample .ensures) ∙ c .enum-told .given .1))
-
-enum-known-next : tie.Need-enum-known-next Inv-loop μ-loop
-enum-known-next c = search needs
 
 add-count : tie.Need-add-count Inv-loop μ-loop
 add-count c = let w = sample-sound _ _ _ _ _ (sym (c .before .before .before .sample .ensures) ∙ c .before .next .given .1) in omega (arith, w .few, w .inside)
@@ -56,10 +47,10 @@ samples-from-spec =
     Inv-loop
     μ-loop
     loop-holds
-    sample-requires
-    enum-told
+    (λ c κs. search needs)
+    (λ c. search needs)
     returns
-    enum-known-next
+    (λ c. search needs)
     add-count
     add-wrong
     sub-left

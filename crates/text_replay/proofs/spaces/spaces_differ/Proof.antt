@@ -21,20 +21,8 @@ loop-holds c = (omega arith, sum-start _)
 is-listed-requires : tie.Need-is-listed-requires Inv-loop μ-loop
 is-listed-requires c κs = c .before .before .before .pre
 
-bit-requires : tie.Need-bit-requires Inv-loop μ-loop
-bit-requires c κs = search needs
-
 cast-is-whitespace : tie.Need-cast-is-whitespace Inv-loop μ-loop
 cast-is-whitespace c = omega arith
-
-is-whitespace-requires : tie.Need-is-whitespace-requires Inv-loop μ-loop
-is-whitespace-requires c κs = search needs
-
-bit-requires-2 : tie.Need-bit-requires-2 Inv-loop μ-loop
-bit-requires-2 c κs = search needs
-
-differs-requires : tie.Need-differs-requires Inv-loop μ-loop
-differs-requires c κs = search needs
 
 add-n : tie.Need-add-n Inv-loop μ-loop
 add-n c = omega (arith, c .before .before .before .before .before .before .loop .inv .1 .few, c .differs .ensures, differs-one (c .before .before .before .bit .result) (c .before .bit2 .result))
@@ -59,11 +47,11 @@ spaces-differ-spec =
     μ-loop
     loop-holds
     is-listed-requires
-    bit-requires
+    (λ c κs. search needs)
     cast-is-whitespace
-    is-whitespace-requires
-    bit-requires-2
-    differs-requires
+    (λ c κs. search needs)
+    (λ c κs. search needs)
+    (λ c κs. search needs)
     add-n
     add-c
     loop-less

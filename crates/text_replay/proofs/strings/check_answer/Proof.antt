@@ -5,15 +5,6 @@ use borrow.Author.Needs.{needs}
 use Rattle.text_replay.proofs.strings.check_answer.Statement.{statement}
 use Rattle.text_replay.proofs.strings.check_answer.Tie as tie
 
-check-requires : tie.Need-check-requires
-check-requires c κs = search needs
-
-enum-told : tie.Need-enum-told
-enum-told c = search needs
-
-enum-known-at : tie.Need-enum-known-at
-enum-known-at c = search needs
-
 returns : tie.Need-returns
 returns c = good-answer _ (sym (c .before .before .check .ensures) ∙ ap refusalOf (c .enum-told .given .1))
 
@@ -21,4 +12,4 @@ returns-2 : tie.Need-returns-2
 returns-2 c = bad-answer _ _ (sym (c .before .before .before .check .ensures) ∙ ap refusalOf (c .before .at .given .1))
 
 pub check-answer-spec : {M : Type 1} → statement M
-check-answer-spec = tie.close (tie.spec check-requires enum-told enum-known-at returns returns-2)
+check-answer-spec = tie.close (tie.spec (λ c κs. search needs) (λ c. search needs) (λ c. search needs) returns returns-2)

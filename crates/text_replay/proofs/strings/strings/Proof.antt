@@ -10,12 +10,9 @@ returns : tie.Need-returns
 unfolding strings
 returns c = sym (simp (lt-ltb _ _ (c .if1 .taken)))
 
-strings-differ-requires : tie.Need-strings-differ-requires
-strings-differ-requires c κs = search needs
-
 returns-2 : tie.Need-returns-2
 unfolding strings
 returns-2 c = simp (le-ltb _ _ (c .before .if1 .left)) (ap (Done 65792 65792) (c .strings-differ .ensures))
 
 pub strings-spec : {M : Type 1} → statement M
-strings-spec = tie.close (tie.spec returns strings-differ-requires returns-2)
+strings-spec = tie.close (tie.spec returns (λ c κs. search needs) returns-2)

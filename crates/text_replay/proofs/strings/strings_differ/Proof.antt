@@ -21,14 +21,8 @@ loop-holds c = (omega arith, sum-start _)
 shared-slice-read-wide : tie.Need-shared-slice-read-wide Inv-loop μ-loop
 shared-slice-read-wide c = omega arith
 
-wide-requires : tie.Need-wide-requires Inv-loop μ-loop
-wide-requires c κs = search needs
-
 string-check-requires : tie.Need-string-check-requires Inv-loop μ-loop
 string-check-requires c κs = c .before .before .loop-test .taken
-
-differs-requires : tie.Need-differs-requires Inv-loop μ-loop
-differs-requires c κs = search needs
 
 add-n : tie.Need-add-n Inv-loop μ-loop
 add-n c = omega (arith, c .before .before .before .before .before .loop .inv .1 .few, c .differs .ensures, differs-one (c .before .before .wide .result) (c .before .string-check .result))
@@ -53,9 +47,9 @@ strings-differ-spec =
     μ-loop
     loop-holds
     shared-slice-read-wide
-    wide-requires
+    (λ c κs. search needs)
     string-check-requires
-    differs-requires
+    (λ c κs. search needs)
     add-n
     add-i
     loop-less
