@@ -14,7 +14,7 @@ use Rattle.renderer.specs.Frames.{limit as partLimit, At}
 use Rattle.renderer.specs.Machine.{Machine, frame}
 use Rattle.renderer.specs.Safe.{Safe, Small}
 use Rattle.render.specs.declared.pen.Pen.{Pen}
-use Rattle.render.specs.declared.machine.Run.{Run}
+use Rattle.render.specs.declared.run.Run.{Run}
 use Rattle.render.specs.Output.{over}
 use Rattle.render.specs.Pen.{shown, withMargin}
 

@@ -21,7 +21,13 @@ fn clip(w: Columns, room: usize) -> Columns
 }
 
 // The width of the rows from `from` up to `to`, or one column more than there is room for. No row is read once that is passed.
-pub(crate) fn width_past(store: &[u32], marks: &[u8], from: usize, to: usize, room: usize) -> Columns
+pub(crate) fn width_past(
+    store: &[u32],
+    marks: &[u8],
+    from: usize,
+    to: usize,
+    room: usize,
+) -> Columns
     requires { ⌜ Nested (now store) from to ⌝ }
     ensures { λ r. ⌜ (r .0 ≡ min (room + 1) (widths byteColumns (now (marks .entry)) (nodesAt (viewOf (now (store .entry))) from to))) × (r .0 < 36028797018963968) ⌝ }
 {

@@ -118,7 +118,13 @@ fn write_row(
 }
 
 // A row without a text.
-pub(crate) fn plain_row(store: &mut [u32], c: Cursor, kind: u32, number: u32, number2: u32) -> Cursor
+pub(crate) fn plain_row(
+    store: &mut [u32],
+    c: Cursor,
+    kind: u32,
+    number: u32,
+    number2: u32,
+) -> Cursor
     requires { ⌜ c .row < top ⌝ }
     ensures { λ r. ⌜ Written kind number number2 noText 0 (now (store .entry)) c (now (store .exit)) r ⌝ }
 {
