@@ -2,6 +2,7 @@
 ghost use mathlib.Core.Path.{_≡_};
 ghost use Prim.Native.Nat.{_≤_, _<_};
 ghost use mathlib.Core.List.{[]};
+ghost use Rattle.render.specs.Limits.{MAX-MARGIN, BEFORE-ROW};
 ghost use Rattle.rows.specs.View.{viewOf, nodesAt};
 ghost use Rattle.rows.specs.Nesting.{Nested};
 ghost use Rattle.renderer.specs.Page.{pageOf};
@@ -10,12 +11,12 @@ ghost use Rattle.render.specs.Pen.{shown};
 use crate::measure::width_past;
 use crate::pen::Pen;
 use crate::pen::margin_columns;
-use rows::store::Columns;
+use rows::units::Columns;
 use rows::width::must_wrap;
 
 // The column, or where the line will start.
 fn virtual_column(p: Pen) -> Columns
-    requires { ⌜ p .indent ≤ 384 ⌝ }
+    requires { ⌜ p .indent ≤ MAX-MARGIN ⌝ }
     ensures { λ r. ⌜ r .0 ≡ virtualColumn (shown p []) ⌝ }
 {
     if 0 < p.column.0 {
@@ -33,7 +34,7 @@ pub(crate) fn group_wraps(
     to: usize,
     max: usize,
 ) -> bool
-    requires { ⌜ Nested (now store) from to × ((p .indent ≤ 384) × (p .column .0 < 1152921504606846976)) ⌝ }
+    requires { ⌜ Nested (now store) from to × ((p .indent ≤ MAX-MARGIN) × (p .column .0 < BEFORE-ROW)) ⌝ }
     ensures { λ r. ⌜ r ≡ groupWraps (pageOf max [] []) (nodesAt (viewOf (now (store .entry))) from to) (shown p (now (marks .entry))) ⌝ }
 {
     if must_wrap(store, from, to) {
@@ -53,7 +54,7 @@ pub(crate) fn trails(
     to: usize,
     max: usize,
 ) -> bool
-    requires { ⌜ Nested (now store) from mid × (Nested (now store) mid to × ((p .indent ≤ 384) × (p .column .0 < 1152921504606846976))) ⌝ }
+    requires { ⌜ Nested (now store) from mid × (Nested (now store) mid to × ((p .indent ≤ MAX-MARGIN) × (p .column .0 < BEFORE-ROW))) ⌝ }
     ensures { λ r. ⌜ r ≡ trailing (pageOf max [] []) (nodesAt (viewOf (now (store .entry))) from mid) (nodesAt (viewOf (now (store .entry))) mid to) (shown p (now (marks .entry))) ⌝ }
 {
     if must_wrap(store, from, mid) {
@@ -80,7 +81,7 @@ pub(crate) fn callee_wraps(
     to: usize,
     max: usize,
 ) -> bool
-    requires { ⌜ Nested (now store) from mid × (Nested (now store) mid to × ((p .indent ≤ 384) × (p .column .0 < 1152921504606846976))) ⌝ }
+    requires { ⌜ Nested (now store) from mid × (Nested (now store) mid to × ((p .indent ≤ MAX-MARGIN) × (p .column .0 < BEFORE-ROW))) ⌝ }
     ensures { λ r. ⌜ r ≡ calleeWraps (pageOf max [] []) trailing (nodesAt (viewOf (now (store .entry))) from mid) (nodesAt (viewOf (now (store .entry))) mid to) (shown p (now (marks .entry))) ⌝ }
 {
     if trailing {

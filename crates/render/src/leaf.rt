@@ -1,9 +1,12 @@
 // Rows without parts.
 ghost use mathlib.Core.Path.{_≡_};
-ghost use Prim.Native.Nat.{_+_, _*_, _≤_, _<_};
-ghost use mathlib.Core.Bool.{cond};
+ghost use Prim.Native.Nat.{ℕ, _+_, _*_, _≤_, _<_};
+ghost use mathlib.Core.Bool.{Bool, cond};
 ghost use mathlib.Core.List.{[], _∷_};
 ghost use lib.ListN.{length};
+ghost use Rattle.rows.specs.Kinds.{WRAP-PARENT, COMMENT, ASCII, LINE-OR-SPACE};
+ghost use Rattle.rows.specs.Places.{KIND, WIDTH, PLACES};
+ghost use Rattle.render.specs.Limits.{BEFORE-ROW};
 ghost use Rattle.rows.specs.View.{cell, viewOf, nodeAt};
 ghost use Rattle.renderer.specs.Page.{pageOf};
 ghost use Rattle.renderer.specs.Renderer.{render, newLine, text};
@@ -14,14 +17,19 @@ use crate::pen::empty_line;
 use crate::pen::new_line;
 use crate::pen::space;
 use crate::pen::text;
-use rows::store::ascii_columns;
-use rows::store::place;
+use crate::row_text::row_text;
+use rows::kinds::COMMENT;
+use rows::kinds::EMPTY_LINE;
+use rows::kinds::LINE;
+use rows::kinds::LINE_OR_SPACE;
+use rows::kinds::STR;
+use rows::kinds::WRAP_PARENT;
 use rows::store::str_width;
-use rows::store::text_size;
+use rows::units::ascii_columns;
 
 // A `Line`.
 fn line(p: Pen, out: &mut [u8], limit: usize, wrap: bool) -> Pen
-    requires { ⌜ Room 1152921504606846976 limit (now out) p ⌝ }
+    requires { ⌜ Room BEFORE-ROW limit (now out) p ⌝ }
     ensures { λ r. ⌜ Drawn limit (cond wrap (newLine (shown p [])) (shown p [])) (now (out .entry)) p (now (out .exit)) r ⌝ }
 {
     if wrap {
@@ -32,7 +40,7 @@ fn line(p: Pen, out: &mut [u8], limit: usize, wrap: bool) -> Pen
 
 // A `LineOrSpace`.
 fn line_or_space(p: Pen, out: &mut [u8], limit: usize, wrap: bool) -> Pen
-    requires { ⌜ Room 1152921504606846976 limit (now out) p ⌝ }
+    requires { ⌜ Room BEFORE-ROW limit (now out) p ⌝ }
     ensures { λ r. ⌜ Drawn limit (cond wrap (newLine (shown p [])) (text (0x20 ∷ []) 1 (shown p []))) (now (out .entry)) p (now (out .exit)) r ⌝ }
 {
     if wrap {
@@ -52,24 +60,23 @@ pub(crate) fn leaf(
     row: usize,
     kind: usize,
     wrap: bool,
-    max: usize,
 ) -> Pen
-    requires { ⌜ Room 1152921504606846976 limit (now out) p × ((row * 9 + 8 < length (now store)) × ((kind ≡ cell (now store) row 0) × ((3 ≤ kind) × (kind ≤ 9)))) ⌝ }
-    ensures { λ r. ⌜ Drawn limit (render (pageOf max (now (source .entry)) (now (image .entry))) (nodeAt (viewOf (now (store .entry))) row) wrap (shown p [])) (now (out .entry)) p (now (out .exit)) r ⌝ }
+    requires { ⌜ Room BEFORE-ROW limit (now out) p × ((row * PLACES + WIDTH < length (now store)) × ((kind ≡ cell (now store) row KIND) × ((WRAP-PARENT ≤ kind) × (kind ≤ LINE-OR-SPACE)))) ⌝ }
+    ensures { λ r. ⌜ ((max : ℕ) → Drawn limit (render (pageOf max (now (source .entry)) (now (image .entry))) (nodeAt (viewOf (now (store .entry))) row) wrap (shown p [])) (now (out .entry)) p (now (out .exit)) r) ⌝ }
 {
-    if kind == 3 {
+    if kind == WRAP_PARENT {
         return p;
     }
-    if kind == 7 {
+    if kind == LINE {
         return line(p, out, limit, wrap);
     }
-    if kind == 8 {
+    if kind == EMPTY_LINE {
         return empty_line(p, out, limit);
     }
-    if kind == 9 {
+    if kind == LINE_OR_SPACE {
         return line_or_space(p, out, limit, wrap);
     }
-    text_leaf(p, store, source, image, out, limit, row, kind, wrap, max)
+    text_leaf(p, store, source, image, out, limit, row, kind)
 }
 
 // A `Comment`, a `Str` or an `Ascii`.
@@ -82,31 +89,18 @@ fn text_leaf(
     limit: usize,
     row: usize,
     kind: usize,
-    wrap: bool,
-    max: usize,
 ) -> Pen
-    requires { ⌜ Room 1152921504606846976 limit (now out) p × ((row * 9 + 8 < length (now store)) × ((kind ≡ cell (now store) row 0) × ((4 ≤ kind) × (kind ≤ 6)))) ⌝ }
-    ensures { λ r. ⌜ Drawn limit (render (pageOf max (now (source .entry)) (now (image .entry))) (nodeAt (viewOf (now (store .entry))) row) wrap (shown p [])) (now (out .entry)) p (now (out .exit)) r ⌝ }
+    requires { ⌜ Room BEFORE-ROW limit (now out) p × ((row * PLACES + WIDTH < length (now store)) × ((kind ≡ cell (now store) row KIND) × ((COMMENT ≤ kind) × (kind ≤ ASCII)))) ⌝ }
+    ensures { λ r. ⌜ ((max : ℕ) (wrap : Bool) → Drawn limit (render (pageOf max (now (source .entry)) (now (image .entry))) (nodeAt (viewOf (now (store .entry))) row) wrap (shown p [])) (now (out .entry)) p (now (out .exit)) r) ⌝ }
 {
-    let origin = place(store, row, 5);
-    let start = place(store, row, 6);
-    let size = text_size(store, row);
-    if kind == 4 {
-        return comment(p, out, limit, source, image, origin, start, size);
+    let t = row_text(store, row);
+    if kind == COMMENT {
+        return comment(p, out, limit, source, image, t);
     }
-    if kind == 5 {
+    if kind == STR {
         let w = str_width(store, row);
-        return text(p, out, limit, source, image, origin, start, size, w);
+        return text(p, out, limit, source, image, t, w);
     }
-    text(
-        p,
-        out,
-        limit,
-        source,
-        image,
-        origin,
-        start,
-        size,
-        ascii_columns(size),
-    )
+    let size = t.size;
+    text(p, out, limit, source, image, t, ascii_columns(size))
 }

@@ -11,4 +11,5 @@ pub mod measure;
 mod open;
 pub mod output;
 pub mod pen;
+mod row_text;
 mod run;

@@ -5,6 +5,8 @@ ghost use mathlib.Core.Bool.{true, false, cond, _&&_};
 ghost use mathlib.Core.List.{[], map};
 ghost use lib.ListN.{length};
 ghost use lib.Dec.{ltb, eqb};
+ghost use Rattle.rows.specs.Places.{WIDTH, PLACES};
+ghost use Rattle.rows.specs.Limits.{MAX-DEPTH};
 ghost use Rattle.rows.specs.View.{viewOf, nodesAt};
 ghost use Rattle.renderer.specs.Page.{pageOf};
 ghost use Rattle.renderer.specs.Renderer.{renders};
@@ -22,12 +24,18 @@ use crate::open::enter_indent;
 use crate::pen::Pen;
 use crate::run::Run;
 use renderer::Frame;
+use rows::kinds::CALL;
+use rows::kinds::GROUP;
+use rows::kinds::IF_WRAP;
+use rows::kinds::WRAP_PARENT;
+use rows::limits::MAX_DEPTH;
+use rows::places::KIND;
 use rows::store::place;
 
 // The next row is entered; `wrap` says whether the part that it is in wraps.
 fn enter(
     r: Run,
-    frames: &mut [u32; 256],
+    frames: &mut [u32; MAX_DEPTH],
     wrap: bool,
     store: &[u32],
     source: &[u8],
@@ -43,20 +51,20 @@ fn enter(
 {
     let i = r.next;
     let p = r.pen;
-    let kind = place(store, i, 0);
-    if kind == 0 {
+    let kind = place(store, i, KIND);
+    if kind == GROUP {
         return enter_group(r, frames, store, marks, max);
     }
-    if kind == 11 {
+    if kind == CALL {
         return enter_call(r, frames, store, marks, max);
     }
-    if kind == 10 {
+    if kind == IF_WRAP {
         return enter_if(r, frames, wrap, store, marks);
     }
-    if kind < 3 {
+    if kind < WRAP_PARENT {
         return enter_indent(r, frames, wrap, kind);
     }
-    let q = leaf(p, store, source, image, out, limit, i, kind, wrap, max);
+    let q = leaf(p, store, source, image, out, limit, i, kind, wrap);
     Run {
         depth: r.depth,
         next: i + 1,
@@ -65,8 +73,8 @@ fn enter(
 }
 
 // The innermost open row. Where none is open, what is rendered wraps.
-fn innermost(frames: &[u32; 256], depth: usize) -> Frame
-    requires { ⌜ depth ≤ 256 ⌝ }
+fn innermost(frames: &[u32; MAX_DEPTH], depth: usize) -> Frame
+    requires { ⌜ depth ≤ MAX-DEPTH ⌝ }
     ensures { λ r. ⌜ r ≡ cond (ltb 0 depth) (frameAt (map unpacked (now (frames .entry))) (depth - 1)) (frame 0 true false false) ⌝ }
 {
     if 0 < depth {
@@ -82,7 +90,7 @@ fn innermost(frames: &[u32; 256], depth: usize) -> Frame
 
 // Whether the open part of row f is done.
 fn is_done(store: &[u32], f: Frame, depth: usize, next: usize) -> bool
-    requires { ⌜ (0 < depth → f .row * 9 + 8 < length (now store)) ⌝ }
+    requires { ⌜ (0 < depth → f .row * PLACES + WIDTH < length (now store)) ⌝ }
     ensures { λ r. ⌜ r ≡ (ltb 0 depth && eqb next (partEnd (viewOf (now (store .entry))) f)) ⌝ }
 {
     if 0 < depth {
@@ -94,7 +102,7 @@ fn is_done(store: &[u32], f: Frame, depth: usize, next: usize) -> bool
 // One turn: the innermost row is left, or the next row entered.
 fn step(
     r: Run,
-    frames: &mut [u32; 256],
+    frames: &mut [u32; MAX_DEPTH],
     store: &[u32],
     source: &[u8],
     image: &[u8],
@@ -142,7 +150,7 @@ pub fn run_rows(
     requires { ⌜ Starting (now store) limit from stop (now out) p ⌝ }
     ensures { λ q. ⌜ Rendered limit (renders (pageOf max (now (source .entry)) (now (image .entry))) (nodesAt (viewOf (now (store .entry))) from stop) true (stateOf p (now (marks .entry)) [])) (now (out .entry)) (now (marks .exit)) (now (out .exit)) q ⌝ }
 {
-    let mut frames = [0u32; 256];
+    let mut frames = [0u32; MAX_DEPTH];
     let mut r = Run {
         depth: 0,
         next: from,

@@ -3,6 +3,7 @@ ghost use mathlib.Core.Path.{_≡_};
 ghost use Prim.Native.Nat.{_+_, _≤_};
 ghost use mathlib.Core.Bool.{true};
 ghost use mathlib.Core.List.{[]};
+ghost use Rattle.render.specs.Limits.{MAX-MARGIN};
 ghost use Rattle.renderer.specs.Renderer.{indented, outdented, nextIndented, nextOutdented};
 ghost use Rattle.render.specs.Pen.{shown, withMargin};
 use crate::pen::Pen;
@@ -20,7 +21,7 @@ fn with_margin(p: Pen, indent: usize, next_indent: usize) -> Pen
 
 // `indent` one more, where `wrap` holds.
 pub(crate) fn indent(p: Pen, wrap: bool) -> Pen
-    requires { ⌜ p .indent ≤ 384 ⌝ }
+    requires { ⌜ p .indent ≤ MAX-MARGIN ⌝ }
     ensures { λ r. ⌜ r ≡ withMargin p (indented wrap (shown p [])) ⌝ }
 {
     if wrap {
@@ -31,7 +32,7 @@ pub(crate) fn indent(p: Pen, wrap: bool) -> Pen
 
 // `next_indent` one more, where `wrap` holds.
 pub(crate) fn indent_next(p: Pen, wrap: bool) -> Pen
-    requires { ⌜ p .«next_indent» ≤ 384 ⌝ }
+    requires { ⌜ p .«next_indent» ≤ MAX-MARGIN ⌝ }
     ensures { λ r. ⌜ r ≡ withMargin p (nextIndented wrap (shown p [])) ⌝ }
 {
     if wrap {

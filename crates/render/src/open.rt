@@ -5,6 +5,10 @@ ghost use mathlib.Core.Bool.{true, false, cond, not, _&&_};
 ghost use mathlib.Core.List.{[]};
 ghost use lib.ListN.{length};
 ghost use lib.Dec.{eqb};
+ghost use Rattle.rows.specs.Kinds.{GROUP, INDENT, WRAP-PARENT};
+ghost use Rattle.rows.specs.Places.{NUMBER, SECOND, AFTER, WIDTH, PLACES};
+ghost use Rattle.rows.specs.Limits.{MAX-ROWS, MAX-DEPTH};
+ghost use Rattle.render.specs.Limits.{MAX-MARGIN, BEFORE-ROW};
 ghost use Rattle.rows.specs.Node.{wrapped};
 ghost use Rattle.rows.specs.View.{cell};
 ghost use Rattle.rows.specs.Nesting.{Nested};
@@ -22,13 +26,19 @@ use crate::marks::insert;
 use crate::pen::Pen;
 use crate::run::Run;
 use renderer::Frame;
+use rows::kinds::INDENT;
+use rows::limits::MAX_DEPTH;
+use rows::places::AFTER;
+use rows::places::NUMBER;
+use rows::places::SECOND;
+use rows::places::SECOND_NUMBER;
 use rows::store::place;
 use rows::store::wide;
 use rows::width::is_wrapped;
 
 // A row is opened, at one of its parts.
-fn opened(r: Run, frames: &mut [u32; 256], f: Frame, next: usize, pen: Pen) -> Run
-    requires { ⌜ (r .depth < 256) × (f .row < 2097152) ⌝ }
+fn opened(r: Run, frames: &mut [u32; MAX_DEPTH], f: Frame, next: usize, pen: Pen) -> Run
+    requires { ⌜ (r .depth < MAX-DEPTH) × (f .row < MAX-ROWS) ⌝ }
     ensures { λ q. ⌜ whole (now (frames .exit)) q ≡ openedRun (whole (now (frames .entry)) r) f next pen ⌝ }
 {
     let d = r.depth;
@@ -43,18 +53,18 @@ fn opened(r: Run, frames: &mut [u32; 256], f: Frame, next: usize, pen: Pen) -> R
 // A `Group` is opened.
 pub(crate) fn enter_group(
     r: Run,
-    frames: &mut [u32; 256],
+    frames: &mut [u32; MAX_DEPTH],
     store: &[u32],
     marks: &mut [u8],
     max: usize,
 ) -> Run
-    requires { ⌜ Enters (now store) r × Nested (now store) (r .next + 1) (cell (now store) (r .next) 4) ⌝ }
+    requires { ⌜ Enters (now store) r × Nested (now store) (r .next + 1) (cell (now store) (r .next) AFTER) ⌝ }
     ensures { λ q. ⌜ GroupOpened (now (store .entry)) max (now (marks .entry)) (whole (now (frames .entry)) r) (now (marks .exit)) (whole (now (frames .exit)) q) ⌝ }
 {
     let i = r.next;
     let p = r.pen;
-    let end = place(store, i, 4);
-    let number = place(store, i, 1);
+    let end = place(store, i, AFTER);
+    let number = place(store, i, NUMBER);
     let wraps = group_wraps(p, store, marks, i + 1, end, max);
     insert(marks, number, wraps);
     let f = Frame {
@@ -67,9 +77,9 @@ pub(crate) fn enter_group(
 }
 
 // An `Indent` or an `IndentNext` is opened.
-pub(crate) fn enter_indent(r: Run, frames: &mut [u32; 256], wrap: bool, kind: usize) -> Run
-    requires { ⌜ (r .depth < 256) × ((r .next < 2097152) × ((r .pen .indent + r .pen .«next_indent» ≤ 384) × ((0 < kind) × (kind < 3)))) ⌝ }
-    ensures { λ q. ⌜ whole (now (frames .exit)) q ≡ openedRun (whole (now (frames .entry)) r) (frame (r .next) wrap false false) (r .next + 1) (withMargin (r .pen) (cond (eqb kind 1) (indented wrap (shown (r .pen) [])) (nextIndented wrap (shown (r .pen) [])))) ⌝ }
+pub(crate) fn enter_indent(r: Run, frames: &mut [u32; MAX_DEPTH], wrap: bool, kind: usize) -> Run
+    requires { ⌜ (r .depth < MAX-DEPTH) × ((r .next < MAX-ROWS) × ((r .pen .indent + r .pen .«next_indent» ≤ MAX-MARGIN) × ((GROUP < kind) × (kind < WRAP-PARENT)))) ⌝ }
+    ensures { λ q. ⌜ whole (now (frames .exit)) q ≡ openedRun (whole (now (frames .entry)) r) (frame (r .next) wrap false false) (r .next + 1) (withMargin (r .pen) (cond (eqb kind INDENT) (indented wrap (shown (r .pen) [])) (nextIndented wrap (shown (r .pen) [])))) ⌝ }
 {
     let i = r.next;
     let p = r.pen;
@@ -79,7 +89,7 @@ pub(crate) fn enter_indent(r: Run, frames: &mut [u32; 256], wrap: bool, kind: us
         early: false,
         deep: false,
     };
-    if kind == 1 {
+    if kind == INDENT {
         return opened(r, frames, f, i + 1, indent(p, wrap));
     }
     opened(r, frames, f, i + 1, indent_next(p, wrap))
@@ -88,17 +98,17 @@ pub(crate) fn enter_indent(r: Run, frames: &mut [u32; 256], wrap: bool, kind: us
 // An `IfWrap` is opened at the part that is chosen.
 pub(crate) fn enter_if(
     r: Run,
-    frames: &mut [u32; 256],
+    frames: &mut [u32; MAX_DEPTH],
     wrap: bool,
     store: &[u32],
     marks: &[u8],
 ) -> Run
     requires { ⌜ Enters (now store) r ⌝ }
-    ensures { λ q. ⌜ whole (now (frames .exit)) q ≡ cond (wrapped (now (marks .entry)) (cell (now (store .entry)) (r .next) 1)) (openedRun (whole (now (frames .entry)) r) (frame (r .next) wrap true false) (r .next + 1) (r .pen)) (openedRun (whole (now (frames .entry)) r) (frame (r .next) wrap false false) (cell (now (store .entry)) (r .next) 3) (r .pen)) ⌝ }
+    ensures { λ q. ⌜ whole (now (frames .exit)) q ≡ cond (wrapped (now (marks .entry)) (cell (now (store .entry)) (r .next) NUMBER)) (openedRun (whole (now (frames .entry)) r) (frame (r .next) wrap true false) (r .next + 1) (r .pen)) (openedRun (whole (now (frames .entry)) r) (frame (r .next) wrap false false) (cell (now (store .entry)) (r .next) SECOND) (r .pen)) ⌝ }
 {
     let i = r.next;
     let p = r.pen;
-    let first = is_wrapped(marks, place(store, i, 1));
+    let first = is_wrapped(marks, place(store, i, NUMBER));
     let f = Frame {
         row: i as u32,
         wrap: wrap,
@@ -108,25 +118,25 @@ pub(crate) fn enter_if(
     if first {
         return opened(r, frames, f, i + 1, p);
     }
-    opened(r, frames, f, place(store, i, 3), p)
+    opened(r, frames, f, place(store, i, SECOND), p)
 }
 
 // A `Call` is opened at its callee.
 pub(crate) fn enter_call(
     r: Run,
-    frames: &mut [u32; 256],
+    frames: &mut [u32; MAX_DEPTH],
     store: &[u32],
     marks: &mut [u8],
     max: usize,
 ) -> Run
-    requires { ⌜ Enters (now store) r × (Nested (now store) (r .next + 1) (cell (now store) (r .next) 3) × Nested (now store) (cell (now store) (r .next) 3) (cell (now store) (r .next) 4)) ⌝ }
+    requires { ⌜ Enters (now store) r × (Nested (now store) (r .next + 1) (cell (now store) (r .next) SECOND) × Nested (now store) (cell (now store) (r .next) SECOND) (cell (now store) (r .next) AFTER)) ⌝ }
     ensures { λ q. ⌜ CallOpened (now (store .entry)) max (now (marks .entry)) (whole (now (frames .entry)) r) (now (marks .exit)) (whole (now (frames .exit)) q) ⌝ }
 {
     let i = r.next;
     let p = r.pen;
-    let mid = place(store, i, 3);
-    let end = place(store, i, 4);
-    let number = place(store, i, 1);
+    let mid = place(store, i, SECOND);
+    let end = place(store, i, AFTER);
+    let number = place(store, i, NUMBER);
     let trailing = trails(p, store, marks, i + 1, mid, end, max);
     let wraps = callee_wraps(p, store, marks, trailing, i + 1, mid, end, max);
     insert(marks, number, wraps);
@@ -153,20 +163,20 @@ fn made_up(trailing: bool, wraps: bool) -> bool
 // The callee of a `Call` is done: its arguments are opened.
 pub(crate) fn enter_arguments(
     r: Run,
-    frames: &mut [u32; 256],
+    frames: &mut [u32; MAX_DEPTH],
     f: Frame,
     store: &[u32],
     marks: &mut [u8],
     max: usize,
 ) -> Run
-    requires { ⌜ (0 < r .depth) × ((r .depth ≤ 256) × ((f .row * 9 + 8 < length (now store)) × ((f .row < 2097152) × (Nested (now store) (r .next) (cell (now store) (f .row) 4) × ((r .pen .indent ≤ 384) × (r .pen .column .0 < 1152921504606846976)))))) ⌝ }
+    requires { ⌜ (0 < r .depth) × ((r .depth ≤ MAX-DEPTH) × ((f .row * PLACES + WIDTH < length (now store)) × ((f .row < MAX-ROWS) × (Nested (now store) (r .next) (cell (now store) (f .row) AFTER) × ((r .pen .indent ≤ MAX-MARGIN) × (r .pen .column .0 < BEFORE-ROW)))))) ⌝ }
     ensures { λ q. ⌜ ArgumentsOpened (now (store .entry)) max (now (marks .entry)) (whole (now (frames .entry)) r) f (now (marks .exit)) (whole (now (frames .exit)) q) ⌝ }
 {
     let d = r.depth - 1;
     let p = r.pen;
     let row = wide(f.row);
-    let end = place(store, row, 4);
-    let number = place(store, row, 2);
+    let end = place(store, row, AFTER);
+    let number = place(store, row, SECOND_NUMBER);
     let wraps = group_wraps(p, store, marks, r.next, end, max);
     insert(marks, number, wraps);
     let on = Frame {
