@@ -10,6 +10,7 @@ ghost use Rattle.rendering.specs.Calls.{toState, refusalOf, beforeMarks}
 ghost use Rattle.rendering.specs.Whole.{Called, Checked, Passing, Fitting, Takes, mostOf};
 use crate::dry_run::bytes_needed;
 use crate::fits::state_refusal;
+use crate::room::Needs;
 use crate::room::rows_need;
 use image::header_fits;
 use image::source_fits;
@@ -158,16 +159,15 @@ fn render_accepted(
     out: &mut [u8],
     state: RenderState,
     stop: usize,
-    needed: usize,
-    most: Bytes,
+    n: Needs,
 ) -> Rendering
-    requires { ⌜ Passing (now source) (now image) state stop (now store) (now marks) × ((needed ≡ marksNeeded (stop - state .row) (now store) (state .row)) × (most .0 ≡ mostOf state stop (now store))) ⌝ }
+    requires { ⌜ Passing (now source) (now image) state stop (now store) (now marks) × ((n .marks ≡ marksNeeded (stop - state .row) (now store) (state .row)) × (n .bytes .0 ≡ mostOf state stop (now store))) ⌝ }
     ensures { λ r. ⌜ Called (now (source .entry)) (now (image .entry)) state stop (now (store .entry)) (now (marks .entry)) (now (out .entry)) r (now (store .exit)) (now (marks .exit)) (now (out .exit)) ⌝ }
 {
-    if most.0 <= out.len() {
-        return write_rows(source, image, store, marks, out, state, stop, needed);
+    if n.bytes.0 <= out.len() {
+        return write_rows(source, image, store, marks, out, state, stop, n.marks);
     }
-    render_counted(source, image, store, marks, out, state, stop, needed)
+    render_counted(source, image, store, marks, out, state, stop, n.marks)
 }
 
 // A rendering call that 1, 3, 11 and 12 do not refuse.
@@ -185,12 +185,10 @@ pub fn render_checked(
 {
     let from = state.row;
     let n = rows_need(store, from, stop, state.indent + state.next_indent);
-    let needed = n.marks;
-    let most = n.bytes;
-    if marks.len() < needed {
-        return Rendering::Refused(9, needed);
+    if marks.len() < n.marks {
+        return Rendering::Refused(9, n.marks);
     }
-    render_accepted(source, image, store, marks, out, state, stop, needed, most)
+    render_accepted(source, image, store, marks, out, state, stop, n)
 }
 
 // A rendering call: renders the rows from the state's next row up to `stop`.
