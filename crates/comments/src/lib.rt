@@ -20,7 +20,7 @@ use crate::reading::newlines_from;
 use crate::reading::something_from;
 use image::bytes::num16;
 use image::bytes::num32;
-use rows::store::Bytes;
+use rows::units::Bytes;
 use state::Asked;
 use state::Cursor;
 use state::leaves::empty_line;

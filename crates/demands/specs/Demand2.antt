@@ -11,7 +11,7 @@ use lib.ListN.{length, take}
 use Rattle.image.specs.Read.{readAll}
 use Rattle.tree.specs.Syntax.{Declaration, SyntaxTree}
 use Rattle.rows.specs.Rows.{sizes, rows}
-use Rattle.rows.specs.declared.store.Bytes.{Bytes}
+use Rattle.rows.specs.declared.units.Bytes.{Bytes}
 use Rattle.state.specs.Act.{Out}
 use Rattle.comments.specs.Listed.{commentsOf, given}
 use Rattle.layout.specs.Layout.{fmtParsed}

@@ -5,8 +5,8 @@ ghost use lib.Seq.{sets};
 ghost use Rattle.exports.specs.Numbers.{flag as flagOf, bit as bitOf, layoutState, renderState};
 use laying::LayoutState;
 use rendering::RenderState;
-use rows::store::Bytes;
-use rows::store::Columns;
+use rows::units::Bytes;
+use rows::units::Columns;
 
 // A flag is yes for every number but 0.
 pub(crate) fn flag(x: u64) -> bool

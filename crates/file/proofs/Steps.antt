@@ -11,7 +11,7 @@ use lib.ListN.{length, take}
 use Rattle.image.specs.Read.{Read, got, bad, Image, readAll, answerOf}
 use Rattle.image.specs.declared.Answer.the-variants as checked
 use Rattle.rows.specs.Rows.{rows}
-use Rattle.rows.specs.declared.store.Bytes.{Bytes}
+use Rattle.rows.specs.declared.units.Bytes.{Bytes}
 use Rattle.comments.specs.Listed.{commentsOf}
 use Rattle.refusals.specs.Refusals.{Refusal, unless, first, when}
 use Rattle.cut.specs.Run.{Answer, refused, laidOut, written, answerBy, onto}

@@ -16,8 +16,8 @@ use laying::steps::count_declarations;
 use rendering::RenderState;
 use rendering::Rendering;
 use rendering::render_checked;
-use rows::store::Bytes;
-use rows::store::Columns;
+use rows::units::Bytes;
+use rows::units::Columns;
 
 // The longest frame that the program takes.
 const MAX_FRAME: usize = 32768;

@@ -6,7 +6,7 @@ use crate::numbers::end;
 use crate::numbers::payload;
 use crate::numbers::start;
 use crate::pieces::gap;
-use rows::store::Bytes;
+use rows::units::Bytes;
 use state::Cursor;
 use state::leaves::ascii;
 use state::words::FALSE;

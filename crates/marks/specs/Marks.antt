@@ -4,14 +4,16 @@ use mathlib.Core.Bool.{cond, _||_}
 use mathlib.Core.List.{List, [], _∷_}
 use lib.ListN.{getD, set}
 use lib.Dec.{ltb, eqb}
+use Rattle.rows.specs.Kinds.{GROUP, IF-WRAP, CALL}
+use Rattle.rows.specs.Places.{KIND, NUMBER, SECOND-NUMBER, WIDTH, PLACES}
 use Rattle.rows.specs.View.{cell}
 
 -- how many marks row i needs: one more than the largest of its numbers, if its kind has any
 abbrev pub rowMarks : List ℕ → ℕ → ℕ
 rowMarks store i =
-    cond (eqb (cell store i 0) 11)
-    (1 + max (cell store i 1) (cell store i 2))
-    (cond (eqb (cell store i 0) 0 || eqb (cell store i 0) 10) (1 + cell store i 1) 0)
+    cond (eqb (cell store i KIND) CALL)
+    (1 + max (cell store i NUMBER) (cell store i SECOND-NUMBER))
+    (cond (eqb (cell store i KIND) GROUP || eqb (cell store i KIND) IF-WRAP) (1 + cell store i NUMBER) 0)
 
 -- how many the n rows from i on need
 unfoldable pub marksNeeded : ℕ → List ℕ → ℕ → ℕ
@@ -45,17 +47,21 @@ clearFrom (suc n) i marks = clearFrom n (suc i) (set marks i 0)
 -- the numbers of row i: two of a `Call`, one of a `Group` or an `IfWrap`
 abbrev pub numbersOf : List ℕ → ℕ → List ℕ
 numbersOf store i =
-    cond (eqb (cell store i 0) 11)
-    (cell store i 1 ∷ cell store i 2 ∷ [])
-    (cond (eqb (cell store i 0) 0 || eqb (cell store i 0) 10) (cell store i 1 ∷ []) [])
+    cond (eqb (cell store i KIND) CALL)
+    (cell store i NUMBER ∷ cell store i SECOND-NUMBER ∷ [])
+    (cond (eqb (cell store i KIND) GROUP || eqb (cell store i KIND) IF-WRAP) (cell store i NUMBER ∷ []) [])
+
+-- the values of a byte
+abbrev pub BYTE : ℕ
+BYTE = 256
 
 -- what a row keeps of the old marks of its numbers, the first in the low byte; and the marks read back
 unfoldable pub packed : List ℕ → ℕ
 packed [] = 0
-packed (x ∷ xs) = x + 256 * packed xs
+packed (x ∷ xs) = x + BYTE * packed xs
 
 abbrev pub unpacked : ℕ → List ℕ
-unpacked x = x % 256 ∷ x / 256 % 256 ∷ []
+unpacked x = x % BYTE ∷ x / BYTE % BYTE ∷ []
 
 -- a store and the marks
 pub record Held : Type 0 where
@@ -69,7 +75,7 @@ held store marks = record { rows = store; marks = marks }
 unfoldable pub rowAside : ℕ → List ℕ → Held → ℕ → Held
 rowAside used [] h i = h
 rowAside used (n ∷ ns) h i =
-    held (set (h .rows) (i * 9 + 8) (packed (saved used (n ∷ ns) (h .marks)))) (cleared used (n ∷ ns) (h .marks))
+    held (set (h .rows) (i * PLACES + WIDTH) (packed (saved used (n ∷ ns) (h .marks)))) (cleared used (n ∷ ns) (h .marks))
 
 -- the n rows from i on, the first row first
 unfoldable pub putAside : ℕ → ℕ → Held → ℕ → Held
@@ -79,7 +85,7 @@ putAside (suc n) used h i = putAside n used (rowAside used (numbersOf (h .rows) 
 -- row i, with these numbers, gives their old marks back
 unfoldable pub rowBack : List ℕ → Held → ℕ → Held
 rowBack [] h i = h
-rowBack (n ∷ ns) h i = held (set (h .rows) (i * 9 + 8) 0) (restore (n ∷ ns) (unpacked (cell (h .rows) i 8)) (h .marks))
+rowBack (n ∷ ns) h i = held (set (h .rows) (i * PLACES + WIDTH) 0) (restore (n ∷ ns) (unpacked (cell (h .rows) i WIDTH)) (h .marks))
 
 -- the n rows from i on, the last row first
 unfoldable pub putBack : ℕ → Held → ℕ → Held

@@ -11,7 +11,7 @@ use borrow.Author.Tests.{ne-eqb, eq-eqb}
 use Rattle.renderer.specs.declared.Frame.{Frame}
 use Rattle.renderer.specs.Frames.{noFrame, frameAt}
 use Rattle.render.specs.declared.pen.Pen.{Pen}
-use Rattle.render.specs.declared.machine.Run.{Run}
+use Rattle.render.specs.declared.run.Run.{Run}
 use Rattle.render.specs.Run.{unpacked, framed, whole, openedRun}
 
 pub map-length : (ns : List ℕ) → length (map unpacked ns) ≡ length ns

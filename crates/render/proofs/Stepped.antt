@@ -23,7 +23,7 @@ use Rattle.renderer.specs.Safe.{steps, ins, stepOf, insOf}
 use Rattle.renderer.proofs.Safe.{steps-le, closing-plain, closing-indent, closing-next, closing-call, indent-steps, next-steps, call-steps}
 use Rattle.render.specs.declared.pen.Pen.{Pen}
 use Rattle.render.specs.Pen.{shown, withMargin, Room}
-use Rattle.render.specs.declared.machine.Run.{Run}
+use Rattle.render.specs.declared.run.Run.{Run}
 use Rattle.render.specs.Run.{Running, bare, stateOf, machineOf, Follows, Ready, Enters, Entering, Leaves, Backs, Left, goesOn, ends, openedRun, closedRun, closes}
 use Rattle.render.proofs.Followed.{shows-as, indent-follows, next-follows, arguments-follows, closed-follows, out-same, nextout-same, margin-at}
 

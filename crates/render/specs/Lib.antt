@@ -1,4 +1,5 @@
 pub mod Lent
+pub mod Limits
 pub mod Output
 pub mod Pen
 pub mod Run

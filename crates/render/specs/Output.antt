@@ -4,8 +4,14 @@ use mathlib.Core.Bool.{cond}
 use mathlib.Core.List.{List, [], _∷_}
 use lib.ListN.{set}
 use lib.Dec.{ltb}
+use Rattle.renderer.specs.Page.{textBytes, textOf}
+use Rattle.render.specs.declared.row_text.RowText.{RowText}
 
 -- the output with a text written from `at` on
 unfoldable pub over : ℕ → List ℕ → ℕ → List ℕ → List ℕ
 over limit out at [] = out
 over limit out at (b ∷ t) = over limit (cond (ltb at limit) (set out at b) out) (at + 1) t
+
+-- the bytes of a row's text
+abbrev pub bytesOf : List ℕ → List ℕ → RowText → List ℕ
+bytesOf source image t = textBytes source image (textOf (t .origin) (t .start) (t .size .0))

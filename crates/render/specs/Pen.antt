@@ -3,6 +3,7 @@ use Prim.Native.Nat.{ℕ, _+_, _≤_, _<_}
 use mathlib.Core.Path.{_≡_}
 use mathlib.Core.List.{List, []}
 use lib.ListN.{length}
+use Rattle.render.specs.Limits.{MAX-MARGIN}
 use Rattle.renderer.specs.Renderer.{Renderer}
 use Rattle.render.specs.declared.pen.Pen.{Pen}
 use Rattle.render.specs.Output.{over}
@@ -34,6 +35,6 @@ pub record Drawn (limit : ℕ) (s : Renderer) (out : List ℕ) (p : Pen) (out2 :
 -- no sum of these numbers wraps, where `cap` leaves room
 pub record Room (cap limit : ℕ) (out : List ℕ) (p : Pen) : Type 0 where
   pub fits : limit ≤ length out
-  pub indent : p .indent + p .«next_indent» ≤ 384
+  pub indent : p .indent + p .«next_indent» ≤ MAX-MARGIN
   pub column : p .column .0 < cap
   pub at : p .at .0 < cap

@@ -5,6 +5,11 @@ use mathlib.Core.Bool.{Bool, true, false, cond, not, _&&_}
 use mathlib.Core.List.{List, [], map}
 use lib.ListN.{length, set}
 use lib.Dec.{eqb}
+use Rattle.rows.specs.Kinds.{INDENT, INDENT-NEXT, CALL}
+use Rattle.rows.specs.Places.{KIND, NUMBER, SECOND-NUMBER, SECOND, AFTER, WIDTH, PLACES}
+use Rattle.rows.specs.Limits.{MAX-ROWS, MAX-DEPTH}
+use Rattle.renderer.specs.Limits.{START-MARGIN, MAX-COLUMN}
+use Rattle.render.specs.Limits.{MAX-MARGIN, BEFORE-ROW}
 use Rattle.rows.specs.View.{viewOf, cell, nodesAt}
 use Rattle.rows.specs.Nesting.{Nested}
 use Rattle.renderer.specs.declared.Frame.{Frame}
@@ -14,7 +19,7 @@ use Rattle.renderer.specs.Frames.{limit as partLimit, At}
 use Rattle.renderer.specs.Machine.{Machine, frame}
 use Rattle.renderer.specs.Safe.{Safe, Small}
 use Rattle.render.specs.declared.pen.Pen.{Pen}
-use Rattle.render.specs.declared.machine.Run.{Run}
+use Rattle.render.specs.declared.run.Run.{Run}
 use Rattle.render.specs.Output.{over}
 use Rattle.render.specs.Pen.{shown, withMargin}
 
@@ -66,13 +71,13 @@ pub record Follows (limit : ℕ) (f : Machine → Machine) (marks out : List ℕ
 
 -- the rows that are left nest, and the numbers are in range
 pub record Ready (store source image : List ℕ) (max limit stop : ℕ) (marks out : List ℕ) (r : Running) : Type 0 where
-  pub room : stop * 9 ≤ length store
-  pub few : stop ≤ 2097152
+  pub room : stop * PLACES ≤ length store
+  pub few : stop ≤ MAX-ROWS
   pub fits : limit ≤ length out
   pub small : Small (viewOf store) (pageOf max source image)
   pub at : At (viewOf store) stop (r .frames) (r .depth) (r .next)
   pub base : ℕ
-  pub low : base ≤ 128
+  pub low : base ≤ START-MARGIN
   pub before : List ℕ
   pub text : List ℕ
   pub wrote : Wrote limit before out (r .pen .at .0) text
@@ -84,11 +89,11 @@ openedRun r f k p = record { frames = set (r .frames) (r .depth) f; depth = r .d
 
 -- the numbers of a run that enters a row
 pub record Enters (store : List ℕ) (r : Run) : Type 0 where
-  pub depth : r .depth < 256
-  pub row : r .next * 9 + 8 < length store
-  pub few : r .next < 2097152
-  pub indent : r .pen .indent + r .pen .«next_indent» ≤ 384
-  pub column : r .pen .column .0 < 1152921504606846976
+  pub depth : r .depth < MAX-DEPTH
+  pub row : r .next * PLACES + WIDTH < length store
+  pub few : r .next < MAX-ROWS
+  pub indent : r .pen .indent + r .pen .«next_indent» ≤ MAX-MARGIN
+  pub column : r .pen .column .0 < BEFORE-ROW
 
 -- a row is ahead in the open part
 pub record Entering (store source image : List ℕ) (max limit stop : ℕ) (marks out : List ℕ) (r : Running) : Type 0 where
@@ -103,9 +108,9 @@ inserted wraps number marks = cond wraps (set marks number 1) marks
 pub record GroupOpened (store : List ℕ) (max : ℕ) (marks : List ℕ) (r : Running) (marks2 : List ℕ) (q : Running) : Type 0 where
   pub wraps : Bool
   pub isWraps :
-      wraps ≡ groupWraps (pageOf max [] []) (nodesAt (viewOf store) (r .next + 1) (cell store (r .next) 4)) (shown (r .pen) marks)
+      wraps ≡ groupWraps (pageOf max [] []) (nodesAt (viewOf store) (r .next + 1) (cell store (r .next) AFTER)) (shown (r .pen) marks)
   pub run : q ≡ openedRun r (frame (r .next) wraps false false) (r .next + 1) (r .pen)
-  pub marked : marks2 ≡ inserted wraps (cell store (r .next) 1) marks
+  pub marked : marks2 ≡ inserted wraps (cell store (r .next) NUMBER) marks
 
 -- A `Call` is opened: which way it goes, whether its callee wraps, the run and the marks.
 pub record CallOpened (store : List ℕ) (max : ℕ) (marks : List ℕ) (r : Running) (marks2 : List ℕ) (q : Running) : Type 0 where
@@ -114,25 +119,25 @@ pub record CallOpened (store : List ℕ) (max : ℕ) (marks : List ℕ) (r : Run
   pub isTrails :
       trails
       ≡ trailing (pageOf max [] [])
-      (nodesAt (viewOf store) (r .next + 1) (cell store (r .next) 3))
-      (nodesAt (viewOf store) (cell store (r .next) 3) (cell store (r .next) 4))
+      (nodesAt (viewOf store) (r .next + 1) (cell store (r .next) SECOND))
+      (nodesAt (viewOf store) (cell store (r .next) SECOND) (cell store (r .next) AFTER))
       (shown (r .pen) marks)
   pub isWraps :
       wraps
       ≡ calleeWraps (pageOf max [] []) trails
-      (nodesAt (viewOf store) (r .next + 1) (cell store (r .next) 3))
-      (nodesAt (viewOf store) (cell store (r .next) 3) (cell store (r .next) 4))
+      (nodesAt (viewOf store) (r .next + 1) (cell store (r .next) SECOND))
+      (nodesAt (viewOf store) (cell store (r .next) SECOND) (cell store (r .next) AFTER))
       (shown (r .pen) marks)
   pub run :
       q
       ≡ openedRun r (frame (r .next) wraps true (not trails && wraps)) (r .next + 1)
       (withMargin (r .pen) (nextIndented (not trails && wraps) (shown (r .pen) [])))
-  pub marked : marks2 ≡ inserted wraps (cell store (r .next) 1) marks
+  pub marked : marks2 ≡ inserted wraps (cell store (r .next) NUMBER) marks
 
 -- The arguments of the `Call` of frame f are opened.
 pub record ArgumentsOpened (store : List ℕ) (max : ℕ) (marks : List ℕ) (r : Running) (f : Frame) (marks2 : List ℕ) (q : Running) : Type 0 where
   pub wraps : Bool
-  pub isWraps : wraps ≡ groupWraps (pageOf max [] []) (nodesAt (viewOf store) (r .next) (cell store (f .row) 4)) (shown (r .pen) marks)
+  pub isWraps : wraps ≡ groupWraps (pageOf max [] []) (nodesAt (viewOf store) (r .next) (cell store (f .row) AFTER)) (shown (r .pen) marks)
   pub run :
       q
       ≡ record {
@@ -141,52 +146,52 @@ pub record ArgumentsOpened (store : List ℕ) (max : ℕ) (marks : List ℕ) (r 
         next = r .next;
         pen = r .pen;
       }
-  pub marked : marks2 ≡ inserted wraps (cell store (f .row) 2) marks
+  pub marked : marks2 ≡ inserted wraps (cell store (f .row) SECOND-NUMBER) marks
 
 -- what the end of a row does, by its kind
 abbrev pub closes : ℕ → Frame → Renderer → Renderer
 closes kind f s =
-    cond (eqb kind 1)
+    cond (eqb kind INDENT)
     (outdented (f .wrap) s)
-    (cond (eqb kind 2) (nextOutdented (f .wrap) s) (cond (eqb kind 11) (nextOutdented (f .deep) s) s))
+    (cond (eqb kind INDENT-NEXT) (nextOutdented (f .wrap) s) (cond (eqb kind CALL) (nextOutdented (f .deep) s) s))
 
 -- the step back that the end of a row takes is there
 pub record Backs (kind : ℕ) (f : Frame) (p : Pen) : Type 0 where
-  pub indent : kind ≡ 1 → f .wrap ≡ true → 1 ≤ p .indent
-  pub next : kind ≡ 2 → f .wrap ≡ true → 1 ≤ p .indent + p .«next_indent»
-  pub call : kind ≡ 11 → f .deep ≡ true → 1 ≤ p .indent + p .«next_indent»
+  pub indent : kind ≡ INDENT → f .wrap ≡ true → 1 ≤ p .indent
+  pub next : kind ≡ INDENT-NEXT → f .wrap ≡ true → 1 ≤ p .indent + p .«next_indent»
+  pub call : kind ≡ CALL → f .deep ≡ true → 1 ≤ p .indent + p .«next_indent»
 
 -- the numbers of a run that leaves the innermost row, whose frame is f
 pub record Leaves (store : List ℕ) (r : Run) (f : Frame) : Type 0 where
   pub pos : 0 < r .depth
-  pub depth : r .depth ≤ 256
-  pub row : f .row * 9 + 8 < length store
-  pub few : f .row < 2097152
-  pub indent : r .pen .indent ≤ 384
-  pub column : r .pen .column .0 < 1152921504606846976
-  pub backs : Backs (cell store (f .row) 0) f (r .pen)
-  pub arguments : cell store (f .row) 0 ≡ 11 → f .early ≡ true → Nested store (r .next) (cell store (f .row) 4)
+  pub depth : r .depth ≤ MAX-DEPTH
+  pub row : f .row * PLACES + WIDTH < length store
+  pub few : f .row < MAX-ROWS
+  pub indent : r .pen .indent ≤ MAX-MARGIN
+  pub column : r .pen .column .0 < BEFORE-ROW
+  pub backs : Backs (cell store (f .row) KIND) f (r .pen)
+  pub arguments : cell store (f .row) KIND ≡ CALL → f .early ≡ true → Nested store (r .next) (cell store (f .row) AFTER)
 
 -- the run with the row of f closed
 abbrev pub closedRun : List ℕ → Run → Frame → Run
 closedRun store r f =
     record {
       depth = r .depth - 1;
-      next = cell store (f .row) 4;
-      pen = withMargin (r .pen) (closes (cell store (f .row) 0) f (shown (r .pen) []));
+      next = cell store (f .row) AFTER;
+      pen = withMargin (r .pen) (closes (cell store (f .row) KIND) f (shown (r .pen) []));
     }
 
 -- The innermost row is left: the arguments of a `Call` are opened, or the row is closed.
 pub data Left (store : List ℕ) (max : ℕ) (marks : List ℕ) (r : Running) (f : Frame) (marks2 : List ℕ) (q : Running) : Type 0 where
-  goesOn : cell store (f .row) 0 ≡ 11 → f .early ≡ true → ArgumentsOpened store max marks r f marks2 q → Left store max marks r f marks2 q
-  ends : (cell store (f .row) 0 ≡ 11 → f .early ≡ false) → marks2 ≡ marks → q ≡ framed (r .frames) (closedRun store (bare r) f) → Left store max marks r f marks2 q
+  goesOn : cell store (f .row) KIND ≡ CALL → f .early ≡ true → ArgumentsOpened store max marks r f marks2 q → Left store max marks r f marks2 q
+  ends : (cell store (f .row) KIND ≡ CALL → f .early ≡ false) → marks2 ≡ marks → q ≡ framed (r .frames) (closedRun store (bare r) f) → Left store max marks r f marks2 q
 
 -- a rendering may start: the rows nest, and the state's numbers are in range
 pub record Starting (store : List ℕ) (limit from stop : ℕ) (out : List ℕ) (p : Pen) : Type 0 where
   pub nested : Nested store from stop
   pub fits : limit ≤ length out
-  pub margin : p .indent + p .«next_indent» ≤ 128
-  pub column : p .column .0 ≤ 72057594037927936
+  pub margin : p .indent + p .«next_indent» ≤ START-MARGIN
+  pub column : p .column .0 ≤ MAX-COLUMN
   pub at : p .at .0 ≡ 0
 
 -- what s has is what the pen, the marks and the output have become

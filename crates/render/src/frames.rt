@@ -2,6 +2,7 @@
 ghost use mathlib.Core.Path.{_≡_};
 ghost use Prim.Native.Nat.{_<_};
 ghost use mathlib.Core.Bool.{cond};
+ghost use Rattle.rows.specs.Limits.{MAX-ROWS};
 ghost use Rattle.render.specs.Run.{unpacked};
 use renderer::Frame;
 
@@ -16,7 +17,7 @@ fn bit(b: bool) -> u32
 
 // The number of an open row.
 pub(crate) fn pack(f: Frame) -> u32
-    requires { ⌜ f .row < 2097152 ⌝ }
+    requires { ⌜ f .row < MAX-ROWS ⌝ }
     ensures { λ r. ⌜ unpacked r ≡ f ⌝ }
 {
     f.row * 8 + bit(f.wrap) * 4 + bit(f.early) * 2 + bit(f.deep)

@@ -2,8 +2,9 @@
 // function by value. What the rest of rendering calls has plain parameters.
 ghost use mathlib.Core.Path.{_≡_};
 ghost use Prim.Native.Nat.{_+_, _≤_};
+ghost use Rattle.render.specs.Limits.{MAX-MARGIN};
 ghost use Rattle.render.specs.Lent.{moved, broken};
-use rows::store::Columns;
+use rows::units::Columns;
 
 pub struct Numbers {
     pub indent: usize,
@@ -24,7 +25,7 @@ fn moved(n: Numbers, indent: usize, next_indent: usize) -> Numbers
 
 // The numbers on a new line.
 fn broken(n: Numbers) -> Numbers
-    requires { ⌜ n .indent + n .«next_indent» ≤ 384 ⌝ }
+    requires { ⌜ n .indent + n .«next_indent» ≤ MAX-MARGIN ⌝ }
     ensures { λ r. ⌜ r ≡ broken n ⌝ }
 {
     Numbers {
@@ -43,7 +44,7 @@ fn set_margin(n: &mut Numbers, indent: usize, next_indent: usize)
 
 // Goes to a new line.
 fn break_line(n: &mut Numbers)
-    requires { ⌜ now n .indent + now n .«next_indent» ≤ 384 ⌝ }
+    requires { ⌜ now n .indent + now n .«next_indent» ≤ MAX-MARGIN ⌝ }
     ensures { λ _. ⌜ now (n .exit) ≡ broken (now (n .entry)) ⌝ }
 {
     *n = broken(*n);
@@ -60,7 +61,7 @@ pub(crate) fn with_margin(n: Numbers, indent: usize, next_indent: usize) -> Numb
 
 // The numbers on a new line, by lending them.
 pub(crate) fn on_new_line(n: Numbers) -> Numbers
-    requires { ⌜ n .indent + n .«next_indent» ≤ 384 ⌝ }
+    requires { ⌜ n .indent + n .«next_indent» ≤ MAX-MARGIN ⌝ }
     ensures { λ r. ⌜ r ≡ broken n ⌝ }
 {
     let mut m = n;

@@ -5,10 +5,10 @@ ghost use mathlib.Core.List.{[], _∷_};
 ghost use lib.ListN.{length, take, drop, replicate};
 ghost use Rattle.rows.specs.Words.{words};
 ghost use Rattle.rows.specs.Texts.{originText};
-ghost use Rattle.renderer.specs.Page.{textBytes, textOf};
-ghost use Rattle.render.specs.Output.{over};
+ghost use Rattle.render.specs.Output.{over, bytesOf};
+use crate::row_text::RowText;
 use rows::origins::origin_size;
-use rows::store::Bytes;
+use rows::units::Bytes;
 use rows::words::WORDS;
 
 // Writes a byte at a place below the limit.
@@ -109,14 +109,20 @@ pub(crate) fn copy(
     at: usize,
     source: &[u8],
     image: &[u8],
-    origin: usize,
-    start: usize,
-    size: Bytes,
+    t: RowText,
 ) -> Bytes
     requires { ⌜ limit ≤ length (now out) ⌝ }
-    ensures { λ r. ⌜ (now (out .exit) ≡ over limit (now (out .entry)) at (textBytes (now (source .entry)) (now (image .entry)) (textOf origin start (size .0)))) × (r .0 ≡ length (textBytes (now (source .entry)) (now (image .entry)) (textOf origin start (size .0)))) ⌝ }
+    ensures { λ r. ⌜ (now (out .exit) ≡ over limit (now (out .entry)) at (bytesOf (now (source .entry)) (now (image .entry)) t)) × (r .0 ≡ length (bytesOf (now (source .entry)) (now (image .entry)) t)) ⌝ }
 {
-    let n = clipped(origin_size(source, image, origin).0, start, size.0);
-    put_origin(out, at, source, image, origin, start, clipped(limit, at, n));
+    let n = clipped(origin_size(source, image, t.origin).0, t.start, t.size.0);
+    put_origin(
+        out,
+        at,
+        source,
+        image,
+        t.origin,
+        t.start,
+        clipped(limit, at, n),
+    );
     Bytes(n)
 }

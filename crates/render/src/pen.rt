@@ -2,17 +2,20 @@
 ghost use mathlib.Core.Path.{_≡_};
 ghost use Prim.Native.Nat.{_+_, _*_, _≤_, _<_};
 ghost use mathlib.Core.List.{[], _∷_, _++_};
-ghost use Rattle.renderer.specs.Page.{textBytes, textOf};
+ghost use Rattle.rows.specs.Limits.{CELL-LIMIT};
+ghost use Rattle.render.specs.Limits.{MAX-MARGIN, BEFORE-ROW, IN-ROW};
 ghost use Rattle.renderer.specs.Renderer.{push, atColumn, newLine, margin, remark, text};
 ghost use Rattle.render.specs.Lent.{numbersOf, penOf};
+ghost use Rattle.render.specs.Output.{bytesOf};
 ghost use Rattle.render.specs.Pen.{shown, Drawn, Room};
 use crate::lent::Numbers;
 use crate::lent::on_new_line;
 use crate::output::copy;
 use crate::output::emit;
 use crate::output::spaces;
-use rows::store::Bytes;
-use rows::store::Columns;
+use crate::row_text::RowText;
+use rows::units::Bytes;
+use rows::units::Columns;
 
 // `indent`, `next_indent` and `column`, and how many bytes are written.
 pub struct Pen {
@@ -47,7 +50,7 @@ pub(crate) fn pen_of(n: Numbers, at: Bytes) -> Pen
 
 // Writes one byte, `w` columns wide.
 fn put(p: Pen, out: &mut [u8], limit: usize, b: u8, w: Columns) -> Pen
-    requires { ⌜ Room 2305843009213693952 limit (now out) p × (w .0 < 4294967296) ⌝ }
+    requires { ⌜ Room IN-ROW limit (now out) p × (w .0 < CELL-LIMIT) ⌝ }
     ensures { λ r. ⌜ Drawn limit (atColumn (p .column .0 + w .0) (push (b ∷ []) (shown p []))) (now (out .entry)) p (now (out .exit)) r ⌝ }
 {
     let at = p.at.0;
@@ -67,16 +70,14 @@ fn put_text(
     limit: usize,
     source: &[u8],
     image: &[u8],
-    origin: usize,
-    start: usize,
-    size: Bytes,
+    t: RowText,
     w: Columns,
 ) -> Pen
-    requires { ⌜ Room 2305843009213693952 limit (now out) p × ((start < 4294967296) × ((size .0 < 4294967296) × (w .0 < 4294967296))) ⌝ }
-    ensures { λ r. ⌜ Drawn limit (atColumn (p .column .0 + w .0) (push (textBytes (now (source .entry)) (now (image .entry)) (textOf origin start (size .0))) (shown p []))) (now (out .entry)) p (now (out .exit)) r ⌝ }
+    requires { ⌜ Room IN-ROW limit (now out) p × ((t .start < CELL-LIMIT) × ((t .size .0 < CELL-LIMIT) × (w .0 < CELL-LIMIT))) ⌝ }
+    ensures { λ r. ⌜ Drawn limit (atColumn (p .column .0 + w .0) (push (bytesOf (now (source .entry)) (now (image .entry)) t) (shown p []))) (now (out .entry)) p (now (out .exit)) r ⌝ }
 {
     let at = p.at.0;
-    let n = copy(out, limit, at, source, image, origin, start, size);
+    let n = copy(out, limit, at, source, image, t);
     Pen {
         indent: p.indent,
         next_indent: p.next_indent,
@@ -87,7 +88,7 @@ fn put_text(
 
 // A line's margin, four blanks a step, in bytes.
 pub fn margin_bytes(indent: usize) -> Bytes
-    requires { ⌜ indent ≤ 384 ⌝ }
+    requires { ⌜ indent ≤ MAX-MARGIN ⌝ }
     ensures { λ r. ⌜ r .0 ≡ 4 * indent ⌝ }
 {
     Bytes(4 * indent)
@@ -95,7 +96,7 @@ pub fn margin_bytes(indent: usize) -> Bytes
 
 // The same margin in columns.
 pub(crate) fn margin_columns(indent: usize) -> Columns
-    requires { ⌜ indent ≤ 384 ⌝ }
+    requires { ⌜ indent ≤ MAX-MARGIN ⌝ }
     ensures { λ r. ⌜ r .0 ≡ 4 * indent ⌝ }
 {
     Columns(4 * indent)
@@ -103,7 +104,7 @@ pub(crate) fn margin_columns(indent: usize) -> Columns
 
 // The indent of a line that starts here.
 fn start_line(p: Pen, out: &mut [u8], limit: usize) -> Pen
-    requires { ⌜ Room 2305843009213693952 limit (now out) p ⌝ }
+    requires { ⌜ Room IN-ROW limit (now out) p ⌝ }
     ensures { λ r. ⌜ Drawn limit (margin (shown p [])) (now (out .entry)) p (now (out .exit)) r ⌝ }
 {
     let at = p.at.0;
@@ -120,7 +121,7 @@ fn start_line(p: Pen, out: &mut [u8], limit: usize) -> Pen
 
 // `new_line`
 pub(crate) fn new_line(p: Pen, out: &mut [u8], limit: usize) -> Pen
-    requires { ⌜ Room 2305843009213693952 limit (now out) p ⌝ }
+    requires { ⌜ Room IN-ROW limit (now out) p ⌝ }
     ensures { λ r. ⌜ Drawn limit (newLine (shown p [])) (now (out .entry)) p (now (out .exit)) r ⌝ }
 {
     let at = p.at.0;
@@ -134,7 +135,7 @@ pub(crate) fn new_line(p: Pen, out: &mut [u8], limit: usize) -> Pen
 
 // An `EmptyLine`.
 pub(crate) fn empty_line(p: Pen, out: &mut [u8], limit: usize) -> Pen
-    requires { ⌜ Room 1152921504606846976 limit (now out) p ⌝ }
+    requires { ⌜ Room BEFORE-ROW limit (now out) p ⌝ }
     ensures { λ r. ⌜ Drawn limit (newLine (push (0x0A ∷ []) (shown p []))) (now (out .entry)) p (now (out .exit)) r ⌝ }
 {
     new_line(put(p, out, limit, 0x0A, Columns(0)), out, limit)
@@ -142,7 +143,7 @@ pub(crate) fn empty_line(p: Pen, out: &mut [u8], limit: usize) -> Pen
 
 // The blank of a `LineOrSpace`: `text(" ", 1)`.
 pub(crate) fn space(p: Pen, out: &mut [u8], limit: usize) -> Pen
-    requires { ⌜ Room 1152921504606846976 limit (now out) p ⌝ }
+    requires { ⌜ Room BEFORE-ROW limit (now out) p ⌝ }
     ensures { λ r. ⌜ Drawn limit (text (0x20 ∷ []) 1 (shown p [])) (now (out .entry)) p (now (out .exit)) r ⌝ }
 {
     if 0 < p.column.0 {
@@ -158,46 +159,25 @@ pub(crate) fn text(
     limit: usize,
     source: &[u8],
     image: &[u8],
-    origin: usize,
-    start: usize,
-    size: Bytes,
+    t: RowText,
     w: Columns,
 ) -> Pen
-    requires { ⌜ Room 1152921504606846976 limit (now out) p × ((start < 4294967296) × ((size .0 < 4294967296) × (w .0 < 4294967296))) ⌝ }
-    ensures { λ r. ⌜ Drawn limit (text (textBytes (now (source .entry)) (now (image .entry)) (textOf origin start (size .0))) (w .0) (shown p [])) (now (out .entry)) p (now (out .exit)) r ⌝ }
+    requires { ⌜ Room BEFORE-ROW limit (now out) p × ((t .start < CELL-LIMIT) × ((t .size .0 < CELL-LIMIT) × (w .0 < CELL-LIMIT))) ⌝ }
+    ensures { λ r. ⌜ Drawn limit (text (bytesOf (now (source .entry)) (now (image .entry)) t) (w .0) (shown p [])) (now (out .entry)) p (now (out .exit)) r ⌝ }
 {
     if 0 < p.column.0 {
-        return put_text(p, out, limit, source, image, origin, start, size, w);
+        return put_text(p, out, limit, source, image, t, w);
     }
-    put_text(
-        start_line(p, out, limit),
-        out,
-        limit,
-        source,
-        image,
-        origin,
-        start,
-        size,
-        w,
-    )
+    put_text(start_line(p, out, limit), out, limit, source, image, t, w)
 }
 
 // The text of a comment and the end of its line.
-fn end_line(
-    p: Pen,
-    out: &mut [u8],
-    limit: usize,
-    source: &[u8],
-    image: &[u8],
-    origin: usize,
-    start: usize,
-    size: Bytes,
-) -> Pen
-    requires { ⌜ Room 2305843009213693952 limit (now out) p × ((start < 4294967296) × (size .0 < 4294967296)) ⌝ }
-    ensures { λ r. ⌜ Drawn limit (atColumn 0 (push (textBytes (now (source .entry)) (now (image .entry)) (textOf origin start (size .0)) ++ (0x0A ∷ [])) (shown p []))) (now (out .entry)) p (now (out .exit)) r ⌝ }
+fn end_line(p: Pen, out: &mut [u8], limit: usize, source: &[u8], image: &[u8], t: RowText) -> Pen
+    requires { ⌜ Room IN-ROW limit (now out) p × ((t .start < CELL-LIMIT) × (t .size .0 < CELL-LIMIT)) ⌝ }
+    ensures { λ r. ⌜ Drawn limit (atColumn 0 (push (bytesOf (now (source .entry)) (now (image .entry)) t ++ (0x0A ∷ [])) (shown p []))) (now (out .entry)) p (now (out .exit)) r ⌝ }
 {
     let at = p.at.0;
-    let n = copy(out, limit, at, source, image, origin, start, size);
+    let n = copy(out, limit, at, source, image, t);
     emit(out, limit, at + n.0, 0x0A);
     Pen {
         indent: p.indent,
@@ -214,18 +194,16 @@ pub(crate) fn comment(
     limit: usize,
     source: &[u8],
     image: &[u8],
-    origin: usize,
-    start: usize,
-    size: Bytes,
+    t: RowText,
 ) -> Pen
-    requires { ⌜ Room 1152921504606846976 limit (now out) p × ((start < 4294967296) × (size .0 < 4294967296)) ⌝ }
-    ensures { λ r. ⌜ Drawn limit (remark (textBytes (now (source .entry)) (now (image .entry)) (textOf origin start (size .0))) (shown p [])) (now (out .entry)) p (now (out .exit)) r ⌝ }
+    requires { ⌜ Room BEFORE-ROW limit (now out) p × ((t .start < CELL-LIMIT) × (t .size .0 < CELL-LIMIT)) ⌝ }
+    ensures { λ r. ⌜ Drawn limit (remark (bytesOf (now (source .entry)) (now (image .entry)) t) (shown p [])) (now (out .entry)) p (now (out .exit)) r ⌝ }
 {
     let column = p.column.0;
     if 0 < column {
         let q = put(p, out, limit, b' ', Columns(0));
-        return end_line(q, out, limit, source, image, origin, start, size);
+        return end_line(q, out, limit, source, image, t);
     }
     let q = start_line(p, out, limit);
-    end_line(q, out, limit, source, image, origin, start, size)
+    end_line(q, out, limit, source, image, t)
 }

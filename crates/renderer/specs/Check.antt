@@ -6,6 +6,9 @@ use mathlib.Core.List.{List, [], _∷_}
 use mathlib.Core.Option.{Option, some, none}
 use lib.ListN.{length, getD}
 use lib.Dec.{ltb, leb, eqb}
+use Rattle.rows.specs.Kinds.{GROUP, COMMENT, STR, ASCII, IF-WRAP, CALL}
+use Rattle.rows.specs.Places.{KIND, NUMBER, SECOND-NUMBER, SECOND, ORIGIN, START, SIZE, WIDTH, PLACES}
+use Rattle.rows.specs.Limits.{MAX-ROWS, MAX-DEPTH}
 use Rattle.rows.specs.View.{View, cell, viewOf}
 use Rattle.rows.specs.Texts.{originText}
 
@@ -51,7 +54,7 @@ partsFit v i kind =
 
 -- row i, which d rows enclose, the innermost up to `end`, is right: not over 256 deep, its range nested, its parts and places right
 unfoldable pub rowFits : (ℕ → Bool) → View → ℕ → ℕ → ℕ → Bool
-rowFits places v end d i = (ltb d 256 && (ltb i (v .after i) && leb (v .after i) end)) && (partsFit v i (v .kind i) && places i)
+rowFits places v end d i = (ltb d MAX-DEPTH && (ltb i (v .after i) && leb (v .after i) end)) && (partsFit v i (v .kind i) && places i)
 
 abbrev pub orElse : Option ℕ → Option ℕ → Option ℕ
 orElse none b = b
@@ -72,40 +75,40 @@ wrongRow places v end d i = firstWrong (end - i) places v end d i
 -- the text of row i: its origin is not over 2, and it is not outside it
 abbrev pub textFits : List ℕ → List ℕ → List ℕ → ℕ → Bool
 textFits source image store i =
-    leb (cell store i 5) 2 && leb (cell store i 6 + cell store i 7) (length (originText source image (cell store i 5)))
+    leb (cell store i ORIGIN) 2 && leb (cell store i START + cell store i SIZE) (length (originText source image (cell store i ORIGIN)))
 
 -- a row without a text has 0 in these places
 abbrev pub noTextFits : List ℕ → ℕ → Bool
-noTextFits store i = eqb (cell store i 5) 0 && (eqb (cell store i 6) 0 && eqb (cell store i 7) 0)
+noTextFits store i = eqb (cell store i ORIGIN) 0 && (eqb (cell store i START) 0 && eqb (cell store i SIZE) 0)
 
 -- Which places a kind uses: number, second number, first row of the second part, text, width.
 abbrev pub usesNumber : ℕ → Bool
-usesNumber kind = eqb kind 0 || (eqb kind 10 || eqb kind 11)
+usesNumber kind = eqb kind GROUP || (eqb kind IF-WRAP || eqb kind CALL)
 
 abbrev pub usesNumber2 : ℕ → Bool
-usesNumber2 kind = eqb kind 11
+usesNumber2 kind = eqb kind CALL
 
 abbrev pub usesSecond : ℕ → Bool
-usesSecond kind = eqb kind 10 || eqb kind 11
+usesSecond kind = eqb kind IF-WRAP || eqb kind CALL
 
 abbrev pub usesText : ℕ → Bool
-usesText kind = eqb kind 4 || (eqb kind 5 || eqb kind 6)
+usesText kind = eqb kind COMMENT || (eqb kind STR || eqb kind ASCII)
 
 abbrev pub usesWidth : ℕ → Bool
-usesWidth kind = eqb kind 5
+usesWidth kind = eqb kind STR
 
 -- the text of row i is right, and each unused place is 0
 unfoldable pub placesFit : List ℕ → List ℕ → List ℕ → ℕ → Bool
 placesFit source image store i =
-    let kind = cell store i 0 in
-    ((usesNumber kind || eqb (cell store i 1) 0) && ((usesNumber2 kind || eqb (cell store i 2) 0) && (usesSecond kind || eqb (cell store i 3) 0)))
-    && ((usesWidth kind || eqb (cell store i 8) 0) && cond (usesText kind) (textFits source image store i) (noTextFits store i))
+    let kind = cell store i KIND in
+    ((usesNumber kind || eqb (cell store i NUMBER) 0) && ((usesNumber2 kind || eqb (cell store i SECOND-NUMBER) 0) && (usesSecond kind || eqb (cell store i SECOND) 0)))
+    && ((usesWidth kind || eqb (cell store i WIDTH) 0) && cond (usesText kind) (textFits source image store i) (noTextFits store i))
 
 -- Refusal 11's place: 0 for a stop past the store or 2,097,152, else the first row from `from` up to `stop` that is not right. (A store has
 -- length / 9 rows, rounded down.)
 unfoldable pub wrongPlace : List ℕ → List ℕ → List ℕ → ℕ → ℕ → Option ℕ
 wrongPlace source image store from stop =
-    cond (leb stop 2097152 && leb (stop * 9) (length store)) (wrongRow (placesFit source image store) (viewOf store) stop 0 from) (some 0)
+    cond (leb stop MAX-ROWS && leb (stop * PLACES) (length store)) (wrongRow (placesFit source image store) (viewOf store) stop 0 from) (some 0)
 
 -- Where a `Call`'s second part is its end, a part that goes past that end is at fault, and not the `Call`.
 abbrev pub FaultOfPart : Type 0

@@ -4,6 +4,7 @@ use mathlib.Core.Path.{_≡_}
 use mathlib.Core.Bool.{Bool, true, false, cond}
 use mathlib.Core.List.{List}
 use lib.ListN.{length, getD}
+use Rattle.rows.specs.Limits.{MAX-DEPTH}
 use Rattle.rows.specs.View.{View}
 use Rattle.rows.specs.Nesting.{Nests}
 use Rattle.renderer.specs.declared.Frame.{Frame}
@@ -48,5 +49,5 @@ module _ (v : View) (stop : ℕ) where
     pub good : Nests v i (limit fs d) d
     pub under : Under fs d
     pub low : limit fs d ≤ stop
-    pub size : length fs ≡ 256
-    pub deep : d ≤ 256
+    pub size : length fs ≡ MAX-DEPTH
+    pub deep : d ≤ MAX-DEPTH

@@ -1,6 +1,7 @@
 pub mod Call
 pub mod Check
 pub mod Frames
+pub mod Limits
 pub mod Machine
 pub mod Most
 pub mod Page

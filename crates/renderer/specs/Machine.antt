@@ -4,6 +4,7 @@ use mathlib.Core.Bool.{Bool, true, false, cond, not, _&&_}
 use mathlib.Core.List.{List, [], _∷_}
 use lib.ListN.{getD, set}
 use lib.Dec.{eqb}
+use Rattle.rows.specs.Kinds.{CALL}
 use Rattle.rows.specs.Node.{Nodes, group, wrapped}
 use Rattle.rows.specs.View.{View, nodesAt, nodeAt}
 use Rattle.renderer.specs.declared.Frame.{Frame}
@@ -95,7 +96,7 @@ module _ (v : View) (pg : Page) where
   leave m k =
       let f = frameAt (m .frames) k in
       let c = groupWraps pg (nodesAt v (m .next) (v .after (f .row))) (m .state) in
-      cond (eqb (v .kind (f .row)) 11 && f .early)
+      cond (eqb (v .kind (f .row)) CALL && f .early)
       (record { frames = set (m .frames) k (frame (f .row) c false (f .deep)); depth = suc k; next = m .next; state = insert c (v .number2 (f .row)) (m .state); entered = m .entered })
       (record { frames = m .frames; depth = k; next = v .after (f .row); state = closing v pg f (m .state); entered = m .entered })
 

@@ -2,6 +2,7 @@
 use Prim.Native.Nat.{ℕ, zero, suc, _+_, _*_, _-_}
 use mathlib.Core.List.{List, [], _∷_}
 use lib.ListN.{getD}
+use Rattle.rows.specs.Places.{KIND, AFTER, SIZE}
 use Rattle.rows.specs.View.{cell}
 
 -- What row i, of this kind, adds at most, where lines start m steps in: its text; a newline, another or a blank, and a line's start; where
@@ -10,17 +11,17 @@ abbrev pub rowMost : ℕ → List ℕ → ℕ → ℕ → ℕ
 rowMost m store i kind =
     getD
     (0
-    ∷ (4 * (cell store i 4 - i))
-    ∷ (4 * (cell store i 4 - i))
+    ∷ (4 * (cell store i AFTER - i))
+    ∷ (4 * (cell store i AFTER - i))
     ∷ 0
-    ∷ (cell store i 7 + (2 + 4 * m))
-    ∷ cell store i 7
-    ∷ cell store i 7
+    ∷ (cell store i SIZE + (2 + 4 * m))
+    ∷ cell store i SIZE
+    ∷ cell store i SIZE
     ∷ (2 + 4 * m)
     ∷ (2 + 4 * m)
     ∷ (2 + 4 * m)
     ∷ 0
-    ∷ (4 * (cell store i 4 - i))
+    ∷ (4 * (cell store i AFTER - i))
     ∷ [])
     kind
     0
@@ -28,4 +29,4 @@ rowMost m store i kind =
 -- what the n rows from i on add at most
 unfoldable pub rowsMost : ℕ → ℕ → List ℕ → ℕ → ℕ
 rowsMost zero m store i = 0
-rowsMost (suc n) m store i = rowMost m store i (cell store i 0) + rowsMost n m store (suc i)
+rowsMost (suc n) m store i = rowMost m store i (cell store i KIND) + rowsMost n m store (suc i)

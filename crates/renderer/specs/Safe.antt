@@ -6,6 +6,9 @@ use mathlib.Core.Bool.{Bool, true, false, _&&_, _||_}
 use mathlib.Core.List.{List}
 use lib.ListN.{length}
 use lib.Dec.{eqb}
+use Rattle.rows.specs.Kinds.{INDENT, INDENT-NEXT, CALL}
+use Rattle.rows.specs.Limits.{CELL-LIMIT}
+use Rattle.renderer.specs.Limits.{MAX-COLUMN, ROW-GROWTH}
 use Rattle.rows.specs.View.{View}
 use Rattle.renderer.specs.declared.Frame.{Frame}
 use Rattle.renderer.specs.Renderer.{Page}
@@ -21,10 +24,10 @@ bit false = 0
 unfoldable pub stepOf : View → Frame → ℕ
 stepOf v f =
     bit
-    ((eqb (v .kind (f .row)) 1 && f .wrap) || ((eqb (v .kind (f .row)) 2 && f .wrap) || (eqb (v .kind (f .row)) 11 && f .deep)))
+    ((eqb (v .kind (f .row)) INDENT && f .wrap) || ((eqb (v .kind (f .row)) INDENT-NEXT && f .wrap) || (eqb (v .kind (f .row)) CALL && f .deep)))
 
 unfoldable pub insOf : View → Frame → ℕ
-insOf v f = bit (eqb (v .kind (f .row)) 1 && f .wrap)
+insOf v f = bit (eqb (v .kind (f .row)) INDENT && f .wrap)
 
 unfoldable pub steps : View → List Frame → ℕ → ℕ
 steps v fs zero = 0
@@ -36,13 +39,13 @@ ins v fs (suc d) = insOf v (frameAt fs d) + ins v fs d
 
 -- texts and widths are below 2 ^ 32
 pub record Small (v : View) (pg : Page) : Type 0 where
-  pub bytes : (i : ℕ) → length (pg .bytes (v .text i)) < 4294967296
-  pub columns : (i : ℕ) → pg .columns (v .text i) < 4294967296
-  pub width : (i : ℕ) → v .width i < 4294967296
+  pub bytes : (i : ℕ) → length (pg .bytes (v .text i)) < CELL-LIMIT
+  pub columns : (i : ℕ) → pg .columns (v .text i) < CELL-LIMIT
+  pub width : (i : ℕ) → v .width i < CELL-LIMIT
 
 -- the numbers of a machine, which began with `indent` and `next_indent` at base together
 pub record Safe (v : View) (base : ℕ) (m : Machine) : Type 0 where
   pub sum : m .state .indent + m .state .nextIndent ≡ base + steps v (m .frames) (m .depth)
   pub low : ins v (m .frames) (m .depth) ≤ m .state .indent
-  pub column : m .state .column ≤ 72057594037927936 + m .next * 17179869184
-  pub bytes : length (m .state .buf) ≤ m .next * 17179869184
+  pub column : m .state .column ≤ MAX-COLUMN + m .next * ROW-GROWTH
+  pub bytes : length (m .state .buf) ≤ m .next * ROW-GROWTH

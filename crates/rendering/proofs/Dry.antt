@@ -11,7 +11,7 @@ use lib.Dec.{eqb}
 use borrow.Author.Tests.{eqb-true, ne-eqb}
 use Rattle.rows.specs.View.{View, cell, viewOf, nodesAt}
 use Rattle.rows.specs.Nesting.{Nested}
-use Rattle.rows.specs.declared.store.Bytes as sizes
+use Rattle.rows.specs.declared.units.Bytes as sizes
 use Rattle.renderer.specs.Check.{usesNumber, usesNumber2, usesSecond, usesText, usesWidth, textFits, noTextFits, placesFit}
 use Rattle.renderer.specs.Renderer.{Renderer, renders}
 use Rattle.renderer.specs.Page.{pageOf}

@@ -7,7 +7,7 @@ use Prim.Native.Nat.{ℕ, _+_, _*_, _-_, _≤_, _<_, max}
 use native.Mathlib.Omega.{arith}
 use lib.ListN.{length, getD, drop}
 use Rattle.rows.specs.View.{viewOf, nodesAt}
-use Rattle.rows.specs.declared.store.Bytes.{Bytes}
+use Rattle.rows.specs.declared.units.Bytes.{Bytes}
 use Rattle.renderer.specs.Renderer.{renders}
 use Rattle.renderer.specs.Page.{pageOf}
 use Rattle.renderer.proofs.Most.{text-most}

@@ -12,7 +12,7 @@ use Rattle.cut.specs.Rules.{Rendered}
 use Rattle.cut.specs.Run.{onto, Answer, refused, written, answerBy}
 use Rattle.cut.specs.Entries.{renderGives}
 use Rattle.cut.specs.Parts as cut
-use Rattle.rows.specs.declared.store.Bytes.{Bytes}
+use Rattle.rows.specs.declared.units.Bytes.{Bytes}
 use Rattle.cut.specs.Parts.{bytesNeeded, renderTable}
 use Rattle.renderer.specs.Check.{wrongPlace}
 use Rattle.format.specs.Parts.{parts, renderImage}

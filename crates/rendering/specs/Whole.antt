@@ -4,7 +4,7 @@ use mathlib.Core.Option.{none}
 use mathlib.Core.List.{List}
 use Prim.Native.Nat.{ℕ, _+_, _*_, _-_, _≤_}
 use lib.ListN.{length}
-use Rattle.rows.specs.declared.store.Bytes.{Bytes}
+use Rattle.rows.specs.declared.units.Bytes.{Bytes}
 use Rattle.render.specs.declared.pen.Pen.{Pen}
 use Rattle.renderer.specs.Most.{rowsMost}
 use Rattle.cut.specs.Entries.{renderAnswer, renderMarks, renderOutput}

@@ -2,26 +2,40 @@
 ghost use mathlib.Core.Path.{_≡_};
 ghost use Prim.Native.Nat.{_+_, _*_, _-_, _≤_, _<_};
 ghost use lib.ListN.{length};
+ghost use Rattle.rows.specs.Places.{KIND, WIDTH, PLACES};
+ghost use Rattle.rows.specs.Limits.{MAX-ROWS};
+ghost use Rattle.renderer.specs.Limits.{START-MARGIN, ROW-GROWTH};
 ghost use Rattle.rows.specs.View.{cell};
 ghost use Rattle.marks.specs.Marks.{marksNeeded};
 ghost use Rattle.renderer.specs.Most.{rowMost, rowsMost};
-use marks::larger;
-use marks::row_marks;
+use marks::count::larger;
+use marks::count::row_marks;
 use render::pen::margin_bytes;
-use rows::store::Bytes;
+use rows::kinds::ASCII;
+use rows::kinds::CALL;
+use rows::kinds::COMMENT;
+use rows::kinds::EMPTY_LINE;
+use rows::kinds::INDENT;
+use rows::kinds::INDENT_NEXT;
+use rows::kinds::LINE;
+use rows::kinds::LINE_OR_SPACE;
+use rows::kinds::STR;
+use rows::places::AFTER;
+use rows::places::KIND;
 use rows::store::place;
 use rows::store::text_size;
+use rows::units::Bytes;
 
 // What a row adds at most.
 fn row_most(store: &[u32], row: usize, margin: usize) -> Bytes
-    requires { ⌜ (row * 9 + 8 < length (now store)) × (margin ≤ 128) ⌝ }
-    ensures { λ r. ⌜ (r .0 ≡ rowMost margin (now (store .entry)) row (cell (now (store .entry)) row 0)) × (r .0 ≤ 17179869184) ⌝ }
+    requires { ⌜ (row * PLACES + WIDTH < length (now store)) × (margin ≤ START-MARGIN) ⌝ }
+    ensures { λ r. ⌜ (r .0 ≡ rowMost margin (now (store .entry)) row (cell (now (store .entry)) row KIND)) × (r .0 ≤ ROW-GROWTH) ⌝ }
 {
-    match place(store, row, 0) {
-        1 | 2 | 11 => Bytes(4 * (larger(place(store, row, 4), row) - row)),
-        4 => Bytes(text_size(store, row).0 + (2 + margin_bytes(margin).0)),
-        5 | 6 => text_size(store, row),
-        7 | 8 | 9 => Bytes(2 + margin_bytes(margin).0),
+    match place(store, row, KIND) {
+        INDENT | INDENT_NEXT | CALL => Bytes(4 * (larger(place(store, row, AFTER), row) - row)),
+        COMMENT => Bytes(text_size(store, row).0 + (2 + margin_bytes(margin).0)),
+        STR | ASCII => text_size(store, row),
+        LINE | EMPTY_LINE | LINE_OR_SPACE => Bytes(2 + margin_bytes(margin).0),
         _ => Bytes(0),
     }
 }
@@ -34,7 +48,7 @@ pub struct Needs {
 
 // What the rows from `from` up to `stop` need, where lines start `margin` steps in.
 pub(crate) fn rows_need(store: &[u32], from: usize, stop: usize, margin: usize) -> Needs
-    requires { ⌜ (from ≤ stop) × ((stop * 9 ≤ length (now store)) × ((stop ≤ 2097152) × (margin ≤ 128))) ⌝ }
+    requires { ⌜ (from ≤ stop) × ((stop * PLACES ≤ length (now store)) × ((stop ≤ MAX-ROWS) × (margin ≤ START-MARGIN))) ⌝ }
     ensures { λ r. ⌜ (r .marks ≡ marksNeeded (stop - from) (now (store .entry)) from) × (r .bytes .0 ≡ 4 * margin + rowsMost (stop - from) margin (now (store .entry)) from) ⌝ }
 {
     let mut most: usize = 0;

@@ -17,7 +17,7 @@ use laying::layout_call;
 use rendering::RenderState;
 use rendering::Rendering;
 use rendering::render_call;
-use rows::store::Columns;
+use rows::units::Columns;
 
 // The state that the last call answered, the comments left, and the first difference.
 struct Laid {

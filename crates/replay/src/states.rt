@@ -5,7 +5,7 @@ use crate::numbers::long;
 use crate::numbers::past;
 use laying::LayoutState;
 use rendering::RenderState;
-use rows::store::Columns;
+use rows::units::Columns;
 
 // How many bytes a layout state has.
 pub(crate) const LAYOUT: usize = 22;

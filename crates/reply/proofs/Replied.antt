@@ -8,7 +8,7 @@ use native.Mathlib.Omega.{arith}
 use lib.ListN.{length, drop, length-append}
 use lib.Seq.{sets, sets-eq}
 use Rattle.rows.specs.Ascii.{bytes}
-use Rattle.rows.specs.declared.store.Bytes.{Bytes}
+use Rattle.rows.specs.declared.units.Bytes.{Bytes}
 use Rattle.refusals.specs.Refusals.{Refusal, first, unless}
 use Rattle.cut.specs.Run.{onto}
 use Rattle.format.specs.File.{FileAnswer, refused, formatted, fileAnswerBy, drawnDue, fileRefusal, fileOutput}

@@ -1,6 +1,9 @@
 pub mod Ascii
+pub mod Kinds
+pub mod Limits
 pub mod Nesting
 pub mod Node
+pub mod Places
 pub mod Rows
 pub mod Texts
 pub mod View

@@ -3,6 +3,9 @@ use Prim.Native.Nat.{ℕ, suc, _*_, _≤_, _<_}
 use mathlib.Core.Path.{_≡_}
 use mathlib.Core.List.{List}
 use lib.ListN.{length}
+use Rattle.rows.specs.Kinds.{INDENT-NEXT, WRAP-PARENT, LINE-OR-SPACE, IF-WRAP, CALL}
+use Rattle.rows.specs.Places.{PLACES}
+use Rattle.rows.specs.Limits.{MAX-ROWS, MAX-DEPTH}
 use Rattle.rows.specs.View.{View, viewOf}
 
 -- row i ends past itself and not past j
@@ -25,24 +28,24 @@ pub record Split (v : View) (i : ℕ) : Type 0 where
 -- The rows from i up to j, which d rows enclose, nest. (Both parts of a `Call` nest, so its second part starts at a part or at the end.)
 pub data Nests (v : View) : ℕ → ℕ → ℕ → Type 0 where
   over : {i j d : ℕ} → i ≡ j → Nests v i j d
-  leaf : {i j d : ℕ} → 3 ≤ v .kind i → v .kind i ≤ 9 → v .after i ≡ suc i → i < j → d < 256 → Nests v (suc i) j d → Nests v i j d
-  block : {i j d : ℕ} → v .kind i ≤ 2 → Within v i j → d < 256 → Nests v (suc i) (v .after i) (suc d) → Nests v (v .after i) j d → Nests v i j d
+  leaf : {i j d : ℕ} → WRAP-PARENT ≤ v .kind i → v .kind i ≤ LINE-OR-SPACE → v .after i ≡ suc i → i < j → d < MAX-DEPTH → Nests v (suc i) j d → Nests v i j d
+  block : {i j d : ℕ} → v .kind i ≤ INDENT-NEXT → Within v i j → d < MAX-DEPTH → Nests v (suc i) (v .after i) (suc d) → Nests v (v .after i) j d → Nests v i j d
   two :
       {i j d : ℕ}
-      → v .kind i ≡ 10
+      → v .kind i ≡ IF-WRAP
       → Within v i j
       → TwoParts v i
-      → d < 256
+      → d < MAX-DEPTH
       → Nests v (suc i) (v .second i) (suc d)
       → Nests v (v .second i) (v .after i) (suc d)
       → Nests v (v .after i) j d
       → Nests v i j d
   pair :
       {i j d : ℕ}
-      → v .kind i ≡ 11
+      → v .kind i ≡ CALL
       → Within v i j
       → Split v i
-      → d < 256
+      → d < MAX-DEPTH
       → Nests v (suc i) (v .second i) (suc d)
       → Nests v (v .second i) (v .after i) (suc d)
       → Nests v (v .after i) j d
@@ -50,6 +53,6 @@ pub data Nests (v : View) : ℕ → ℕ → ℕ → Type 0 where
 
 -- the rows of a store from `from` up to `to` stand there, are no more than are ever rendered, and nest
 pub record Nested (store : List ℕ) (from to : ℕ) : Type 0 where
-  pub room : to * 9 ≤ length store
-  pub few : to ≤ 2097152
+  pub room : to * PLACES ≤ length store
+  pub few : to ≤ MAX-ROWS
   pub nests : Nests (viewOf store) from to 0

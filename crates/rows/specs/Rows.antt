@@ -1,6 +1,7 @@
 -- A document as rows: nine numbers a row, in preorder (document 01, "Rows, marks and carried state").
 use Prim.Native.Nat.{ℕ, _+_, max}
 use mathlib.Core.List.{List, [], _∷_, _++_}
+use Rattle.rows.specs.Kinds.{GROUP, INDENT, INDENT-NEXT, WRAP-PARENT, COMMENT, STR, ASCII, LINE, EMPTY-LINE, LINE-OR-SPACE, IF-WRAP, CALL}
 use Rattle.rows.specs.Node.{Text, Node, Nodes, group, indent, indentNext, wrapParent, comment, str, ascii, line, emptyLine, lineOrSpace, ifWrap}
 use Rattle.rows.specs.Node.{call, none, _then_}
 
@@ -56,20 +57,20 @@ noText = record { origin = 0; start = 0; size = 0 }
 -- the rows of a node and of nodes, the first of which is row r
 unfoldable mutual
   pub rowsOf : Node → ℕ → List ℕ
-  rowsOf (group n ns) r = row 0 n 0 0 (r + (1 + sizes ns)) noText 0 ++ rows ns (r + 1)
-  rowsOf (indent ns) r = row 1 0 0 0 (r + (1 + sizes ns)) noText 0 ++ rows ns (r + 1)
-  rowsOf (indentNext ns) r = row 2 0 0 0 (r + (1 + sizes ns)) noText 0 ++ rows ns (r + 1)
-  rowsOf wrapParent r = row 3 0 0 0 (r + 1) noText 0
-  rowsOf (comment t) r = row 4 0 0 0 (r + 1) t 0
-  rowsOf (str w t) r = row 5 0 0 0 (r + 1) t w
-  rowsOf (ascii t) r = row 6 0 0 0 (r + 1) t 0
-  rowsOf line r = row 7 0 0 0 (r + 1) noText 0
-  rowsOf emptyLine r = row 8 0 0 0 (r + 1) noText 0
-  rowsOf lineOrSpace r = row 9 0 0 0 (r + 1) noText 0
+  rowsOf (group n ns) r = row GROUP n 0 0 (r + (1 + sizes ns)) noText 0 ++ rows ns (r + 1)
+  rowsOf (indent ns) r = row INDENT 0 0 0 (r + (1 + sizes ns)) noText 0 ++ rows ns (r + 1)
+  rowsOf (indentNext ns) r = row INDENT-NEXT 0 0 0 (r + (1 + sizes ns)) noText 0 ++ rows ns (r + 1)
+  rowsOf wrapParent r = row WRAP-PARENT 0 0 0 (r + 1) noText 0
+  rowsOf (comment t) r = row COMMENT 0 0 0 (r + 1) t 0
+  rowsOf (str w t) r = row STR 0 0 0 (r + 1) t w
+  rowsOf (ascii t) r = row ASCII 0 0 0 (r + 1) t 0
+  rowsOf line r = row LINE 0 0 0 (r + 1) noText 0
+  rowsOf emptyLine r = row EMPTY-LINE 0 0 0 (r + 1) noText 0
+  rowsOf lineOrSpace r = row LINE-OR-SPACE 0 0 0 (r + 1) noText 0
   rowsOf (ifWrap n a b) r =
-      row 10 n 0 (r + (1 + size a)) (r + (1 + (size a + size b))) noText 0 ++ (rowsOf a (r + 1) ++ rowsOf b (r + (1 + size a)))
+      row IF-WRAP n 0 (r + (1 + size a)) (r + (1 + (size a + size b))) noText 0 ++ (rowsOf a (r + 1) ++ rowsOf b (r + (1 + size a)))
   rowsOf (call n e k a) r =
-      row 11 n k (r + (1 + sizes e)) (r + (1 + (sizes e + sizes a))) noText 0 ++ (rows e (r + 1) ++ rows a (r + (1 + sizes e)))
+      row CALL n k (r + (1 + sizes e)) (r + (1 + (sizes e + sizes a))) noText 0 ++ (rows e (r + 1) ++ rows a (r + (1 + sizes e)))
 
   pub rows : Nodes → ℕ → List ℕ
   rows none r = []

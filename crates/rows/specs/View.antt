@@ -4,6 +4,8 @@ use mathlib.Core.Bool.{cond}
 use mathlib.Core.List.{List, [], _∷_}
 use lib.ListN.{getD}
 use lib.Dec.{ltb, eqb}
+use Rattle.rows.specs.Kinds.{STR}
+use Rattle.rows.specs.Places.{KIND, NUMBER, SECOND-NUMBER, SECOND, AFTER, ORIGIN, START, SIZE, WIDTH, PLACES}
 use Rattle.rows.specs.Node.{Text, Node, Nodes, group, indent, indentNext, wrapParent, comment, str, ascii, line, emptyLine, lineOrSpace, ifWrap}
 use Rattle.rows.specs.Node.{call, none, _then_}
 
@@ -19,23 +21,23 @@ pub record View : Type 0 where
 
 -- place k of row i of a store
 abbrev pub cell : List ℕ → ℕ → ℕ → ℕ
-cell store i k = getD store (i * 9 + k) 0
+cell store i k = getD store (i * PLACES + k) 0
 
 -- the rows of a store; `Str` alone has a width
 unfoldable pub viewOf : List ℕ → View
 viewOf store = record {
-  kind = λ i. cell store i 0;
-  number = λ i. cell store i 1;
-  number2 = λ i. cell store i 2;
-  second = λ i. cell store i 3;
-  after = λ i. cell store i 4;
-  text = λ i. record { origin = cell store i 5; start = cell store i 6; size = cell store i 7 };
-  width = λ i. cond (eqb (cell store i 0) 5) (cell store i 8) 0;
+  kind = λ i. cell store i KIND;
+  number = λ i. cell store i NUMBER;
+  number2 = λ i. cell store i SECOND-NUMBER;
+  second = λ i. cell store i SECOND;
+  after = λ i. cell store i AFTER;
+  text = λ i. record { origin = cell store i ORIGIN; start = cell store i START; size = cell store i SIZE };
+  width = λ i. cond (eqb (cell store i KIND) STR) (cell store i WIDTH) 0;
 }
 
 -- what row i measures by itself: the width of a `Str`, the bytes of an `Ascii`, 1 of a `LineOrSpace`
 abbrev pub ownWidth : List ℕ → ℕ → ℕ → ℕ
-ownWidth store i kind = getD (0 ∷ 0 ∷ 0 ∷ 0 ∷ 0 ∷ cell store i 8 ∷ cell store i 7 ∷ 0 ∷ 0 ∷ 1 ∷ []) kind 0
+ownWidth store i kind = getD (0 ∷ 0 ∷ 0 ∷ 0 ∷ 0 ∷ cell store i WIDTH ∷ cell store i SIZE ∷ 0 ∷ 0 ∷ 1 ∷ []) kind 0
 
 -- the first of some nodes
 abbrev pub firstOf : Nodes → Node

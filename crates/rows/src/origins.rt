@@ -2,7 +2,8 @@
 ghost use mathlib.Core.Path.{_≡_};
 ghost use lib.ListN.{length};
 ghost use Rattle.rows.specs.Texts.{originText};
-use crate::store::Bytes;
+use crate::units::Bytes;
+use crate::words::WORDS_SIZE;
 
 // The length of the text of an origin.
 pub fn origin_size(source: &[u8], image: &[u8], origin: usize) -> Bytes
@@ -15,7 +16,7 @@ pub fn origin_size(source: &[u8], image: &[u8], origin: usize) -> Bytes
         return Bytes(image.len());
     }
     if origin == 2 {
-        return Bytes(178);
+        return Bytes(WORDS_SIZE);
     }
     Bytes(0)
 }

@@ -3,11 +3,13 @@ use mathlib.Core.Path.{_≡_}
 use Prim.Native.Nat.{ℕ, _+_, _*_, _≤_, _<_}
 use mathlib.Core.List.{List}
 use lib.Seq.{sets}
+use Rattle.rows.specs.Places.{PLACES}
 use Rattle.rows.specs.Node.{Text}
 use Rattle.rows.specs.Rows.{sizes, row, rows, noText}
 use Rattle.state.specs.Act.{St, Out, Act, Asking, told}
 use Rattle.state.specs.declared.Cursor.{Cursor}
 use Rattle.state.specs.declared.Asked.{Asked}
+use Rattle.state.specs.declared.store.Row.{Row}
 
 -- a text by its origin, its start and its length
 abbrev pub text : ℕ → ℕ → ℕ → Text
@@ -41,7 +43,7 @@ pub record Opens (taken : ℕ) (c : Cursor) : Type 0 where
 
 -- a step is laid: its rows are in the store, as far as it reaches, and the cursor is where the step leaves it
 pub record Laid (a : Act) (s : List ℕ) (c : Cursor) (s′ : List ℕ) (c′ : Cursor) : Type 0 where
-  pub stored : s′ ≡ sets s (9 * c .row) (rows (a (st c) .nodes) (c .row))
+  pub stored : s′ ≡ sets s (PLACES * c .row) (rows (a (st c) .nodes) (c .row))
   pub moved : c′ ≡ after c (a (st c))
 
 -- a step that answers is laid, and r holds its answer
@@ -49,12 +51,16 @@ pub record LaidAsking (a : Asking) (s : List ℕ) (c : Cursor) (s′ : List ℕ)
   pub laid : Laid (told a) s c s′ (r .cursor)
   pub answers : r .answer ≡ a (st c) .1
 
+-- the nine places of a row as it is written at first
+abbrev pub cellsOf : Row → List ℕ
+cellsOf r = row (r .kind) (r .number) (r .number2) 0 (r .after) (text (r .origin) (r .start) (r .size)) (r .width)
+
 -- a row is written, as one without parts
 pub record Written (kind n k : ℕ) (t : Text) (w : ℕ) (s : List ℕ) (c : Cursor) (s′ : List ℕ) (c′ : Cursor) : Type 0 where
-  pub stored : s′ ≡ sets s (9 * c .row) (row kind n k 0 (c .row + 1) t w)
+  pub stored : s′ ≡ sets s (PLACES * c .row) (row kind n k 0 (c .row + 1) t w)
   pub moved : c′ ≡ cursor (c .row + 1) (c .number) (c .pos) (c .placed)
 
 -- the row of a node with parts is written, as one without them, and the node's numbers are taken
 pub record Opened (kind n k taken : ℕ) (s : List ℕ) (c : Cursor) (s′ : List ℕ) (c′ : Cursor) : Type 0 where
-  pub stored : s′ ≡ sets s (9 * c .row) (row kind n k 0 (c .row + 1) noText 0)
+  pub stored : s′ ≡ sets s (PLACES * c .row) (row kind n k 0 (c .row + 1) noText 0)
   pub moved : c′ ≡ cursor (c .row + 1) (c .number + taken) (c .pos) (c .placed)

@@ -4,16 +4,23 @@ ghost use Rattle.rows.specs.Node.{wrapParent, comment, str, ascii, line, emptyL
 ghost use Rattle.state.specs.Act.{push};
 ghost use Rattle.state.specs.Laid.{text, top, Room, Laid};
 use crate::Cursor;
+use crate::kinds::ASCII;
+use crate::kinds::COMMENT;
+use crate::kinds::EMPTY_LINE;
+use crate::kinds::LINE;
+use crate::kinds::LINE_OR_SPACE;
+use crate::kinds::STR;
+use crate::kinds::WRAP_PARENT;
 use crate::store::plain_row;
 use crate::store::text_row;
-use rows::store::Bytes;
-use rows::store::Columns;
+use rows::units::Bytes;
+use rows::units::Columns;
 
 pub fn wrap_parent(store: &mut [u32], c: Cursor) -> Cursor
     requires { ⌜ Room (push wrapParent) c ⌝ }
     ensures { λ r. ⌜ Laid (push wrapParent) (now (store .entry)) c (now (store .exit)) r ⌝ }
 {
-    plain_row(store, c, 3, 0, 0)
+    plain_row(store, c, WRAP_PARENT, 0, 0)
 }
 
 // A comment of the source.
@@ -22,7 +29,7 @@ pub fn comment(store: &mut [u32], c: Cursor, start: u32, size: Bytes) -> Cursor
     requires { ⌜ size .0 ≤ top ⌝ }
     ensures { λ r. ⌜ Laid (push (comment (text 0 start (size .0)))) (now (store .entry)) c (now (store .exit)) r ⌝ }
 {
-    text_row(store, c, 4, 0, start, size, Columns(0))
+    text_row(store, c, COMMENT, 0, start, size, Columns(0))
 }
 
 // A text of the image, with its width.
@@ -32,7 +39,7 @@ pub fn str(store: &mut [u32], c: Cursor, start: u32, size: Bytes, width: Columns
     requires { ⌜ width .0 ≤ top ⌝ }
     ensures { λ r. ⌜ Laid (push (str (width .0) (text 1 start (size .0)))) (now (store .entry)) c (now (store .exit)) r ⌝ }
 {
-    text_row(store, c, 5, 1, start, size, width)
+    text_row(store, c, STR, 1, start, size, width)
 }
 
 // A part of the source.
@@ -41,26 +48,26 @@ pub fn ascii(store: &mut [u32], c: Cursor, start: u32, size: Bytes) -> Cursor
     requires { ⌜ size .0 ≤ top ⌝ }
     ensures { λ r. ⌜ Laid (push (ascii (text 0 start (size .0)))) (now (store .entry)) c (now (store .exit)) r ⌝ }
 {
-    text_row(store, c, 6, 0, start, size, Columns(0))
+    text_row(store, c, ASCII, 0, start, size, Columns(0))
 }
 
 pub fn line(store: &mut [u32], c: Cursor) -> Cursor
     requires { ⌜ Room (push line) c ⌝ }
     ensures { λ r. ⌜ Laid (push line) (now (store .entry)) c (now (store .exit)) r ⌝ }
 {
-    plain_row(store, c, 7, 0, 0)
+    plain_row(store, c, LINE, 0, 0)
 }
 
 pub fn empty_line(store: &mut [u32], c: Cursor) -> Cursor
     requires { ⌜ Room (push emptyLine) c ⌝ }
     ensures { λ r. ⌜ Laid (push emptyLine) (now (store .entry)) c (now (store .exit)) r ⌝ }
 {
-    plain_row(store, c, 8, 0, 0)
+    plain_row(store, c, EMPTY_LINE, 0, 0)
 }
 
 pub fn line_or_space(store: &mut [u32], c: Cursor) -> Cursor
     requires { ⌜ Room (push lineOrSpace) c ⌝ }
     ensures { λ r. ⌜ Laid (push lineOrSpace) (now (store .entry)) c (now (store .exit)) r ⌝ }
 {
-    plain_row(store, c, 9, 0, 0)
+    plain_row(store, c, LINE_OR_SPACE, 0, 0)
 }

@@ -1,4 +1,5 @@
 // Steps of layout: what they write to the store of rows, and how the cursor moves.
+mod kinds;
 pub mod leaves;
 pub mod parts;
 mod store;

@@ -9,12 +9,14 @@ ghost use Rattle.state.specs.Act.{push, says};
 ghost use Rattle.state.specs.Laid.{Room, Laid};
 ghost use Rattle.state.specs.Place.{Place};
 use crate::Cursor;
+use crate::kinds::ASCII;
+use crate::kinds::IF_WRAP;
 use crate::parts::close;
 use crate::parts::set_second;
 use crate::store::plain_row;
 use crate::store::text_row;
-use rows::store::Bytes;
-use rows::store::Columns;
+use rows::units::Bytes;
+use rows::units::Columns;
 
 pub const FILTERMAP: usize = 0;
 
@@ -187,7 +189,7 @@ pub fn word(store: &mut [u32], c: Cursor, k: usize) -> Cursor
     text_row(
         store,
         c,
-        6,
+        ASCII,
         2,
         place / 16,
         Bytes((place % 16) as usize),
@@ -200,7 +202,7 @@ pub fn if_wrap(store: &mut [u32], c: Cursor, number: u32, k: usize) -> Cursor
     requires { ⌜ Room (push (ifWrap number (ascii (word (getD table k ""))) (ascii (word "")))) c ⌝ }
     ensures { λ r. ⌜ Laid (push (ifWrap number (ascii (word (getD table k ""))) (ascii (word "")))) (now (store .entry)) c (now (store .exit)) r ⌝ }
 {
-    let d = plain_row(store, c, 10, number, 0);
+    let d = plain_row(store, c, IF_WRAP, number, 0);
     let e = word(store, d, k);
     let f = word(store, e, NO_WORD);
     set_second(store, c.row, e);

@@ -53,7 +53,7 @@ add-t29 c = omega (arith, enters _ _ _ _ _ _ _ _ _ (c .before .before .before .b
 returns-5 : tie.Need-returns-5
 returns-5 c =
     let k = kind-low _ _ _ _ _ _ _ _ _ (c .before .before .before .before .before .before .before .before .before .before .before .before .before .before .before .pre .0) in
-    leaf-follows _ _ _ _ _ _ _ (whole (c .before .before .before .before .before .before .before .before .before .before .before .before .before .before .before .args .frames .now) (c .before .before .before .before .before .before .before .before .before .before .before .before .before .before .before .args .r)) _ _ _ (omega (arith, c .before .before .before .before .before .before .before .before .place .ensures .0, c .before .before .before .before .if4 .left)) (omega (arith, c .before .before .before .before .before .before .before .before .place .ensures .0, c .before .before .before .before .before .before .if2 .left, c .before .before .before .before .before .if3 .left)) (c .before .before .before .before .before .before .before .before .before .before .before .before .before .before .before .pre .1) (c .before .before .leaf .ensures)
+    leaf-follows _ _ _ _ _ _ _ (whole (c .before .before .before .before .before .before .before .before .before .before .before .before .before .before .before .args .frames .now) (c .before .before .before .before .before .before .before .before .before .before .before .before .before .before .before .args .r)) _ _ _ (omega (arith, c .before .before .before .before .before .before .before .before .place .ensures .0, c .before .before .before .before .if4 .left)) (omega (arith, c .before .before .before .before .before .before .before .before .place .ensures .0, c .before .before .before .before .before .before .if2 .left, c .before .before .before .before .before .if3 .left)) (c .before .before .before .before .before .before .before .before .before .before .before .before .before .before .before .pre .1) (c .before .before .leaf .ensures _)
 
 pub enter-spec : {M : Type 1} → statement M
 enter-spec =

@@ -8,19 +8,19 @@ use Rattle.render.proofs.pen.end_line.Tie as tie
 add-emit : tie.Need-add-emit
 add-emit c =
     let e = c .before .before .before .before .copy .ensures .1 in
-    let f = text-fits (c .before .before .before .before .before .before .before .before .before .args .source .now) (c .before .before .before .before .before .before .before .before .before .args .image .now) (c .before .before .before .before .before .before .before .before .before .args .origin) (c .before .before .before .before .before .before .before .before .before .args .start) (c .before .before .before .before .before .before .before .before .before .args .size .0) in
+    let f = text-fits (c .before .before .before .before .before .before .before .before .before .args .source .now) (c .before .before .before .before .before .before .before .before .before .args .image .now) (c .before .before .before .before .before .before .before .before .before .args .t .origin) (c .before .before .before .before .before .before .before .before .before .args .t .start) (c .before .before .before .before .before .before .before .before .before .args .t .size .0) in
     omega (arith, c .before .before .before .before .before .before .before .before .before .pre .0 .at, c .before .before .before .before .before .before .before .before .before .pre .1 .1)
+
+add-t14 : tie.Need-add-t14
+add-t14 c =
+    let e = c .before .before .before .before .before .before .before .before .copy .ensures .1 in
+    let f = text-fits (c .before .before .before .before .before .before .before .before .before .before .before .before .before .args .source .now) (c .before .before .before .before .before .before .before .before .before .before .before .before .before .args .image .now) (c .before .before .before .before .before .before .before .before .before .before .before .before .before .args .t .origin) (c .before .before .before .before .before .before .before .before .before .before .before .before .before .args .t .start) (c .before .before .before .before .before .before .before .before .before .before .before .before .before .args .t .size .0) in
+    omega (arith, c .before .before .before .before .before .before .before .before .before .before .before .before .before .pre .0 .at, c .before .before .before .before .before .before .before .before .before .before .before .before .before .pre .1 .1)
 
 add-t16 : tie.Need-add-t16
 add-t16 c =
     let e = c .before .before .before .before .before .before .before .before .copy .ensures .1 in
-    let f = text-fits (c .before .before .before .before .before .before .before .before .before .before .before .before .before .args .source .now) (c .before .before .before .before .before .before .before .before .before .before .before .before .before .args .image .now) (c .before .before .before .before .before .before .before .before .before .before .before .before .before .args .origin) (c .before .before .before .before .before .before .before .before .before .before .before .before .before .args .start) (c .before .before .before .before .before .before .before .before .before .before .before .before .before .args .size .0) in
-    omega (arith, c .before .before .before .before .before .before .before .before .before .before .before .before .before .pre .0 .at, c .before .before .before .before .before .before .before .before .before .before .before .before .before .pre .1 .1)
-
-add-t18 : tie.Need-add-t18
-add-t18 c =
-    let e = c .before .before .before .before .before .before .before .before .copy .ensures .1 in
-    let f = text-fits (c .before .before .before .before .before .before .before .before .before .before .before .before .before .args .source .now) (c .before .before .before .before .before .before .before .before .before .before .before .before .before .args .image .now) (c .before .before .before .before .before .before .before .before .before .before .before .before .before .args .origin) (c .before .before .before .before .before .before .before .before .before .before .before .before .before .args .start) (c .before .before .before .before .before .before .before .before .before .before .before .before .before .args .size .0) in
+    let f = text-fits (c .before .before .before .before .before .before .before .before .before .before .before .before .before .args .source .now) (c .before .before .before .before .before .before .before .before .before .before .before .before .before .args .image .now) (c .before .before .before .before .before .before .before .before .before .before .before .before .before .args .t .origin) (c .before .before .before .before .before .before .before .before .before .before .before .before .before .args .t .start) (c .before .before .before .before .before .before .before .before .before .before .before .before .before .args .t .size .0) in
     omega (arith, c .before .before .before .before .before .before .before .before .before .before .before .before .before .pre .0 .at, c .before .before .before .before .before .before .before .before .before .before .before .before .before .pre .1 .1)
 
 returns : tie.Need-returns
@@ -33,7 +33,7 @@ end-line-spec =
     (λ c κs. search needs)
     add-emit
     (λ c κs. search needs)
+    add-t14
     add-t16
-    add-t18
     (λ c. search needs)
     returns)

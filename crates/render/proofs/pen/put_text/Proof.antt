@@ -5,10 +5,10 @@ use borrow.Author.Needs.{needs}
 use Rattle.render.proofs.pen.put_text.Statement.{statement}
 use Rattle.render.proofs.pen.put_text.Tie as tie
 
-add-t16 : tie.Need-add-t16
-add-t16 c =
+add-t14 : tie.Need-add-t14
+add-t14 c =
     let e = c .before .before .before .before .before .copy .ensures .1 in
-    let f = text-fits (c .before .before .before .before .before .before .before .before .before .before .args .source .now) (c .before .before .before .before .before .before .before .before .before .before .args .image .now) (c .before .before .before .before .before .before .before .before .before .before .args .origin) (c .before .before .before .before .before .before .before .before .before .before .args .start) (c .before .before .before .before .before .before .before .before .before .before .args .size .0) in
+    let f = text-fits (c .before .before .before .before .before .before .before .before .before .before .args .source .now) (c .before .before .before .before .before .before .before .before .before .before .args .image .now) (c .before .before .before .before .before .before .before .before .before .before .args .t .origin) (c .before .before .before .before .before .before .before .before .before .before .args .t .start) (c .before .before .before .before .before .before .before .before .before .before .args .t .size .0) in
     omega (arith, c .before .before .before .before .before .before .before .before .before .before .pre .0 .at, c .before .before .before .before .before .before .before .before .before .before .pre .1 .1 .0)
 
 returns : tie.Need-returns
@@ -20,6 +20,6 @@ put-text-spec =
     (tie.spec
     (λ c κs. search needs)
     (λ c. search needs)
-    add-t16
+    add-t14
     (λ c. search needs)
     returns)

@@ -1,0 +1,17 @@
+-- The limits of rows.
+use Prim.Native.Nat.{ℕ}
+
+-- "rendered rows 2,097,152 and 256 deep"
+abbrev pub MAX-ROWS : ℕ
+MAX-ROWS = 2097152
+
+abbrev pub MAX-DEPTH : ℕ
+MAX-DEPTH = 256
+
+-- 2 ^ 32: what each place of a row is below
+abbrev pub CELL-LIMIT : ℕ
+CELL-LIMIT = 4294967296
+
+-- 2 ^ 54: what the width of rows is below, being a sum of `MAX-ROWS` places at most
+abbrev pub WIDTH-LIMIT : ℕ
+WIDTH-LIMIT = 18014398509481984

@@ -1,0 +1,4 @@
+// The limits of rows: "rendered rows 2,097,152 and 256 deep".
+pub const MAX_ROWS: usize = 2097152;
+
+pub const MAX_DEPTH: usize = 256;
