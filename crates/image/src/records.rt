@@ -99,7 +99,15 @@ fn read_child(s: &[u8], b: &[u8], v: usize, left: u32, p: usize, at: usize, end:
 }
 
 // Reads a record with all that is in it.
-pub(crate) fn read_record(s: &[u8], b: &[u8], v: usize, left: u32, p: usize, at: usize, end: usize) -> Step
+pub(crate) fn read_record(
+    s: &[u8],
+    b: &[u8],
+    v: usize,
+    left: u32,
+    p: usize,
+    at: usize,
+    end: usize,
+) -> Step
     requires { ⌜ (at ≤ end) × (end ≤ length (now b)) ⌝ }
     ensures { λ r. ⌜ r ≡ stepOf (recordAt (now (s .entry)) (now (b .entry)) v left p at end) ⌝ }
 {

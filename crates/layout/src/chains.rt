@@ -73,7 +73,14 @@ fn between(store: &mut [u32], c: Cursor, first: bool, whitespace: bool) -> Curso
 }
 
 // What comes before the right operand of the operator whose symbol is at `at`.
-pub(crate) fn operator(store: &mut [u32], c: Cursor, s: &[u8], b: &[u8], at: usize, first: bool) -> Cursor
+pub(crate) fn operator(
+    store: &mut [u32],
+    c: Cursor,
+    s: &[u8],
+    b: &[u8],
+    at: usize,
+    first: bool,
+) -> Cursor
     requires { ⌜ Has OperatorAt (operatorRule first) (now s) (now b) at c ⌝ }
     ensures { λ r. ⌜ LaidAs OperatorAt (operatorRule first) (now (s .entry)) (now (b .entry)) at (now (store .entry)) c (now (store .exit)) r ⌝ }
 {
