@@ -30,7 +30,7 @@ commentsOf b = pairsAt b (be16 b 5) 7
 
 -- what layout is given by a source and an image: an identifier measures the width that the image supplies
 abbrev pub given : List ℕ → List ℕ → Given
-given s b = record { source = s; image = b; comments = commentsOf b; columns = λ i. i .width }
+given s b = record { source = s; image = b; comments = commentsOf b; columns = λ width text. width }
 
 -- the comment list lies within the image
 abbrev pub ListFits : List ℕ → Type 0

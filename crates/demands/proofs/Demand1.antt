@@ -11,14 +11,14 @@ use lib.ListN.{length}
 use Rattle.refusals.specs.Refusals.{Refusal, when, whenFound, any, first, isOneOf, unless}
 use Rattle.image.specs.Read.{Read, got, bad, Image, readAll, readNumbers, outcome, header, sourceFits}
 use Rattle.image.proofs.Numbers.{read-numbers}
-use Rattle.cut.specs.Run.{answerBy, laidOut, written}
-use Rattle.cut.specs.Parts as cut
-use Rattle.format.specs.Parts.{parts, refusalOf, renderImage}
-use Rattle.format.specs.Demands.{rulesOf}
-use Rattle.format.specs.File.{fileRows, fileMarks, fileAnswerBy, formatted, laidRefusal, fileRefusal, drawnDue, rowsDue, marksDue}
+use Rattle.cut_rule.specs.Run.{answerBy, laidOut, written}
+use Rattle.cut_rule.specs.Parts as cut
+use Rattle.plain_run.specs.Parts.{parts, refusalOf, renderImage}
+use Rattle.plain_run.specs.Demands.{rulesOf}
+use Rattle.plain_run.specs.File.{fileRows, fileMarks, fileAnswerBy, formatted, laidRefusal, fileRefusal, drawnDue, rowsDue, marksDue}
 use Rattle.file.specs.Whole.{sourceOf, imageOf, frameFits, frameRefusal}
-use Rattle.laying.specs.Calls as layout
-use Rattle.rendering.specs.Calls as render
+use Rattle.layout_call.specs.Calls as layout
+use Rattle.render_call.specs.Calls as render
 use Rattle.reply.specs.Reply.{frameTable, programRoom}
 use Rattle.demands.specs.Demand1.{layoutNumbers, renderNumbers, fileNumbers, frameNumbers, readTold, callTold, fileTold, Answered, Check, Layout, Render, File, Frame, Program, Demand1}
 

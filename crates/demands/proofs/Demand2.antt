@@ -9,21 +9,21 @@ use native.Mathlib.Omega.{arith}
 use lib.ListN.{length, take}
 use Rattle.state.specs.Act.{Out}
 use Rattle.refusals.specs.Refusals.{Refusal, unless}
-use Rattle.cut.specs.Rules.{Laid}
-use Rattle.cut.specs.Run.{onto, Answer, answerBy, laidOut, written}
-use Rattle.cut.specs.Entries.{renderAnswer, renderMarks, renderOutput}
-use Rattle.cut.specs.Parts as cut
-use Rattle.cut.proofs.Table.{layout-told}
-use Rattle.format.specs.Parts.{parts}
-use Rattle.format.specs.Demands.{rulesOf, Gives, laidTo}
-use Rattle.format.specs.File.{built, drawnDue, laidRefusal, refusalIn, fileRefusal, fileAnswerBy, formatted}
-use Rattle.format.proofs.Demands.{due-is-fmt-parsed, laid-within-limits}
-use Rattle.format.proofs.File.{storeLeft, stateDue, renderedDue, layout-answer-due, layout-store-due, render-answer-due, render-marks-due, render-output-due}
-use Rattle.laying.specs.declared.LayoutState.{LayoutState}
-use Rattle.laying.specs.declared.Laying.the-variants as laying
-use Rattle.laying.specs.Calls as layout
-use Rattle.laying.specs.Whole as layoutPromise
-use Rattle.rendering.specs.Calls as render
+use Rattle.cut_rule.specs.Rules.{Laid}
+use Rattle.cut_rule.specs.Run.{onto, Answer, answerBy, laidOut, written}
+use Rattle.cut_rule.specs.Entries.{renderAnswer, renderMarks, renderOutput}
+use Rattle.cut_rule.specs.Parts as cut
+use Rattle.cut_rule.proofs.Table.{layout-told}
+use Rattle.plain_run.specs.Parts.{parts}
+use Rattle.plain_run.specs.Demands.{rulesOf, Gives, laidTo}
+use Rattle.plain_run.specs.File.{built, drawnDue, laidRefusal, refusalIn, fileRefusal, fileAnswerBy, formatted}
+use Rattle.plain_run.proofs.Demands.{due-is-fmt-parsed, laid-within-limits}
+use Rattle.plain_run.proofs.File.{storeLeft, stateDue, renderedDue, layout-answer-due, layout-store-due, render-answer-due, render-marks-due, render-output-due}
+use Rattle.layout_call.specs.declared.LayoutState.{LayoutState}
+use Rattle.layout_call.specs.declared.Laying.the-variants as laying
+use Rattle.layout_call.specs.Calls as layout
+use Rattle.layout_call.specs.Whole as layoutPromise
+use Rattle.render_call.specs.Calls as render
 use Rattle.demands.specs.Fresh.{freshLayout, freshRender}
 use Rattle.demands.specs.Demand2.{declared, LaidAs, AtStop, Closed, Rendered, File, Demand2}
 

@@ -6,21 +6,21 @@ use mathlib.Core.Option.{some}
 use mathlib.Core.List.{List, [], _∷_, map, append-nil}
 use Prim.Native.Nat.{ℕ}
 use lib.ListN.{length}
-use Rattle.cut.specs.Run.{Carried, Answer, layoutCall, renderCall, start, call, run, answer, answers}
-use Rattle.cut.specs.Entries.{layoutAnswer, layoutNext, renderNext, leftNext, writtenOf, entryCall}
-use Rattle.cut.specs.CutRule.{CommentsKept}
-use Rattle.cut.proofs.Entries.{entries-are-calls}
-use Rattle.format.specs.Parts.{listed}
-use Rattle.format.specs.Demands.{rulesOf}
-use Rattle.format.proofs.Demands.{rules-cut}
-use Rattle.laying.specs.declared.Laying.{Laying}
-use Rattle.laying.specs.declared.Laying.the-variants as laying
-use Rattle.laying.specs.Calls as layout
-use Rattle.laying.specs.Whole as layoutPromise
-use Rattle.rendering.specs.declared.Rendering.{Rendering}
-use Rattle.rendering.specs.declared.Rendering.the-variants as rendering
-use Rattle.rendering.specs.Calls as render
-use Rattle.rendering.specs.Whole as renderPromise
+use Rattle.cut_rule.specs.Run.{Carried, Answer, layoutCall, renderCall, start, call, run, answer, answers}
+use Rattle.cut_rule.specs.Entries.{layoutAnswer, layoutNext, renderNext, leftNext, writtenOf, entryCall}
+use Rattle.cut_rule.specs.CutRule.{CommentsKept}
+use Rattle.cut_rule.proofs.Entries.{entries-are-calls}
+use Rattle.plain_run.specs.Parts.{listed}
+use Rattle.plain_run.specs.Demands.{rulesOf}
+use Rattle.plain_run.proofs.Demands.{rules-cut}
+use Rattle.layout_call.specs.declared.Laying.{Laying}
+use Rattle.layout_call.specs.declared.Laying.the-variants as laying
+use Rattle.layout_call.specs.Calls as layout
+use Rattle.layout_call.specs.Whole as layoutPromise
+use Rattle.render_call.specs.declared.Rendering.{Rendering}
+use Rattle.render_call.specs.declared.Rendering.the-variants as rendering
+use Rattle.render_call.specs.Calls as render
+use Rattle.render_call.specs.Whole as renderPromise
 use Rattle.demands.specs.Demand3.{Caller, fresh, Made, laid, rendered, Promised, after, afterAll, AllPromised, callOf, answerOf, held, Demand3}
 
 module _ (s b : List ℕ) where

@@ -12,17 +12,17 @@ use lib.Seq.{sets, sets-eq}
 use borrow.Author.Tests.{eqb-true}
 use Rattle.refusals.specs.Refusals.{Refusal, isOneOf}
 use Rattle.image.specs.Read.{Read, got, bad, Image, readAll, readNumbers, outcome}
-use Rattle.cut.specs.Run.{Carried, answerBy, laidOut, written, layoutCall, renderCall, start, call, run}
-use Rattle.cut.specs.Entries.{renderAnswer, layoutNext, renderNext, leftNext, writtenOf, entryCall}
-use Rattle.cut.specs.CutRule.{CommentsKept}
-use Rattle.cut.specs.Parts as cut
-use Rattle.cut.proofs.Entries.{entries-are-calls}
-use Rattle.format.specs.Parts.{refusalOf, listed}
-use Rattle.format.specs.Demands.{rulesOf}
-use Rattle.format.specs.File.{fileRefusal, fileAnswerBy, formatted}
-use Rattle.format.proofs.Demands.{rules-cut}
-use Rattle.laying.specs.Calls as layout
-use Rattle.rendering.specs.Calls as render
+use Rattle.cut_rule.specs.Run.{Carried, answerBy, laidOut, written, layoutCall, renderCall, start, call, run}
+use Rattle.cut_rule.specs.Entries.{renderAnswer, layoutNext, renderNext, leftNext, writtenOf, entryCall}
+use Rattle.cut_rule.specs.CutRule.{CommentsKept}
+use Rattle.cut_rule.specs.Parts as cut
+use Rattle.cut_rule.proofs.Entries.{entries-are-calls}
+use Rattle.plain_run.specs.Parts.{refusalOf, listed}
+use Rattle.plain_run.specs.Demands.{rulesOf}
+use Rattle.plain_run.specs.File.{fileRefusal, fileAnswerBy, formatted}
+use Rattle.plain_run.proofs.Demands.{rules-cut}
+use Rattle.layout_call.specs.Calls as layout
+use Rattle.render_call.specs.Calls as render
 use Rattle.exports.specs.Numbers.{flag, bit, layoutState, renderState, told, toldRead, toldFile}
 use Rattle.exports.specs.Calls.{Lays, Renders}
 use Rattle.demands.specs.Demand1.{layoutNumbers, renderNumbers, fileNumbers}

@@ -13,20 +13,20 @@ use Rattle.refusals.specs.Refusals.{Refusal, isOneOf}
 use Rattle.image.specs.Read.{readAll, readNumbers, Outcome, outcome, outcomeOf}
 use Rattle.image.specs.Read as image
 use Rattle.image.specs.declared.Answer as check
-use Rattle.cut.specs.Run.{Answer, laidOut, written}
-use Rattle.cut.specs.Run as cut
-use Rattle.format.specs.Parts.{refusalOf}
-use Rattle.format.specs.Demands.{rulesOf}
-use Rattle.format.specs.File.{FileAnswer, formatted, fileRefusal}
-use Rattle.format.specs.File as file
-use Rattle.laying.specs.declared.LayoutState.{LayoutState}
-use Rattle.laying.specs.declared.Laying.{Laying}
-use Rattle.laying.specs.Calls as layout
-use Rattle.laying.specs.Whole as layoutPromise
-use Rattle.rendering.specs.declared.RenderState.{RenderState}
-use Rattle.rendering.specs.declared.Rendering.{Rendering}
-use Rattle.rendering.specs.Calls as render
-use Rattle.rendering.specs.Whole as renderPromise
+use Rattle.cut_rule.specs.Run.{Answer, laidOut, written}
+use Rattle.cut_rule.specs.Run as cut
+use Rattle.plain_run.specs.Parts.{refusalOf}
+use Rattle.plain_run.specs.Demands.{rulesOf}
+use Rattle.plain_run.specs.File.{FileAnswer, formatted, fileRefusal}
+use Rattle.plain_run.specs.File as file
+use Rattle.layout_call.specs.declared.LayoutState.{LayoutState}
+use Rattle.layout_call.specs.declared.Laying.{Laying}
+use Rattle.layout_call.specs.Calls as layout
+use Rattle.layout_call.specs.Whole as layoutPromise
+use Rattle.render_call.specs.declared.RenderState.{RenderState}
+use Rattle.render_call.specs.declared.Rendering.{Rendering}
+use Rattle.render_call.specs.Calls as render
+use Rattle.render_call.specs.Whole as renderPromise
 use Rattle.file.specs.declared.Formatted.{Formatted}
 use Rattle.file.specs.Whole.{answerOf, Formats, FormatsFrame}
 use Rattle.reply.specs.Reply.{frameTable, programRefusal}
@@ -76,14 +76,14 @@ abbrev pub Check : Type 0
 Check = (s b : List ℕ) (r : check.Answer) → outcomeOf r ≡ outcome (readAll s b)
     → Answered readNumbers (refusalOf (readAll s b)) (readTold (outcomeOf r)) (Unit {0})
 
--- `laying::layout_call`
+-- `layout_call::layout_call`
 abbrev pub Layout : Type 0
 Layout = (s b : List ℕ) (state : LayoutState) (stop : ℕ) (close : Bool) (store : List ℕ) (r : Laying) (store2 : List ℕ)
     → layoutPromise.Called s b state stop close store r store2
     → Answered layoutNumbers (rulesOf s b .layout-refusal (layout.args stop close) (layout.toState state) store) (callTold s b (layout.answerOf s b r))
     (store2 ≡ store)
 
--- `rendering::render_call`
+-- `render_call::render_call`
 abbrev pub Render : Type 0
 Render = (s b : List ℕ) (state : RenderState) (stop : ℕ) (store marks out : List ℕ) (r : Rendering) (store2 marks2 out2 : List ℕ)
     → renderPromise.Called s b state stop store marks out r store2 marks2 out2

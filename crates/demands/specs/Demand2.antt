@@ -1,8 +1,8 @@
 -- Demand 2: "For an accepted tree the rows, marks, text and comments left equal what `fmt_parsed` builds and renders." proofs/Demand2.antt proves it.
 --
 -- Of the two calls and of a whole file, by what they promise. What `fmt_parsed` builds: `fmtParsed` (crates/layout/specs/Layout.antt), what it has
--- when its loop reaches a declaration: `upTo` (crates/facts/specs/Accepted.antt); what `Renderer` makes of it: `renders`
--- (crates/renderer/specs/Renderer.antt), for a whole document `drawnDue` (crates/format/specs/File.antt).
+-- when its loop reaches a declaration: `upTo` (crates/layout_facts/specs/Accepted.antt); what `Renderer` makes of it: `renders`
+-- (crates/renderer_rules/specs/Renderer.antt), for a whole document `drawnDue` (crates/plain_run/specs/File.antt).
 use mathlib.Core.Path.{_≡_}
 use mathlib.Core.Bool.{Bool, true, false}
 use mathlib.Core.List.{List}
@@ -15,17 +15,17 @@ use Rattle.rows.specs.declared.units.Bytes.{Bytes}
 use Rattle.state.specs.Act.{Out}
 use Rattle.comments.specs.Listed.{commentsOf, given}
 use Rattle.layout.specs.Layout.{fmtParsed}
-use Rattle.facts.specs.Accepted.{fresh, upTo}
-use Rattle.cut.specs.Run.{onto}
-use Rattle.format.specs.Parts.{treeOf}
-use Rattle.format.specs.Demands.{LaidWithinLimits}
-use Rattle.format.specs.File.{built, drawnDue}
-use Rattle.laying.specs.declared.LayoutState.{LayoutState}
-use Rattle.laying.specs.declared.Laying.the-variants as laying
-use Rattle.laying.specs.Whole as layoutPromise
-use Rattle.rendering.specs.declared.RenderState.{RenderState}
-use Rattle.rendering.specs.declared.Rendering.the-variants as rendering
-use Rattle.rendering.specs.Whole as renderPromise
+use Rattle.layout_facts.specs.Accepted.{fresh, upTo}
+use Rattle.cut_rule.specs.Run.{onto}
+use Rattle.plain_run.specs.Parts.{treeOf}
+use Rattle.plain_run.specs.Demands.{LaidWithinLimits}
+use Rattle.plain_run.specs.File.{built, drawnDue}
+use Rattle.layout_call.specs.declared.LayoutState.{LayoutState}
+use Rattle.layout_call.specs.declared.Laying.the-variants as laying
+use Rattle.layout_call.specs.Whole as layoutPromise
+use Rattle.render_call.specs.declared.RenderState.{RenderState}
+use Rattle.render_call.specs.declared.Rendering.the-variants as rendering
+use Rattle.render_call.specs.Whole as renderPromise
 use Rattle.file.specs.declared.Formatted.the-variants as answer
 use Rattle.file.specs.Whole.{Formats}
 use Rattle.demands.specs.Fresh.{freshLayout, freshRender}

@@ -1,28 +1,28 @@
--- Demand 3, the cut rule, of the two public calls, `laying::layout_call` and `rendering::render_call`, by what they promise and nothing else:
+-- Demand 3, the cut rule, of the two public calls, `layout_call::layout_call` and `render_call::render_call`, by what they promise and nothing else:
 -- whatever list of calls a caller makes, refused ones included, in which no accepted call reads rows not yet laid out, what it then holds is what
--- the plain run of document 01 has due. proofs/Demand3.antt proves it. (Without that condition it is false: crates/cut/proofs/Example.antt.)
--- What is due: crates/cut/specs/Plain.antt; by which rules and which table: crates/format/specs/Parts.antt.
+-- the plain run of document 01 has due. proofs/Demand3.antt proves it. (Without that condition it is false: crates/cut_rule/proofs/Example.antt.)
+-- What is due: crates/cut_rule/specs/Plain.antt; by which rules and which table: crates/plain_run/specs/Parts.antt.
 use mathlib.Core.Path.{_≡_}
 use mathlib.Core.Bool.{Bool}
 use mathlib.Core.Option.{Option, none, some}
 use mathlib.Core.List.{List, [], _∷_, _++_, map}
 use Prim.Native.Nat.{ℕ}
 use lib.ListN.{length, take}
-use Rattle.cut.specs.Run.{Call, layoutCall, renderCall, Carried, Answer, start}
-use Rattle.cut.specs.Plain.{AllReadLaid, atFirst, due, plain, answersDue}
-use Rattle.cut.specs.CutRule.{CommentsKept}
-use Rattle.format.specs.Parts.{listed}
-use Rattle.format.specs.Demands.{rulesOf}
-use Rattle.laying.specs.declared.LayoutState.{LayoutState}
-use Rattle.laying.specs.declared.Laying.{Laying}
-use Rattle.laying.specs.declared.Laying.the-variants as laying
-use Rattle.laying.specs.Calls as layout
-use Rattle.laying.specs.Whole as layoutPromise
-use Rattle.rendering.specs.declared.RenderState.{RenderState}
-use Rattle.rendering.specs.declared.Rendering.{Rendering}
-use Rattle.rendering.specs.declared.Rendering.the-variants as rendering
-use Rattle.rendering.specs.Calls as render
-use Rattle.rendering.specs.Whole as renderPromise
+use Rattle.cut_rule.specs.Run.{Call, layoutCall, renderCall, Carried, Answer, start}
+use Rattle.cut_rule.specs.Plain.{AllReadLaid, atFirst, due, plain, answersDue}
+use Rattle.cut_rule.specs.CutRule.{CommentsKept}
+use Rattle.plain_run.specs.Parts.{listed}
+use Rattle.plain_run.specs.Demands.{rulesOf}
+use Rattle.layout_call.specs.declared.LayoutState.{LayoutState}
+use Rattle.layout_call.specs.declared.Laying.{Laying}
+use Rattle.layout_call.specs.declared.Laying.the-variants as laying
+use Rattle.layout_call.specs.Calls as layout
+use Rattle.layout_call.specs.Whole as layoutPromise
+use Rattle.render_call.specs.declared.RenderState.{RenderState}
+use Rattle.render_call.specs.declared.Rendering.{Rendering}
+use Rattle.render_call.specs.declared.Rendering.the-variants as rendering
+use Rattle.render_call.specs.Calls as render
+use Rattle.render_call.specs.Whole as renderPromise
 use Rattle.demands.specs.Fresh.{freshLayout, freshRender}
 
 -- ---- a caller

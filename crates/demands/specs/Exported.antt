@@ -9,14 +9,14 @@ use lib.Dec.{eqb}
 use lib.ListN.{length, getD, take, drop, replicate}
 use Rattle.refusals.specs.Refusals.{Refusal, isOneOf}
 use Rattle.image.specs.Read.{readAll, readNumbers, outcome}
-use Rattle.cut.specs.Run.{Call, layoutCall, renderCall, Carried, start}
-use Rattle.cut.specs.Plain.{AllReadLaid, atFirst, due, plain}
-use Rattle.cut.specs.CutRule.{CommentsKept}
-use Rattle.format.specs.Parts.{refusalOf, listed}
-use Rattle.format.specs.Demands.{rulesOf}
-use Rattle.format.specs.File.{fileRefusal}
-use Rattle.laying.specs.Calls as layout
-use Rattle.rendering.specs.Calls as render
+use Rattle.cut_rule.specs.Run.{Call, layoutCall, renderCall, Carried, start}
+use Rattle.cut_rule.specs.Plain.{AllReadLaid, atFirst, due, plain}
+use Rattle.cut_rule.specs.CutRule.{CommentsKept}
+use Rattle.plain_run.specs.Parts.{refusalOf, listed}
+use Rattle.plain_run.specs.Demands.{rulesOf}
+use Rattle.plain_run.specs.File.{fileRefusal}
+use Rattle.layout_call.specs.Calls as layout
+use Rattle.render_call.specs.Calls as render
 use Rattle.exports.specs.Numbers.{flag, layoutState, renderState, toldRead}
 use Rattle.exports.specs.Calls.{Lays, Renders, FormatsFile}
 use Rattle.demands.specs.Demand1.{layoutNumbers, renderNumbers, fileNumbers}

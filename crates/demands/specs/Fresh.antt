@@ -1,7 +1,7 @@
 -- "Fresh is all 0."
 use mathlib.Core.Bool.{false}
-use Rattle.laying.specs.declared.LayoutState.{LayoutState}
-use Rattle.rendering.specs.declared.RenderState.{RenderState}
+use Rattle.layout_call.specs.declared.LayoutState.{LayoutState}
+use Rattle.render_call.specs.declared.RenderState.{RenderState}
 
 abbrev pub freshLayout : LayoutState
 freshLayout = record { begun = false; closed = false; declaration = 0; row = 0; number = 0; placed = 0; position = 0 }

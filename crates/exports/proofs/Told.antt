@@ -7,17 +7,17 @@ use Prim.Native.Nat.{ℕ}
 use lib.ListN.{length}
 use Rattle.image.specs.declared.Answer.{Answer}
 use Rattle.image.specs.Read.{Outcome, outcome, outcomeOf, readAll}
-use Rattle.cut.specs.Run as cut
-use Rattle.format.specs.Demands.{rulesOf}
-use Rattle.laying.specs.declared.LayoutState.{LayoutState}
-use Rattle.laying.specs.declared.Laying.{Laying}
-use Rattle.laying.specs.Calls as laying
-use Rattle.laying.specs.Whole as layout
-use Rattle.rendering.specs.declared.RenderState.{RenderState}
-use Rattle.rendering.specs.declared.Rendering.{Rendering}
-use Rattle.rendering.specs.Calls as rendering
-use Rattle.rendering.specs.Whole as render
-use Rattle.format.specs.File.{FileAnswer}
+use Rattle.cut_rule.specs.Run as cut
+use Rattle.plain_run.specs.Demands.{rulesOf}
+use Rattle.layout_call.specs.declared.LayoutState.{LayoutState}
+use Rattle.layout_call.specs.declared.Laying.{Laying}
+use Rattle.layout_call.specs.Calls as laying
+use Rattle.layout_call.specs.Whole as layout
+use Rattle.render_call.specs.declared.RenderState.{RenderState}
+use Rattle.render_call.specs.declared.Rendering.{Rendering}
+use Rattle.render_call.specs.Calls as rendering
+use Rattle.render_call.specs.Whole as render
+use Rattle.plain_run.specs.File.{FileAnswer}
 use Rattle.file.specs.declared.Formatted.{Formatted}
 use Rattle.file.specs.Whole as file
 use Rattle.exports.specs.Numbers.{flag, layoutState, renderState, told, toldFile, toldRead}

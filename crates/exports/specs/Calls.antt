@@ -3,11 +3,11 @@ use mathlib.Core.Path.{_≡_}
 use Prim.Native.Nat.{ℕ}
 use mathlib.Core.List.{List}
 use lib.ListN.{length}
-use Rattle.cut.specs.Entries.{layoutAnswer, layoutStore, renderAnswer, renderMarks, renderOutput}
-use Rattle.format.specs.Demands.{rulesOf}
-use Rattle.format.specs.File.{fileOutput, fileAnswer}
-use Rattle.laying.specs.Calls as laying
-use Rattle.rendering.specs.Calls as rendering
+use Rattle.cut_rule.specs.Entries.{layoutAnswer, layoutStore, renderAnswer, renderMarks, renderOutput}
+use Rattle.plain_run.specs.Demands.{rulesOf}
+use Rattle.plain_run.specs.File.{fileOutput, fileAnswer}
+use Rattle.layout_call.specs.Calls as laying
+use Rattle.render_call.specs.Calls as rendering
 use Rattle.exports.specs.Numbers.{flag, layoutState, renderState, told, toldFile}
 
 -- a layout call: the store, and the answer's numbers

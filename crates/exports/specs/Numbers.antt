@@ -7,12 +7,12 @@ use lib.Dec.{eqb}
 use lib.ListN.{set, getD}
 use lib.Seq.{sets}
 use Rattle.image.specs.Read as image
-use Rattle.cut.specs.Run.{Answer, refused, laidOut, written}
-use Rattle.cut.specs.Parts as cut
-use Rattle.format.specs.Demands.{rulesOf}
-use Rattle.format.specs.File as file
-use Rattle.laying.specs.declared.LayoutState.{LayoutState}
-use Rattle.rendering.specs.declared.RenderState.{RenderState}
+use Rattle.cut_rule.specs.Run.{Answer, refused, laidOut, written}
+use Rattle.cut_rule.specs.Parts as cut
+use Rattle.plain_run.specs.Demands.{rulesOf}
+use Rattle.plain_run.specs.File as file
+use Rattle.layout_call.specs.declared.LayoutState.{LayoutState}
+use Rattle.render_call.specs.declared.RenderState.{RenderState}
 
 -- a refusal's number and place; or 0, the number of comments and the tree's offset
 abbrev pub toldRead : image.Outcome → List ℕ → List ℕ

@@ -14,10 +14,10 @@ use crate::numbers::render_state;
 use file::Formatted;
 use file::format_file;
 use image::Answer;
-use laying::Laying;
-use laying::layout_call;
-use rendering::Rendering;
-use rendering::render_call;
+use layout_call::Laying;
+use layout_call::layout_call;
+use render_call::Rendering;
+use render_call::render_call;
 
 // Whether a source and an image are accepted. `out` gets the refusal's number and place, or 0, the number of comments and the tree's
 // offset.

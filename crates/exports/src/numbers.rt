@@ -3,8 +3,8 @@ ghost use mathlib.Core.Path.{_≡_};
 ghost use mathlib.Core.List.{[], _∷_};
 ghost use lib.Seq.{sets};
 ghost use Rattle.exports.specs.Numbers.{flag as flagOf, bit as bitOf, layoutState, renderState};
-use laying::LayoutState;
-use rendering::RenderState;
+use layout_call::LayoutState;
+use render_call::RenderState;
 use rows::units::Bytes;
 use rows::units::Columns;
 

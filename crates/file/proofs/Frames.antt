@@ -11,7 +11,7 @@ use lib.Seq.{take-all}
 use borrow.Author.Tests.{le-leb, lt-leb}
 use Rattle.image.specs.Bytes.{be32}
 use Rattle.refusals.specs.Refusals.{Refusal, unless, when}
-use Rattle.format.specs.File.{fileOutput, fileAnswerBy, fileAnswer}
+use Rattle.plain_run.specs.File.{fileOutput, fileAnswerBy, fileAnswer}
 use Rattle.file.specs.Whole.{Formats, sourceOf, imageOf, frameFits, frameRefusal, FormatsFrame}
 use Rattle.file.specs.declared.Formatted.{Formatted}
 use Rattle.file.specs.declared.Formatted.the-variants as answer

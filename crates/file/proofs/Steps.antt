@@ -14,25 +14,25 @@ use Rattle.rows.specs.Rows.{rows}
 use Rattle.rows.specs.declared.units.Bytes.{Bytes}
 use Rattle.comments.specs.Listed.{commentsOf}
 use Rattle.refusals.specs.Refusals.{Refusal, unless, first, when}
-use Rattle.cut.specs.Run.{Answer, refused, laidOut, written, answerBy, onto}
-use Rattle.cut.specs.Entries.{layoutAnswer, layoutStore, renderAnswer, renderMarks, renderOutput}
-use Rattle.cut.specs.Parts as cut
-use Rattle.cut.specs.Parts.{layoutFresh, renderFresh, renderTable}
-use Rattle.format.specs.Parts.{parts, refusalOf}
-use Rattle.format.specs.Demands.{rulesOf}
-use Rattle.format.specs.File.{fileRows, fileMarks, built, rowsDue, marksDue, drawnDue, laidRefusal, refusalIn, fileRefusal, formatted, fileAnswerBy}
-use Rattle.format.proofs.File.{storeLeft, marksLeft, outputLeft, stateDue, renderedDue, layout-answer-due, layout-store-due, render-early-due, render-answer-due, render-marks-due, render-output-due}
-use Rattle.laying.specs.Calls as layouts
-use Rattle.laying.specs.Steps.{declared}
-use Rattle.laying.specs.Whole.{Called as LayoutCalled}
-use Rattle.laying.specs.declared.LayoutState.{LayoutState}
-use Rattle.laying.specs.declared.Laying.{Laying}
-use Rattle.laying.specs.declared.Laying.the-variants as laying
-use Rattle.rendering.specs.Calls as renders
-use Rattle.rendering.specs.Whole.{Checked, Called as RenderCalled}
-use Rattle.rendering.specs.declared.RenderState.{RenderState}
-use Rattle.rendering.specs.declared.Rendering.{Rendering}
-use Rattle.rendering.specs.declared.Rendering.the-variants as rendering
+use Rattle.cut_rule.specs.Run.{Answer, refused, laidOut, written, answerBy, onto}
+use Rattle.cut_rule.specs.Entries.{layoutAnswer, layoutStore, renderAnswer, renderMarks, renderOutput}
+use Rattle.cut_rule.specs.Parts as cut
+use Rattle.cut_rule.specs.Parts.{layoutFresh, renderFresh, renderTable}
+use Rattle.plain_run.specs.Parts.{parts, refusalOf}
+use Rattle.plain_run.specs.Demands.{rulesOf}
+use Rattle.plain_run.specs.File.{fileRows, fileMarks, built, rowsDue, marksDue, drawnDue, laidRefusal, refusalIn, fileRefusal, formatted, fileAnswerBy}
+use Rattle.plain_run.proofs.File.{storeLeft, marksLeft, outputLeft, stateDue, renderedDue, layout-answer-due, layout-store-due, render-early-due, render-answer-due, render-marks-due, render-output-due}
+use Rattle.layout_call.specs.Calls as layouts
+use Rattle.layout_call.specs.Steps.{declared}
+use Rattle.layout_call.specs.Whole.{Called as LayoutCalled}
+use Rattle.layout_call.specs.declared.LayoutState.{LayoutState}
+use Rattle.layout_call.specs.declared.Laying.{Laying}
+use Rattle.layout_call.specs.declared.Laying.the-variants as laying
+use Rattle.render_call.specs.Calls as renders
+use Rattle.render_call.specs.Whole.{Checked, Called as RenderCalled}
+use Rattle.render_call.specs.declared.RenderState.{RenderState}
+use Rattle.render_call.specs.declared.Rendering.{Rendering}
+use Rattle.render_call.specs.declared.Rendering.the-variants as rendering
 use Rattle.file.specs.Whole.{Formats}
 use Rattle.file.specs.declared.Formatted.the-variants as answer
 

@@ -8,7 +8,7 @@ use lib.Dec.{leb}
 use lib.ListN.{length, take, drop}
 use Rattle.image.specs.Bytes.{be32}
 use Rattle.refusals.specs.Refusals.{Refusal, unless, when}
-use Rattle.format.specs.File.{FileAnswer, refused, formatted, fileAnswerBy, fileAnswer, fileOutput}
+use Rattle.plain_run.specs.File.{FileAnswer, refused, formatted, fileAnswerBy, fileAnswer, fileOutput}
 use Rattle.file.specs.declared.Formatted.{Formatted}
 use Rattle.file.specs.declared.Formatted.the-variants as answer
 

@@ -1,21 +1,21 @@
 // Module 8: the whole run of one file, and of a frame that the program reads.
 ghost use mathlib.Core.Path.{_≡_};
 ghost use lib.ListN.{length};
-ghost use Rattle.cut.specs.Parts.{layoutFresh, renderFresh};
-ghost use Rattle.laying.specs.Calls.{toState as laidState};
-ghost use Rattle.laying.specs.Steps.{Accepts};
-ghost use Rattle.rendering.specs.Calls.{toState as renderedState};
+ghost use Rattle.cut_rule.specs.Parts.{layoutFresh, renderFresh};
+ghost use Rattle.layout_call.specs.Calls.{toState as laidState};
+ghost use Rattle.layout_call.specs.Steps.{Accepts};
+ghost use Rattle.render_call.specs.Calls.{toState as renderedState};
 ghost use Rattle.file.specs.Whole.{Formats, FormatsFrame};
 use image::Answer;
 use image::bytes::num32;
 use image::check;
-use laying::Laying;
-use laying::LayoutState;
-use laying::accepted;
-use laying::steps::count_declarations;
-use rendering::RenderState;
-use rendering::Rendering;
-use rendering::render_checked;
+use layout_call::Laying;
+use layout_call::LayoutState;
+use layout_call::accepted;
+use layout_call::steps::count_declarations;
+use render_call::RenderState;
+use render_call::Rendering;
+use render_call::render_checked;
 use rows::units::Bytes;
 use rows::units::Columns;
 

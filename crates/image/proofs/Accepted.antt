@@ -9,7 +9,7 @@ use lib.ListN.{length, getD}
 use lib.Dec.{ltb, leb, eqb}
 use borrow.Author.Tests.{leb-true, eqb-true, ltb-false}
 use Rattle.text.specs.Utf8.{wellFormed, prefix}
-use Rattle.text.proofs.Tests.{and-left, and-right}
+use Rattle.laws.proofs.Booleans.{and-left, and-right}
 use Rattle.image.specs.Bytes.{be16, be32}
 use Rattle.image.specs.Read.{Read, got, bad, bind, Tree, Image, header, comments, recordAt, treeAt, readTree, readImage, sourceFits, readAll, stepOf, answerOf}
 use Rattle.image.specs.declared.records.Step.the-variants.{Next}

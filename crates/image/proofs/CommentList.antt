@@ -11,7 +11,7 @@ use lib.ListN.{length}
 use lib.Dec.{leb, ltb}
 use borrow.Author.Tests.{leb-true, ltb-true}
 use Rattle.text.specs.Newlines.{isRange}
-use Rattle.text.proofs.Tests.{and-left, and-right}
+use Rattle.laws.proofs.Booleans.{and-left, and-right}
 use Rattle.image.specs.Bytes.{be16, be32}
 use Rattle.image.specs.Read.{got, bad, commentFits, commentsFrom, comments, stepOf}
 use Rattle.image.specs.declared.records.Step.the-variants.{Next}

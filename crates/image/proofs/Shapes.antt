@@ -10,7 +10,7 @@ use lib.Dec.{leb, ltb, eqb}
 use borrow.Author.Tests.{leb-true, ltb-true, eqb-false, eqb-true, ne-eqb, le-leb}
 use Rattle.text.specs.Utf8.{wellFormed}
 use Rattle.text.specs.Newlines.{isRange}
-use Rattle.text.proofs.Tests.{and-left, and-right}
+use Rattle.laws.proofs.Booleans.{and-left, and-right}
 use Rattle.image.specs.Bytes.{be32, part}
 use Rattle.image.specs.Grammar.{isList, isOptional, kindFits, payloadFits, firstChild, hasByte, topByte}
 use Rattle.image.specs.Read.{Read, got, bad, Head, headAt, stopAt, kindAt, shape, opens, skips}

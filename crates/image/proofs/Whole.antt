@@ -8,7 +8,7 @@ use native.Mathlib.Omega.{arith}
 use lib.ListN.{length, getD}
 use lib.Dec.{ltb, leb, eqb}
 use borrow.Author.Tests.{lt-ltb, le-ltb}
-use Rattle.text.proofs.Tests.{and-left, and-right}
+use Rattle.laws.proofs.Booleans.{and-left, and-right}
 use Rattle.image.specs.Bytes.{be16, be32}
 use Rattle.image.specs.Read.{Read, got, bad, bind, Tree, Image, header, widthBytes, comments, recordAt, treeAt, readTree, readImage, stepOf, answerOf}
 use Rattle.image.specs.declared.records.Step.the-variants.{Next, Fault}

@@ -11,7 +11,8 @@ use lib.ListN.{getD}
 use borrow.Author.Tests.{lt-ltb, leb-true}
 use Rattle.text.specs.Newlines.{isRange}
 use Rattle.text.specs.Utf8.{boundary}
-use Rattle.text.proofs.Tests.{below, below-at, and-left}
+use Rattle.laws.proofs.Booleans.{and-left}
+use Rattle.laws.proofs.Tables.{below, below-at}
 use Rattle.rows.specs.Words.{table}
 use Rattle.layout.specs.Layout.{symbol, assignSymbol, returnWord}
 

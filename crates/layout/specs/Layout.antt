@@ -17,7 +17,7 @@ use Rattle.tree.specs.Syntax.{value, Block, braces, MaybeBlock, noBlock, someBl
 use Rattle.tree.specs.Syntax.{Variants, noVariants, variant, Declaration, filterMap, const, recordDecl, enumDecl, function, test, importDecl}
 use Rattle.tree.specs.Syntax.{SyntaxTree}
 use Rattle.tree.specs.At.{formKind}
-use Rattle.rows.specs.Node.{str, ascii, line, emptyLine, lineOrSpace, wrapParent, ifWrap}
+use Rattle.rows.specs.Node.{Text, str, ascii, line, emptyLine, lineOrSpace, wrapParent, ifWrap}
 use Rattle.rows.specs.Words.{word}
 use Rattle.state.specs.Act.{Given, St, Out, Act, Asking, _⨟_, _⨟?_, skip, when, push, told, grouped, indented, indentedNext, called, says, content}
 use Rattle.comments.specs.Comments.{popWhitespace, popTrailingComment}
@@ -157,9 +157,15 @@ module _ (g : Given) where
   abbrev pub gap : ℕ → Bool → Bool → Bool → Act
   gap position a b c = told (popWhitespace g position a b c)
 
+  -- `Node::str`, of the image's texts: so many of its bytes, with the width that it supplies for them
+  abbrev pub imageStr : ℕ → ℕ → ℕ → Act
+  imageStr width start size =
+      let text : Text = record { origin = 1; start = start; size = size } in
+      push (str (g .columns width text) text)
+
   -- `Node::ident`
   abbrev pub ident : Ident → Act
-  ident i = push (str (g .columns i) (record { origin = 1; start = i .start; size = i .size }))
+  ident i = imageStr (i .width) (i .start) (i .size)
 
   -- ---- `separated`
   -- what comes before an element
@@ -475,8 +481,7 @@ module _ (g : Given) where
   unfoldable pub shebangRule : Option Ident → Act
   shebangRule none = skip
   shebangRule (some i) =
-      push (str (g .columns i) (record { origin = 1; start = i .start; size = trimEnd (g .image) (i .start) (i .start + i .size) - i .start }))
-      ⨟ push emptyLine
+      imageStr (i .width) (i .start) (trimEnd (g .image) (i .start) (i .start + i .size) - i .start) ⨟ push emptyLine
 
   unfoldable pub declarationsRule : List Declaration → Bool → Act
   declarationsRule [] first = skip

@@ -10,12 +10,10 @@ use lib.ListN.{length, getD, set, length-set, List·getD-eq-default}
 use lib.Seq.{set-out}
 use lib.Dec.{ltb}
 use borrow.Author.Tests.{lt-ltb, le-ltb, ne-eqb}
+use Rattle.laws.proofs.Numbers.{one-more}
 use Rattle.rows.specs.View.{cell}
 use Rattle.marks.proofs.Restored.{clear-length, restore-length}
 use Rattle.marks.specs.Marks.{clear, saved, cleared, restore, clearFrom, numbersOf, packed, unpacked, Held, held, rowAside, putAside, rowBack, putBack}
-
-one-more : (stop row : ℕ) → row < stop → stop - row ≡ suc (stop - (row + 1))
-one-more stop row h = omega arith
 
 none-left : (stop row : ℕ) → stop ≤ row → stop - row ≡ 0
 none-left stop row h = omega arith

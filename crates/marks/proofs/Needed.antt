@@ -6,6 +6,7 @@ use native.Mathlib.Omega.{arith}
 use native.Mathlib.Numerals.{add-one}
 use mathlib.Core.List.{List}
 use borrow.Author.Tests.{ne-eqb}
+use Rattle.laws.proofs.Numbers.{one-more}
 use Rattle.rows.specs.View.{cell}
 use Rattle.marks.specs.Marks.{rowMarks, marksNeeded}
 
@@ -37,9 +38,6 @@ needed-next s stop row h =
     ap (λ (n : ℕ). marksNeeded n s row) (one-more stop row h)
     ∙ needed-some (stop - (row + 1)) s row
     ∙ ap (λ (k : ℕ). max (rowMarks s row) (marksNeeded (stop - (row + 1)) s k)) (sym (add-one row))
-  where
-    one-more : (stop row : ℕ) → row < stop → stop - row ≡ suc (stop - (row + 1))
-    one-more stop row h = omega arith
 
 pub needing-more : (s : List ℕ) (from stop most row n most2 : ℕ) → Needing s from stop most row → row < stop → n ≡ rowMarks s row → most2 ≡ max most n
     → Needing s from stop most2 (row + 1)

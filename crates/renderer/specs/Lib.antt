@@ -1,9 +1,5 @@
-pub mod Call
-pub mod Check
-pub mod Frames
+pub mod Lent
 pub mod Limits
-pub mod Machine
-pub mod Most
-pub mod Page
-pub mod Renderer
-pub mod Safe
+pub mod Output
+pub mod Pen
+pub mod Run

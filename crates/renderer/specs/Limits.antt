@@ -1,17 +1,17 @@
--- The limits of a rendering's numbers.
+-- Limits that keep the sums of a rendering in range.
 use Prim.Native.Nat.{ℕ}
 
--- refusal 12: "`indent` or `next_indent` over 64; column over 72,057,594,037,927,936"
-abbrev pub MAX-INDENT : ℕ
-MAX-INDENT = 64
+-- `START-MARGIN`, and a step for each of `MAX-DEPTH` open rows
+abbrev pub MAX-MARGIN : ℕ
+MAX-MARGIN = 384
 
-abbrev pub MAX-COLUMN : ℕ
-MAX-COLUMN = 72057594037927936
+-- 2 ^ 60 and 2 ^ 61: what column and bytes are below where a row is entered, and inside it
+abbrev pub BEFORE-ROW : ℕ
+BEFORE-ROW = 1152921504606846976
 
--- what `indent` and `next_indent` of a state are together at most
-abbrev pub START-MARGIN : ℕ
-START-MARGIN = 128
+abbrev pub IN-ROW : ℕ
+IN-ROW = 2305843009213693952
 
--- 2 ^ 34: what a row adds at most to the column, and to the bytes
-abbrev pub ROW-GROWTH : ℕ
-ROW-GROWTH = 17179869184
+-- 2 ^ 55: what a width that is measured as far as there is room is below
+abbrev pub MEASURED-LIMIT : ℕ
+MEASURED-LIMIT = 36028797018963968

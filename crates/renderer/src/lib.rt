@@ -1,10 +1,15 @@
-// The rules of rendering, and the machine that follows them with a list of open rows.
-
-// An open row: whether its parts wrap; whether a second part is ahead (a `Call` in its callee) or is passed over (an `IfWrap` in its first
-// part); whether its end takes a step of the indent back that a `Call` made.
-pub struct Frame {
-    pub row: u32,
-    pub wrap: bool,
-    pub early: bool,
-    pub deep: bool,
-}
+// Rendering of rows.
+mod close;
+mod columns;
+pub mod frames;
+mod leaf;
+pub mod lent;
+pub mod machine;
+mod margin;
+mod marks;
+pub mod measure;
+mod open;
+pub mod output;
+pub mod pen;
+mod row_text;
+mod run;

@@ -14,12 +14,12 @@ use crate::states::layout_state;
 use crate::states::render_state;
 use crate::states::same_layout;
 use crate::states::same_render;
-use laying::Laying;
-use laying::LayoutState;
-use laying::layout_call;
-use rendering::RenderState;
-use rendering::Rendering;
-use rendering::render_call;
+use layout_call::Laying;
+use layout_call::LayoutState;
+use layout_call::layout_call;
+use render_call::RenderState;
+use render_call::Rendering;
+use render_call::render_call;
 
 // Where the next call is stored, the states that the calls so far left, the bytes that they wrote, and the first difference.
 pub(crate) struct Run {

@@ -11,12 +11,12 @@ use crate::stored::STOP;
 use crate::stored::STOPS;
 use crate::stored::declarations;
 use crate::stored::output_found;
-use laying::Laying;
-use laying::LayoutState;
-use laying::layout_call;
-use rendering::RenderState;
-use rendering::Rendering;
-use rendering::render_call;
+use layout_call::Laying;
+use layout_call::LayoutState;
+use layout_call::layout_call;
+use render_call::RenderState;
+use render_call::Rendering;
+use render_call::render_call;
 use rows::units::Columns;
 
 // The state that the last call answered, the comments left, and the first difference.

@@ -3,8 +3,8 @@ use crate::numbers::byte;
 use crate::numbers::eight;
 use crate::numbers::long;
 use crate::numbers::past;
-use laying::LayoutState;
-use rendering::RenderState;
+use layout_call::LayoutState;
+use render_call::RenderState;
 use rows::units::Columns;
 
 // How many bytes a layout state has.

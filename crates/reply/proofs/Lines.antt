@@ -10,7 +10,7 @@ use lib.ListN.{length, set, getD, drop, length-append, length-set, length-drop}
 use lib.Seq.{sets, drop-cons, length-sets}
 use lib.Dec.{ltb}
 use borrow.Author.Tests.{lt-ltb, le-ltb}
-use Rattle.state.proofs.Stores.{sets-append}
+use Rattle.laws.proofs.Stores.{sets-append}
 use Rattle.reply.specs.Reply.{digit, decimalIn}
 
 -- j bytes of a text are put, and the rest is ahead

@@ -10,8 +10,8 @@ use lib.Seq.{sets, sets-eq}
 use Rattle.rows.specs.Ascii.{bytes}
 use Rattle.rows.specs.declared.units.Bytes.{Bytes}
 use Rattle.refusals.specs.Refusals.{Refusal, first, unless}
-use Rattle.cut.specs.Run.{onto}
-use Rattle.format.specs.File.{FileAnswer, refused, formatted, fileAnswerBy, drawnDue, fileRefusal, fileOutput}
+use Rattle.cut_rule.specs.Run.{onto}
+use Rattle.plain_run.specs.File.{FileAnswer, refused, formatted, fileAnswerBy, drawnDue, fileRefusal, fileOutput}
 use Rattle.file.specs.Whole.{answerOf, sourceOf, imageOf, frameRefusal, frameAnswer, frameOutput, FormatsFrame}
 use Rattle.file.specs.declared.Formatted.{Formatted}
 use Rattle.file.specs.declared.Formatted.the-variants as answer

@@ -8,8 +8,8 @@ use lib.Dec.{ltb}
 use lib.ListN.{length}
 use Rattle.refusals.specs.Refusals.{Refusal, first}
 use Rattle.rows.specs.Ascii.{bytes}
-use Rattle.cut.specs.Run.{onto}
-use Rattle.format.specs.File.{drawnDue, fileRefusal}
+use Rattle.cut_rule.specs.Run.{onto}
+use Rattle.plain_run.specs.File.{drawnDue, fileRefusal}
 use Rattle.file.specs.Whole.{sourceOf, imageOf, frameRefusal}
 
 -- a digit as a byte

@@ -9,17 +9,15 @@ use mathlib.Core.List.{List}
 use lib.ListN.{length}
 use lib.Dec.{leb, eqb}
 use borrow.Author.Tests.{lt-ltb, le-ltb, le-leb, lt-leb, eq-eqb, ne-eqb}
+use Rattle.laws.proofs.Numbers.{lt-of}
 use Rattle.rows.specs.View.{View, cell, viewOf}
-use Rattle.renderer.specs.Check.{reaches, isLeaf, hasTwo, isSplit, partsFit, usesNumber, usesNumber2, usesSecond, usesText, textFits, noTextFits}
-use Rattle.renderer.specs.Check.{placesFit, rowFits}
+use Rattle.renderer_rules.specs.Check.{reaches, isLeaf, hasTwo, isSplit, partsFit, usesNumber, usesNumber2, usesSecond, usesText, textFits, noTextFits}
+use Rattle.renderer_rules.specs.Check.{placesFit, rowFits}
 use Rattle.rows.specs.Texts.{originText}
 
 pub and-false : (a b : Bool) → b ≡ false → (a && b) ≡ false
 and-false true b e = e
 and-false false b e = refl
-
-lt-of : (x y : ℕ) → x ≤ y → (x ≡ y → ⊥) → x < y
-lt-of x y p q = omega arith
 
 -- One row after another.
 reach-next : (l : ℕ) (v : View) (a b n : ℕ) → a < b → n ≡ v .after a → a < n → n ≤ b → reaches (suc l) v a b ≡ reaches l v n b

@@ -13,8 +13,8 @@ use lib.Dec.{ltb, eqb}
 use borrow.Author.Tests.{lt-ltb, le-ltb, le-leb, lt-leb, ltb-true, eqb-true, eqb-false}
 use Rattle.rows.specs.View.{View, viewOf, cell}
 use Rattle.refusals.specs.Refusals.{Refusal, whenFound}
-use Rattle.renderer.specs.Check.{rowFits, orElse, firstWrong, wrongRow, placesFit, wrongPlace}
-use Rattle.renderer.proofs.Checked.{Fits, fits-row}
+use Rattle.renderer_rules.specs.Check.{rowFits, orElse, firstWrong, wrongRow, placesFit, wrongPlace}
+use Rattle.renderer_rules.proofs.Checked.{Fits, fits-row}
 
 module _ (places : ℕ → Bool) (v : View) where
   enough-step : (end d i : ℕ) (a b : Bool) (r r2 t t2 : Option ℕ) → ltb i end ≡ a → rowFits places v end d i ≡ b

@@ -7,7 +7,7 @@ ghost use lib.Dec.{eqb};
 ghost use Rattle.rows.specs.Places.{NUMBER, SECOND-NUMBER, SECOND, AFTER, WIDTH, PLACES};
 ghost use Rattle.rows.specs.Limits.{MAX-ROWS};
 ghost use Rattle.rows.specs.View.{cell, viewOf};
-ghost use Rattle.renderer.specs.Check.{reaches, hasTwo, isSplit, partsFit, usesNumber, usesNumber2, usesSecond, usesText, textFits, noTextFits, placesFit, rowFits, wrongRow, wrongPlace};
+ghost use Rattle.renderer_rules.specs.Check.{reaches, hasTwo, isSplit, partsFit, usesNumber, usesNumber2, usesSecond, usesText, textFits, noTextFits, placesFit, rowFits, wrongRow, wrongPlace};
 ghost use Rattle.refusals.specs.Refusals.{whenFound};
 ghost use Rattle.rowcheck.specs.Found.{refusalOf};
 use rows::kinds::ASCII;

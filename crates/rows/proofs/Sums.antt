@@ -7,6 +7,7 @@ use native.Mathlib.Numerals.{add-one}
 use mathlib.Core.Bool.{true, false}
 use mathlib.Core.List.{List}
 use lib.ListN.{length, getD, set}
+use Rattle.laws.proofs.Numbers.{lt-of}
 use Rattle.rows.specs.Node.{widths, wrapped, byteColumns}
 use Rattle.rows.specs.View.{viewOf, cell, ownWidth, nodesAt}
 use Rattle.rows.specs.Nesting.{Nested}
@@ -95,9 +96,6 @@ module _ (s m : List ℕ) (to total : ℕ) (firsts : List ℕ) (depth row end su
   -- a row is entered
   pub enters : (row ≡ end → ⊥) → row < end
   enters n = let g = nests-le (t .w .good) in let e = t .ends in lt-of row end (omega arith) n
-    where
-      lt-of : (a b : ℕ) → a ≤ b → (a ≡ b → ⊥) → a < b
-      lt-of a b h n = omega arith
 
   pub in-store : row < end → row < to
   in-store h = let g = t .w .low in let e = t .ends in omega arith

@@ -15,7 +15,7 @@ use Rattle.state.specs.Act.{St, Out, Act, Asking, next, join, _⨟_, ski
 use Rattle.state.specs.declared.Cursor.{Cursor}
 use Rattle.state.specs.declared.Asked.{Asked}
 use Rattle.state.specs.Laid.{cursor, st, after, top, Room, Laid, LaidAsking, Written}
-use Rattle.state.proofs.Stores.{sets-append}
+use Rattle.laws.proofs.Stores.{sets-append}
 use Rattle.state.proofs.Joins.{sizes-join, join-assoc, length-rows, rows-join}
 
 -- where there is room for a step, it is laid

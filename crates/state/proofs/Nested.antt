@@ -12,7 +12,7 @@ use Rattle.rows.specs.Rows.{size, sizes, row, noText, rowsOf, rows}
 use Rattle.state.specs.Act.{Out, Act, push, grouped, indented, indentedNext, called}
 use Rattle.state.specs.declared.Cursor.{Cursor}
 use Rattle.state.specs.Laid.{cursor, st, top, Room, Opens, Laid, Written, Opened}
-use Rattle.state.proofs.Stores.{sets-append, set-sets}
+use Rattle.laws.proofs.Stores.{sets-append, set-sets}
 use Rattle.state.proofs.Joins.{length-rows}
 use Rattle.state.proofs.Laws.{Lays}
 

@@ -8,7 +8,7 @@ use native.Mathlib.Omega.{arith}
 use lib.Text.{eqt}
 use lib.ListN.{getD, List·getD-eq-default}
 use borrow.Author.Tests.{not-true}
-use Rattle.text.proofs.Tests.{below-at}
+use Rattle.laws.proofs.Tables.{below-at}
 use Rattle.rows.specs.Words.{table, word, placeIn}
 use Rattle.state.specs.Place.{Place}
 

@@ -3,17 +3,17 @@ use Prim.Native.Nat.{ℕ, _+_, _-_}
 use Prim.Native.String.{String}
 use mathlib.Core.Bool.{Bool, true, false, cond}
 use mathlib.Core.List.{List}
-use Rattle.tree.specs.Syntax.{Span, Ident}
+use Rattle.tree.specs.Syntax.{Span}
 use Rattle.rows.specs.Node.{Text, Node, Nodes, group, indent, indentNext, str, ascii, call, none, _then_}
 use Rattle.rows.specs.Words.{word}
 
--- What `State` only reads: the source, the image with its texts, the comments in the image's order, and what an identifier's text
--- measures (in the Rust, its `unicode_width`; here, the width that the image supplies).
+-- What `State` only reads: the source, the image with its texts, the comments in the image's order, and what a text of a row measures, by the
+-- width that the image supplies for it and by the text itself (in the Rust, its `unicode_width`; here, the width supplied).
 pub record Given : Type 0 where
   pub source : List ℕ
   pub image : List ℕ
   pub comments : List Span
-  pub columns : Ident → ℕ
+  pub columns : ℕ → Text → ℕ
 
 -- What it changes besides its nodes: `idx`, `pos`, and how many comments are popped from the front of the list.
 pub record St : Type 0 where

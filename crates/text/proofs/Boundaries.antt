@@ -10,7 +10,7 @@ use lib.Dec.{leb}
 use borrow.Author.Tests.{le-leb, lt-leb, leb-true, leb-false}
 use Rattle.text.specs.Utf8.{within, continues, sequence, boundary}
 use Rattle.text.proofs.Bytes.{led, continuing-row, inner}
-use Rattle.text.proofs.Tests.{and-left, and-false, clash}
+use Rattle.laws.proofs.Booleans.{and-left, and-false, clash}
 
 -- boundaries lie in the text, and its end is one
 pub boundary-inside : (s : List ℕ) (at : ℕ) → boundary s at ≡ true → at ≤ length s

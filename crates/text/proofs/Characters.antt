@@ -13,7 +13,7 @@ use Rattle.text.specs.declared.utf8.Decoded.{Decoded}
 use Rattle.text.specs.declared.utf8.Decoded.the-variants.{Char, Nothing}
 use Rattle.text.proofs.Runs.{none-past}
 use Rattle.text.proofs.Sequences.{sequence-fits}
-use Rattle.text.proofs.Tests.{and-left, and-right}
+use Rattle.laws.proofs.Booleans.{and-left, and-right}
 
 -- a sequence stands in the text, whatever the place asked for
 pub sequence-inside : (s : List ℕ) (at : ℕ) → 0 < sequence s at → at + sequence s at ≤ length s

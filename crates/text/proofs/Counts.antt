@@ -12,7 +12,7 @@ use borrow.Author.Tests.{leb-true, le-leb, lt-leb}
 use Rattle.text.specs.Utf8.{boundary}
 use Rattle.text.specs.Newlines.{newlines, isRange, countNewlines}
 use Rattle.text.proofs.Boundaries.{boundary-inside, outside}
-use Rattle.text.proofs.Tests.{and-left, and-right, and-false}
+use Rattle.laws.proofs.Booleans.{and-left, and-right, and-false}
 
 pub newlines-next : (m n : ℕ) (s : List ℕ) (at : ℕ) → m ≡ suc n → newlines m s at ≡ cond (eqb (getD s at 0) 0x0A) 1 0 + newlines n s (at + 1)
 unfolding newlines

@@ -9,7 +9,8 @@ use lib.Dec.{leb}
 use borrow.Author.Tests.{leb-true}
 use Rattle.text.specs.Utf8.{within}
 use Rattle.text.specs.Space.{Range, oneOf, whiteSpace, isWhite}
-use Rattle.text.proofs.Tests.{and-left, and-right, and-false, and-true, within-below}
+use Rattle.laws.proofs.Booleans.{and-left, and-right, and-false, and-true}
+use Rattle.text.proofs.Tests.{within-below}
 
 -- the ranges ascend from n on, and none overlaps the next
 abbrev pub ascending : ℕ → List Range → Bool

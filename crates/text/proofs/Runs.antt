@@ -13,7 +13,7 @@ use borrow.Author.Tests.{eq-eqb, ne-eqb, le-ltb, lt-leb, le-leb, leb-true, eqb-t
 use Rattle.text.specs.Utf8.{sequence, highs, plain, stride, run, prefix, wellFormed, illFormed, refusalOf}
 use Rattle.text.specs.declared.utf8.Checked.the-variants.{WellFormed, Bad}
 use Rattle.text.proofs.Sequences.{ascii, sequence-fits}
-use Rattle.text.proofs.Tests.{and-left, and-right}
+use Rattle.laws.proofs.Booleans.{and-left, and-right}
 
 pub none-past : (s : List ℕ) (at : ℕ) → length s ≤ at → sequence s at ≡ 0
 unfolding sequence

@@ -9,7 +9,8 @@ use lib.ListN.{length, getD, List·getD-eq-default}
 use lib.Dec.{leb, ltb}
 use borrow.Author.Tests.{lt-ltb, le-leb, lt-leb, ltb-true, ltb-false, leb-true}
 use Rattle.text.specs.Utf8.{Row, row, table37, rowIn, rowOf, leadOf, within, continues, followed, sequence}
-use Rattle.text.proofs.Tests.{and-left, and-right, or-right, within-in, within-low, within-high}
+use Rattle.laws.proofs.Booleans.{and-left, and-right, or-right}
+use Rattle.text.proofs.Tests.{within-in, within-low, within-high}
 use Rattle.text.specs.declared.utf8.Lead.{Lead}
 
 -- the bytes after the one at `at` are as the first byte asks

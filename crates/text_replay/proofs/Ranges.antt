@@ -9,7 +9,7 @@ use borrow.Author.Tests.{le-leb, lt-leb, le-ltb, lt-ltb}
 use lib.ListN.{length}
 use Rattle.text.specs.Utf8.{within}
 use Rattle.text.specs.Space.{isWhite}
-use Rattle.text.proofs.Tests.{and-false}
+use Rattle.laws.proofs.Booleans.{and-false}
 use Rattle.text_replay.specs.Counts.{short, long, differs, sum}
 use Rattle.text_replay.specs.Sections.{listed, bit, spaces}
 use Rattle.text_replay.specs.declared.outcome.Outcome.the-variants.{Cut, Done}

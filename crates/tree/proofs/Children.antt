@@ -11,7 +11,7 @@ use lib.ListN.{length}
 use lib.Dec.{leb, eqb}
 use borrow.Author.Tests.{leb-true, eqb-true, eqb-false}
 use Rattle.text.specs.Newlines.{isRange}
-use Rattle.text.proofs.Tests.{and-left, and-right}
+use Rattle.laws.proofs.Booleans.{and-left, and-right}
 use Rattle.image.specs.Bytes.{be32}
 use Rattle.image.specs.Grammar.{isList, isOptional, isMany, bare, place, rowUnder, kindFits, payloadFits, firstChild}
 use Rattle.image.specs.Read.{Read, got, Tree, Trees, absent, node, nil, _▸_, stopAt, kindAt, headAt, skips, childAt, recordAt, childrenAt}

@@ -9,7 +9,7 @@ use lib.ListN.{getD}
 use lib.Dec.{leb, ltb}
 use borrow.Author.Tests.{leb-true}
 use Rattle.text.specs.Utf8.{wellFormed}
-use Rattle.text.proofs.Tests.{and-left, and-right}
+use Rattle.laws.proofs.Booleans.{and-left, and-right}
 use Rattle.image.specs.Bytes.{be32, part}
 use Rattle.image.specs.Grammar.{list, assign, upTo, rowOf, rowUnder, firstChild, payloadFits}
 use Rattle.image.specs.Read.{Tree, Trees, node, stopAt}

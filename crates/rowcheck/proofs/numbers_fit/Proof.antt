@@ -1,7 +1,7 @@
 use lib.Dec.{eqb}
 use mathlib.Core.Bool.{_||_}
 use Rattle.rows.specs.View.{cell}
-use Rattle.renderer.specs.Check.{usesSecond}
+use Rattle.renderer_rules.specs.Check.{usesSecond}
 use mathlib.Core.Path.{refl}
 use Rattle.rowcheck.proofs.Laws.{used-is, three-on, three-second, three-first}
 use borrow.Author.Needs.{needs}

@@ -5,8 +5,8 @@ use mathlib.Core.Logic.{⊎-elim}
 use borrow.Author.Needs.{needs}
 use borrow.Author.Tests.{ltb-true, ltb-false, not-true, not-false}
 use Rattle.rows.specs.View.{viewOf}
-use Rattle.renderer.specs.Check.{placesFit, wrongRow}
-use Rattle.renderer.proofs.Checked.{fits-row}
+use Rattle.renderer_rules.specs.Check.{placesFit, wrongRow}
+use Rattle.renderer_rules.proofs.Checked.{fits-row}
 use Rattle.rowcheck.proofs.Pending.{refused, Checking, checkLeft, check-start, check-wrong, check-right, check-out-at, check-in, check-past, check-as}
 use Rattle.rowcheck.proofs.wrong_row.Statement.{statement}
 use Rattle.rowcheck.proofs.wrong_row.Tie as tie

@@ -4,7 +4,7 @@ use mathlib.Core.Path.{sym, _∙_}
 use native.Mathlib.Omega.{arith}
 use borrow.Author.Tests.{le-leb, lt-leb}
 use borrow.Author.Needs.{needs}
-use Rattle.text.proofs.Tests.{and-false}
+use Rattle.laws.proofs.Booleans.{and-false}
 use Rattle.image.specs.Read.{shape, stopAt}
 use Rattle.image.proofs.records.shape_fits.Statement.{statement}
 use Rattle.image.proofs.records.shape_fits.Tie as tie

@@ -1,6 +1,6 @@
 use mathlib.Core.Path.{sym, _∙_}
 use borrow.Author.Tests.{eq-eqb, ne-eqb}
-use Rattle.text.proofs.Tests.{and-false, and-true}
+use Rattle.laws.proofs.Booleans.{and-false, and-true}
 use Rattle.text.specs.Space.{isWhite}
 use borrow.Author.Needs.{needs}
 use Rattle.text.proofs.space.is_passed.Statement.{statement}

@@ -7,7 +7,8 @@ use lib.Dec.{ltb, eqb}
 use borrow.Author.Tests.{lt-ltb, le-ltb, eq-eqb, ne-eqb, eqb-true}
 use Rattle.text.specs.Utf8.{rowOf, rowIn, within, leadOf}
 use Rattle.text.specs.declared.utf8.Lead.{Lead}
-use Rattle.text.proofs.Tests.{below-at, and-left, and-right}
+use Rattle.laws.proofs.Booleans.{and-left, and-right}
+use Rattle.laws.proofs.Tables.{below-at}
 use Rattle.text.proofs.utf8.lead_of.Statement.{statement}
 use Rattle.text.proofs.utf8.lead_of.Tie as tie
 

@@ -1,0 +1,201 @@
+-- A small instance: the laws of the parts can hold together, lists of calls compute, and the rule needs its hypothesis. Two declarations, each
+-- of which places a comment; rendering writes the nine numbers of each row that it reads.
+-- Assumes nothing.
+use mathlib.Core.Path.{_≡_, refl, sym, ap, _∙_}
+use mathlib.Core.Bool.{Bool, true, false}
+use mathlib.Core.Option.{Option, none, some}
+use mathlib.Core.List.{List, [], _∷_, _++_}
+use Prim.Native.Nat.{ℕ, zero, suc, _+_, _-_, _*_, _≤_, _<_}
+use native.Mathlib.Omega.{arith}
+use borrow.Author.Tests.{leb-true, le-leb, ltb-true}
+use lib.Dec.{ltb, leb}
+use lib.ListN.{length, getD, take, drop, replicate, take-append-drop, length-take}
+use lib.Seq.{take-take}
+use Rattle.cut_rule.specs.Run.{Call, layoutCall, renderCall, Carried, start, run, Answer, refused, laidOut, written, answers}
+use Rattle.cut_rule.specs.Plain.{atFirst, due, plain, AllReadLaid}
+use Rattle.cut_rule.specs.CutRule.{Text, commentsIn, CutRule}
+use Rattle.cut_rule.specs.Parts.{Cursor, Piece, Parts, rules}
+use Rattle.cut_rule.specs.PartLaws.{Counts, LayoutPartLaws, Places, CommentPartLaws, RenderPartLaws}
+use Rattle.cut_rule.proofs.Document.{parts-cut}
+
+abbrev listed : List Text
+listed = record { origin = 0; start = 0; size = 1 } ∷ record { origin = 0; start = 1; size = 1 } ∷ []
+
+abbrev placing : Bool → Cursor → Piece
+placing true c = record {
+  cursor = record { row = c .row + 1; number = c .number; placed = c .placed + 1; position = c .position };
+  rows = 4 ∷ 0 ∷ 0 ∷ 0 ∷ (c .row + 1) ∷ 0 ∷ c .placed ∷ 1 ∷ 0 ∷ [];
+}
+placing false c = record { cursor = c; rows = [] }
+
+abbrev line : Cursor → Piece
+line c = record {
+  cursor = record { row = c .row + 1; number = c .number; placed = c .placed; position = c .position };
+  rows = 7 ∷ 0 ∷ 0 ∷ 0 ∷ (c .row + 1) ∷ 0 ∷ 0 ∷ 0 ∷ 0 ∷ [];
+}
+
+abbrev inStore : Bool → Option ℕ
+inStore true = none
+inStore false = some 0
+
+abbrev small : Parts
+small = record {
+  source-size = 100;
+  declarations = 2;
+  comments = 2;
+  layout-image = none;
+  render-image = none;
+  shebang = λ c. record { cursor = c; rows = [] };
+  declaration = λ n c. placing (ltb (c .placed) 2) c;
+  final = line;
+  wrong-row = λ store i n. inStore (leb (9 * n) (length store));
+  needed = λ store i n. 1;
+  draw = λ z marks store i n. record { pen = z; marks = marks; text = drop (9 * i) (take (9 * n) store) };
+}
+
+placing-counts : (b : Bool) (c : Cursor) → Counts c (placing b c)
+placing-counts true c = record { row = omega arith }
+placing-counts false c = record { row = omega arith }
+
+layout-parts : LayoutPartLaws small
+layout-parts = record {
+  shebang-counts = λ e c. record { row = omega arith };
+  declaration-counts = λ e n c l. placing-counts (ltb (c .placed) 2) c;
+  final-counts = λ e c. record { row = omega arith };
+}
+
+none-more : (r k : ℕ) (rows : List ℕ) → commentsIn rows (r - r) ≡ take (k - k) (drop k listed)
+none-more r k rows = let e : r - r ≡ 0 = omega arith in let f : k - k ≡ 0 = omega arith in rw (e, f)
+
+one-more : (r k : ℕ) (c : Text) (rows : List ℕ) → commentsIn rows 1 ≡ c ∷ [] → take 1 (drop k listed) ≡ c ∷ []
+    → commentsIn rows (r + 1 - r) ≡ take (k + 1 - k) (drop k listed)
+one-more r k c rows g h =
+    let e : r + 1 - r ≡ 1 = omega arith in
+    let f : k + 1 - k ≡ 1 = omega arith in
+    ap (commentsIn rows) e ∙ g ∙ sym h ∙ ap (λ (j : ℕ). take j (drop k listed)) (sym f)
+
+listed-at : (k : ℕ) → k < 2 → take 1 (drop k listed) ≡ record { origin = 0; start = k; size = 1 } ∷ []
+listed-at zero h = refl
+listed-at (suc zero) h = refl
+listed-at (suc (suc k)) h = absurd (omega arith)
+
+placing-places : (b : Bool) (c : Cursor) → ltb (c .placed) 2 ≡ b → c .placed ≤ 2 → Places listed c (placing b c)
+placing-places true c e h =
+    let l : c .placed < 2 = ltb-true (c .placed) 2 e in
+    record { more = omega arith; within = omega arith; next = one-more (c .row) (c .placed) _ (placing true c .rows) refl (listed-at (c .placed) l) }
+placing-places false c e h = record { more = omega arith; within = h; next = none-more (c .row) (c .placed) [] }
+
+comment-parts : CommentPartLaws small listed
+comment-parts = record {
+  all-listed = refl;
+  shebang-places = λ e c h. record { more = omega arith; within = h; next = none-more (c .row) (c .placed) [] };
+  declaration-places = λ e n c l h. placing-places (ltb (c .placed) 2) c refl h;
+  final-places = λ e c h. record {
+    more = omega arith;
+    within = h;
+    next = (let e : c .row + 1 - c .row ≡ 1 = omega arith in let f : c .placed - c .placed ≡ 0 = omega arith in rw (e, f));
+  };
+}
+
+stop-in : (n : ℕ) (store : List ℕ) → inStore (leb (9 * n) (length store)) ≡ none → 9 * n ≤ length store
+stop-in n store e = go (leb (9 * n) (length store)) refl e
+  where
+    go : (b : Bool) → leb (9 * n) (length store) ≡ b → inStore b ≡ none → 9 * n ≤ length store
+    go true g f = leb-true (9 * n) (length store) g
+    go false g f = let z : _≡_ {A = ℕ} 0 1 = cc in absurd (omega arith)
+
+right-in : (n : ℕ) (store : List ℕ) → 9 * n ≤ length store → inStore (leb (9 * n) (length store)) ≡ none
+right-in n store h = ap inStore (le-leb (9 * n) (length store) h)
+
+parts-join : (store : List ℕ) (n m : ℕ) → n ≤ m
+    → drop (9 * 0) (take (9 * m) store) ≡ drop (9 * 0) (take (9 * n) store) ++ drop (9 * n) (take (9 * m) store)
+parts-join store n m h =
+    sym (take-append-drop (9 * n) (take (9 * m) store))
+    ∙ ap (λ (r : List ℕ). r ++ drop (9 * n) (take (9 * m) store)) (take-take (9 * n) (9 * m) store (omega arith))
+
+render-parts : RenderPartLaws small
+render-parts = record {
+  none-wrong = λ store. right-in 0 store (omega arith);
+  right-join = λ store n m h e f. f;
+  needed-join = λ store n m h. refl;
+  right-local = λ store other n e f.
+      let h : 9 * n ≤ length store = stop-in n store f in
+      right-in n other (omega (arith, ap length e, length-take (9 * n) store, length-take (9 * n) other));
+  needed-local = λ store other i n e. refl;
+  draw-local = λ z marks store other i n e. ap (λ (r : List ℕ). record { pen = z; marks = marks; text = drop (9 * i) r }) e;
+  draw-marks = λ z marks store i n. refl;
+  draw-past = λ z marks past store n e h. refl;
+  draw-join = λ z marks store n m h e f g. ap (λ (t : List ℕ). record { pen = z; marks = marks; text = t }) (parts-join store n m h);
+}
+
+-- the rule holds of the instance
+example : (store₀ marks₀ : List ℕ) (calls : List (Call (rules small))) → AllReadLaid (rules small) (start (rules small) store₀ marks₀) calls
+    → CutRule (rules small) listed store₀ marks₀ calls
+example = parts-cut small listed layout-parts render-parts comment-parts
+
+-- ---- lists of calls
+abbrev layTo : ℕ → Bool → Call (rules small)
+layTo n b = layoutCall (record { stop = n; close = b; choice = tt })
+
+abbrev renderTo : ℕ → ℕ → Call (rules small)
+renderTo n room = renderCall (record { stop = n; room = room; choice = tt })
+
+-- number and place of a refusal; 100 and the comments left; 200 and the bytes written
+abbrev asNumbers : List (Answer (rules small)) → List (List ℕ)
+asNumbers [] = []
+asNumbers (refused r ∷ rest) = (r .number ∷ r .place ∷ []) ∷ asNumbers rest
+asNumbers (laidOut s n ∷ rest) = (100 ∷ n ∷ []) ∷ asNumbers rest
+asNumbers (written s n ∷ rest) = (200 ∷ n ∷ []) ∷ asNumbers rest
+
+-- a store of three rows and two numbers, which held 9s, and two marks, which held 5s
+abbrev nines : List ℕ
+nines = replicate 29 9
+
+abbrev fives : List ℕ
+fives = 5 ∷ 5 ∷ []
+
+-- Refused: a stop past the declarations, closing before the last of them, no room for the text, a stop before the next row, a store too
+-- short, a stop past the store, and layout once closed.
+abbrev tried : List (Call (rules small))
+tried =
+    layTo 3 false
+    ∷ layTo 1 true
+    ∷ layTo 1 false
+    ∷ renderTo 1 8
+    ∷ renderTo 1 9
+    ∷ renderTo 0 9
+    ∷ layTo 2 false
+    ∷ renderTo 4 9
+    ∷ layTo 2 true
+    ∷ layTo 2 false
+    ∷ renderTo 3 18
+    ∷ renderTo 3 0
+    ∷ []
+
+tried-answers : asNumbers (answers (rules small) (start (rules small) nines fives) tried)
+    ≡ (12 ∷ 0 ∷ []) ∷ (12 ∷ 0 ∷ []) ∷ (100 ∷ 1 ∷ []) ∷ (10 ∷ 9 ∷ []) ∷ (200 ∷ 9 ∷ []) ∷ (12 ∷ 0 ∷ [])
+    ∷ (100 ∷ 0 ∷ []) ∷ (11 ∷ 0 ∷ []) ∷ (100 ∷ 0 ∷ []) ∷ (12 ∷ 0 ∷ []) ∷ (200 ∷ 18 ∷ []) ∷ (200 ∷ 0 ∷ []) ∷ []
+tried-answers = refl
+
+tried-short : asNumbers (answers (rules small) (start (rules small) (replicate 26 9) []) (layTo 2 true ∷ layTo 2 false ∷ renderTo 1 9 ∷ []))
+    ≡ (8 ∷ 3 ∷ []) ∷ (100 ∷ 0 ∷ []) ∷ (9 ∷ 1 ∷ []) ∷ []
+tried-short = refl
+
+tried-store : run (rules small) (start (rules small) nines fives) tried .store
+    ≡ 4 ∷ 0 ∷ 0 ∷ 0 ∷ 1 ∷ 0 ∷ 0 ∷ 1 ∷ 0 ∷ 4 ∷ 0 ∷ 0 ∷ 0 ∷ 2 ∷ 0 ∷ 1 ∷ 1 ∷ 0 ∷ 7 ∷ 0 ∷ 0 ∷ 0 ∷ 3 ∷ 0 ∷ 0 ∷ 0 ∷ 0 ∷ 9 ∷ 9 ∷ []
+tried-store = refl
+
+tried-marks : run (rules small) (start (rules small) nines fives) tried .marks ≡ 0 ∷ 5 ∷ []
+tried-marks = refl
+
+-- Why no accepted call may read rows not yet laid out: this one writes what the store held at first, and due is then a row of layout's.
+abbrev early : List (Call (rules small))
+early = renderTo 1 9 ∷ layTo 1 false ∷ []
+
+early-answers : asNumbers (answers (rules small) (start (rules small) nines fives) early) ≡ (200 ∷ 9 ∷ []) ∷ (100 ∷ 1 ∷ []) ∷ []
+early-answers = refl
+
+early-differs : run (rules small) (start (rules small) nines fives) early
+    ≡ due (rules small) nines fives (plain (rules small) nines fives (atFirst (rules small)) early)
+    → ⊥
+early-differs e = let first : _≡_ {A = ℕ} 9 4 = ap (λ (w : Carried (rules small)). getD (w .text) 0 0) e in omega arith

@@ -1,0 +1,140 @@
+-- Layout in one go is layout piece by piece: the shebang, the declarations in order, the final `Line`. So layout to a stop and then on is layout
+-- to the later stop, and the next row counts the rows.
+-- Assumes nothing but the laws of the parts.
+use mathlib.Core.Path.{_≡_, refl, sym, ap, _∙_}
+use mathlib.Core.Bool.{Bool, true, false}
+use mathlib.Core.Option.{none}
+use mathlib.Core.List.{List, _++_, append-nil, append-assoc}
+use Prim.Native.Nat.{ℕ, zero, suc, _+_, _-_, _*_, _≤_}
+use native.Mathlib.Nat.{sub-zero, zero-add, suc-add}
+use native.Mathlib.Omega.{arith}
+use lib.ListN.{length, length-append}
+use Rattle.cut_rule.specs.Rules.{LayoutArgs, Laid}
+use Rattle.cut_rule.specs.Laws.{LayoutAfter, thenLaid, LayoutLaws}
+use Rattle.refusals.specs.Refusals.{first}
+use Rattle.cut_rule.specs.Parts.{Cursor, LayoutState, layoutFresh, Piece, Parts, still, andThen}
+use Rattle.cut_rule.specs.Parts.{begin, several, end, pieceOf, laidOf, layoutTable, rules}
+use Rattle.cut_rule.specs.PartLaws.{Counts, LayoutPartLaws}
+use Rattle.cut_rule.proofs.Table.{layout-told}
+
+pub counts-then : (c : Cursor) (p : Piece) (g : Cursor → Piece) → Counts c p → Counts (p .cursor) (g (p .cursor)) → Counts c (andThen p g)
+counts-then c p g u v = record { row = omega (arith, u .row, v .row, length-append (p .rows) (g (p .cursor) .rows)) }
+
+module _ (P : Parts) where
+  -- ---- pieces one after the other
+  abbrev piece : Cursor → List ℕ → Piece
+  piece c r = record { cursor = c; rows = r }
+
+  abbrev glue : Piece → Piece → Piece
+  glue x y = record { cursor = y .cursor; rows = x .rows ++ y .rows }
+
+  glue-several : (k d : ℕ) (x : Piece) → glue x (several P k d (still (x .cursor))) ≡ several P k d x
+  glue-several zero d x = ap (piece (x .cursor)) (append-nil (x .rows))
+  glue-several (suc k) d x =
+      let y = several P k d (still (x .cursor)) in
+      ap (piece (P .declaration (d + k) (y .cursor) .cursor)) (sym (append-assoc (x .rows) (y .rows) (P .declaration (d + k) (y .cursor) .rows)))
+      ∙ ap (λ (z : Piece). andThen z (P .declaration (d + k))) (glue-several k d x)
+
+  several-add : (k n d : ℕ) (x : Piece) → several P k (d + n) (several P n d x) ≡ several P (k + n) d x
+  several-add zero n d x = ap (λ (j : ℕ). several P j d x) (sym (zero-add n))
+  several-add (suc k) n d x =
+      let e : d + n + k ≡ d + (k + n) = omega arith in
+      ap (λ (j : ℕ). andThen (several P k (d + n) (several P n d x)) (P .declaration j)) e
+      ∙ ap (λ (y : Piece). andThen y (P .declaration (d + (k + n)))) (several-add k n d x)
+      ∙ ap (λ (j : ℕ). several P j d x) (sym (suc-add k n))
+
+  glue-end : (b : Bool) (x y : Piece) → glue x (end P b y) ≡ end P b (glue x y)
+  glue-end false x y = refl
+  glue-end true x y = ap (piece (P .final (y .cursor) .cursor)) (sym (append-assoc (x .rows) (y .rows) (P .final (y .cursor) .rows)))
+
+  -- ---- the document from fresh, before declaration n
+  abbrev pub upTo : ℕ → Piece
+  upTo n = several P n 0 (P .shebang (layoutFresh .cursor))
+
+  pub from-fresh : (q : LayoutArgs (Unit {0})) → pieceOf P layoutFresh q ≡ end P (q .close) (upTo (q .stop))
+  from-fresh q = ap (λ (n : ℕ). end P (q .close) (upTo n)) (sub-zero (q .stop))
+
+  -- where a call to p, not closing, left layout
+  abbrev stoppedAt : ℕ → LayoutState
+  stoppedAt n = record { begun = true; closed = false; declaration = n; cursor = upTo n .cursor }
+
+  piece-on : (n : ℕ) (q : LayoutArgs (Unit {0})) → n ≤ q .stop → pieceOf P layoutFresh q ≡ glue (upTo n) (pieceOf P (stoppedAt n) q)
+  piece-on n q h =
+      let x = upTo n in
+      let m : (q .stop - n) + n ≡ q .stop = omega arith in
+      from-fresh q
+      ∙ ap (λ (j : ℕ). end P (q .close) (upTo j)) (sym m)
+      ∙ ap (λ (y : Piece). end P (q .close) y)
+      (sym (several-add (q .stop - n) n 0 (P .shebang (layoutFresh .cursor)))
+      ∙ ap (λ (d : ℕ). several P (q .stop - n) d x) (zero-add n)
+      ∙ sym (glue-several (q .stop - n) n x))
+      ∙ sym (glue-end (q .close) x (several P (q .stop - n) n (still (x .cursor))))
+
+  stopped : (p : LayoutArgs (Unit {0})) → p .close ≡ false → pieceOf P layoutFresh p ≡ upTo (p .stop)
+  stopped p e = from-fresh p ∙ ap (λ (b : Bool). end P b (upTo (p .stop))) e
+
+  -- ---- the next row counts the rows
+  module _ (L : LayoutPartLaws P) (image : P .layout-image ≡ none) where
+    counts-several : (n d : ℕ) (c : Cursor) (p : Piece) → d + n ≤ P .declarations → Counts c p → Counts c (several P n d p)
+    counts-several zero d c p h k = k
+    counts-several (suc n) d c p h k =
+        counts-then c (several P n d p) (P .declaration (d + n)) (counts-several n d c p (omega arith) k)
+        (L .declaration-counts image (d + n) (several P n d p .cursor) (omega arith))
+
+    counts-begin : (b : Bool) (c : Cursor) → Counts c (begin P b c)
+    counts-begin true c = record { row = omega arith }
+    counts-begin false c = L .shebang-counts image c
+
+    counts-end : (b : Bool) (c : Cursor) (p : Piece) → Counts c p → Counts c (end P b p)
+    counts-end false c p k = k
+    counts-end true c p k = counts-then c p (P .final) k (L .final-counts image (p .cursor))
+
+    pub counts-piece : (s : LayoutState) (q : LayoutArgs (Unit {0})) → s .declaration ≤ q .stop → q .stop ≤ P .declarations
+        → Counts (s .cursor) (pieceOf P s q)
+    counts-piece s q h g =
+        let d = s .declaration in
+        let p = begin P (s .begun) (s .cursor) in
+        counts-end (q .close) (s .cursor) (several P (q .stop - d) d p)
+        (counts-several (q .stop - d) d (s .cursor) p (omega arith) (counts-begin (s .begun) (s .cursor)))
+
+  module _ (L : LayoutPartLaws P) where
+    pub record FitsParts (q : LayoutArgs (Unit {0})) : Type 0 where
+      pub image : P .layout-image ≡ none
+      pub to : q .stop ≤ P .declarations
+
+    goes-on : (p q : LayoutArgs (Unit {0})) → LayoutAfter p q → laidOf P layoutFresh q ≡ thenLaid (laidOf P layoutFresh p) (λ s. laidOf P s q)
+    goes-on p q a = ap laidAs (piece-on (p .stop) q (a .not-past)) ∙ ap parted (sym (stopped p (a .not-closed)))
+      where
+        laidAs : Piece → Laid LayoutState
+        laidAs y = record {
+          state = record { begun = true; closed = q .close; declaration = q .stop; cursor = y .cursor };
+          rows = y .rows;
+          left = P .comments - y .cursor .placed;
+        }
+
+        parted : Piece → Laid LayoutState
+        parted x = laidAs (glue x (pieceOf P (record { begun = true; closed = p .close; declaration = p .stop; cursor = x .cursor }) q))
+
+    pub layout-laws : LayoutLaws (rules P)
+    layout-laws = record {
+      Fits = FitsParts;
+      accepted-fits = λ q s store e. record { image = layout-told P q s store e .image; to = layout-told P q s store e .to };
+      accepted-after = λ p q store k e. record {
+        not-closed = layout-told P q (laidOf P layoutFresh p .state) store e .not-closed;
+        not-past = layout-told P q (laidOf P layoutFresh p .state) store e .from;
+        same = refl;
+      };
+      fresh-row = refl;
+      due-row = λ p k. omega (arith, counts-piece L (k .image) layoutFresh p (omega arith) (k .to) .row);
+      goes-on = λ p q k l a. goes-on p q a;
+    }
+
+    pub fitting : (q : LayoutArgs (Unit {0})) → layout-laws .Fits q → FitsParts q
+    unfolding layout-laws
+    fitting q k = k
+
+    pub rows-fit : (q : LayoutArgs (Unit {0})) (s : LayoutState) (store : List ℕ) → first (layoutTable P q s store) ≡ none
+        → 9 * s .cursor .row + length (pieceOf P s q .rows) ≤ length store
+    rows-fit q s store e =
+        let t = layout-told P q s store e in
+        omega (arith, t .room, counts-piece L (t .image) s q (t .from) (t .to) .row)

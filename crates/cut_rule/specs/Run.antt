@@ -1,0 +1,92 @@
+-- A list of calls: what each meets, answers and leaves.
+use mathlib.Core.Option.{Option, none, some}
+use mathlib.Core.List.{List, [], _∷_, _++_}
+use Prim.Native.Nat.{ℕ, _*_}
+use lib.ListN.{length, take, drop}
+use Rattle.refusals.specs.Refusals.{Refusal, unless}
+use Rattle.cut_rule.specs.Rules.{LayoutArgs, RenderArgs, Rendered, Rules}
+
+-- xs written over the front of a memory: "Memory past what is written is untouched."
+abbrev pub onto : List ℕ → List ℕ → List ℕ
+onto xs memory = xs ++ drop (length xs) memory
+
+-- xs written over a memory from place n on
+abbrev pub over : ℕ → List ℕ → List ℕ → List ℕ
+over n xs memory = take n memory ++ onto xs (drop n memory)
+
+module _ (R : Rules) where
+  pub data Call : Type 0 where
+    layoutCall : LayoutArgs (R .LayoutChoice) → Call
+    renderCall : RenderArgs (R .RenderChoice) → Call
+
+  -- What is carried from call to call, with the text joined in call order and what the last accepted layout call said of comments left.
+  pub record Carried : Type 0 where
+    pub store : List ℕ
+    pub marks : List ℕ
+    pub layout-state : R .LayoutState
+    pub render-state : R .RenderState
+    pub text : List ℕ
+    pub left : Option ℕ
+
+  -- fresh states, and whatever store and marks held
+  abbrev pub start : List ℕ → List ℕ → Carried
+  start store₀ marks₀ =
+      record { store = store₀; marks = marks₀; layout-state = R .layout-fresh; render-state = R .render-fresh; text = []; left = none }
+
+  -- the table, read on what is there before the call
+  abbrev pub refusal : Carried → Call → Option Refusal
+  refusal w (layoutCall q) = R .layout-refusal q (w .layout-state) (w .store)
+  refusal w (renderCall q) = R .render-refusal q (w .render-state) (w .store) (w .marks)
+
+  -- what an accepted rendering call gives
+  abbrev pub rendered : Carried → RenderArgs (R .RenderChoice) → Rendered (R .RenderState)
+  rendered w q = R .render (q .choice) (w .render-state) (take (R .in-use (w .render-state)) (w .marks)) (w .store) (q .stop)
+
+  -- what an accepted call leaves
+  abbrev pub accepted : Carried → Call → Carried
+  accepted w (layoutCall q) = record {
+    store = over (9 * R .next-row (w .layout-state)) (R .layout (w .layout-state) q .rows) (w .store);
+    marks = w .marks;
+    layout-state = R .layout (w .layout-state) q .state;
+    render-state = w .render-state;
+    text = w .text;
+    left = some (R .layout (w .layout-state) q .left);
+  }
+  accepted w (renderCall q) = record {
+    store = w .store;
+    marks = onto (rendered w q .marks) (w .marks);
+    layout-state = w .layout-state;
+    render-state = rendered w q .state;
+    text = w .text ++ rendered w q .text;
+    left = w .left;
+  }
+
+  -- one call; a refused one leaves all as it was
+  abbrev pub call : Carried → Call → Carried
+  call w c = unless (refusal w c) w (accepted w c)
+
+  -- the calls in order, each with what those before left
+  abbrev pub run : Carried → List Call → Carried
+  run w [] = w
+  run w (c ∷ cs) = run (call w c) cs
+
+  -- What a call answers: number and place; "the new state with the number of comments left"; "the new state and the bytes written".
+  pub data Answer : Type 0 where
+    refused : Refusal → Answer
+    laidOut : R .LayoutState → ℕ → Answer
+    written : R .RenderState → ℕ → Answer
+
+  abbrev pub answerBy : Option Refusal → Answer → Answer
+  answerBy (some r) a = refused r
+  answerBy none a = a
+
+  abbrev pub acceptedAnswer : Carried → Call → Answer
+  acceptedAnswer w (layoutCall q) = laidOut (R .layout (w .layout-state) q .state) (R .layout (w .layout-state) q .left)
+  acceptedAnswer w (renderCall q) = written (rendered w q .state) (length (rendered w q .text))
+
+  abbrev pub answer : Carried → Call → Answer
+  answer w c = answerBy (refusal w c) (acceptedAnswer w c)
+
+  abbrev pub answers : Carried → List Call → List Answer
+  answers w [] = []
+  answers w (c ∷ cs) = answer w c ∷ answers (call w c) cs

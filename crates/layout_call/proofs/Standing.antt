@@ -1,0 +1,161 @@
+-- What an accepted source and image give a layout call: the tree, its declarations one after the other, and room for the rows.
+-- Assumes nothing.
+use mathlib.Core.Path.{_≡_, refl, sym, ap, subst, _∙_}
+use mathlib.Core.Bool.{Bool, not}
+use mathlib.Core.List.{List, [], _∷_, _++_}
+use Prim.Native.Nat.{ℕ, _+_, _-_, _*_, _≤_, _<_}
+use native.Mathlib.Omega.{arith}
+use lib.ListN.{length, take, drop, length-drop, take-append-drop}
+use lib.Dec.{eqb}
+use Rattle.image.specs.Read.{stopAt}
+use Rattle.image.proofs.Accepted.{accepted}
+use Rattle.tree.specs.Syntax.{Declaration}
+use Rattle.tree.specs.At.{TreeAt, DeclarationsAt}
+use Rattle.tree.specs.Walk.{walked}
+use Rattle.tree.proofs.Walk.{declarations-from, walked-within, walked-on, declarations-between}
+use Rattle.state.specs.Laid.{st, Room, Laid}
+use Rattle.state.specs.declared.Cursor.{Cursor}
+use Rattle.comments.specs.Listed.{given, commentsOf}
+use Rattle.comments.proofs.Accepted.{accepted-listed}
+use Rattle.comments.proofs.Fronts.{count-of}
+use Rattle.layout.specs.Contracts.{Accepted, Has, LaidAs, HasAll, LaidAll, Within}
+use Rattle.layout.specs.Forms.{MaybeIdentAt, declarationsFrom}
+use Rattle.layout.specs.Layout.{shebangRule, declarationsRule}
+use Rattle.layout_facts.specs.Accepted.{Stands}
+use Rattle.rows.specs.Rows.{sizes}
+use Rattle.layout_facts.proofs.Limits.{call-room, call-few}
+use Rattle.plain_run.proofs.Limits.{standing}
+use Rattle.layout_call.specs.Steps.{Accepts, Small, tree, declared, startOf, callAct}
+
+module _ {s b : List ℕ} {n at : ℕ} (a : Accepts s b n at) where
+  pub stands : Stands (given s b) (tree s b) at
+  stands = standing s b n at (a .answer)
+
+  pub comments-count : length (commentsOf b) ≡ n
+  comments-count = count-of b ∙ sym (accepted s b n at (a .answer) .root .count)
+
+  pub source-short : length s ≤ 65536
+  source-short = accepted s b n at (a .answer) .short
+
+  pub few-comments : n ≤ 8192
+  few-comments = omega (arith, comments-count, stands .count)
+
+  ready : Accepted s b
+  ready = record { listed = accepted-listed s b n at (a .answer); small = stands .small }
+
+  pub has-shebang : {c : Cursor} → Room (shebangRule (given s b) (tree s b .shebang)) c → Has MaybeIdentAt shebangRule s b (at + 13) c
+  has-shebang room = record { accepted = ready; tree = tree s b .shebang; held = stands .tree .shebang; room = room }
+
+  pub shebang-laid : {x y : List ℕ} {c d : Cursor} → LaidAs MaybeIdentAt shebangRule s b (at + 13) x c y d
+      → Room (shebangRule (given s b) (tree s b .shebang)) c → Laid (shebangRule (given s b) (tree s b .shebang)) x c y d
+  unfolding has-shebang
+  shebang-laid l room = l .of (has-shebang room)
+
+  -- ---- the declarations
+  abbrev ds : List Declaration
+  ds = declared s b
+
+  all : DeclarationsAt s b ds (stopAt b (at + 13)) (stopAt b at)
+  all = stands .tree .declarations
+
+  pub first-in : Within b (at + 13)
+  first-in = record { fits = omega (arith, stands .tree .inside .least, stands .tree .end) }
+
+  pub tree-in : Within b at
+  tree-in = record { fits = omega (arith, stands .tree .end) }
+
+  rest : (k : ℕ) → DeclarationsAt s b (drop k ds) (startOf s b at k) (stopAt b at)
+  rest k = declarations-from s b ds k (stopAt b (at + 13)) (stopAt b at) all
+
+  pub starts-first : startOf s b at 0 ≡ stopAt b (at + 13)
+  unfolding walked
+  starts-first = refl
+
+  -- a declaration more
+  record More (xs : List Declaration) (p end : ℕ) : Type 0 where
+    next : walked b xs 1 p ≡ stopAt b p
+    inside : stopAt b p ≤ end
+
+  more-at : (xs : List Declaration) (p end : ℕ) → DeclarationsAt s b xs p end → 0 < length xs → More xs p end
+  unfolding DeclarationsAt walked
+  more-at [] p end h l = absurd (omega arith)
+  more-at (x ∷ xs) p end h l = record { next = refl; inside = h .1 .least }
+
+  some-left : (xs : List Declaration) (p end : ℕ) → DeclarationsAt s b xs p end → p < end → 0 < length xs
+  unfolding DeclarationsAt
+  some-left [] p end h l = absurd (omega (arith, h .same))
+  some-left (x ∷ xs) p end h l = omega arith
+
+  none-left : (xs : List Declaration) (p end : ℕ) → DeclarationsAt s b xs p end → end ≤ p → length xs ≡ 0
+  unfolding DeclarationsAt
+  none-left [] p end h l = refl
+  none-left (x ∷ xs) p end h l = absurd (omega (arith, h .1 .least))
+
+  -- each takes up bytes of the image
+  counted : (xs : List Declaration) (p end : ℕ) → DeclarationsAt s b xs p end → p + length xs ≤ end
+  unfolding DeclarationsAt
+  counted [] p end h = omega (arith, h .same)
+  counted (x ∷ xs) p end h = omega (arith, counted xs (stopAt b p) end (h .2))
+
+  pub few-declarations : length ds ≤ 1048581
+  few-declarations = omega (arith, counted ds _ _ all, stands .tree .end, stands .small)
+
+  module _ (k : ℕ) where
+    pub another : startOf s b at k < stopAt b at → k < length ds
+    another l = omega (arith, length-drop k ds, some-left (drop k ds) _ _ (rest k) l)
+
+    pub no-more : k ≤ length ds → stopAt b at ≤ startOf s b at k → k ≡ length ds
+    no-more h l = omega (arith, length-drop k ds, none-left (drop k ds) _ _ (rest k) l)
+
+    module _ (h : k < length ds) where
+      here : More (drop k ds) (startOf s b at k) (stopAt b at)
+      here = more-at (drop k ds) _ _ (rest k) (omega (arith, length-drop k ds))
+
+      pub record-in : Within b (startOf s b at k)
+      record-in = record { fits = omega (arith, here .inside, stands .tree .end) }
+
+      pub goes-on : stopAt b (startOf s b at k) ≡ startOf s b at (k + 1)
+      goes-on = sym (here .next) ∙ walked-on s b ds k 1 (stopAt b (at + 13))
+
+  -- ---- a part of them
+  module _ (from to : ℕ) (h : from ≤ to) where
+    abbrev ys : List Declaration
+    ys = take (to - from) (drop from ds)
+
+    pub between : DeclarationsAt s b ys (startOf s b at from) (startOf s b at to)
+    between =
+        subst (λ (k : ℕ). DeclarationsAt s b ys (startOf s b at from) (startOf s b at k)) (omega arith)
+        (declarations-between s b ds from (to - from) (stopAt b (at + 13)) (stopAt b at) all)
+
+    pub has-part : (first : Bool) {c : Cursor} → Room (declarationsRule (given s b) ys first) c
+        → HasAll DeclarationsAt (declarationsFrom first) s b (startOf s b at from) (startOf s b at to) c
+    has-part first room = record {
+      accepted = ready;
+      tree = ys;
+      held = between;
+      inside = omega (arith, walked-within s b ds to (stopAt b (at + 13)) (stopAt b at) all, stands .tree .end);
+      room = room;
+    }
+
+    pub part-laid : (first : Bool) {x y : List ℕ} {c d : Cursor}
+        → LaidAll DeclarationsAt (declarationsFrom first) s b (startOf s b at from) (startOf s b at to) x c y d
+        → Room (declarationsRule (given s b) ys first) c → Laid (declarationsRule (given s b) ys first) x c y d
+    unfolding has-part
+    part-laid first l room = l .of (has-part first room)
+
+    parted : take from ds ++ (ys ++ drop (to - from) (drop from ds)) ≡ ds
+    parted =
+        ap (λ (l : List Declaration). take from ds ++ l) (take-append-drop (to - from) (drop from ds)) ∙ take-append-drop from ds
+
+    pub room : (c : Cursor) (begun close : Bool) → Small c n → Room (callAct s b begun from to close) c
+    room c begun close k =
+        call-room stands (take from ds) ys (drop (to - from) (drop from ds)) (not begun) (eqb from 0) close parted c (k .row) (k .number)
+        (omega (arith, comments-count, k .placed))
+
+    pub few-rows : (c : Cursor) (begun close : Bool) → Small c n → sizes (callAct s b begun from to close (st c) .nodes) ≤ length b + 2 * n
+    few-rows c begun close k =
+        let l =
+        call-few stands (take from ds) ys (drop (to - from) (drop from ds)) (not begun) (eqb from 0) close parted (st c)
+        (omega (arith, comments-count, k .placed))
+        in
+        omega (arith, l, comments-count, stands .tree .end)

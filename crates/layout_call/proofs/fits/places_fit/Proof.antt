@@ -1,0 +1,19 @@
+use Rattle.laws.proofs.Booleans.{at-most}
+use borrow.Author.Tests.{lt-ltb, le-ltb}
+use Rattle.layout_call.proofs.fits.places_fit.Statement.{statement}
+use Rattle.layout_call.proofs.fits.places_fit.Tie as tie
+
+returns : tie.Need-returns
+returns c = rw (lt-ltb _ _ (c .if1 .taken))
+
+returns-2 : tie.Need-returns-2
+returns-2 c = rw (le-ltb _ _ (c .before .before .if1 .left), lt-ltb _ _ (c .if2 .taken))
+
+returns-3 : tie.Need-returns-3
+returns-3 c = rw (le-ltb _ _ (c .before .before .before .before .if1 .left), le-ltb _ _ (c .before .before .if2 .left), lt-ltb _ _ (c .if3 .taken))
+
+returns-4 : tie.Need-returns-4
+returns-4 c = rw (le-ltb _ _ (c .before .before .before .before .before .if1 .left), le-ltb _ _ (c .before .before .before .if2 .left), le-ltb _ _ (c .before .if3 .left)) (at-most (c .before .before .before .before .before .before .before .args .state .row) (c .before .before .before .before .before .before .before .args .rows))
+
+pub places-fit-spec : {M : Type 1} → statement M
+places-fit-spec = tie.close (tie.spec returns returns-2 returns-3 returns-4)

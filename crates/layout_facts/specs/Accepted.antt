@@ -1,0 +1,54 @@
+-- What layout may take for granted of an accepted image, and the steps of a layout call.
+use Prim.Native.Nat.{ℕ, _+_, _*_, _≤_}
+use mathlib.Core.Path.{_≡_}
+use mathlib.Core.Bool.{Bool, true}
+use mathlib.Core.List.{List, _++_}
+use lib.ListN.{length}
+use Rattle.tree.specs.Syntax.{Declaration, SyntaxTree}
+use Rattle.tree.specs.At.{TreeAt}
+use Rattle.rows.specs.Node.{line}
+use Rattle.rows.specs.Rows.{sizes, depths}
+use Rattle.state.specs.Act.{Given, St, Out, Act, _⨟_, when, push}
+use Rattle.layout.specs.Layout.{shebangRule, declarationsRule}
+use Rattle.layout_facts.specs.Sound.{TextsIn, Commented}
+use Rattle.layout_facts.specs.Height.{treeHeight}
+
+-- A tree that stands at `at` of an accepted image: the body is 1,048,576 bytes at most, the comments before it are 8,192 at most.
+pub record Stands (g : Given) (t : SyntaxTree) (at : ℕ) : Type 0 where
+  pub tree : TreeAt (g .source) (g .image) t at
+  pub high : treeHeight t ≤ 67
+  pub comments : Commented g
+  pub count : length (g .comments) ≤ 8192
+  pub place : at ≡ 7 + 8 * length (g .comments)
+  pub small : length (g .image) ≤ 1048581
+
+-- the state from which `fmt_parsed` starts
+abbrev pub fresh : St
+fresh = record { number = 0; pos = 0; placed = 0 }
+
+-- what `fmt_parsed` has done when its loop has laid the declarations ds
+abbrev pub upTo : Given → SyntaxTree → List Declaration → Act
+upTo g t ds = shebangRule g (t .shebang) ⨟ declarationsRule g ds true
+
+-- what one layout call lays: the shebang, if the call begins the document; the declarations ds, the first of which is the document's first
+-- or not; the final line, if the call closes the document
+abbrev pub callRule : Given → SyntaxTree → Bool → List Declaration → Bool → Bool → Act
+callRule g t begins ds first closes =
+    when begins (shebangRule g (t .shebang)) ⨟ declarationsRule g ds first ⨟ when closes (push line)
+
+-- The rows and the state due are within the limits of document 01: rows and numbers for the next call's state, rows not over 256 deep, texts
+-- inside their origins, the position in the source, the comments placed in the list.
+pub record Within (g : Given) (o : Out) : Type 0 where
+  pub rows : sizes (o .nodes) ≤ 1048576
+  pub numbers : o .taken ≤ 1048576
+  pub deep : depths (o .nodes) ≤ 256
+  pub texts : TextsIn g (o .nodes)
+  pub position : o .pos ≤ length (g .source)
+  pub placed : o .placed ≤ length (g .comments)
+
+-- "The layout rules pick the start of fixed words (origin 2); the word due is there": so it is of all that a layout call lays, from any state.
+abbrev pub WordsDue : Type 0
+WordsDue =
+    (g : Given) (t : SyntaxTree) (at : ℕ) → Stands g t at → (xs ys zs : List Declaration) → xs ++ (ys ++ zs) ≡ t .declarations
+    → (begins first closes : Bool) (s : St)
+    → TextsIn g (callRule g t begins ys first closes s .nodes)

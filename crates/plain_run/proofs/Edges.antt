@@ -1,0 +1,42 @@
+-- The marked edges hold: antt computes each from its bytes.
+-- Assumes nothing.
+use mathlib.Core.Path.{refl}
+use Rattle.text.specs.Newlines.{isRange}
+use Rattle.image.specs.Read.{header, commentFits, commentsFrom, comments as commentList, shape, opens, childrenAt, skips, recordAt, treeAt, readTree}
+use Rattle.image.specs.Read.{readImage, sourceFits, readAll}
+use Rattle.image.specs.Bytes.{be16, be32}
+use Rattle.image.specs.Grammar.{rowOf, rowUnder, kindFits, payloadFits, firstChild}
+use Rattle.image.specs.Write.{written}
+use Rattle.text.specs.Utf8.{within, rowIn, followed, sequence, run as runs, prefix, wellFormed, boundary}
+use Rattle.tree.specs.Records.{views, syntaxTree}
+use Rattle.rows.specs.Ascii.{bytes}
+use Rattle.rows.specs.Node.{mustWrap, mustWraps, width, widths}
+use Rattle.rows.specs.Rows.{size, sizes, rowsOf, rows}
+use Rattle.rows.specs.View.{viewOf, nodeOf, decode, nodesAt}
+use Rattle.comments.specs.Listed.{commentsOf, pairsAt}
+use Rattle.rows.specs.Words.{placeIn, word, joined, words}
+use Rattle.state.specs.Act.{_⨟_, _⨟?_, _⨟!_, join, grouped, indented as indents}
+use Rattle.text.specs.Newlines.{countNewlines, newlines}
+use Rattle.text.specs.Utf8.{charAt, decoded, scalar, charBefore, ending, ends}
+use Rattle.text.specs.Space.{something, seek, oneOf, trimEnd, trim}
+use Rattle.comments.specs.Comments as comments
+use Rattle.layout.specs.Layout.{shebangRule, declaration, declares, opening, typeExpr, typeForm, typeArgs, pathRule, pathMore, look, lookForm}
+use Rattle.layout.specs.Layout.{literalRule}
+use Rattle.renderer_rules.specs.Renderer.{push, atColumn, newLine, margin, remark, text, virtualColumn, insert, indented, outdented, nextIndented}
+use Rattle.renderer_rules.specs.Renderer.{nextOutdented, wraps, groupWraps, trailing, calleeWraps, render, renders}
+use Rattle.rows.specs.Texts.{originText}
+use Rattle.renderer_rules.specs.Page.{textBytes}
+use Rattle.renderer_rules.specs.Check.{reaches, partsFit, rowFits, firstWrong, wrongRow, placesFit, wrongPlace}
+use Rattle.marks.specs.Marks.{marksNeeded}
+use Rattle.plain_run.specs.Edges.{EdgesHold}
+
+pub edges-hold : EdgesHold
+unfolding header commentFits commentsFrom commentList shape opens childrenAt skips recordAt treeAt readTree readImage sourceFits readAll be16 be32 rowOf
+    rowUnder kindFits payloadFits firstChild written within rowIn followed sequence runs prefix wellFormed boundary isRange views syntaxTree bytes
+    mustWrap mustWraps width widths size sizes rowsOf rows viewOf nodeOf decode nodesAt commentsOf pairsAt push atColumn newLine margin remark text
+    virtualColumn insert indented outdented nextIndented nextOutdented wraps groupWraps trailing calleeWraps render renders originText textBytes
+    reaches partsFit rowFits firstWrong wrongRow placesFit wrongPlace marksNeeded placeIn word
+    joined words _⨟_ _⨟?_ _⨟!_ join grouped indents countNewlines newlines charAt decoded scalar something seek oneOf trimEnd trim charBefore ending ends shebangRule declaration declares
+    opening typeExpr typeForm typeArgs pathRule pathMore look lookForm literalRule comments.nth comments.newlines comments.ignoreNewlines
+    comments.popComment comments.popComments comments.popWhitespace comments.popTrailingComment
+edges-hold = refl

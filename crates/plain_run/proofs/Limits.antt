@@ -1,0 +1,90 @@
+-- What is laid out of an accepted image is within the limits: crates/layout_facts has it of the nodes that `fmt_parsed` gives, and layout gives their
+-- rows.
+-- Assumes nothing.
+use mathlib.Core.Path.{_≡_, refl, sym, ap, subst, subst₂, _∙_}
+use mathlib.Core.Bool.{true, false}
+use mathlib.Core.Option.{none}
+use mathlib.Core.List.{List}
+use Prim.Native.Nat.{ℕ, _+_, _*_, _≤_}
+use native.Mathlib.Omega.{arith}
+use native.Mathlib.Nat.{zero-add}
+use lib.ListN.{length, getD, take, drop, take-append-drop}
+use borrow.Author.Tests.{le-leb}
+use Rattle.text.specs.Utf8.{wellFormed}
+use Rattle.image.specs.Read.{Read, got, bad, Image, sourceFits, readImage, readAll, answerOf}
+use Rattle.image.specs.declared.Answer.the-variants.{Accepted}
+use Rattle.image.proofs.Accepted.{accepted}
+use Rattle.tree.specs.Syntax.{SyntaxTree}
+use Rattle.tree.specs.Records.{syntaxTree}
+use Rattle.rows.specs.Rows.{sizes, rows}
+use Rattle.rows.proofs.Sizes.{length-rows}
+use Rattle.rows.proofs.Flatten.{Holds}
+use Rattle.state.specs.Act.{Given, Out}
+use Rattle.comments.specs.Listed.{given}
+use Rattle.layout_facts.specs.Accepted.{Stands, Within}
+use Rattle.layout_facts.proofs.Limits.{stands, whole-within, upTo-within, due-passes}
+use Rattle.renderer_rules.specs.Check.{wrongPlace}
+use Rattle.cut_rule.specs.Rules.{Laid}
+use Rattle.cut_rule.specs.Parts.{LayoutState}
+use Rattle.plain_run.specs.Parts.{refusalOf, treeOf}
+use Rattle.plain_run.specs.Demands.{Gives, Limited, AllLimited}
+use Rattle.plain_run.proofs.Whole.{fmt-parsed}
+
+module _ (s b : List ℕ) where
+  abbrev g : Given
+  g = given s b
+
+  -- ---- the tree of an accepted image stands in it
+  reads-image : length s ≤ 65536 → wellFormed s ≡ true → readAll s b ≡ readImage false s b
+  unfolding readAll sourceFits
+  reads-image h w = rw (le-leb (length s) 65536 h, w)
+
+  -- an accepted source and image have the tree at the answered offset
+  pub standing : (n at : ℕ) → answerOf (readAll s b) ≡ Accepted n at → Stands g (treeOf b (readAll s b)) at
+  standing n at h =
+      let a = accepted s b n at h in
+      let c = a .root in
+      let same : readAll s b ≡ got (record { comments = n; tree = c .tree; at = at }) (length b) = reads-image (a .short) (a .well) ∙ c .whole in
+      subst (λ (t : SyntaxTree). Stands g t at) (sym (ap (treeOf b) same)) (stands false s b n at c)
+
+  -- where the tree stands
+  record Stood : Type 0 where
+    at : ℕ
+    stood : Stands g (treeOf b (readAll s b)) at
+
+  stood : refusalOf (readAll s b) ≡ none → Stood
+  stood h = go (readAll s b) refl h
+    where
+      go : (r : Read Image) → readAll s b ≡ r → refusalOf r ≡ none → Stood
+      go (bad n p) e h = let z : _≡_ {A = ℕ} 0 1 = cc in absurd (omega arith)
+      go (got i end) e h = record { at = i .at; stood = standing (i .comments) (i .at) (ap answerOf e) }
+
+  -- ---- limits
+  held : (l : List ℕ) → Holds l 0 l
+  held l = record { at = λ k h. let e : 0 * 9 + k ≡ k = omega arith in ap (λ (j : ℕ). getD l j 0) e }
+
+  limited : (a : Stood) (o : Out) (l : Laid LayoutState) → Gives s b o l → Within g o → Limited s b l
+  limited a o l e w =
+      let n : sizes (o .nodes) * 9 ≤ length (rows (o .nodes) 0) = omega (arith, length-rows (o .nodes) 0) in
+      record {
+        right =
+            subst₂ (λ (x : List ℕ) (k : ℕ). wrongPlace s b x 0 k ≡ none) (sym (e .rows-due)) (zero-add (sizes (o .nodes)) ∙ sym (e .row-due))
+            (due-passes (a .stood) w (rows (o .nodes) 0) (held (rows (o .nodes) 0)) n);
+        rows-few = omega (arith, e .row-due, w .rows);
+        numbers-few = omega (arith, e .number-due, w .numbers);
+        position-in = omega (arith, e .position-due, w .position);
+        placed-in = omega (arith, e .placed-due, w .placed);
+      }
+
+  pub all-limited : refusalOf (readAll s b) ≡ none → AllLimited s b (treeOf b (readAll s b))
+  all-limited h =
+      let t = treeOf b (readAll s b) in
+      let a = stood h in
+      let f = fmt-parsed s b in
+      record {
+        at-stop =
+            λ n i.
+            limited a _ _ (f .at-stop n i)
+            (upTo-within (a .stood) (take n (t .declarations)) (drop n (t .declarations)) (take-append-drop n (t .declarations)));
+        closed = limited a _ _ (f .closed) (whole-within (a .stood));
+      }

@@ -1,0 +1,102 @@
+-- The rendering laws that the cut rule asks, for `Renderer` over rows: top rows are rendered one after the other, and a call that goes on
+-- writes what one go would have written there, with the text so far ahead.
+-- Assumes nothing.
+use mathlib.Core.Path.{_≡_, sym, ap, ap₂, subst, _∙_}
+use mathlib.Core.Bool.{true}
+use mathlib.Core.Option.{none}
+use mathlib.Core.List.{List, [], _++_, append-nil}
+use Prim.Native.Nat.{ℕ, _+_, _-_, _≤_, max}
+use native.Mathlib.Omega.{arith}
+use lib.ListN.{length}
+use Rattle.rows.specs.Node.{Nodes}
+use Rattle.rows.specs.View.{viewOf, nodesAt}
+use Rattle.marks.specs.Marks.{marksNeeded}
+use Rattle.renderer_rules.specs.Renderer.{Page, Renderer, renders}
+use Rattle.renderer_rules.specs.Check.{wrongPlace}
+use Rattle.renderer_rules.proofs.Joined.{renders-ranges}
+use Rattle.cut_rule.specs.Laws.{SameBefore}
+use Rattle.cut_rule.specs.Parts.{Pen, Drawn}
+use Rattle.cut_rule.specs.PartLaws.{withPast, thenDrawn, RenderPartLaws}
+use Rattle.plain_run.specs.Parts.{rendererOf, drawnBy, page, drawn, parts}
+use Rattle.plain_run.proofs.Local.{nodes-local, cell-same, rows-same}
+use Rattle.plain_run.proofs.Past.{Unders, ext, renders-length, renders-ext}
+use Rattle.plain_run.proofs.Marks.{marks-local, marks-add, nodes-under}
+use Rattle.plain_run.proofs.Right.{right, none-found, right-none, right-both, right-same}
+
+-- the marks that the rows of a store need, from one up to a stop
+abbrev needed : List ℕ → ℕ → ℕ → ℕ
+needed store i n = marksNeeded (n - i) store i
+
+needed-join : (store : List ℕ) (n m : ℕ) → n ≤ m → needed store 0 m ≡ max (needed store 0 n) (needed store n m)
+needed-join store n m h =
+    let e : m - 0 ≡ (n - 0) + (m - n) = omega arith in
+    let f : 0 + (n - 0) ≡ n = omega arith in
+    ap (λ (k : ℕ). marksNeeded k store 0) e
+    ∙ marks-add (n - 0) (m - n) store 0
+    ∙ ap (λ (k : ℕ). max (needed store 0 n) (marksNeeded (m - n) store k)) f
+
+needed-local : (store other : List ℕ) (i n : ℕ) → SameBefore n store other → needed store i n ≡ needed other i n
+needed-local store other i n e = marks-local (n - i) store other i (λ k c p q l. cell-same n store other e k c (omega arith) l)
+
+-- the nodes of rows before the stop have numbers under the marks
+under-marks : (store marks : List ℕ) (i n : ℕ) → needed store 0 n ≤ length marks → Unders (length marks) (nodesAt (viewOf store) i n)
+under-marks store marks i n h = nodes-under store (n - 0) 0 i n (length marks) h (omega arith) (omega arith)
+
+-- ---- going on
+-- what a renderer leaves with its text ahead
+abbrev onto : Renderer → Drawn → Drawn
+onto r d = record { pen = d .pen; marks = d .marks; text = r .buf ++ d .text }
+
+abbrev penOf : Renderer → Pen
+penOf r = drawnBy r .pen
+
+abbrev remade : Renderer → List ℕ → List ℕ → Renderer
+remade r t m = record { buf = t; indent = r .indent; nextIndent = r .nextIndent; column = r .column; marks = m }
+
+-- to go on with a text is to go on without it, and to put it ahead
+resumed : (p : Page) (ns : Nodes) (r : Renderer) → Unders (length (r .marks)) ns
+    → drawnBy (renders p ns true r) ≡ onto r (drawnBy (renders p ns true (rendererOf (penOf r) (r .marks))))
+resumed p ns r u =
+    let t = rendererOf (penOf r) (r .marks) in
+    let e : _≡_ {A = Renderer} (ext (r .buf) [] t) r = ap₂ (remade r) (append-nil (r .buf)) (append-nil (r .marks)) in
+    ap (λ (x : Renderer). drawnBy (renders p ns true x)) (sym e)
+    ∙ ap drawnBy (renders-ext (r .buf) [] p ns true t u)
+    ∙ ap (λ (m : List ℕ). onto r (record { pen = penOf (renders p ns true t); marks = m; text = renders p ns true t .buf }))
+    (append-nil (renders p ns true t .marks))
+
+module _ (s b : List ℕ) where
+  draw-local : (z : Pen) (marks store other : List ℕ) (i n : ℕ) → SameBefore n store other
+      → drawn s b z marks store i n ≡ drawn s b z marks other i n
+  draw-local z marks store other i n e =
+      ap (λ (ns : Nodes). drawnBy (renders (page s b) ns true (rendererOf z marks)))
+      (nodes-local (viewOf store) (viewOf other) i n (rows-same n store other e i))
+
+  draw-past : (z : Pen) (marks past store : List ℕ) (n : ℕ) → needed store 0 n ≤ length marks
+      → drawn s b z (marks ++ past) store 0 n ≡ withPast (drawn s b z marks store 0 n) past
+  draw-past z marks past store n h =
+      ap drawnBy (renders-ext [] past (page s b) (nodesAt (viewOf store) 0 n) true (rendererOf z marks) (under-marks store marks 0 n h))
+
+  draw-join : (z : Pen) (marks store : List ℕ) (n m : ℕ) → n ≤ m → wrongPlace s b store 0 n ≡ none → needed store 0 m ≤ length marks
+      → drawn s b z marks store 0 m ≡ thenDrawn (drawn s b z marks store 0 n) (λ y ms. drawn s b y ms store n m)
+  draw-join z marks store n m h e g =
+      let v = viewOf store in
+      let one = renders (page s b) (nodesAt v 0 n) true (rendererOf z marks) in
+      ap drawnBy (renders-ranges (page s b) m true (rendererOf z marks) (right s b store 0 n (omega arith) e .nests) h)
+      ∙ resumed (page s b) (nodesAt v n m) one
+      (subst (λ (k : ℕ). Unders k (nodesAt v n m)) (sym (renders-length (page s b) (nodesAt v 0 n) true (rendererOf z marks))) (under-marks store marks n m g))
+
+  pub render-parts : RenderPartLaws (parts s b)
+  render-parts = record {
+    none-wrong = λ store. none-found s b store 0 0 (right-none s b store);
+    right-join =
+        λ store n m h e f.
+        none-found s b store 0 m (right-both s b store n m (right s b store 0 n (omega arith) e) (right s b store n m h f));
+    needed-join = needed-join;
+    right-local =
+        λ store other n e f. none-found s b other 0 n (right-same s b store other n e (right s b store 0 n (omega arith) f));
+    needed-local = needed-local;
+    draw-local = draw-local;
+    draw-marks = λ z marks store i n. renders-length (page s b) (nodesAt (viewOf store) i n) true (rendererOf z marks);
+    draw-past = λ z marks past store n e h. draw-past z marks past store n h;
+    draw-join = λ z marks store n m h e f g. draw-join z marks store n m h e g;
+  }

@@ -1,0 +1,224 @@
+-- Layout from fresh is `fmt_parsed`: the rows of steps in sequence are the rows of each, one after the other, so that the declarations laid one
+-- at a time are the loop over them.
+-- Assumes nothing.
+use mathlib.Core.Path.{_≡_, refl, sym, ap, ap₂, _∙_}
+use mathlib.Core.Bool.{Bool, true, false, not}
+use mathlib.Core.Option.{Option, none as nothing, some}
+use mathlib.Core.List.{List, [], _∷_, _++_, append-assoc, append-nil}
+use Prim.Native.Nat.{ℕ, zero, suc, _+_, _-_, _≤_, _<_}
+use native.Mathlib.Omega.{arith}
+use native.Mathlib.Nat.{zero-add, add-zero, sub-zero, suc-add}
+use borrow.Author.Tests.{ne-eqb}
+use lib.Dec.{eqb}
+use lib.ListN.{length, take, drop, length-drop}
+use lib.Seq.{take-length}
+use Rattle.image.specs.Read.{readAll}
+use Rattle.tree.specs.Syntax.{Declaration, SyntaxTree}
+use Rattle.rows.specs.Node.{Nodes, line}
+use Rattle.rows.specs.Rows.{sizes, rows}
+use Rattle.rows.specs.View.{viewOf, nodesAt}
+use Rattle.rows.proofs.Flatten.{flattened}
+use Rattle.state.specs.Act.{Given, St, Act, _⨟_, when, skip, push, next, join}
+use Rattle.state.proofs.Joins.{sizes-join, rows-join}
+use Rattle.comments.specs.Comments.{nth}
+use Rattle.comments.specs.Listed.{commentsOf, given}
+use Rattle.layout.specs.Layout.{shebangRule, declaration, declarationsRule, fmtParsed}
+use Rattle.layout_facts.specs.Accepted.{fresh, upTo, callRule}
+use Rattle.renderer_rules.specs.Renderer.{renders}
+use Rattle.cut_rule.specs.Parts as cut
+use Rattle.cut_rule.specs.Parts.{Cursor, LayoutState, Piece, Pen, layoutFresh, still, andThen, begin, several, end}
+use Rattle.plain_run.specs.Parts.{treeOf, pieceOf, declarationAct, rendererOf, drawnBy, page, drawn, parts}
+use Rattle.plain_run.specs.Demands.{Gives, laidTo, FmtParsed}
+
+-- ---- pieces
+piece-then : (a b : Act) (c : Cursor) → pieceOf (a ⨟ b) c ≡ andThen (pieceOf a c) (pieceOf b)
+unfolding _⨟_
+piece-then a b c =
+    let z : St = record { number = c .number; pos = c .position; placed = c .placed } in
+    let o = a z in
+    let p = b (next z o) in
+    let e : c .row + sizes (join (o .nodes) (p .nodes)) ≡ c .row + sizes (o .nodes) + sizes (p .nodes) =
+    omega (arith, sizes-join (o .nodes) (p .nodes))
+    in
+    let f : c .number + (o .taken + p .taken) ≡ c .number + o .taken + p .taken = omega arith in
+    let r = rows-join (o .nodes) (p .nodes) (c .row) in
+    λ t. record { cursor = record { row = e t; number = f t; placed = p .placed; position = p .pos }; rows = r t }
+
+piece-skip : (c : Cursor) → pieceOf skip c ≡ still c
+unfolding rows sizes
+piece-skip c =
+    λ t. record { cursor = record { row = add-zero (c .row) t; number = add-zero (c .number) t; placed = c .placed; position = c .position }; rows = [] }
+
+then-at : (p : Piece) (f g : Cursor → Piece) → f (p .cursor) ≡ g (p .cursor) → andThen p f ≡ andThen p g
+then-at p f g e = λ t. record { cursor = e t .cursor; rows = p .rows ++ e t .rows }
+
+then-then : (p : Piece) (f g : Cursor → Piece) → andThen (andThen p f) g ≡ andThen p (λ c. andThen (f c) g)
+then-then p f g =
+    λ t. record { cursor = g (f (p .cursor) .cursor) .cursor; rows = append-assoc (p .rows) (f (p .cursor) .rows) (g (f (p .cursor) .cursor) .rows) t }
+
+then-still : (p : Piece) → andThen p still ≡ p
+then-still p = λ t. record { cursor = p .cursor; rows = append-nil (p .rows) t }
+
+then-skip : (p : Piece) → andThen p (pieceOf skip) ≡ p
+then-skip p = then-at p (pieceOf skip) still (piece-skip (p .cursor)) ∙ then-still p
+
+-- ---- one declaration more
+abbrev flag : ℕ → Bool → Bool
+flag zero first = first
+flag (suc n) first = false
+
+flag-at : (d n : ℕ) → eqb (d + n) 0 ≡ flag n (eqb d 0)
+flag-at d zero = ap (λ (k : ℕ). eqb k 0) (add-zero d)
+flag-at d (suc n) = ne-eqb (d + suc n) 0 (λ e. omega arith)
+
+nth-drop : {A : Type 0} (d : ℕ) (xs : List A) (n : ℕ) → nth (drop d xs) n ≡ nth xs (d + n)
+unfolding nth
+nth-drop zero xs n = ap (nth xs) (sym (zero-add n))
+nth-drop (suc d) [] n = refl
+nth-drop (suc d) (x ∷ xs) n = nth-drop d xs n ∙ ap (nth (x ∷ xs)) (sym (suc-add d n))
+
+flag-false : (n : ℕ) → flag n false ≡ false
+flag-false zero = refl
+flag-false (suc n) = refl
+
+abbrev one : Given → Bool → Option Declaration → Act
+one g first nothing = skip
+one g first (some d) = declaration g d first
+
+module _ (g : Given) where
+  more : (n : ℕ) (ds : List Declaration) (first : Bool) (c : Cursor) → n < length ds
+      → pieceOf (declarationsRule g (take (suc n) ds) first) c
+      ≡ andThen (pieceOf (declarationsRule g (take n ds) first) c) (pieceOf (one g (flag n first) (nth ds n)))
+  unfolding declarationsRule nth
+  more n [] first c h = absurd (omega arith)
+  more zero (d ∷ ds) first c h =
+      piece-then (declaration g d first) skip c
+      ∙ then-skip (pieceOf (declaration g d first) c)
+      ∙ ap (λ (p : Piece). andThen p (pieceOf (declaration g d first))) (sym (piece-skip c))
+  more (suc n) (d ∷ ds) first c h =
+      let a = declaration g d first in
+      let last = pieceOf (one g (flag n false) (nth ds n)) in
+      piece-then a (declarationsRule g (take (suc n) ds) false) c
+      ∙ then-at (pieceOf a c) (pieceOf (declarationsRule g (take (suc n) ds) false))
+      (λ x. andThen (pieceOf (declarationsRule g (take n ds) false) x) last)
+      (more n ds false (pieceOf a c .cursor) (omega arith))
+      ∙ sym (then-then (pieceOf a c) (pieceOf (declarationsRule g (take n ds) false)) last)
+      ∙ ap (λ (p : Piece). andThen p last) (sym (piece-then a (declarationsRule g (take n ds) false) c))
+      ∙ ap (λ (x : Bool). andThen (pieceOf (a ⨟ declarationsRule g (take n ds) false) c) (pieceOf (one g x (nth ds n)))) (flag-false n)
+
+-- ---- the whole
+module _ (s b : List ℕ) where
+  abbrev g : Given
+  g = given s b
+
+  abbrev tree : SyntaxTree
+  tree = treeOf b (readAll s b)
+
+  abbrev ds : List Declaration
+  ds = tree .declarations
+
+  same-act : (k : ℕ) (first : Bool) (d : Option Declaration) → eqb k 0 ≡ first → declarationAct s b k d ≡ one g first d
+  same-act k first nothing e = refl
+  same-act k first (some d) e = ap (declaration g d) e
+
+  at-place : (d n : ℕ) → declarationAct s b (d + n) (nth ds (d + n)) ≡ one g (flag n (eqb d 0)) (nth (drop d ds) n)
+  at-place d n = same-act (d + n) (flag n (eqb d 0)) (nth ds (d + n)) (flag-at d n) ∙ ap (one g (flag n (eqb d 0))) (sym (nth-drop d ds n))
+
+  -- n declarations from declaration d on are the loop over these
+  loop : (n d : ℕ) (p : Piece) → d + n ≤ length ds
+      → several (parts s b) n d p ≡ andThen p (pieceOf (declarationsRule g (take n (drop d ds)) (eqb d 0)))
+  unfolding declarationsRule
+  loop zero d p h = sym (then-skip p)
+  loop (suc n) d p h =
+      let rest = drop d ds in
+      let rule = pieceOf (declarationsRule g (take n rest) (eqb d 0)) in
+      let last = pieceOf (one g (flag n (eqb d 0)) (nth rest n)) in
+      let l = length-drop d ds in
+      ap (λ (x : Piece). andThen x (pieceOf (declarationAct s b (d + n) (nth ds (d + n))))) (loop n d p (omega arith))
+      ∙ ap (λ (a : Act). andThen (andThen p rule) (pieceOf a)) (at-place d n)
+      ∙ then-then p rule last
+      ∙ then-at p (λ c. andThen (rule c) last) (pieceOf (declarationsRule g (take (suc n) rest) (eqb d 0)))
+      (sym (more g n rest (eqb d 0) (p .cursor) (omega arith)))
+
+  -- what a call lays from any state, by the rules
+  pub call-piece : (z : LayoutState) (stop : ℕ) (close : Bool) → z .declaration ≤ stop → stop ≤ length ds
+      → cut.pieceOf (parts s b) z (record { stop = stop; close = close; choice = tt })
+      ≡ pieceOf (callRule g tree (not (z .begun)) (take (stop - z .declaration) (drop (z .declaration) ds)) (eqb (z .declaration) 0) close) (z .cursor)
+  call-piece z stop close h k =
+      let d = z .declaration in
+      let a = when (not (z .begun)) (shebangRule g (tree .shebang)) in
+      let rule = declarationsRule g (take (stop - d) (drop d ds)) (eqb d 0) in
+      let last = when close (push line) in
+      ends close (several (parts s b) (stop - d) d (begin (parts s b) (z .begun) (z .cursor)))
+      ∙ ap (λ (p : Piece). andThen p (pieceOf last)) (loop (stop - d) d (begin (parts s b) (z .begun) (z .cursor)) (omega arith))
+      ∙ ap (λ (p : Piece). andThen (andThen p (pieceOf rule)) (pieceOf last)) (begins (z .begun) (z .cursor))
+      ∙ then-then (pieceOf a (z .cursor)) (pieceOf rule) (pieceOf last)
+      ∙ then-at (pieceOf a (z .cursor)) (λ c. andThen (pieceOf rule c) (pieceOf last)) (pieceOf (rule ⨟ last))
+      (sym (piece-then rule last (pieceOf a (z .cursor) .cursor)))
+      ∙ sym (piece-then a (rule ⨟ last) (z .cursor))
+    where
+      begins : (begun : Bool) (c : Cursor) → begin (parts s b) begun c ≡ pieceOf (when (not begun) (shebangRule g (tree .shebang))) c
+      begins true c = sym (piece-skip c)
+      begins false c = refl
+
+      ends : (close : Bool) (p : Piece) → end (parts s b) close p ≡ andThen p (pieceOf (when close (push line)))
+      ends true p = refl
+      ends false p = sym (then-skip p)
+
+  abbrev start : Cursor
+  start = layoutFresh .cursor
+
+  laid : (n : ℕ) → n ≤ length ds → several (parts s b) (n - 0) 0 (parts s b .shebang start) ≡ pieceOf (upTo g tree (take n ds)) start
+  laid n h =
+      let one = pieceOf (shebangRule g (tree .shebang)) start in
+      ap (λ (k : ℕ). several (parts s b) k 0 one) (sub-zero n)
+      ∙ loop n 0 one (omega arith)
+      ∙ sym (piece-then (shebangRule g (tree .shebang)) (declarationsRule g (take n ds) true) start)
+
+  -- rows of nodes render as the nodes do, since they are read back as those
+  read-back : (ns : Nodes) (z : Pen) (marks : List ℕ)
+      → drawn s b z marks (rows ns 0) 0 (sizes ns) ≡ drawnBy (renders (page s b) ns true (rendererOf z marks))
+  read-back ns z marks =
+      ap (λ (x : Nodes). drawnBy (renders (page s b) x true (rendererOf z marks)))
+      (ap (nodesAt (viewOf (rows ns 0)) 0) (sym (zero-add (sizes ns))) ∙ flattened ns (rows ns 0) 0 (take-length (rows ns 0)))
+
+  -- a piece from the fresh cursor is what its step gives
+  gives : (n : ℕ) (close : Bool) (a : Act) → laidTo s b n close .rows ≡ pieceOf a start .rows
+      → laidTo s b n close .state .cursor ≡ pieceOf a start .cursor
+      → Gives s b (a fresh) (laidTo s b n close)
+  gives n close a e f = record {
+    rows-due = e;
+    row-due = ap (λ (c : Cursor). c .row) f ∙ zero-add (sizes (a fresh .nodes));
+    number-due = ap (λ (c : Cursor). c .number) f ∙ zero-add (a fresh .taken);
+    position-due = ap (λ (c : Cursor). c .position) f;
+    placed-due = ap (λ (c : Cursor). c .placed) f;
+    left-due = ap (λ (c : Cursor). length (commentsOf b) - c .placed) f;
+    drawn-due =
+        λ z marks.
+        ap₂ (λ (x : List ℕ) (k : ℕ). drawn s b z marks x 0 k) e (ap (λ (c : Cursor). c .row) f ∙ zero-add (sizes (a fresh .nodes)))
+        ∙ read-back (a fresh .nodes) z marks;
+  }
+
+  pub fmt-parsed : FmtParsed s b tree
+  unfolding fmtParsed
+  fmt-parsed = record {
+    at-stop =
+        λ n h.
+        let e = laid n h in
+        gives n false (upTo g tree (take n ds)) (ap (λ (p : Piece). p .rows) e) (ap (λ (p : Piece). p .cursor) e);
+    closed =
+        let e = closes in
+        gives (length ds) true (fmtParsed g tree) (ap (λ (p : Piece). p .rows) e) (ap (λ (p : Piece). p .cursor) e);
+  }
+    where
+      closes : andThen (several (parts s b) (length ds - 0) 0 (parts s b .shebang start)) (pieceOf (push line)) ≡ pieceOf (fmtParsed g tree) start
+      closes =
+          let one = shebangRule g (tree .shebang) in
+          let rule = declarationsRule g ds true in
+          ap (λ (p : Piece). andThen p (pieceOf (push line))) (laid (length ds) (omega arith))
+          ∙ ap (λ (xs : List Declaration). andThen (pieceOf (upTo g tree xs) start) (pieceOf (push line))) (take-length ds)
+          ∙ ap (λ (p : Piece). andThen p (pieceOf (push line))) (piece-then one rule start)
+          ∙ then-then (pieceOf one start) (pieceOf rule) (pieceOf (push line))
+          ∙ then-at (pieceOf one start) (λ c. andThen (pieceOf rule c) (pieceOf (push line))) (pieceOf (rule ⨟ push line))
+          (sym (piece-then rule (push line) (pieceOf one start .cursor)))
+          ∙ sym (piece-then one (rule ⨟ push line) start)

@@ -1,0 +1,94 @@
+-- Document 01's rules for one source s and one image b, as the cut rule takes them. Each part is a definition of a lower layer; here they are
+-- only put together.
+use mathlib.Core.Bool.{true, not}
+use mathlib.Core.Option.{Option, none, some}
+use mathlib.Core.List.{List, [], _∷_, map}
+use Prim.Native.Nat.{ℕ, _+_, _-_}
+use lib.Dec.{eqb}
+use lib.ListN.{length}
+use Rattle.text.specs.Space.{trimEnd}
+use Rattle.image.specs.Read.{Read, got, bad, Image, header, sourceFits, readAll}
+use Rattle.tree.specs.Syntax.{Declaration, SyntaxTree}
+use Rattle.tree.specs.Records.{syntaxTree}
+use Rattle.rows.specs.Node.{line}
+use Rattle.rows.specs.Rows.{sizes, rows}
+use Rattle.rows.specs.View.{viewOf, nodesAt}
+use Rattle.marks.specs.Marks.{marksNeeded}
+use Rattle.state.specs.Act.{Act, skip, push}
+use Rattle.comments.specs.Comments.{nth}
+use Rattle.comments.specs.Listed.{commentsOf, given}
+use Rattle.layout.specs.Layout.{shebangRule, declaration}
+use Rattle.renderer_rules.specs.Renderer.{Page, Renderer, renders}
+use Rattle.renderer_rules.specs.Page.{pageOf}
+use Rattle.renderer_rules.specs.Check.{wrongPlace}
+use Rattle.refusals.specs.Refusals.{Refusal, first, when}
+use Rattle.cut_rule.specs.CutRule.{Text}
+use Rattle.cut_rule.specs.Parts.{Cursor, Piece, Pen, Drawn, Parts}
+
+-- ---- source and image
+-- 1 to 7
+abbrev pub refusalOf : Read Image → Option Refusal
+refusalOf (got i end) = none
+refusalOf (bad n p) = some (record { number = n; place = p })
+
+-- the syntax tree of an accepted image; nothing is laid out of another
+abbrev pub treeOf : List ℕ → Read Image → SyntaxTree
+treeOf b (got i end) = syntaxTree b (i .tree)
+treeOf b (bad n p) = record { shebang = none; declarations = [] }
+
+-- "rendering 1, 3 by the same tests"
+abbrev pub renderImage : List ℕ → List ℕ → Option Refusal
+renderImage s b = first (when (not (sourceFits s)) 1 0 ∷ when (not (header b)) 3 0 ∷ [])
+
+-- the comment list as `Comment` rows have it: of the source, trimmed at the end
+abbrev pub listed : List ℕ → List ℕ → List Text
+listed s b = map (λ c. record { origin = 0; start = c .start; size = trimEnd s (c .start) (c .end) - c .start }) (commentsOf b)
+
+-- ---- layout
+-- a step of the layout rules, from a cursor: its nodes as rows, the first of them the cursor's next row
+abbrev pub pieceOf : Act → Cursor → Piece
+pieceOf a c =
+    let o = a (record { number = c .number; pos = c .position; placed = c .placed }) in
+    record {
+      cursor = record { row = c .row + sizes (o .nodes); number = c .number + o .taken; placed = o .placed; position = o .pos };
+      rows = rows (o .nodes) (c .row);
+    }
+
+-- a declaration; `first` of `fmt_parsed` is "next declaration is 0"
+abbrev pub declarationAct : List ℕ → List ℕ → ℕ → Option Declaration → Act
+declarationAct s b n none = skip
+declarationAct s b n (some d) = declaration (given s b) d (eqb n 0)
+
+-- ---- rendering
+-- `Renderer` as a call makes it, and what a call takes from it
+abbrev pub rendererOf : Pen → List ℕ → Renderer
+rendererOf z marks = record { buf = []; indent = z .indent; nextIndent = z .next-indent; column = z .column; marks = marks }
+
+abbrev pub drawnBy : Renderer → Drawn
+drawnBy r = record { pen = record { indent = r .indent; next-indent = r .nextIndent; column = r .column }; marks = r .marks; text = r .buf }
+
+-- 80 columns
+abbrev pub page : List ℕ → List ℕ → Page
+page s b = pageOf 80 s b
+
+-- the rows from i up to a stop; what is read counts as top rows, so that `wrap` is true
+abbrev pub drawn : List ℕ → List ℕ → Pen → List ℕ → List ℕ → ℕ → ℕ → Drawn
+drawn s b z marks store i stop = drawnBy (renders (page s b) (nodesAt (viewOf store) i stop) true (rendererOf z marks))
+
+-- ---- the whole
+abbrev pub parts : List ℕ → List ℕ → Parts
+parts s b =
+    let tree = treeOf b (readAll s b) in
+    record {
+      source-size = length s;
+      declarations = length (tree .declarations);
+      comments = length (commentsOf b);
+      layout-image = refusalOf (readAll s b);
+      render-image = renderImage s b;
+      shebang = pieceOf (shebangRule (given s b) (tree .shebang));
+      declaration = λ n. pieceOf (declarationAct s b n (nth (tree .declarations) n));
+      final = pieceOf (push line);
+      wrong-row = wrongPlace s b;
+      needed = λ store i stop. marksNeeded (stop - i) store i;
+      draw = drawn s b;
+    }

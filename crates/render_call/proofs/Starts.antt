@@ -1,0 +1,43 @@
+-- A call that nothing refuses before its run may run.
+-- Assumes nothing.
+use mathlib.Core.Path.{_≡_, refl, sym, _∙_}
+use mathlib.Core.List.{List}
+use Prim.Native.Nat.{ℕ, _*_, _≤_}
+use native.Mathlib.Omega.{arith}
+use lib.ListN.{length}
+use Rattle.rows.specs.View.{viewOf}
+use Rattle.rows.specs.Nesting.{Nested}
+use Rattle.renderer_rules.specs.Check.{placesFit}
+use Rattle.renderer_rules.proofs.Checked.{accepted-nests}
+use Rattle.rowcheck.proofs.Pending.{stop-fits}
+use Rattle.renderer.specs.Run.{Starting}
+use Rattle.renderer.specs.declared.pen.Pen.{Pen}
+use Rattle.render_call.specs.Whole.{Takes}
+use Rattle.render_call.specs.declared.RenderState.{RenderState}
+use Rattle.render_call.proofs.Tests.{few-rows}
+use Rattle.render_call.proofs.Accepted.{Accepted}
+
+module _ (source image : List ℕ) (state : RenderState) (stop : ℕ) (store marks : List ℕ) (a : Accepted source image state stop store marks) where
+  pub nested : Nested store (state .row) stop
+  nested =
+      let few = few-rows source image store (state .row) stop (a .right) in
+      record {
+        room = a .within;
+        few = few;
+        nests =
+            accepted-nests (placesFit source image store) (viewOf store) stop 0 (state .row)
+            (sym (stop-fits source image store (state .row) stop few (a .within)) ∙ a .right)
+            (a .ahead);
+      }
+
+  -- with a pen that has the state's numbers and wrote nothing yet, over rows that nest as the store's do
+  pub starts : (rows : List ℕ) → Nested rows (state .row) stop → (p : Pen) (limit : ℕ) (out : List ℕ) → Takes state p → limit ≤ length out
+      → Starting rows limit (state .row) stop out p
+  starts rows nests p limit out k l =
+      let e = k .indent in
+      let f = k .next in
+      let g = k .column in
+      let i = a .indent in
+      let n = a .next in
+      let c = a .column in
+      record { nested = nests; fits = l; margin = omega arith; column = omega arith; at = k .at }

@@ -1,0 +1,28 @@
+-- By the verdict of the first tests.
+-- Assumes nothing.
+use Rattle.render_call.proofs.Steps.{checked-by, refused-by}
+use borrow.Author.Needs.{needs}
+use Rattle.render_call.proofs.render_call.Statement.{statement}
+use Rattle.render_call.proofs.render_call.Tie as tie
+
+render-checked-requires : tie.Need-render-checked-requires
+render-checked-requires c κs = checked-by _ _ _ _ _ _ _ (c .before .before .before .before .before .refusal .ensures) (c .before .before .before .enum-told .given .1)
+
+returns : tie.Need-returns
+returns c = refused-by _ _ _ _ _ _ _ (c .before .before .before .refusal .ensures) _ _ _ (c .before .number .given .1)
+
+pub render-call-spec : {M : Type 1} → statement M
+render-call-spec =
+    tie.close
+    (tie.spec
+    (λ c κs. search needs)
+    (λ c. search needs)
+    (λ c. search needs)
+    render-checked-requires
+    (λ c. search needs)
+    (λ c. search needs)
+    returns
+    (λ c. search needs)
+    (λ c. search needs)
+    (λ c. search needs)
+    (λ c. search needs))

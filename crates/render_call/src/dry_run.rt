@@ -1,0 +1,32 @@
+// How many bytes rows give, by rendering them into nothing.
+ghost use Rattle.render_call.specs.Whole.{Counted, Passing};
+use crate::MAX;
+use crate::RenderState;
+use crate::start_pen;
+use marks::keep::put_aside;
+use marks::keep::put_back;
+use renderer::machine::run_rows;
+use rows::units::Bytes;
+
+// How many bytes the rows give: a dry run. The marks of the rows' numbers are put aside in the rows, in a place that these don't use, and
+// put back.
+pub(crate) fn bytes_needed(
+    source: &[u8],
+    image: &[u8],
+    store: &mut [u32],
+    marks: &mut [u8],
+    out: &mut [u8],
+    state: RenderState,
+    stop: usize,
+) -> Bytes
+    requires { ⌜ Passing (now source) (now image) state stop (now store) (now marks) ⌝ }
+    ensures { λ r. ⌜ Counted (now (source .entry)) (now (image .entry)) state stop (now (store .entry)) (now (marks .entry)) (now (out .entry)) r (now (store .exit)) (now (marks .exit)) (now (out .exit)) ⌝ }
+{
+    let from = state.row;
+    let start = start_pen(state);
+    put_aside(store, marks, state.in_use, from, stop);
+    let end = run_rows(start, store, source, image, marks, out, 0, MAX, from, stop);
+    put_back(store, marks, from, stop);
+    let bytes = end.at;
+    bytes
+}

@@ -1,0 +1,103 @@
+-- Rendering reads nothing of what is written: what a row without parts does behind a text is that text and what it does alone.
+-- Assumes nothing.
+use mathlib.Core.Path.{_≡_, refl, ap, _∙_}
+use Prim.Native.Nat.{ℕ, zero, suc, _+_, _*_, _≤_}
+use native.Mathlib.Omega.{arith}
+use mathlib.Core.Bool.{Bool, true, false, cond}
+use mathlib.Core.List.{List, [], _∷_, _++_, append-assoc, append-nil}
+use lib.ListN.{replicate}
+use lib.Dec.{ltb}
+use Rattle.rows.specs.View.{View, nodeAt}
+use Rattle.rows.proofs.Decode.{node-parent, node-comment, node-str, node-ascii, node-line, node-empty, node-space}
+use Rattle.renderer_rules.specs.Renderer.{Page, Renderer, render, push, atColumn, newLine, margin, remark, text}
+use Rattle.renderer.specs.declared.pen.Pen.{Pen}
+use Rattle.renderer.specs.Pen.{shown}
+use Rattle.renderer.specs.Run.{stateOf}
+
+-- s behind a text, with other marks
+unfoldable pub under : List ℕ → List ℕ → Renderer → Renderer
+under b m s = record { buf = b ++ s .buf; indent = s .indent; nextIndent = s .nextIndent; column = s .column; marks = m }
+
+pub shown-under : (p : Pen) (m b : List ℕ) → stateOf p m b ≡ under b m (shown p [])
+unfolding under shown
+shown-under p m b = rw (append-nil b)
+
+column-of : (b m : List ℕ) (s : Renderer) → under b m s .column ≡ s .column
+unfolding under
+column-of b m s = refl
+
+column-same : (b m : List ℕ) (s : Renderer) → ltb 0 (under b m s .column) ≡ ltb 0 (s .column)
+unfolding under
+column-same b m s = refl
+
+push-under : (t b m : List ℕ) (s : Renderer) → push t (under b m s) ≡ under b m (push t s)
+unfolding push under
+push-under t b m s = rw (append-assoc b (s .buf) t)
+
+column-under : (c : ℕ) (b m : List ℕ) (s : Renderer) → atColumn c (under b m s) ≡ under b m (atColumn c s)
+unfolding atColumn under
+column-under c b m s = refl
+
+margin-under : (b m : List ℕ) (s : Renderer) → margin (under b m s) ≡ under b m (margin s)
+unfolding margin under push atColumn
+margin-under b m s = rw (append-assoc b (s .buf) (replicate (4 * s .indent) 0x20))
+
+line-under : (b m : List ℕ) (s : Renderer) → newLine (under b m s) ≡ under b m (newLine s)
+unfolding newLine under
+line-under b m s = rw (append-assoc b (s .buf) (cond (ltb 0 (s .column)) (0x0A ∷ []) []))
+
+cond-under : (w : Bool) (b m : List ℕ) (s t s2 t2 : Renderer) → s2 ≡ under b m s → t2 ≡ under b m t → cond w s2 t2 ≡ under b m (cond w s t)
+cond-under true b m s t s2 t2 e f = e
+cond-under false b m s t s2 t2 e f = f
+
+put-under : (t : List ℕ) (c : ℕ) (b m : List ℕ) (s s2 : Renderer) → s2 ≡ under b m s → atColumn c (push t s2) ≡ under b m (atColumn c (push t s))
+put-under t c b m s s2 e = ap (λ (x : Renderer). atColumn c (push t x)) e ∙ ap (atColumn c) (push-under t b m s) ∙ column-under c b m (push t s)
+
+text-under : (t : List ℕ) (w : ℕ) (b m : List ℕ) (s : Renderer) → text t w (under b m s) ≡ under b m (text t w s)
+unfolding text
+text-under t w b m s = go (ltb 0 (s .column)) (ltb 0 (under b m s .column)) (column-same b m s)
+  where
+    go : (x y : Bool) → y ≡ x
+        → atColumn (cond y (under b m s) (margin (under b m s)) .column + w) (push t (cond y (under b m s) (margin (under b m s))))
+        ≡ under b m (atColumn (cond x s (margin s) .column + w) (push t (cond x s (margin s))))
+    go true y e = rw e (ap (λ (c : ℕ). atColumn (c + w) (push t (under b m s))) (column-of b m s) ∙ put-under t (s .column + w) b m s (under b m s) refl)
+    go false y e =
+        rw e
+        (ap (λ (c : ℕ). atColumn (c + w) (push t (margin (under b m s)))) (ap (λ (r : Renderer). r .column) (margin-under b m s) ∙ column-of b m (margin s))
+        ∙ put-under t (margin s .column + w) b m (margin s) (margin (under b m s)) (margin-under b m s))
+
+remark-under : (t b m : List ℕ) (s : Renderer) → remark t (under b m s) ≡ under b m (remark t s)
+unfolding remark
+remark-under t b m s = go (ltb 0 (s .column)) (ltb 0 (under b m s .column)) (column-same b m s)
+  where
+    go : (x y : Bool) → y ≡ x
+        → atColumn 0 (push (t ++ (0x0A ∷ [])) (cond y (push (0x20 ∷ []) (under b m s)) (margin (under b m s))))
+        ≡ under b m (atColumn 0 (push (t ++ (0x0A ∷ [])) (cond x (push (0x20 ∷ []) s) (margin s))))
+    go true y e = rw e (put-under (t ++ (0x0A ∷ [])) 0 b m (push (0x20 ∷ []) s) (push (0x20 ∷ []) (under b m s)) (push-under (0x20 ∷ []) b m s))
+    go false y e = rw e (put-under (t ++ (0x0A ∷ [])) 0 b m (margin s) (margin (under b m s)) (margin-under b m s))
+
+pub leaf-under : (v : View) (pg : Page) (i : ℕ) (w : Bool) (k : ℕ) → v .kind i ≡ k → 3 ≤ k → k ≤ 9 → (b m : List ℕ) (s : Renderer)
+    → render pg (nodeAt v i) w (under b m s) ≡ under b m (render pg (nodeAt v i) w s)
+unfolding render
+leaf-under v pg i w zero e x y b m s = absurd (omega arith)
+leaf-under v pg i w (suc zero) e x y b m s = absurd (omega arith)
+leaf-under v pg i w (suc (suc zero)) e x y b m s = absurd (omega arith)
+leaf-under v pg i w (suc (suc (suc zero))) e x y b m s = rw (node-parent v i e)
+leaf-under v pg i w (suc (suc (suc (suc zero)))) e x y b m s = rw (node-comment v i e) (remark-under (pg .bytes (v .text i)) b m s)
+leaf-under v pg i w (suc (suc (suc (suc (suc zero))))) e x y b m s = rw (node-str v i e) (text-under (pg .bytes (v .text i)) (v .width i) b m s)
+leaf-under v pg i w (suc (suc (suc (suc (suc (suc zero)))))) e x y b m s =
+    rw (node-ascii v i e) (text-under (pg .bytes (v .text i)) (pg .columns (v .text i)) b m s)
+leaf-under v pg i w (suc (suc (suc (suc (suc (suc (suc zero))))))) e x y b m s =
+    rw (node-line v i e) (cond-under w b m (newLine s) s (newLine (under b m s)) (under b m s) (line-under b m s) refl)
+leaf-under v pg i w (suc (suc (suc (suc (suc (suc (suc (suc zero)))))))) e x y b m s =
+    rw (node-empty v i e) (ap newLine (push-under (0x0A ∷ []) b m s) ∙ line-under b m (push (0x0A ∷ []) s))
+leaf-under v pg i w (suc (suc (suc (suc (suc (suc (suc (suc (suc zero))))))))) e x y b m s =
+    rw (node-space v i e)
+    (cond-under w b m
+    (newLine s)
+    (text (0x20 ∷ []) 1 s)
+    (newLine (under b m s))
+    (text (0x20 ∷ []) 1 (under b m s))
+    (line-under b m s)
+    (text-under (0x20 ∷ []) 1 b m s))
+leaf-under v pg i w (suc (suc (suc (suc (suc (suc (suc (suc (suc (suc n)))))))))) e x y b m s = absurd (omega arith)

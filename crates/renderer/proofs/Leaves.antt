@@ -1,0 +1,86 @@
+-- A row without parts, by its kind: what `render` does there, from the row's places.
+-- Assumes nothing.
+use mathlib.Core.Path.{_≡_, refl, ap, sym, _∙_}
+use Prim.Native.Nat.{ℕ, _+_}
+use native.Mathlib.Omega.{arith}
+use mathlib.Core.Bool.{Bool, true, false, cond}
+use mathlib.Core.List.{List, [], _∷_}
+use Rattle.rows.specs.View.{viewOf, cell, nodeAt}
+use Rattle.rows.proofs.Decode.{node-parent, node-comment, node-str, node-ascii, node-line, node-empty, node-space}
+use Rattle.renderer_rules.specs.Page.{pageOf, textBytes, textOf}
+use Rattle.renderer_rules.specs.Renderer.{Renderer, render, push, newLine, remark, text}
+use Rattle.renderer.specs.declared.pen.Pen.{Pen}
+use Rattle.renderer.specs.Output.{over}
+use Rattle.renderer.specs.Pen.{shown, penAfter, Drawn}
+
+pub drawn-as : (limit : ℕ) (s t : Renderer) (out : List ℕ) (p : Pen) (out2 : List ℕ) (q : Pen) → t ≡ s → Drawn limit s out p out2 q → Drawn limit t out p out2 q
+drawn-as limit s t out p out2 q e d = rw e d
+
+-- nothing is written
+pub still-drawn : (limit : ℕ) (out : List ℕ) (p : Pen) → Drawn limit (shown p []) out p out p
+unfolding penAfter shown over
+still-drawn limit out p =
+    record {
+      pen = ap (λ (n : ℕ). record { indent = p .indent; «next_indent» = p .«next_indent»; column = p .column; at = record { 0 = n } }) (plus-none (p .at .0));
+      written = refl;
+    }
+  where
+    plus-none : (n : ℕ) → n ≡ n + 0
+    plus-none n = omega arith
+
+pub on-true : (w : Bool) (s t : Renderer) → w ≡ true → cond w s t ≡ s
+on-true w s t e = rw e
+
+pub on-false : (w : Bool) (s t : Renderer) → w ≡ false → cond w s t ≡ t
+on-false w s t e = rw e
+
+module _ (max : ℕ) (source image store : List ℕ) (row kind : ℕ) (w : Bool) (s : Renderer) (e : kind ≡ cell store row 0) where
+  abbrev bytes : List ℕ
+  bytes = textBytes source image (textOf (cell store row 5) (cell store row 6) (cell store row 7))
+
+  pub render-parent : kind ≡ 3 → render (pageOf max source image) (nodeAt (viewOf store) row) w s ≡ s
+  unfolding render viewOf
+  render-parent k = rw (node-parent (viewOf store) row (sym e ∙ k))
+
+  pub render-comment : kind ≡ 4 → render (pageOf max source image) (nodeAt (viewOf store) row) w s ≡ remark bytes s
+  unfolding render viewOf
+  render-comment k = rw (node-comment (viewOf store) row (sym e ∙ k))
+
+  pub render-str : kind ≡ 5 → render (pageOf max source image) (nodeAt (viewOf store) row) w s ≡ text bytes (cell store row 8) s
+  unfolding render viewOf
+  render-str k = rw (node-str (viewOf store) row (sym e ∙ k), sym e ∙ k)
+
+  pub render-ascii : kind ≡ 6 → render (pageOf max source image) (nodeAt (viewOf store) row) w s ≡ text bytes (cell store row 7) s
+  unfolding render viewOf
+  render-ascii k = rw (node-ascii (viewOf store) row (sym e ∙ k))
+
+  pub render-line : kind ≡ 7 → render (pageOf max source image) (nodeAt (viewOf store) row) w s ≡ cond w (newLine s) s
+  unfolding render viewOf
+  render-line k = rw (node-line (viewOf store) row (sym e ∙ k))
+
+  pub render-empty : kind ≡ 8 → render (pageOf max source image) (nodeAt (viewOf store) row) w s ≡ newLine (push (0x0A ∷ []) s)
+  unfolding render viewOf
+  render-empty k = rw (node-empty (viewOf store) row (sym e ∙ k))
+
+  pub render-space : kind ≡ 9 → render (pageOf max source image) (nodeAt (viewOf store) row) w s ≡ cond w (newLine s) (text (0x20 ∷ []) 1 s)
+  unfolding render viewOf
+  render-space k = rw (node-space (viewOf store) row (sym e ∙ k))
+
+-- a `Comment`, a `Str` and an `Ascii`, from the places that the code read
+module _ (max limit : ℕ) (source image store : List ℕ) (row kind : ℕ) (w : Bool) (out : List ℕ) (p : Pen) (out2 : List ℕ) (q : Pen) (origin start size : ℕ)
+    (e : kind ≡ cell store row 0)
+    (a : origin ≡ cell store row 5)
+    (b : start ≡ cell store row 6)
+    (c : size ≡ cell store row 7)
+  where
+    pub comment-leaf : kind ≡ 4 → Drawn limit (remark (textBytes source image (textOf origin start size)) (shown p [])) out p out2 q
+        → Drawn limit (render (pageOf max source image) (nodeAt (viewOf store) row) w (shown p [])) out p out2 q
+    comment-leaf k d = drawn-as limit _ _ out p out2 q (render-comment max source image store row kind w (shown p []) e k ∙ rw (a, b, c)) d
+
+    pub str-leaf : (x : ℕ) → x ≡ cell store row 8 → kind ≡ 5 → Drawn limit (text (textBytes source image (textOf origin start size)) x (shown p [])) out p out2 q
+        → Drawn limit (render (pageOf max source image) (nodeAt (viewOf store) row) w (shown p [])) out p out2 q
+    str-leaf x h k d = drawn-as limit _ _ out p out2 q (render-str max source image store row kind w (shown p []) e k ∙ rw (a, b, c, h)) d
+
+    pub ascii-leaf : (x : ℕ) → x ≡ size → kind ≡ 6 → Drawn limit (text (textBytes source image (textOf origin start size)) x (shown p [])) out p out2 q
+        → Drawn limit (render (pageOf max source image) (nodeAt (viewOf store) row) w (shown p [])) out p out2 q
+    ascii-leaf x h k d = drawn-as limit _ _ out p out2 q (render-ascii max source image store row kind w (shown p []) e k ∙ rw (h, a, b, c)) d

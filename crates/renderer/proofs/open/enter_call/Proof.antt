@@ -1,0 +1,44 @@
+use native.Mathlib.Omega.{arith}
+use Rattle.renderer.proofs.Opening.{nested-to, nested-at, call-opened}
+use borrow.Author.Needs.{needs}
+use Rattle.renderer.proofs.open.enter_call.Statement.{statement}
+use Rattle.renderer.proofs.open.enter_call.Tie as tie
+
+trails-requires : tie.Need-trails-requires
+trails-requires c κs = (
+  nested-to _ _ _ _ (c .before .before .before .place .ensures .0) (c .before .before .before .before .before .before .before .pre .1 .0),
+  (nested-at _ _ _ _ _ (c .before .before .before .place .ensures .0) (c .before .before .place2 .ensures .0) (c .before .before .before .before .before .before .before .pre .1 .1), (omega (arith, c .before .before .before .before .before .before .before .pre .0 .indent), c .before .before .before .before .before .before .before .pre .0 .column)),
+)
+
+callee-wraps-requires : tie.Need-callee-wraps-requires
+callee-wraps-requires c κs = (
+  nested-to _ _ _ _ (c .before .before .before .before .before .place .ensures .0) (c .before .before .before .before .before .before .before .before .before .pre .1 .0),
+  (nested-at _ _ _ _ _ (c .before .before .before .before .before .place .ensures .0) (c .before .before .before .before .place2 .ensures .0) (c .before .before .before .before .before .before .before .before .before .pre .1 .1), (omega (arith, c .before .before .before .before .before .before .before .before .before .pre .0 .indent), c .before .before .before .before .before .before .before .before .before .pre .0 .column)),
+)
+
+opened-requires : tie.Need-opened-requires
+opened-requires c κs = (c .before .before .before .before .before .before .before .before .before .before .before .before .before .before .before .before .before .pre .0 .depth, c .before .before .before .before .before .before .before .before .before .before .before .before .before .before .before .before .before .pre .0 .few)
+
+returns : tie.Need-returns
+returns c =
+    call-opened _ _ _ _ _ _ (c .before .before .before .before .before .before .before .before .before .before .before .before .before .before .place .result) (c .before .before .before .before .before .before .before .before .before .before .before .before .before .place2 .result) (c .before .before .before .before .before .before .before .before .before .before .before .before .place3 .result) (c .before .before .before .before .before .before .before .before .before .before .trails .result) (c .before .before .before .before .before .before .before .before .callee-wraps .result) (c .before .before .before .made-up .result) (c .before .indent-next .result) (c .before .before .before .before .before .before .before .before .before .before .before .before .before .before .place .ensures .0) (c .before .before .before .before .before .before .before .before .before .before .before .before .before .place2 .ensures .0) (c .before .before .before .before .before .before .before .before .before .before .before .before .place3 .ensures .0) (c .before .before .before .before .before .before .before .before .before .before .trails .ensures) (c .before .before .before .before .before .before .before .before .callee-wraps .ensures) (c .before .before .before .made-up .ensures) (c .before .indent-next .ensures) (c .before .before .before .before .before .before .insert .ensures) (c .opened .ensures)
+
+pub enter-call-spec : {M : Type 1} → statement M
+enter-call-spec =
+    tie.close
+    (tie.spec
+    (λ c κs. search needs)
+    (λ c κs. search needs)
+    (λ c κs. search needs)
+    (λ c. search needs)
+    trails-requires
+    (λ c. search needs)
+    callee-wraps-requires
+    (λ c κs. search needs)
+    (λ c κs. search needs)
+    (λ c. search needs)
+    (λ c. search needs)
+    (λ c κs. search needs)
+    opened-requires
+    (λ c. search needs)
+    returns)

@@ -1,0 +1,99 @@
+// How the open part of a row ends, and what the end of a row takes back.
+ghost use mathlib.Core.Path.{_≡_};
+ghost use Prim.Native.Nat.{_+_, _-_, _*_, _<_};
+ghost use mathlib.Core.List.{[]};
+ghost use lib.ListN.{length};
+ghost use Rattle.rows.specs.Places.{WIDTH, PLACES};
+ghost use Rattle.rows.specs.View.{viewOf};
+ghost use Rattle.renderer_rules.specs.Frames.{partEnd};
+ghost use Rattle.renderer.specs.Pen.{shown, withMargin};
+ghost use Rattle.renderer.specs.Run.{whole, closedRun, closes, Backs, Leaves, Left};
+use crate::margin::outdent;
+use crate::margin::outdent_next;
+use crate::open::enter_arguments;
+use crate::pen::Pen;
+use crate::run::Run;
+use renderer_rules::Frame;
+use rows::kinds::CALL;
+use rows::kinds::INDENT;
+use rows::kinds::INDENT_NEXT;
+use rows::limits::MAX_DEPTH;
+use rows::places::AFTER;
+use rows::places::KIND;
+use rows::places::SECOND;
+use rows::store::place;
+use rows::store::wide;
+
+// Where the open part of a row ends.
+pub(crate) fn part_end(store: &[u32], f: Frame) -> usize
+    requires { ⌜ f .row * PLACES + WIDTH < length (now store) ⌝ }
+    ensures { λ r. ⌜ r ≡ partEnd (viewOf (now (store .entry))) f ⌝ }
+{
+    if f.early {
+        return place(store, wide(f.row), SECOND);
+    }
+    place(store, wide(f.row), AFTER)
+}
+
+// The innermost row is closed.
+fn closed(r: Run, next: usize, pen: Pen) -> Run
+    requires { ⌜ 0 < r .depth ⌝ }
+    ensures { λ q. ⌜ q ≡ record { depth = r .depth - 1; next = next; pen = pen } ⌝ }
+{
+    Run {
+        depth: r.depth - 1,
+        next: next,
+        pen: pen,
+    }
+}
+
+// What the end of a row takes back.
+fn close(p: Pen, kind: usize, f: Frame) -> Pen
+    requires { ⌜ Backs kind f p ⌝ }
+    ensures { λ r. ⌜ r ≡ withMargin p (closes kind f (shown p [])) ⌝ }
+{
+    if kind == INDENT {
+        return outdent(p, f.wrap);
+    }
+    if kind == INDENT_NEXT {
+        return outdent_next(p, f.wrap);
+    }
+    if kind == CALL {
+        return outdent_next(p, f.deep);
+    }
+    p
+}
+
+// The innermost row is closed, and the row after it is next.
+fn finish(r: Run, f: Frame, store: &[u32]) -> Run
+    requires { ⌜ Leaves (now store) r f ⌝ }
+    ensures { λ q. ⌜ q ≡ closedRun (now (store .entry)) r f ⌝ }
+{
+    let row = wide(f.row);
+    let kind = place(store, row, KIND);
+    let next = place(store, row, AFTER);
+    let p = r.pen;
+    closed(r, next, close(p, kind, f))
+}
+
+// The open part of the innermost row is done.
+pub(crate) fn leave(
+    r: Run,
+    frames: &mut [u32; MAX_DEPTH],
+    f: Frame,
+    store: &[u32],
+    marks: &mut [u8],
+    max: usize,
+) -> Run
+    requires { ⌜ Leaves (now store) r f ⌝ }
+    ensures { λ q. ⌜ Left (now (store .entry)) max (now (marks .entry)) (whole (now (frames .entry)) r) f (now (marks .exit)) (whole (now (frames .exit)) q) ⌝ }
+{
+    let kind = place(store, wide(f.row), KIND);
+    if kind != CALL {
+        return finish(r, f, store);
+    }
+    if f.early {
+        return enter_arguments(r, frames, f, store, marks, max);
+    }
+    finish(r, f, store)
+}

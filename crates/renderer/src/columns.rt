@@ -1,0 +1,92 @@
+// What fits: the column, and whether rows wrap there.
+ghost use mathlib.Core.Path.{_≡_};
+ghost use Prim.Native.Nat.{_≤_, _<_};
+ghost use mathlib.Core.List.{[]};
+ghost use Rattle.renderer.specs.Limits.{MAX-MARGIN, BEFORE-ROW};
+ghost use Rattle.rows.specs.View.{viewOf, nodesAt};
+ghost use Rattle.rows.specs.Nesting.{Nested};
+ghost use Rattle.renderer_rules.specs.Page.{pageOf};
+ghost use Rattle.renderer_rules.specs.Renderer.{groupWraps, trailing, calleeWraps, virtualColumn};
+ghost use Rattle.renderer.specs.Pen.{shown};
+use crate::measure::width_past;
+use crate::pen::Pen;
+use crate::pen::margin_columns;
+use rows::units::Columns;
+use rows::width::must_wrap;
+
+// The column, or where the line will start.
+fn virtual_column(p: Pen) -> Columns
+    requires { ⌜ p .indent ≤ MAX-MARGIN ⌝ }
+    ensures { λ r. ⌜ r .0 ≡ virtualColumn (shown p []) ⌝ }
+{
+    if 0 < p.column.0 {
+        return p.column;
+    }
+    margin_columns(p.indent)
+}
+
+// Whether the group of the rows from `from` up to `to` wraps.
+pub(crate) fn group_wraps(
+    p: Pen,
+    store: &[u32],
+    marks: &[u8],
+    from: usize,
+    to: usize,
+    max: usize,
+) -> bool
+    requires { ⌜ Nested (now store) from to × ((p .indent ≤ MAX-MARGIN) × (p .column .0 < BEFORE-ROW)) ⌝ }
+    ensures { λ r. ⌜ r ≡ groupWraps (pageOf max [] []) (nodesAt (viewOf (now (store .entry))) from to) (shown p (now (marks .entry))) ⌝ }
+{
+    if must_wrap(store, from, to) {
+        return true;
+    }
+    let w = width_past(store, marks, from, to, max);
+    max < virtual_column(p).0 + w.0
+}
+
+// Whether a call keeps its callee's line: the first branch of `Call`. The callee's rows are those up to `mid`, the arguments' up to `to`.
+pub(crate) fn trails(
+    p: Pen,
+    store: &[u32],
+    marks: &[u8],
+    from: usize,
+    mid: usize,
+    to: usize,
+    max: usize,
+) -> bool
+    requires { ⌜ Nested (now store) from mid × (Nested (now store) mid to × ((p .indent ≤ MAX-MARGIN) × (p .column .0 < BEFORE-ROW))) ⌝ }
+    ensures { λ r. ⌜ r ≡ trailing (pageOf max [] []) (nodesAt (viewOf (now (store .entry))) from mid) (nodesAt (viewOf (now (store .entry))) mid to) (shown p (now (marks .entry))) ⌝ }
+{
+    if must_wrap(store, from, mid) {
+        return false;
+    }
+    if must_wrap(store, mid, to) {
+        return false;
+    }
+    let start = virtual_column(p).0 + width_past(store, marks, from, mid, max).0;
+    if max < start + width_past(store, marks, mid, to, max).0 {
+        return start + 1 < max;
+    }
+    false
+}
+
+// Whether the callee's parts wrap: as a group of their own, or as one with the arguments.
+pub(crate) fn callee_wraps(
+    p: Pen,
+    store: &[u32],
+    marks: &[u8],
+    trailing: bool,
+    from: usize,
+    mid: usize,
+    to: usize,
+    max: usize,
+) -> bool
+    requires { ⌜ Nested (now store) from mid × (Nested (now store) mid to × ((p .indent ≤ MAX-MARGIN) × (p .column .0 < BEFORE-ROW))) ⌝ }
+    ensures { λ r. ⌜ r ≡ calleeWraps (pageOf max [] []) trailing (nodesAt (viewOf (now (store .entry))) from mid) (nodesAt (viewOf (now (store .entry))) mid to) (shown p (now (marks .entry))) ⌝ }
+{
+    if trailing {
+        return group_wraps(p, store, marks, from, mid, max);
+    }
+    let w = width_past(store, marks, from, mid, max).0 + width_past(store, marks, mid, to, max).0;
+    max < virtual_column(p).0 + w
+}

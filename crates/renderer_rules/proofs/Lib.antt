@@ -1,0 +1,12 @@
+pub mod Allot
+pub mod Call
+pub mod Checked
+pub mod Joined
+pub mod Machine
+pub mod Margin
+pub mod Meaning
+pub mod Most
+pub mod Names
+pub mod Opened
+pub mod OwnMarks
+pub mod Safe

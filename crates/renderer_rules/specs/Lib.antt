@@ -1,0 +1,9 @@
+pub mod Call
+pub mod Check
+pub mod Frames
+pub mod Limits
+pub mod Machine
+pub mod Most
+pub mod Page
+pub mod Renderer
+pub mod Safe

@@ -1,0 +1,109 @@
+-- The machine: `render_node` without recursion. One turn closes the innermost open row or enters the next row.
+use Prim.Native.Nat.{ℕ, zero, suc}
+use mathlib.Core.Bool.{Bool, true, false, cond, not, _&&_}
+use mathlib.Core.List.{List, [], _∷_}
+use lib.ListN.{getD, set}
+use lib.Dec.{eqb}
+use Rattle.rows.specs.Kinds.{CALL}
+use Rattle.rows.specs.Node.{Nodes, group, wrapped}
+use Rattle.rows.specs.View.{View, nodesAt, nodeAt}
+use Rattle.renderer_rules.specs.declared.Frame.{Frame}
+use Rattle.renderer_rules.specs.Renderer.{Page, Renderer, render, groupWraps, insert, indented, outdented, nextIndented, nextOutdented, trailing, calleeWraps}
+use Rattle.renderer_rules.specs.Frames.{frameAt, partEnd, wrapAt}
+
+-- open rows, how many, the next row, the state, the rows entered
+pub record Machine : Type 0 where
+  pub frames : List Frame
+  pub depth : ℕ
+  pub next : ℕ
+  pub state : Renderer
+  pub entered : ℕ
+
+-- an open row by its four places
+abbrev pub frame : ℕ → Bool → Bool → Bool → Frame
+frame i w e p = record { row = i; wrap = w; early = e; deep = p }
+
+-- one more row is open, with row k next
+abbrev pub opened : Machine → Frame → ℕ → Renderer → Machine
+opened m f k t = record { frames = set (m .frames) (m .depth) f; depth = suc (m .depth); next = k; state = t; entered = suc (m .entered) }
+
+-- what follows of f's row once the open part is rendered
+unfoldable pub closing : View → Page → Frame → Renderer → Renderer
+closing v pg f s =
+    getD
+    (s
+    ∷ outdented (f .wrap) s
+    ∷ nextOutdented (f .wrap) s
+    ∷ s
+    ∷ s
+    ∷ s
+    ∷ s
+    ∷ s
+    ∷ s
+    ∷ s
+    ∷ s
+    ∷ nextOutdented (f .deep)
+    (cond (f .early) (render pg (group (v .number2 (f .row)) (nodesAt v (v .second (f .row)) (v .after (f .row)))) true s) s)
+    ∷ [])
+    (v .kind (f .row))
+    s
+
+-- the first part of row k, and the second
+abbrev pub first : View → ℕ → Nodes
+first v k = nodesAt v (suc k) (v .second k)
+
+abbrev pub second : View → ℕ → Nodes
+second v k = nodesAt v (v .second k) (v .after k)
+
+module _ (v : View) (pg : Page) where
+  -- row `next` is entered, by its kind: the branches of `render_node`
+  unfoldable pub enterGroup : Machine → Machine
+  enterGroup m =
+      let b = groupWraps pg (nodesAt v (suc (m .next)) (v .after (m .next))) (m .state) in
+      opened m (frame (m .next) b false false) (suc (m .next)) (insert b (v .number (m .next)) (m .state))
+
+  unfoldable pub enterIndent : Machine → Machine
+  enterIndent m = let w = wrapAt (m .frames) (m .depth) in opened m (frame (m .next) w false false) (suc (m .next)) (indented w (m .state))
+
+  unfoldable pub enterNext : Machine → Machine
+  enterNext m = let w = wrapAt (m .frames) (m .depth) in opened m (frame (m .next) w false false) (suc (m .next)) (nextIndented w (m .state))
+
+  unfoldable pub enterLeaf : Machine → Machine
+  enterLeaf m = record { frames = m .frames; depth = m .depth; next = suc (m .next); state = render pg (nodeAt v (m .next)) (wrapAt (m .frames) (m .depth)) (m .state); entered = suc (m .entered) }
+
+  unfoldable pub enterIf : Machine → Machine
+  enterIf m =
+      let w = wrapAt (m .frames) (m .depth) in
+      cond (wrapped (m .state .marks) (v .number (m .next)))
+      (opened m (frame (m .next) w true false) (suc (m .next)) (m .state))
+      (opened m (frame (m .next) w false false) (v .second (m .next)) (m .state))
+
+  unfoldable pub enterCall : Machine → Machine
+  enterCall m =
+      let t = trailing pg (first v (m .next)) (second v (m .next)) (m .state) in
+      let b = calleeWraps pg t (first v (m .next)) (second v (m .next)) (m .state) in
+      opened m (frame (m .next) b true (not t && b)) (suc (m .next)) (nextIndented (not t && b) (insert b (v .number (m .next)) (m .state)))
+
+  unfoldable pub enter : Machine → Machine
+  enter m =
+      getD
+      (enterGroup m ∷ enterIndent m ∷ enterNext m ∷ enterLeaf m ∷ enterLeaf m ∷ enterLeaf m ∷ enterLeaf m ∷ enterLeaf m ∷ enterLeaf m ∷ enterLeaf m ∷ enterIf m ∷ enterCall m ∷ [])
+      (v .kind (m .next))
+      m
+
+  -- frame k is the innermost: its row is closed, or a call's arguments are opened
+  unfoldable pub leave : Machine → ℕ → Machine
+  leave m k =
+      let f = frameAt (m .frames) k in
+      let c = groupWraps pg (nodesAt v (m .next) (v .after (f .row))) (m .state) in
+      cond (eqb (v .kind (f .row)) CALL && f .early)
+      (record { frames = set (m .frames) k (frame (f .row) c false (f .deep)); depth = suc k; next = m .next; state = insert c (v .number2 (f .row)) (m .state); entered = m .entered })
+      (record { frames = m .frames; depth = k; next = v .after (f .row); state = closing v pg f (m .state); entered = m .entered })
+
+  -- one turn, with k + 1 rows open and with none
+  unfoldable pub turnAt : ℕ → Machine → Machine
+  turnAt zero m = enter m
+  turnAt (suc k) m = cond (eqb (m .next) (partEnd v (frameAt (m .frames) k))) (leave m k) (enter m)
+
+  unfoldable pub turn : Machine → Machine
+  turn m = turnAt (m .depth) m
