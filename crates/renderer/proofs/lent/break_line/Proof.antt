@@ -41,9 +41,9 @@ use Rattle.renderer.proofs.lent.Numbers as T
 use Rattle.renderer.proofs.lent.Numbers.Laws as T′
 use Rattle.renderer.proofs.lent.broken as by-value
 use Rattle.renderer.proofs.lent.broken.Symbol as by-value-def
-use Rattle.renderer.proofs.lent.broken.Symbol.{name as #render·lent·broken}
+use Rattle.renderer.proofs.lent.broken.Symbol.{name as #renderer·lent·broken}
 use Rattle.renderer.proofs.lent.broken.Met as by-value-thm
-use Rattle.renderer.proofs.lent.break_line.Key.{name as #render·lent·break-line}
+use Rattle.renderer.proofs.lent.break_line.Key.{name as #renderer·lent·break-line}
 use Rattle.renderer.proofs.lent.break_line as break-line
 use Rattle.renderer.proofs.lent.break_line.Statement as stated
 use Rattle.renderer.proofs.lent.break_line.Code as code
@@ -82,7 +82,7 @@ module _ {M : Type 1} (𝓤 : URA M) (H : Heap 𝓤) (A : Atoms 𝓤) (W : Given
       frame ! $ feqI ! (List Val) (vptr b o ∷ []) (vptr b o ∷ []) refl $ fjoin3 ! $ nothing ! $ move ! (1 ∷ 0 ∷ []) $ fjoin ! $
       feqI ! (List Val) (vunit ∷ []) (vunit ∷ []) refl $ move ! (1 ∷ 0 ∷ []) $ done !
 
-  module _ (C : Calls 𝓤 H) (Λ : Loops 𝓤 H) (fm : FmC 𝓤 H (W .laws) C) (known : Triple 𝓤 (C #render·lent·broken) (Broken 𝓤 H A at-mem run)) where
+  module _ (C : Calls 𝓤 H) (Λ : Loops 𝓤 H) (fm : FmC 𝓤 H (W .laws) C) (known : Triple 𝓤 (C #renderer·lent·broken) (Broken 𝓤 H A at-mem run)) where
     walk : ent 𝓤 (onEntry 𝓤 H A break-line.signature (κ, tt) (q, tt) x at) (WpFn 𝓤 H C Λ code.function (vptr b o ∷ []) Post)
     walk =
         qed W ((‵ (flft κ q) ⊛ ‵ ftrue) ∷ ‵ (owns (MutRef (named 0) κ T.the-row ∷ []) x at) ∷ []) ∵ split ! $ move ! (2 ∷ []) $ fsplit ! $ fsplit3 ! $ drop ! $ move ! (0 ∷ 1 ∷ 3 ∷ []) $
@@ -106,13 +106,13 @@ module _ {M : Type 1} (𝓤 : URA M) (H : Heap 𝓤) (A : Atoms 𝓤) (W : Given
         move ! (9 ∷ 10 ∷ []) $ free1 ! $ move ! (7 ∷ 8 ∷ []) $ free1 ! $ move ! (5 ∷ 6 ∷ []) $ free1 ! $ move ! (3 ∷ 4 ∷ []) $ free1 ! $ free0 ! $ keep ! (0 ∷ 1 ∷ 2 ∷ []) $ by ! (exits r e)))))))))))
 
 module _ {M : Type 1} (𝓤 : URA M) (H : Heap 𝓤) (A : Atoms 𝓤) (W : Given 𝓤 H A) (mem : Memory → SProp 𝓤) (run : Routine → Fun 𝓤) where
-  break-line-walks : (C : Calls 𝓤 H) (Λ : Loops 𝓤 H) → FmC 𝓤 H (W .laws) C → Triple 𝓤 (C #render·lent·broken) (Broken 𝓤 H A mem run)
+  break-line-walks : (C : Calls 𝓤 H) (Λ : Loops 𝓤 H) → FmC 𝓤 H (W .laws) C → Triple 𝓤 (C #renderer·lent·broken) (Broken 𝓤 H A mem run)
       → Walks 𝓤 H A break-line.ended stayed (WpFn 𝓤 H C Λ code.function) (break-line.clauses 𝓤 H A mem run)
   break-line-walks C Λ fm known = walked 𝓤 H A break-line.ended stayed (break-line.clauses 𝓤 H A mem run) (WpFn 𝓤 H C Λ code.function) (λ κs. (ptr-vals, tt)) (λ κs. (mut-tells (named 0) (κs .0) T.the-row, tt))
       (λ κs qs bounds a g are. needs 𝓤 _ _ (λ ok. walk 𝓤 H A W mem run (κs .0) (qs .0) (a .0 .ptr .0) (a .0 .ptr .1) (a .0 .name) (a .0 .now) ok C Λ fm known))
 
 break-line-meets : {M : Type 1} (𝓤 : URA M) (H : Heap 𝓤) (A : Atoms 𝓤) → Given 𝓤 H A → (mem : Memory → SProp 𝓤) (run : Routine → Fun 𝓤) (𝓣 : Tables 𝓤 H)
-    → Triple 𝓤 (𝓣 .C #render·lent·broken) (Broken 𝓤 H A mem run)
+    → Triple 𝓤 (𝓣 .C #renderer·lent·broken) (Broken 𝓤 H A mem run)
     → Meets 𝓤 H A break-line.signature (WpFn 𝓤 H (𝓣 .C) (𝓣 .Λ) code.function) (break-line.spec 𝓤 H A mem run)
 break-line-meets 𝓤 H A W mem run 𝓣 known = walk-meets 𝓤 H A break-line.ended stayed W (goes-ref 𝓤 H A W 1 0 tt (plain (λ _. T.the-row)), tt) (break-line.clauses 𝓤 H A mem run) (WpFn 𝓤 H (𝓣 .C) (𝓣 .Λ) code.function) (WpFn-mono 𝓤 H (W .laws) 𝓣 code.function)
     (break-line-walks 𝓤 H A W mem run (𝓣 .C) (𝓣 .Λ) (fmOf 𝓤 H (W .laws) 𝓣) known)
@@ -121,6 +121,6 @@ pub break-line-spec : {M : Type 1} → stated.statement M
 unfolding code.routine tablesOf
 break-line-spec 𝓤 H 𝓜 𝓖 𝓡 =
     entered 𝓤 H (tripleOf 𝓤 H (𝓖 .A) break-line.signature (break-line.spec 𝓤 H (𝓖 .A) (𝓜 .mem) (𝓡 .run)))
-    (tables 𝓤 H 𝓜 𝓡 code.env .C) (tables 𝓤 H 𝓜 𝓡 code.env .Λ) #render·lent·break-line code.function (code.unfolded 𝓤 H 𝓜 𝓡)
+    (tables 𝓤 H 𝓜 𝓡 code.env .C) (tables 𝓤 H 𝓜 𝓡 code.env .Λ) #renderer·lent·break-line code.function (code.unfolded 𝓤 H 𝓜 𝓡)
     (break-line-meets 𝓤 H (𝓖 .A) (givenOf 𝓤 H 𝓜 𝓖) (𝓜 .mem) (𝓡 .run) (tablesOf 𝓤 H 𝓜 (tables 𝓤 H 𝓜 𝓡 code.env))
-    (cited 𝓤 H (Broken 𝓤 H (𝓖 .A) (𝓜 .mem) (𝓡 .run)) 𝓜 𝓡 code.env #render·lent·broken by-value-def.routine code.calls-render·lent·broken (by-value-thm.met 𝓤 H 𝓜 𝓖 𝓡)))
+    (cited 𝓤 H (Broken 𝓤 H (𝓖 .A) (𝓜 .mem) (𝓡 .run)) 𝓜 𝓡 code.env #renderer·lent·broken by-value-def.routine code.calls-renderer·lent·broken (by-value-thm.met 𝓤 H 𝓜 𝓖 𝓡)))

@@ -44,9 +44,9 @@ use Rattle.renderer.proofs.lent.Numbers as T
 use Rattle.renderer.proofs.lent.Numbers.Laws as T′
 use Rattle.renderer.proofs.lent.break_line as break-line
 use Rattle.renderer.proofs.lent.break_line.Symbol as break-line-def
-use Rattle.renderer.proofs.lent.break_line.Symbol.{name as #render·lent·break-line}
+use Rattle.renderer.proofs.lent.break_line.Symbol.{name as #renderer·lent·break-line}
 use Rattle.renderer.proofs.lent.break_line.Met as break-line-thm
-use Rattle.renderer.proofs.lent.on_new_line.Key.{name as #render·lent·on-new-line}
+use Rattle.renderer.proofs.lent.on_new_line.Key.{name as #renderer·lent·on-new-line}
 use Rattle.renderer.proofs.lent.on_new_line as on-new-line
 use Rattle.renderer.proofs.lent.on_new_line.Statement as stated
 use Rattle.renderer.proofs.lent.on_new_line.Code as code
@@ -81,7 +81,7 @@ module _ {M : Type 1} (𝓤 : URA M) (H : Heap 𝓤) (A : Atoms 𝓤) (W : Given
       suffices ! _ (ends-at 𝓤 H A on-new-line.ended stayed (on-new-line.clauses 𝓤 H A at-mem run) W ((tt, tt, tt, (h, tt), (vals h, tt)), tt) (T′.lowered r) r (tt, tt) (tt, tt)) $ says ! e $
       owned ! T.the-row (Is T.the-row) (LL.makes T.the-type T′.the-plain 𝓤 H A) h _ are $ nothing ! $ move ! (1 ∷ 0 ∷ []) $ fjoin ! $ nothing ! $ done !
 
-  module _ (C : Calls 𝓤 H) (Λ : Loops 𝓤 H) (fm : FmC 𝓤 H (W .laws) C) (known : Triple 𝓤 (C #render·lent·break-line) (BreakLine 𝓤 H A at-mem run)) where
+  module _ (C : Calls 𝓤 H) (Λ : Loops 𝓤 H) (fm : FmC 𝓤 H (W .laws) C) (known : Triple 𝓤 (C #renderer·lent·break-line) (BreakLine 𝓤 H A at-mem run)) where
     walk : ent 𝓤 (onEntry 𝓤 H A on-new-line.signature tt tt (h, tt) (vals h, tt)) (WpFn 𝓤 H C Λ code.function (vals h) Post)
     walk =
         qed W (‵ ftrue ∷ ‵ (owns (T.the-row ∷ []) (h, tt) (vals h, tt)) ∷ []) ∵ enter ! C Λ code.function (vals h) _ $
@@ -111,13 +111,13 @@ module _ {M : Type 1} (𝓤 : URA M) (H : Heap 𝓤) (A : Atoms 𝓤) (W : Given
         move ! (11 ∷ 12 ∷ []) $ free1 ! $ move ! (9 ∷ 10 ∷ []) $ free1 ! $ move ! (1 ∷ 8 ∷ []) $ free1 ! $ move ! (5 ∷ 6 ∷ []) $ free1 ! $ move ! (3 ∷ 4 ∷ []) $ free1 ! $ free0 ! $ keep ! (0 ∷ []) $ by ! (exits (zs .0) e))))))))))))))
 
 module _ {M : Type 1} (𝓤 : URA M) (H : Heap 𝓤) (A : Atoms 𝓤) (W : Given 𝓤 H A) (mem : Memory → SProp 𝓤) (run : Routine → Fun 𝓤) where
-  on-new-line-walks : (C : Calls 𝓤 H) (Λ : Loops 𝓤 H) → FmC 𝓤 H (W .laws) C → Triple 𝓤 (C #render·lent·break-line) (BreakLine 𝓤 H A mem run)
+  on-new-line-walks : (C : Calls 𝓤 H) (Λ : Loops 𝓤 H) → FmC 𝓤 H (W .laws) C → Triple 𝓤 (C #renderer·lent·break-line) (BreakLine 𝓤 H A mem run)
       → Walks 𝓤 H A on-new-line.ended stayed (WpFn 𝓤 H C Λ code.function) (on-new-line.clauses 𝓤 H A mem run)
   on-new-line-walks C Λ fm known = walked 𝓤 H A on-new-line.ended stayed (on-new-line.clauses 𝓤 H A mem run) (WpFn 𝓤 H C Λ code.function) (λ κs. (vals, tt)) (λ κs. (LL.tells T.the-type T′.the-laws, tt))
       (λ κs qs bounds a g are. needs 𝓤 _ _ (λ ok. walk 𝓤 H A W mem run (a .0) ok (are .0) C Λ fm known))
 
 on-new-line-meets : {M : Type 1} (𝓤 : URA M) (H : Heap 𝓤) (A : Atoms 𝓤) → Given 𝓤 H A → (mem : Memory → SProp 𝓤) (run : Routine → Fun 𝓤) (𝓣 : Tables 𝓤 H)
-    → Triple 𝓤 (𝓣 .C #render·lent·break-line) (BreakLine 𝓤 H A mem run)
+    → Triple 𝓤 (𝓣 .C #renderer·lent·break-line) (BreakLine 𝓤 H A mem run)
     → Meets 𝓤 H A on-new-line.signature (WpFn 𝓤 H (𝓣 .C) (𝓣 .Λ) code.function) (on-new-line.spec 𝓤 H A mem run)
 on-new-line-meets 𝓤 H A W mem run 𝓣 known = walk-meets 𝓤 H A on-new-line.ended stayed W (goes-none 𝓤 H A W 0 (λ _. T.the-row) yes (λ κs x f. refl), tt) (on-new-line.clauses 𝓤 H A mem run) (WpFn 𝓤 H (𝓣 .C) (𝓣 .Λ) code.function) (WpFn-mono 𝓤 H (W .laws) 𝓣 code.function)
     (on-new-line-walks 𝓤 H A W mem run (𝓣 .C) (𝓣 .Λ) (fmOf 𝓤 H (W .laws) 𝓣) known)
@@ -126,6 +126,6 @@ pub on-new-line-spec : {M : Type 1} → stated.statement M
 unfolding code.routine tablesOf
 on-new-line-spec 𝓤 H 𝓜 𝓖 𝓡 =
     entered 𝓤 H (tripleOf 𝓤 H (𝓖 .A) on-new-line.signature (on-new-line.spec 𝓤 H (𝓖 .A) (𝓜 .mem) (𝓡 .run)))
-    (tables 𝓤 H 𝓜 𝓡 code.env .C) (tables 𝓤 H 𝓜 𝓡 code.env .Λ) #render·lent·on-new-line code.function (code.unfolded 𝓤 H 𝓜 𝓡)
+    (tables 𝓤 H 𝓜 𝓡 code.env .C) (tables 𝓤 H 𝓜 𝓡 code.env .Λ) #renderer·lent·on-new-line code.function (code.unfolded 𝓤 H 𝓜 𝓡)
     (on-new-line-meets 𝓤 H (𝓖 .A) (givenOf 𝓤 H 𝓜 𝓖) (𝓜 .mem) (𝓡 .run) (tablesOf 𝓤 H 𝓜 (tables 𝓤 H 𝓜 𝓡 code.env))
-    (cited 𝓤 H (BreakLine 𝓤 H (𝓖 .A) (𝓜 .mem) (𝓡 .run)) 𝓜 𝓡 code.env #render·lent·break-line break-line-def.routine code.calls-render·lent·break-line (break-line-thm.met 𝓤 H 𝓜 𝓖 𝓡)))
+    (cited 𝓤 H (BreakLine 𝓤 H (𝓖 .A) (𝓜 .mem) (𝓡 .run)) 𝓜 𝓡 code.env #renderer·lent·break-line break-line-def.routine code.calls-renderer·lent·break-line (break-line-thm.met 𝓤 H 𝓜 𝓖 𝓡)))

@@ -44,9 +44,9 @@ use Rattle.renderer.proofs.lent.Numbers as T
 use Rattle.renderer.proofs.lent.Numbers.Laws as T′
 use Rattle.renderer.proofs.lent.moved as by-value
 use Rattle.renderer.proofs.lent.moved.Symbol as by-value-def
-use Rattle.renderer.proofs.lent.moved.Symbol.{name as #render·lent·moved}
+use Rattle.renderer.proofs.lent.moved.Symbol.{name as #renderer·lent·moved}
 use Rattle.renderer.proofs.lent.moved.Met as by-value-thm
-use Rattle.renderer.proofs.lent.set_margin.Key.{name as #render·lent·set-margin}
+use Rattle.renderer.proofs.lent.set_margin.Key.{name as #renderer·lent·set-margin}
 use Rattle.renderer.proofs.lent.set_margin as set-margin
 use Rattle.renderer.proofs.lent.set_margin.Statement as stated
 use Rattle.renderer.proofs.lent.set_margin.Code as code
@@ -85,7 +85,7 @@ module _ {M : Type 1} (𝓤 : URA M) (H : Heap 𝓤) (A : Atoms 𝓤) (W : Given
       frame ! $ feqI ! (List Val) (vptr b o ∷ []) (vptr b o ∷ []) refl $ fjoin3 ! $ nothing ! $ owned ! usize (Is usize) (uint-makes 𝓤 H A W w64) j _ (refl, j-fits) $ fjoin ! $ owned ! usize (Is usize) (uint-makes 𝓤 H A W w64) i _ (refl, i-fits) $ fjoin ! $ move ! (1 ∷ 0 ∷ []) $ fjoin ! $
       feqI ! (List Val) (vunit ∷ []) (vunit ∷ []) refl $ move ! (1 ∷ 0 ∷ []) $ done !
 
-  module _ (C : Calls 𝓤 H) (Λ : Loops 𝓤 H) (fm : FmC 𝓤 H (W .laws) C) (known : Triple 𝓤 (C #render·lent·moved) (Moved 𝓤 H A at-mem run)) where
+  module _ (C : Calls 𝓤 H) (Λ : Loops 𝓤 H) (fm : FmC 𝓤 H (W .laws) C) (known : Triple 𝓤 (C #renderer·lent·moved) (Moved 𝓤 H A at-mem run)) where
     walk : ent 𝓤 (onEntry 𝓤 H A set-margin.signature (κ, tt) (q, tt) x at) (WpFn 𝓤 H C Λ code.function (vptr b o ∷ vint w64 i ∷ vint w64 j ∷ []) Post)
     walk =
         qed W ((‵ (flft κ q) ⊛ ‵ ftrue) ∷ ‵ (owns (MutRef (named 0) κ T.the-row ∷ usize ∷ usize ∷ []) x at) ∷ []) ∵ split ! $ move ! (2 ∷ []) $ fsplit ! $ fsplit3 ! $ drop ! $ move ! (0 ∷ 1 ∷ 3 ∷ []) $
@@ -109,13 +109,13 @@ module _ {M : Type 1} (𝓤 : URA M) (H : Heap 𝓤) (A : Atoms 𝓤) (W : Given
         move ! (13 ∷ 14 ∷ []) $ free1 ! $ move ! (11 ∷ 12 ∷ []) $ free1 ! $ move ! (9 ∷ 10 ∷ []) $ free1 ! $ move ! (7 ∷ 8 ∷ []) $ free1 ! $ move ! (5 ∷ 6 ∷ []) $ free1 ! $ move ! (3 ∷ 4 ∷ []) $ free1 ! $ free0 ! $ keep ! (0 ∷ 1 ∷ 2 ∷ []) $ by ! (exits r e)))))))))))))
 
 module _ {M : Type 1} (𝓤 : URA M) (H : Heap 𝓤) (A : Atoms 𝓤) (W : Given 𝓤 H A) (mem : Memory → SProp 𝓤) (run : Routine → Fun 𝓤) where
-  set-margin-walks : (C : Calls 𝓤 H) (Λ : Loops 𝓤 H) → FmC 𝓤 H (W .laws) C → Triple 𝓤 (C #render·lent·moved) (Moved 𝓤 H A mem run)
+  set-margin-walks : (C : Calls 𝓤 H) (Λ : Loops 𝓤 H) → FmC 𝓤 H (W .laws) C → Triple 𝓤 (C #renderer·lent·moved) (Moved 𝓤 H A mem run)
       → Walks 𝓤 H A set-margin.ended stayed (WpFn 𝓤 H C Λ code.function) (set-margin.clauses 𝓤 H A mem run)
   set-margin-walks C Λ fm known = walked 𝓤 H A set-margin.ended stayed (set-margin.clauses 𝓤 H A mem run) (WpFn 𝓤 H C Λ code.function) (λ κs. (ptr-vals, (uint-vals w64, (uint-vals w64, tt)))) (λ κs. (mut-tells (named 0) (κs .0) T.the-row, (uint-tells w64, (uint-tells w64, tt))))
       (λ κs qs bounds a g are. via 𝓤 _ (fst∗ 𝓤 _ (emp 𝓤)) (walk 𝓤 H A W mem run (κs .0) (qs .0) (a .0 .ptr .0) (a .0 .ptr .1) (a .0 .name) (a .0 .now) (a .1 .0) (a .1 .1 .0) (are .1 .0 .1) (are .1 .1 .0 .1) C Λ fm known))
 
 set-margin-meets : {M : Type 1} (𝓤 : URA M) (H : Heap 𝓤) (A : Atoms 𝓤) → Given 𝓤 H A → (mem : Memory → SProp 𝓤) (run : Routine → Fun 𝓤) (𝓣 : Tables 𝓤 H)
-    → Triple 𝓤 (𝓣 .C #render·lent·moved) (Moved 𝓤 H A mem run)
+    → Triple 𝓤 (𝓣 .C #renderer·lent·moved) (Moved 𝓤 H A mem run)
     → Meets 𝓤 H A set-margin.signature (WpFn 𝓤 H (𝓣 .C) (𝓣 .Λ) code.function) (set-margin.spec 𝓤 H A mem run)
 set-margin-meets 𝓤 H A W mem run 𝓣 known = walk-meets 𝓤 H A set-margin.ended stayed W (goes-ref 𝓤 H A W 1 0 tt (plain (λ _. T.the-row)), (goes-none 𝓤 H A W 1 (λ _. usize) yes (λ κs x f. refl), (goes-none 𝓤 H A W 1 (λ _. usize) yes (λ κs x f. refl), tt))) (set-margin.clauses 𝓤 H A mem run) (WpFn 𝓤 H (𝓣 .C) (𝓣 .Λ) code.function) (WpFn-mono 𝓤 H (W .laws) 𝓣 code.function)
     (set-margin-walks 𝓤 H A W mem run (𝓣 .C) (𝓣 .Λ) (fmOf 𝓤 H (W .laws) 𝓣) known)
@@ -124,6 +124,6 @@ pub set-margin-spec : {M : Type 1} → stated.statement M
 unfolding code.routine tablesOf
 set-margin-spec 𝓤 H 𝓜 𝓖 𝓡 =
     entered 𝓤 H (tripleOf 𝓤 H (𝓖 .A) set-margin.signature (set-margin.spec 𝓤 H (𝓖 .A) (𝓜 .mem) (𝓡 .run)))
-    (tables 𝓤 H 𝓜 𝓡 code.env .C) (tables 𝓤 H 𝓜 𝓡 code.env .Λ) #render·lent·set-margin code.function (code.unfolded 𝓤 H 𝓜 𝓡)
+    (tables 𝓤 H 𝓜 𝓡 code.env .C) (tables 𝓤 H 𝓜 𝓡 code.env .Λ) #renderer·lent·set-margin code.function (code.unfolded 𝓤 H 𝓜 𝓡)
     (set-margin-meets 𝓤 H (𝓖 .A) (givenOf 𝓤 H 𝓜 𝓖) (𝓜 .mem) (𝓡 .run) (tablesOf 𝓤 H 𝓜 (tables 𝓤 H 𝓜 𝓡 code.env))
-    (cited 𝓤 H (Moved 𝓤 H (𝓖 .A) (𝓜 .mem) (𝓡 .run)) 𝓜 𝓡 code.env #render·lent·moved by-value-def.routine code.calls-render·lent·moved (by-value-thm.met 𝓤 H 𝓜 𝓖 𝓡)))
+    (cited 𝓤 H (Moved 𝓤 H (𝓖 .A) (𝓜 .mem) (𝓡 .run)) 𝓜 𝓡 code.env #renderer·lent·moved by-value-def.routine code.calls-renderer·lent·moved (by-value-thm.met 𝓤 H 𝓜 𝓖 𝓡)))

@@ -45,9 +45,9 @@ use Rattle.renderer.proofs.lent.Numbers as T
 use Rattle.renderer.proofs.lent.Numbers.Laws as T′
 use Rattle.renderer.proofs.lent.set_margin as set-margin
 use Rattle.renderer.proofs.lent.set_margin.Symbol as set-margin-def
-use Rattle.renderer.proofs.lent.set_margin.Symbol.{name as #render·lent·set-margin}
+use Rattle.renderer.proofs.lent.set_margin.Symbol.{name as #renderer·lent·set-margin}
 use Rattle.renderer.proofs.lent.set_margin.Met as set-margin-thm
-use Rattle.renderer.proofs.lent.with_margin.Key.{name as #render·lent·with-margin}
+use Rattle.renderer.proofs.lent.with_margin.Key.{name as #renderer·lent·with-margin}
 use Rattle.renderer.proofs.lent.with_margin as with-margin
 use Rattle.renderer.proofs.lent.with_margin.Statement as stated
 use Rattle.renderer.proofs.lent.with_margin.Code as code
@@ -82,7 +82,7 @@ module _ {M : Type 1} (𝓤 : URA M) (H : Heap 𝓤) (A : Atoms 𝓤) (W : Given
       suffices ! _ (ends-at 𝓤 H A with-margin.ended stayed (with-margin.clauses 𝓤 H A at-mem run) W ((tt, tt, tt, (h, (i, (j, tt))), (vals h, (vint w64 i ∷ [], (vint w64 j ∷ [], tt)))), tt) (T′.lowered r) r (tt, (tt, (tt, tt))) (tt, (tt, (tt, tt)))) $ says ! e $
       nothing ! $ owned ! usize (Is usize) (uint-makes 𝓤 H A W w64) j _ (refl, j-fits) $ fjoin ! $ owned ! usize (Is usize) (uint-makes 𝓤 H A W w64) i _ (refl, i-fits) $ fjoin ! $ owned ! T.the-row (Is T.the-row) (LL.makes T.the-type T′.the-plain 𝓤 H A) h _ are $ fjoin ! $ nothing ! $ done !
 
-  module _ (C : Calls 𝓤 H) (Λ : Loops 𝓤 H) (fm : FmC 𝓤 H (W .laws) C) (known : Triple 𝓤 (C #render·lent·set-margin) (SetMargin 𝓤 H A at-mem run)) where
+  module _ (C : Calls 𝓤 H) (Λ : Loops 𝓤 H) (fm : FmC 𝓤 H (W .laws) C) (known : Triple 𝓤 (C #renderer·lent·set-margin) (SetMargin 𝓤 H A at-mem run)) where
     walk : ent 𝓤 (onEntry 𝓤 H A with-margin.signature tt tt (h, (i, (j, tt))) (vals h, (vint w64 i ∷ [], (vint w64 j ∷ [], tt)))) (WpFn 𝓤 H C Λ code.function (T′.lowered h ∷ vint w64 i ∷ vint w64 j ∷ []) Post)
     walk =
         qed W (‵ ftrue ∷ ‵ (owns (T.the-row ∷ usize ∷ usize ∷ []) (h, (i, (j, tt))) (vals h, (vint w64 i ∷ [], (vint w64 j ∷ [], tt)))) ∷ []) ∵ enter ! C Λ code.function (T′.lowered h ∷ vint w64 i ∷ vint w64 j ∷ []) _ $
@@ -112,13 +112,13 @@ module _ {M : Type 1} (𝓤 : URA M) (H : Heap 𝓤) (A : Atoms 𝓤) (W : Given
         move ! (15 ∷ 16 ∷ []) $ free1 ! $ move ! (13 ∷ 14 ∷ []) $ free1 ! $ move ! (11 ∷ 12 ∷ []) $ free1 ! $ move ! (9 ∷ 10 ∷ []) $ free1 ! $ move ! (1 ∷ 8 ∷ []) $ free1 ! $ move ! (5 ∷ 6 ∷ []) $ free1 ! $ move ! (3 ∷ 4 ∷ []) $ free1 ! $ free0 ! $ keep ! (0 ∷ []) $ by ! (exits (zs .0) e))))))))))))))))
 
 module _ {M : Type 1} (𝓤 : URA M) (H : Heap 𝓤) (A : Atoms 𝓤) (W : Given 𝓤 H A) (mem : Memory → SProp 𝓤) (run : Routine → Fun 𝓤) where
-  with-margin-walks : (C : Calls 𝓤 H) (Λ : Loops 𝓤 H) → FmC 𝓤 H (W .laws) C → Triple 𝓤 (C #render·lent·set-margin) (SetMargin 𝓤 H A mem run)
+  with-margin-walks : (C : Calls 𝓤 H) (Λ : Loops 𝓤 H) → FmC 𝓤 H (W .laws) C → Triple 𝓤 (C #renderer·lent·set-margin) (SetMargin 𝓤 H A mem run)
       → Walks 𝓤 H A with-margin.ended stayed (WpFn 𝓤 H C Λ code.function) (with-margin.clauses 𝓤 H A mem run)
   with-margin-walks C Λ fm known = walked 𝓤 H A with-margin.ended stayed (with-margin.clauses 𝓤 H A mem run) (WpFn 𝓤 H C Λ code.function) (λ κs. (vals, (uint-vals w64, (uint-vals w64, tt)))) (λ κs. (LL.tells T.the-type T′.the-laws, (uint-tells w64, (uint-tells w64, tt))))
       (λ κs qs bounds a g are. via 𝓤 _ (fst∗ 𝓤 _ (emp 𝓤)) (walk 𝓤 H A W mem run (a .0) (a .1 .0) (a .1 .1 .0) (are .1 .0 .1) (are .1 .1 .0 .1) (are .0) C Λ fm known))
 
 with-margin-meets : {M : Type 1} (𝓤 : URA M) (H : Heap 𝓤) (A : Atoms 𝓤) → Given 𝓤 H A → (mem : Memory → SProp 𝓤) (run : Routine → Fun 𝓤) (𝓣 : Tables 𝓤 H)
-    → Triple 𝓤 (𝓣 .C #render·lent·set-margin) (SetMargin 𝓤 H A mem run)
+    → Triple 𝓤 (𝓣 .C #renderer·lent·set-margin) (SetMargin 𝓤 H A mem run)
     → Meets 𝓤 H A with-margin.signature (WpFn 𝓤 H (𝓣 .C) (𝓣 .Λ) code.function) (with-margin.spec 𝓤 H A mem run)
 with-margin-meets 𝓤 H A W mem run 𝓣 known = walk-meets 𝓤 H A with-margin.ended stayed W (goes-none 𝓤 H A W 0 (λ _. T.the-row) yes (λ κs x f. refl), (goes-none 𝓤 H A W 0 (λ _. usize) yes (λ κs x f. refl), (goes-none 𝓤 H A W 0 (λ _. usize) yes (λ κs x f. refl), tt))) (with-margin.clauses 𝓤 H A mem run) (WpFn 𝓤 H (𝓣 .C) (𝓣 .Λ) code.function) (WpFn-mono 𝓤 H (W .laws) 𝓣 code.function)
     (with-margin-walks 𝓤 H A W mem run (𝓣 .C) (𝓣 .Λ) (fmOf 𝓤 H (W .laws) 𝓣) known)
@@ -127,6 +127,6 @@ pub with-margin-spec : {M : Type 1} → stated.statement M
 unfolding code.routine tablesOf
 with-margin-spec 𝓤 H 𝓜 𝓖 𝓡 =
     entered 𝓤 H (tripleOf 𝓤 H (𝓖 .A) with-margin.signature (with-margin.spec 𝓤 H (𝓖 .A) (𝓜 .mem) (𝓡 .run)))
-    (tables 𝓤 H 𝓜 𝓡 code.env .C) (tables 𝓤 H 𝓜 𝓡 code.env .Λ) #render·lent·with-margin code.function (code.unfolded 𝓤 H 𝓜 𝓡)
+    (tables 𝓤 H 𝓜 𝓡 code.env .C) (tables 𝓤 H 𝓜 𝓡 code.env .Λ) #renderer·lent·with-margin code.function (code.unfolded 𝓤 H 𝓜 𝓡)
     (with-margin-meets 𝓤 H (𝓖 .A) (givenOf 𝓤 H 𝓜 𝓖) (𝓜 .mem) (𝓡 .run) (tablesOf 𝓤 H 𝓜 (tables 𝓤 H 𝓜 𝓡 code.env))
-    (cited 𝓤 H (SetMargin 𝓤 H (𝓖 .A) (𝓜 .mem) (𝓡 .run)) 𝓜 𝓡 code.env #render·lent·set-margin set-margin-def.routine code.calls-render·lent·set-margin (set-margin-thm.met 𝓤 H 𝓜 𝓖 𝓡)))
+    (cited 𝓤 H (SetMargin 𝓤 H (𝓖 .A) (𝓜 .mem) (𝓡 .run)) 𝓜 𝓡 code.env #renderer·lent·set-margin set-margin-def.routine code.calls-renderer·lent·set-margin (set-margin-thm.met 𝓤 H 𝓜 𝓖 𝓡)))
