@@ -1,4 +1,4 @@
--- `lent::break_line` meets its contract: a walk of its MIR, by hand. The borrow is opened, the numbers behind it are copied and passed to `broken`, what that returns is stored behind it, and the borrow is closed there.
+-- `lent::break_line` meets its contract: a walk of its MIR, by hand. The borrow is opened, the pen behind it is copied and passed to `broken`, what that returns is stored behind it, and the borrow is closed there.
 -- All that the proof knows of `broken` is that it meets its contract. Assumes nothing.
 use mathlib.Core.Path.{_≡_, refl}
 use Prim.Native.Nat.{ℕ, _+_, _≤_}
@@ -34,11 +34,11 @@ use denote.Triple.Entry.{onEntry}
 use denote.Triple.Spec.{Meets, tripleOf}
 use denote.Triple.Table.{entered, cited}
 use denote.Triple.Walked.{says, needs, Stays, stay-ref, walkOf, goes-ref, Walks, ends-at, walked, walk-meets}
-use Rattle.renderer.specs.Lent.{broken}
-use Rattle.renderer.specs.declared.lent.Numbers.{Numbers}
+use Rattle.renderer_rules.specs.Renderer.{onNewLine}
+use Rattle.renderer_rules.specs.declared.Pen.{Pen}
 use Rattle.renderer.proofs.Loan.{vals}
-use Rattle.renderer.proofs.lent.Numbers as T
-use Rattle.renderer.proofs.lent.Numbers.Laws as T′
+use Rattle.renderer_rules.proofs.Pen as T
+use Rattle.renderer_rules.proofs.Pen.Laws as T′
 use Rattle.renderer.proofs.lent.broken as by-value
 use Rattle.renderer.proofs.lent.broken.Symbol as by-value-def
 use Rattle.renderer.proofs.lent.broken.Symbol.{name as #renderer·lent·broken}
@@ -56,8 +56,8 @@ module _ {M : Type 1} (𝓤 : URA M) (H : Heap 𝓤) (A : Atoms 𝓤) (mem : Mem
   abbrev Broken : Contract 𝓤
   Broken = tripleOf 𝓤 H A by-value.signature (by-value.spec 𝓤 H A mem run)
 
-module _ {M : Type 1} (𝓤 : URA M) (H : Heap 𝓤) (A : Atoms 𝓤) (W : Given 𝓤 H A) (at-mem : Memory → SProp 𝓤) (run : Routine → Fun 𝓤) (κ : Lft) (q : Share) (b o : ℕ) (γ : GName) (h : Numbers) (ok : h .indent + h .«next_indent» ≤ 384) where
-  abbrev x : RefT Numbers × Unit {0}
+module _ {M : Type 1} (𝓤 : URA M) (H : Heap 𝓤) (A : Atoms 𝓤) (W : Given 𝓤 H A) (at-mem : Memory → SProp 𝓤) (run : Routine → Fun 𝓤) (κ : Lft) (q : Share) (b o : ℕ) (γ : GName) (h : Pen) (ok : h .indent + h .«next_indent» ≤ 384) where
+  abbrev x : RefT Pen × Unit {0}
   x = (record { ptr = (b, o); name = γ; now = h }, tt)
 
   abbrev at : List Val × Unit {0}
@@ -72,10 +72,10 @@ module _ {M : Type 1} (𝓤 : URA M) (H : Heap 𝓤) (A : Atoms 𝓤) (W : Given
   goes : ent 𝓤 (sem 𝓤 H A (T.the-row .own h (vals h))) (Broken 𝓤 H A at-mem run .pre to)
   goes = qed W (‵ (T.the-row .own h (vals h)) ∷ []) ∵ says ! ok $ nothing ! $ frame ! $ nothing ! $ move ! (1 ∷ 0 ∷ []) $ fjoin ! $ done !
 
-  said : (r : Numbers) → ent 𝓤 (ensured 𝓤 H A by-value.ended (by-value.clauses 𝓤 H A at-mem run) tt (h, tt) tt r) (fact 𝓤 (r ≡ broken h))
-  said r = exE 𝓤 _ (λ ws. snd∗ 𝓤 (sem 𝓤 H A (lasts by-value.ended tt (h, tt) ws)) (fact 𝓤 (r ≡ broken h)))
+  said : (r : Pen) → ent 𝓤 (ensured 𝓤 H A by-value.ended (by-value.clauses 𝓤 H A at-mem run) tt (h, tt) tt r) (fact 𝓤 (r ≡ onNewLine h))
+  said r = exE 𝓤 _ (λ ws. snd∗ 𝓤 (sem 𝓤 H A (lasts by-value.ended tt (h, tt) ws)) (fact 𝓤 (r ≡ onNewLine h)))
 
-  exits : (r : Numbers) → r ≡ broken h → ent 𝓤 (sep 𝓤 (A .obs γ (T.the-row .coded .code r)) (sep 𝓤 (A .bor κ (Body (mem T.the-row) b o γ)) (A .lft κ q))) (Post vunit)
+  exits : (r : Pen) → r ≡ onNewLine h → ent 𝓤 (sep 𝓤 (A .obs γ (T.the-row .coded .code r)) (sep 𝓤 (A .bor κ (Body (mem T.the-row) b o γ)) (A .lft κ q))) (Post vunit)
   exits r e =
       qed W (‵ (fobs γ (T.the-row .coded .code r)) ∷ ‵ (fbor κ (Body (mem T.the-row) b o γ)) ∷ ‵ (flft κ q) ∷ []) ∵
       suffices ! _ (ends-at 𝓤 H A break-line.ended stayed (break-line.clauses 𝓤 H A at-mem run) W (((κ, tt), (q, tt), tt, x, at), tt) vunit tt (r, tt) (tt, tt)) $ says ! e $ nothing ! $ move ! (3 ∷ 0 ∷ []) $ join ! $
@@ -90,12 +90,12 @@ module _ {M : Type 1} (𝓤 : URA M) (H : Heap 𝓤) (A : Atoms 𝓤) (W : Given
         alloc1 ! (λ l₀. alloc1 ! (λ l₁. alloc1 ! (λ l₂. alloc1 ! (λ l₃. alloc0 ! $ params1 ! $ pass1 ! (init ! 4 refl (tt, tt)) $ pass0 ! $
         move ! (8 ∷ 9 ∷ 10 ∷ []) $ opens ! tt T.the-row {h = h} b o (λ vs. spelt ! T.the-row (Is T.the-row) (shows 𝓤 H A T.the-row) vals (LL.tells T.the-type T′.the-laws) fullShare h vs b o $
         move ! (1 ∷ []) $ peeks ! T.the-row (Is T.the-row) (shows 𝓤 H A T.the-row) h (vals h) (λ was.
-        -- [what the numbers own; their cell; the open borrow; obs; auth; room for _3; …; room for _2; …; _1; …; room for _0; …]
+        -- [what the pen owns; their cell; the open borrow; obs; auth; room for _3; …; room for _2; …; _1; …; room for _0; …]
         assigns ! (of-opd ! (load ! (from ! (hop ! (look ! 9 refl) (stop !))) (look-raw ! 1 refl))) (from ! (stop !)) (init ! 5 refl (LL.lawful T.the-type T′.the-laws 𝓤 H A W .typed h _ was .0)) $
         use1 W (raw (Broken 𝓤 H A at-mem run .pre to)) goes $
         calls-at ! fm (Broken 𝓤 H A at-mem run) known to (and-then ! (load ! (from ! (stop !)) (look ! 5 refl)) (no-more !)) (λ v.
-        use1 W (later (some (λ (r : Numbers). (‵ ftrue ⊛ ‵ (T.the-row .own r (v ∷ []))) ⊛ raw (ensured 𝓤 H A by-value.ended (by-value.clauses 𝓤 H A at-mem run) tt (h, tt) tt r)))) (id⊢ 𝓤 _) $ await ! tt $ pick ! (λ r.
-        split ! $ move ! (1 ∷ []) $ use1 W (raw (fact 𝓤 (r ≡ broken h))) (said r) $ heard ! (r ≡ broken h) (λ e. split ! $ drop ! $
+        use1 W (later (some (λ (r : Pen). (‵ ftrue ⊛ ‵ (T.the-row .own r (v ∷ []))) ⊛ raw (ensured 𝓤 H A by-value.ended (by-value.clauses 𝓤 H A at-mem run) tt (h, tt) tt r)))) (id⊢ 𝓤 _) $ await ! tt $ pick ! (λ r.
+        split ! $ move ! (1 ∷ []) $ use1 W (raw (fact 𝓤 (r ≡ onNewLine h))) (said r) $ heard ! (r ≡ onNewLine h) (λ e. split ! $ drop ! $
         peeks ! T.the-row (Is T.the-row) (shows 𝓤 H A T.the-row) r (v ∷ []) (λ is.
         -- [what the result owns; the cell; the open borrow; obs; auth; _3; …; room for _2; …; _1; …; room for _0; …]
         land ! (from ! (stop !)) (init ! 7 refl (LL.lawful T.the-type T′.the-laws 𝓤 H A W .typed r _ is .0)) $
