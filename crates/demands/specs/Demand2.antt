@@ -1,7 +1,7 @@
 -- Demand 2: "For an accepted tree the rows, marks, text and comments left equal what `fmt_parsed` builds and renders." proofs/Demand2.antt proves it.
 --
 -- Of the two calls and of a whole file, by what they promise. What `fmt_parsed` builds: `fmtParsed` (crates/layout/specs/Layout.antt), what it has
--- when its loop reaches a declaration: `upTo` (crates/layout_facts/specs/Accepted.antt); what `Renderer` makes of it: `renders`
+-- when its loop reaches a declaration: `upTo` (crates/layout_facts/specs/Accepted.antt); what `Renderer` makes of it: `renderNodes`
 -- (crates/renderer_rules/specs/Renderer.antt), for a whole document `drawnDue` (crates/plain_run/specs/File.antt).
 use mathlib.Core.Path.{_≡_}
 use mathlib.Core.Bool.{Bool, true, false}

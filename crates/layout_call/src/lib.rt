@@ -14,7 +14,7 @@ use crate::steps::count_declarations;
 use crate::steps::lay;
 use image::Answer;
 use image::check;
-use rows::store::wide;
+use rows::store::to_usize;
 use state::Cursor;
 
 // Begun, closed, next declaration, next row, next number, comments placed, position.
@@ -65,7 +65,7 @@ fn rows_needed(
 {
     let mut none = [0u32; 1];
     let d = lay(&mut none, c, s, b, n, at, begun, from, to, close);
-    wide(d.row)
+    to_usize(d.row)
 }
 
 // The same if it is past `rows`, and else a row that is not. A tree has no more rows than its image has bytes, and two more for each comment:
@@ -85,7 +85,7 @@ fn rows_wanted(
     requires { ⌜ Accepts (now s) (now b) n at × ((from ≤ to) × ((to ≤ length (declared (now s) (now b))) × Small c n)) ⌝ }
     ensures { λ r. ⌜ Wanted rows (c .row + sizes (callAct (now (s .entry)) (now (b .entry)) begun from to close (st c) .nodes)) r ⌝ }
 {
-    let most = wide(c.row) + b.len() + 2 * n;
+    let most = to_usize(c.row) + b.len() + 2 * n;
     if most <= rows {
         return rows;
     }
@@ -119,15 +119,15 @@ fn laid(
         stop,
         close,
     );
-    let placed = wide(e.placed);
+    let placed = to_usize(e.placed);
     let t = LayoutState {
         begun: true,
         closed: close,
         declaration: stop,
-        row: wide(e.row),
-        number: wide(e.number),
+        row: to_usize(e.row),
+        number: to_usize(e.number),
         placed: placed,
-        position: wide(e.pos),
+        position: to_usize(e.pos),
     };
     Laying::Laid(t, n - placed)
 }

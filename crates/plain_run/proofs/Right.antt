@@ -13,33 +13,33 @@ use lib.ListN.{length, length-take}
 use borrow.Author.Tests.{ltb-false, leb-true, le-leb}
 use Rattle.laws.proofs.Options.{never}
 use Rattle.rows.specs.View.{View, viewOf}
-use Rattle.rows.specs.Nesting.{Within, Nests, over}
+use Rattle.rows.specs.Nesting.{RangeIn, Nests, over}
 use Rattle.rows.proofs.Nested.{nests-join}
-use Rattle.renderer_rules.specs.Check.{rowFits, orElse, firstWrong, wrongRow, placesFit, wrongPlace}
+use Rattle.renderer_rules.specs.Check.{rowFits, orLater, firstWrong, wrongRow, placesFit, wrongPlace}
 use Rattle.laws.proofs.Booleans.{both}
 use Rattle.renderer_rules.proofs.Checked.{fits-row, accepted-nests, nested-accepted}
 use Rattle.cut_rule.specs.Laws.{SameBefore}
 use Rattle.plain_run.proofs.Local.{nests-local, rows-same, places-same}
 
-neither : (a b : Option ℕ) → orElse a b ≡ none → (a ≡ none) × (b ≡ none)
+neither : (a b : Option ℕ) → orLater a b ≡ none → (a ≡ none) × (b ≡ none)
 neither none b e = (refl, e)
 neither (some i) b e = absurd (never i e)
 
 -- ---- the places of rows with nothing wrong are right
 module _ (places : ℕ → Bool) (v : View) where
   fit-row : (end d i k : ℕ) (a c : Bool) (r t : Option ℕ) → ltb i end ≡ a → rowFits places v end d i ≡ c
-      → cond a (cond c (orElse r t) (some i)) none ≡ none
+      → cond a (cond c (orLater r t) (some i)) none ≡ none
       → i ≤ k
       → k < end
-      → (Within v i end → r ≡ none → suc i ≤ k → k < v .after i → places k ≡ true)
-      → (Within v i end → t ≡ none → v .after i ≤ k → places k ≡ true)
+      → (RangeIn v i end → r ≡ none → suc i ≤ k → k < v .after i → places k ≡ true)
+      → (RangeIn v i end → t ≡ none → v .after i ≤ k → places k ≡ true)
       → places k ≡ true
   fit-row end d i k true true r t p q e l h f g =
       let x = neither r t e in
       let y = fits-row places v end d i q in
       go (y .within) (y .fit) (x .0) (x .1) (decLt i k) (decLt k (v .after i))
     where
-      go : Within v i end → places i ≡ true → r ≡ none → t ≡ none → Dec (i < k) → Dec (k < v .after i) → places k ≡ true
+      go : RangeIn v i end → places i ≡ true → r ≡ none → t ≡ none → Dec (i < k) → Dec (k < v .after i) → places k ≡ true
       go w y a c (no m) n = let z : i ≡ k = omega arith in subst (λ (j : ℕ). places j ≡ true) z y
       go w y a c (yes m) (yes n) = f w a m n
       go w y a c (yes m) (no n) = g w c (omega arith)

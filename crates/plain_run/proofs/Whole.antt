@@ -24,7 +24,7 @@ use Rattle.comments.specs.Comments.{nth}
 use Rattle.comments.specs.Listed.{commentsOf, given}
 use Rattle.layout.specs.Layout.{shebangRule, declaration, declarationsRule, fmtParsed}
 use Rattle.layout_facts.specs.Accepted.{fresh, upTo, callRule}
-use Rattle.renderer_rules.specs.Renderer.{renders}
+use Rattle.renderer_rules.specs.Renderer.{renderNodes}
 use Rattle.cut_rule.specs.Parts as cut
 use Rattle.cut_rule.specs.Parts.{Cursor, LayoutState, Piece, Pen, layoutFresh, still, andThen, begin, several, end}
 use Rattle.plain_run.specs.Parts.{treeOf, pieceOf, declarationAct, rendererOf, drawnBy, page, drawn, parts}
@@ -177,9 +177,9 @@ module _ (s b : List ℕ) where
 
   -- rows of nodes render as the nodes do, since they are read back as those
   read-back : (ns : Nodes) (z : Pen) (marks : List ℕ)
-      → drawn s b z marks (rows ns 0) 0 (sizes ns) ≡ drawnBy (renders (page s b) ns true (rendererOf z marks))
+      → drawn s b z marks (rows ns 0) 0 (sizes ns) ≡ drawnBy (renderNodes (page s b) ns true (rendererOf z marks))
   read-back ns z marks =
-      ap (λ (x : Nodes). drawnBy (renders (page s b) x true (rendererOf z marks)))
+      ap (λ (x : Nodes). drawnBy (renderNodes (page s b) x true (rendererOf z marks)))
       (ap (nodesAt (viewOf (rows ns 0)) 0) (sym (zero-add (sizes ns))) ∙ flattened ns (rows ns 0) 0 (take-length (rows ns 0)))
 
   -- a piece from the fresh cursor is what its step gives

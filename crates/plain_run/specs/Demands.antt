@@ -13,7 +13,7 @@ use Rattle.state.specs.Act.{Out}
 use Rattle.comments.specs.Listed.{commentsOf, given}
 use Rattle.layout.specs.Layout.{fmtParsed}
 use Rattle.layout_facts.specs.Accepted.{fresh, upTo}
-use Rattle.renderer_rules.specs.Renderer.{renders}
+use Rattle.renderer_rules.specs.Renderer.{renderNodes}
 use Rattle.renderer_rules.specs.Check.{wrongPlace}
 use Rattle.cut_rule.specs.Rules.{Laid, Rules}
 use Rattle.cut_rule.specs.Run.{Call, start}
@@ -46,7 +46,7 @@ pub record Gives (s b : List ℕ) (o : Out) (l : Laid LayoutState) : Type 0 wher
   pub placed-due : l .state .cursor .placed ≡ o .placed
   pub left-due : l .left ≡ length (commentsOf b) - o .placed
   pub drawn-due : (z : Pen) (marks : List ℕ)
-      → drawn s b z marks (l .rows) 0 (l .state .cursor .row) ≡ drawnBy (renders (page s b) (o .nodes) true (rendererOf z marks))
+      → drawn s b z marks (l .rows) 0 (l .state .cursor .row) ≡ drawnBy (renderNodes (page s b) (o .nodes) true (rendererOf z marks))
 
 -- layout from fresh, in one go
 abbrev pub laidTo : List ℕ → List ℕ → ℕ → Bool → Laid LayoutState

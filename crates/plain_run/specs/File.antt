@@ -13,7 +13,7 @@ use Rattle.state.specs.Act.{Out}
 use Rattle.comments.specs.Listed.{commentsOf, given}
 use Rattle.layout.specs.Layout.{fmtParsed}
 use Rattle.layout_facts.specs.Accepted.{fresh}
-use Rattle.renderer_rules.specs.Renderer.{renders}
+use Rattle.renderer_rules.specs.Renderer.{renderNodes}
 use Rattle.refusals.specs.Refusals.{Refusal, unless, first, when}
 use Rattle.cut_rule.specs.Run.{onto}
 use Rattle.cut_rule.specs.Parts.{Drawn, renderFresh}
@@ -41,7 +41,7 @@ module _ (s b : List ℕ) where
 
   -- what `Renderer` makes of it, with that many marks, all cleared
   abbrev pub drawnDue : Drawn
-  drawnDue = drawnBy (renders (page s b) (built .nodes) true (rendererOf (renderFresh .pen) (replicate marksDue 0)))
+  drawnDue = drawnBy (renderNodes (page s b) (built .nodes) true (rendererOf (renderFresh .pen) (replicate marksDue 0)))
 
   -- 1 to 7, then 8, in a store of so many rows
   abbrev pub laidRefusal : ℕ → Option Refusal

@@ -18,7 +18,7 @@ use Rattle.state.specs.Act.{Act, skip, push}
 use Rattle.comments.specs.Comments.{nth}
 use Rattle.comments.specs.Listed.{commentsOf, given}
 use Rattle.layout.specs.Layout.{shebangRule, declaration}
-use Rattle.renderer_rules.specs.Renderer.{Page, Renderer, renders}
+use Rattle.renderer_rules.specs.Renderer.{Page, Renderer, fresh, renderNodes}
 use Rattle.renderer_rules.specs.Page.{pageOf}
 use Rattle.renderer_rules.specs.Check.{wrongPlace}
 use Rattle.refusals.specs.Refusals.{Refusal, first, when}
@@ -62,10 +62,10 @@ declarationAct s b n (some d) = declaration (given s b) d (eqb n 0)
 -- ---- rendering
 -- `Renderer` as a call makes it, and what a call takes from it
 abbrev pub rendererOf : Pen → List ℕ → Renderer
-rendererOf z marks = record { buf = []; indent = z .indent; nextIndent = z .next-indent; column = z .column; marks = marks }
+rendererOf z marks = fresh (record { indent = z .indent; «next_indent» = z .next-indent; column = record { 0 = z .column } }) marks
 
 abbrev pub drawnBy : Renderer → Drawn
-drawnBy r = record { pen = record { indent = r .indent; next-indent = r .nextIndent; column = r .column }; marks = r .marks; text = r .buf }
+drawnBy r = record { pen = record { indent = r .pen .indent; next-indent = r .pen .«next_indent»; column = r .pen .column .0 }; marks = r .marks; text = r .buf }
 
 -- 80 columns
 abbrev pub page : List ℕ → List ℕ → Page
@@ -73,7 +73,7 @@ page s b = pageOf 80 s b
 
 -- the rows from i up to a stop; what is read counts as top rows, so that `wrap` is true
 abbrev pub drawn : List ℕ → List ℕ → Pen → List ℕ → List ℕ → ℕ → ℕ → Drawn
-drawn s b z marks store i stop = drawnBy (renders (page s b) (nodesAt (viewOf store) i stop) true (rendererOf z marks))
+drawn s b z marks store i stop = drawnBy (renderNodes (page s b) (nodesAt (viewOf store) i stop) true (rendererOf z marks))
 
 -- ---- the whole
 abbrev pub parts : List ℕ → List ℕ → Parts

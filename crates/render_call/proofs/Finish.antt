@@ -9,10 +9,10 @@ use native.Mathlib.Omega.{arith}
 use lib.ListN.{length, drop}
 use Rattle.rows.specs.View.{viewOf, nodesAt}
 use Rattle.rows.specs.declared.units.Bytes.{Bytes}
-use Rattle.renderer_rules.specs.Renderer.{Renderer, renders}
+use Rattle.renderer_rules.specs.Renderer.{Renderer, fresh, renderNodes}
 use Rattle.renderer_rules.specs.Page.{pageOf}
-use Rattle.renderer.specs.Run.{Rendered, stateOf}
-use Rattle.renderer.specs.declared.pen.Pen.{Pen}
+use Rattle.renderer.specs.Run.{Ended}
+use Rattle.renderer.specs.declared.pen.Writing.{Writing}
 use Rattle.renderer.proofs.Outcome.{over-full}
 use Rattle.cut_rule.specs.Run.{onto}
 use Rattle.cut_rule.specs.Parts as cut
@@ -27,10 +27,10 @@ use Rattle.render_call.proofs.Whole.{bytes, ends-written}
 use Rattle.render_call.proofs.Ran.{inUse, gives, ran, marks-onto, started}
 
 -- t has the pen's numbers, the marks then in use, and the stop as its next row
-pub record Leaves (q : Pen) (used stop : ℕ) (t : RenderState) : Type 0 where
-  pub indent : t .indent ≡ q .indent
-  pub next : t .«next_indent» ≡ q .«next_indent»
-  pub column : t .column .0 ≡ q .column .0
+pub record Leaves (q : Writing) (used stop : ℕ) (t : RenderState) : Type 0 where
+  pub indent : t .indent ≡ q .pen .indent
+  pub next : t .«next_indent» ≡ q .pen .«next_indent»
+  pub column : t .column .0 ≡ q .pen .column .0
   pub in-use : t .«in_use» ≡ used
   pub row : t .row ≡ stop
 
@@ -46,23 +46,23 @@ module _ (source image : List ℕ) (state : RenderState) (stop : ℕ) (store mar
   given = gives source image state stop store marks ahead
 
   abbrev rendered : Renderer → Renderer
-  rendered r = renders (pageOf 80 source image) (nodesAt (viewOf store) (state .row) stop) true r
+  rendered r = renderNodes (pageOf 80 source image) (nodesAt (viewOf store) (state .row) stop) true r
 
-  module _ (p : Pen) (k : Takes state p) (past : List ℕ) where
-    pub same : drawnBy (rendered (stateOf p (taken ++ past) [])) ≡ withPast given past
+  module _ (p : Writing) (k : Takes state p) (past : List ℕ) where
+    pub same : drawnBy (rendered (fresh (p .pen) (taken ++ past))) ≡ withPast given past
     same =
         ap (λ (r : Renderer). drawnBy (rendered r))
         (started source image state stop store marks ahead p (taken ++ past) (k .indent) (k .next) (k .column))
         ∙ ran source image state stop store marks ahead past
 
   -- the run with room enough, over the buffer in which the new marks are cleared
-  module _ (p : Pen) (k : Takes state p) (marks2 out2 : List ℕ) (q : Pen)
-      (r : Rendered (length out) (rendered (stateOf p (taken ++ drop (length taken) marks) [])) out marks2 out2 q) where
+  module _ (p : Writing) (k : Takes state p) (marks2 out2 : List ℕ) (q : Writing)
+      (r : Ended (length out) (rendered (fresh (p .pen) (taken ++ drop (length taken) marks))) out marks2 out2 q) where
     abbrev behind : List ℕ
     behind = drop (length taken) marks
 
     abbrev after : Renderer
-    after = rendered (stateOf p (taken ++ behind) [])
+    after = rendered (fresh (p .pen) (taken ++ behind))
 
     end : drawnBy after ≡ withPast given behind
     end = same p k behind
@@ -76,7 +76,7 @@ module _ (source image : List ℕ) (state : RenderState) (stop : ℕ) (store mar
         (r .written ∙ over-full (length out) out (after .buf) (let z = ap (λ (d : cut.Drawn). length (d .text)) end in omega arith) (omega arith) ∙ ap (λ (d : cut.Drawn). onto (d .text) out) end)
       where
         pen-same : _≡_ {A = cut.Pen} (record { indent = t .indent; next-indent = t .«next_indent»; column = t .column .0 }) (drawnBy after .pen)
-        pen-same = rw (l .indent ∙ r .indent, l .next ∙ r .nextIndent, l .column ∙ r .column)
+        pen-same = rw (l .indent, l .next, l .column, r .pen)
 
         left-state : toState t ≡ record { pen = given .pen; in-use = max (state .«in_use») needed; row = stop }
         left-state =

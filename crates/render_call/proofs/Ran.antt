@@ -7,10 +7,9 @@ use Prim.Native.Nat.{ℕ, _+_, _-_, _≤_}
 use native.Mathlib.Omega.{arith}
 use lib.ListN.{length, take, drop, replicate, length-append, length-replicate}
 use Rattle.rows.specs.View.{viewOf, nodesAt}
-use Rattle.renderer_rules.specs.Renderer.{Renderer, renders}
+use Rattle.renderer_rules.specs.Renderer.{Renderer, fresh, renderNodes}
 use Rattle.renderer_rules.specs.Page.{pageOf}
-use Rattle.renderer.specs.Run.{stateOf}
-use Rattle.renderer.specs.declared.pen.Pen.{Pen}
+use Rattle.renderer.specs.declared.pen.Writing.{Writing}
 use Rattle.cut_rule.specs.Run.{onto}
 use Rattle.cut_rule.specs.Parts.{Drawn, cleared, drawnOf}
 use Rattle.cut_rule.specs.PartLaws.{withPast}
@@ -48,7 +47,7 @@ module _ (source image : List ℕ) (state : RenderState) (stop : ℕ) (store mar
 
   -- with any marks behind those in use
   pub ran : (past : List ℕ)
-      → drawnBy (renders (pageOf 80 source image) (nodesAt (viewOf store) (state .row) stop) true (rendererOf (toState state .pen) (inUse ++ past)))
+      → drawnBy (renderNodes (pageOf 80 source image) (nodesAt (viewOf store) (state .row) stop) true (rendererOf (toState state .pen) (inUse ++ past)))
       ≡ withPast gives past
   ran past =
       ap drawnBy
@@ -61,6 +60,6 @@ module _ (source image : List ℕ) (state : RenderState) (stop : ℕ) (store mar
       (sym (renders-length (pageOf 80 source image) (nodesAt (viewOf store) (state .row) stop) true (rendererOf (toState state .pen) inUse)))
 
   -- the renderer that a pen with the state's numbers starts as
-  pub started : (p : Pen) (m : List ℕ) → p .indent ≡ state .indent → p .«next_indent» ≡ state .«next_indent» → p .column .0 ≡ state .column .0
-      → stateOf p m [] ≡ rendererOf (toState state .pen) m
+  pub started : (p : Writing) (m : List ℕ) → p .pen .indent ≡ state .indent → p .pen .«next_indent» ≡ state .«next_indent» → p .pen .column .0 ≡ state .column .0
+      → fresh (p .pen) m ≡ rendererOf (toState state .pen) m
   started p m e f g = rw (e, f, g)

@@ -11,7 +11,7 @@ use Rattle.renderer_rules.specs.Check.{placesFit}
 use Rattle.renderer_rules.proofs.Checked.{accepted-nests}
 use Rattle.rowcheck.proofs.Pending.{stop-fits}
 use Rattle.renderer.specs.Run.{Starting}
-use Rattle.renderer.specs.declared.pen.Pen.{Pen}
+use Rattle.renderer.specs.declared.pen.Writing.{Writing}
 use Rattle.render_call.specs.Whole.{Takes}
 use Rattle.render_call.specs.declared.RenderState.{RenderState}
 use Rattle.render_call.proofs.Tests.{few-rows}
@@ -31,7 +31,7 @@ module _ (source image : List ℕ) (state : RenderState) (stop : ℕ) (store mar
       }
 
   -- with a pen that has the state's numbers and wrote nothing yet, over rows that nest as the store's do
-  pub starts : (rows : List ℕ) → Nested rows (state .row) stop → (p : Pen) (limit : ℕ) (out : List ℕ) → Takes state p → limit ≤ length out
+  pub starts : (rows : List ℕ) → Nested rows (state .row) stop → (p : Writing) (limit : ℕ) (out : List ℕ) → Takes state p → limit ≤ length out
       → Starting rows limit (state .row) stop out p
   starts rows nests p limit out k l =
       let e = k .indent in

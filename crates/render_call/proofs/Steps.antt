@@ -8,11 +8,11 @@ use native.Mathlib.Omega.{arith}
 use lib.ListN.{length, getD, drop}
 use Rattle.rows.specs.View.{viewOf, nodesAt}
 use Rattle.rows.specs.declared.units.Bytes.{Bytes}
-use Rattle.renderer_rules.specs.Renderer.{renders}
+use Rattle.renderer_rules.specs.Renderer.{fresh, renderNodes}
 use Rattle.renderer_rules.specs.Page.{pageOf}
 use Rattle.renderer_rules.proofs.Most.{text-most}
-use Rattle.renderer.specs.Run.{Starting, Rendered, stateOf}
-use Rattle.renderer.specs.declared.pen.Pen.{Pen}
+use Rattle.renderer.specs.Run.{Starting, Ended}
+use Rattle.renderer.specs.declared.pen.Writing.{Writing}
 use Rattle.cut_rule.specs.Parts as cut
 use Rattle.marks.specs.Marks.{marksNeeded, clearFrom, held, putAside, putBack}
 use Rattle.plain_run.specs.Parts.{rendererOf}
@@ -56,7 +56,7 @@ module _ (source image : List ℕ) (state : RenderState) (stop : ℕ) (store mar
 
   -- ---- the dry run
   module _ (rows2 marks2 : List ℕ) (e : held rows2 marks2 ≡ putAside (stop - state .row) (state .«in_use») (held store marks) (state .row)) where
-    pub dry-starts : (p : Pen) (out : List ℕ) → Takes state p → Starting rows2 0 (state .row) stop out p
+    pub dry-starts : (p : Writing) (out : List ℕ) → Takes state p → Starting rows2 0 (state .row) stop out p
     dry-starts p out k =
         starts source image state stop store marks may rows2 (dry.aside-nests source image state stop store marks may rows2 marks2 e) p 0 out k (omega arith)
 
@@ -66,8 +66,8 @@ module _ (source image : List ℕ) (state : RenderState) (stop : ℕ) (store mar
         let w = may .within in
         (may .ahead, omega arith)
 
-    pub dry-ends : (p q : Pen) → Takes state p → ((k : ℕ) → getD marks k 0 < 256) → (out marks3 out3 rows4 marks4 : List ℕ)
-        → Rendered 0 (renders (pageOf 80 source image) (nodesAt (viewOf rows2) (state .row) stop) true (stateOf p marks2 [])) out marks3 out3 q
+    pub dry-ends : (p q : Writing) → Takes state p → ((k : ℕ) → getD marks k 0 < 256) → (out marks3 out3 rows4 marks4 : List ℕ)
+        → Ended 0 (renderNodes (pageOf 80 source image) (nodesAt (viewOf rows2) (state .row) stop) true (fresh (p .pen) marks2)) out marks3 out3 q
         → held rows4 marks4 ≡ putBack (stop - state .row) (held rows2 marks3) (state .row)
         → Counted source image state stop store marks out (q .at) rows4 marks4 out3
     dry-ends p q k b out marks3 out3 rows4 marks4 r f =
@@ -103,18 +103,18 @@ module _ (source image : List ℕ) (state : RenderState) (stop : ℕ) (store mar
   pub marks-within : (n : ℕ) → n ≡ marksNeeded (stop - state .row) store (state .row) → n ≤ length marks
   marks-within n e = let w = fine .enough in omega arith
 
-  pub run-starts : (p : Pen) → Takes state p → Starting store (length out) (state .row) stop out p
+  pub run-starts : (p : Writing) → Takes state p → Starting store (length out) (state .row) stop out p
   run-starts p k =
       starts source image state stop store marks fine store (nested source image state stop store marks fine) p (length out) out k (omega arith)
 
-  pub run-ends : (p q : Pen) → Takes state p → (n : ℕ) → n ≡ marksNeeded (stop - state .row) store (state .row) → (marks2 : List ℕ)
+  pub run-ends : (p q : Writing) → Takes state p → (n : ℕ) → n ≡ marksNeeded (stop - state .row) store (state .row) → (marks2 : List ℕ)
       → marks2 ≡ clearFrom (n - state .«in_use») (state .«in_use») marks
       → (marks3 out3 : List ℕ)
-      → Rendered (length out) (renders (pageOf 80 source image) (nodesAt (viewOf store) (state .row) stop) true (stateOf p marks2 [])) out marks3 out3 q
+      → Ended (length out) (renderNodes (pageOf 80 source image) (nodesAt (viewOf store) (state .row) stop) true (fresh (p .pen) marks2)) out marks3 out3 q
       → (used : ℕ)
       → used ≡ max (state .«in_use») n
       → Called source image state stop store marks out
-      (rendering.Written (record { indent = q .indent; «next_indent» = q .«next_indent»; column = q .column; «in_use» = used; row = stop }) (q .at))
+      (rendering.Written (record { indent = q .pen .indent; «next_indent» = q .pen .«next_indent»; column = q .pen .column; «in_use» = used; row = stop }) (q .at))
       store
       marks3
       out3
@@ -123,7 +123,7 @@ module _ (source image : List ℕ) (state : RenderState) (stop : ℕ) (store mar
       let run =
       subst
       (λ (m : List ℕ).
-      Rendered (length out) (renders (pageOf 80 source image) (nodesAt (viewOf store) (state .row) stop) true (stateOf p m [])) out marks3 out3 q)
+      Ended (length out) (renderNodes (pageOf 80 source image) (nodesAt (viewOf store) (state .row) stop) true (fresh (p .pen) m)) out marks3 out3 q)
       over
       r
       in

@@ -5,7 +5,7 @@ use mathlib.Core.List.{List}
 use Prim.Native.Nat.{ℕ, _+_, _*_, _-_, _≤_}
 use lib.ListN.{length}
 use Rattle.rows.specs.declared.units.Bytes.{Bytes}
-use Rattle.renderer.specs.declared.pen.Pen.{Pen}
+use Rattle.renderer.specs.declared.pen.Writing.{Writing}
 use Rattle.renderer_rules.specs.Most.{rowsMost}
 use Rattle.cut_rule.specs.Entries.{renderAnswer, renderMarks, renderOutput}
 use Rattle.cut_rule.specs.Parts.{bytesNeeded}
@@ -48,8 +48,8 @@ mostOf state stop store =
     4 * (state .indent + state .«next_indent») + rowsMost (stop - state .row) (state .indent + state .«next_indent») store (state .row)
 
 -- p has the state's numbers, and wrote nothing yet
-pub record Takes (state : RenderState) (p : Pen) : Type 0 where
-  pub indent : p .indent ≡ state .indent
-  pub next : p .«next_indent» ≡ state .«next_indent»
-  pub column : p .column .0 ≡ state .column .0
+pub record Takes (state : RenderState) (p : Writing) : Type 0 where
+  pub indent : p .pen .indent ≡ state .indent
+  pub next : p .pen .«next_indent» ≡ state .«next_indent»
+  pub column : p .pen .column .0 ≡ state .column .0
   pub at : p .at .0 ≡ 0

@@ -17,7 +17,10 @@ use image::source_fits;
 use marks::count::clear_marks;
 use marks::count::larger;
 use renderer::machine::run_rows;
-use renderer::pen::Pen;
+use renderer::pen::Writing;
+use renderer::run::Bounds;
+use renderer::run::RowRange;
+use renderer_rules::Pen;
 use rowcheck::Found;
 use rowcheck::check_rows;
 use rows::units::Bytes;
@@ -72,15 +75,18 @@ fn refusal(
     }
 }
 
-// A pen with the state's numbers that wrote nothing yet.
-pub(crate) fn start_pen(state: RenderState) -> Pen
+// A text with the state's pen, of which nothing is written yet.
+pub(crate) fn start_text(state: RenderState) -> Writing
     ensures { λ r. ⌜ Takes state r ⌝ }
 {
     let column = state.column;
-    Pen {
+    let pen = Pen {
         indent: state.indent,
         next_indent: state.next_indent,
         column: column,
+    };
+    Writing {
+        pen: pen,
         at: Bytes(0),
     }
 }
@@ -99,27 +105,23 @@ fn write_rows(
     requires { ⌜ Fitting (now source) (now image) state stop (now store) (now marks) (now out) × (needed ≡ marksNeeded (stop - state .row) (now store) (state .row)) ⌝ }
     ensures { λ r. ⌜ Called (now (source .entry)) (now (image .entry)) state stop (now (store .entry)) (now (marks .entry)) (now (out .entry)) r (now (store .entry)) (now (marks .exit)) (now (out .exit)) ⌝ }
 {
-    let from = state.row;
-    let len = out.len();
-    let start = start_pen(state);
+    let rows = RowRange {
+        from: state.row,
+        stop: stop,
+    };
+    let bounds = Bounds {
+        max: MAX,
+        limit: out.len(),
+    };
+    let start = start_text(state);
     clear_marks(marks, state.in_use, needed);
-    let end = run_rows(
-        start,
-        store,
-        source,
-        image,
-        marks,
-        out,
-        len,
-        MAX,
-        from,
-        stop,
-    );
-    let column = end.column;
+    let end = run_rows(start, rows, store, source, image, marks, out, bounds);
+    let pen = end.pen;
+    let column = pen.column;
     let bytes = end.at;
     let left = RenderState {
-        indent: end.indent,
-        next_indent: end.next_indent,
+        indent: pen.indent,
+        next_indent: pen.next_indent,
         column: column,
         in_use: larger(state.in_use, needed),
         row: stop,

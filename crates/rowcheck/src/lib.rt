@@ -32,7 +32,7 @@ use rows::places::START;
 use rows::places::WIDTH;
 use rows::store::place;
 use rows::store::text_size;
-use rows::store::wide;
+use rows::store::to_usize;
 
 // What the check finds: nothing wrong, or the first row that is wrong.
 pub enum Found {
@@ -253,7 +253,7 @@ fn wrong_row(store: &[u32], source: &[u8], image: &[u8], from: usize, stop: usiz
     while 0 < depth || row < end {
         if end <= row {
             depth -= 1;
-            end = wide(ends[depth]);
+            end = to_usize(ends[depth]);
         } else {
             if !row_fits(store, source, image, end, depth, row) {
                 return Found::Wrong(row);

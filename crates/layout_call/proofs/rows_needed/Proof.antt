@@ -9,7 +9,7 @@ lay-requires : tie.Need-lay-requires
 lay-requires c κs = ((c .before .before .before .pre .0, (c .before .before .before .pre .1 .0, c .before .before .before .pre .1 .1 .0)), room (c .before .before .before .pre .0) (c .before .before .before .args .from) (c .before .before .before .args .to) (c .before .before .before .pre .1 .0) (c .before .before .before .args .c) (c .before .before .before .args .begun) (c .before .before .before .args .close) (c .before .before .before .pre .1 .1 .1))
 
 returns : tie.Need-returns
-returns c = c .wide .ensures ∙ ap (λ (d : Cursor). d .row) (c .before .before .lay .ensures .moved)
+returns c = c .to-usize .ensures ∙ ap (λ (d : Cursor). d .row) (c .before .before .lay .ensures .moved)
 
 pub rows-needed-spec : {M : Type 1} → statement M
 rows-needed-spec = tie.close (tie.spec (λ c. search needs) lay-requires (λ c κs. search needs) returns)

@@ -8,10 +8,10 @@ mul-most : tie.Need-mul-most
 mul-most c = omega (arith, few-comments (c .before .before .before .pre .0))
 
 add-most-2 : tie.Need-add-most-2
-add-most-2 c = omega (arith, few-comments (c .before .before .before .pre .0), stands (c .before .before .before .pre .0) .small, c .wide .ensures, c .before .before .before .pre .1 .1 .1 .row)
+add-most-2 c = omega (arith, few-comments (c .before .before .before .pre .0), stands (c .before .before .before .pre .0) .small, c .to-usize .ensures, c .before .before .before .pre .1 .1 .1 .row)
 
 returns : tie.Need-returns
-returns c = record { short = λ h. absurd (omega arith); enough = λ h. omega (arith, few-rows (c .before .before .before .before .pre .0) (c .before .before .before .before .args .from) (c .before .before .before .before .args .to) (c .before .before .before .before .pre .1 .0) (c .before .before .before .before .args .c) (c .before .before .before .before .args .begun) (c .before .before .before .before .args .close) (c .before .before .before .before .pre .1 .1 .1), c .before .wide .ensures, c .if1 .taken) }
+returns c = record { short = λ h. absurd (omega arith); enough = λ h. omega (arith, few-rows (c .before .before .before .before .pre .0) (c .before .before .before .before .args .from) (c .before .before .before .before .args .to) (c .before .before .before .before .pre .1 .0) (c .before .before .before .before .args .c) (c .before .before .before .before .args .begun) (c .before .before .before .before .args .close) (c .before .before .before .before .pre .1 .1 .1), c .before .to-usize .ensures, c .if1 .taken) }
 
 returns-2 : tie.Need-returns-2
 returns-2 c = record { short = λ h. c .rows-needed .ensures; enough = λ h. omega (arith, c .rows-needed .ensures) }

@@ -3,8 +3,8 @@ use Prim.Native.Nat.{_-_}
 use mathlib.Core.Path.{refl}
 use mathlib.Core.Logic.{inl, inr}
 use Rattle.rows.proofs.MustWrap.{MustAt, must-done, must-found, must-in, must-over, must-less}
-use Rattle.rows.proofs.width.must_wrap.Statement.{statement}
-use Rattle.rows.proofs.width.must_wrap.Tie as tie
+use Rattle.rows.proofs.wrap.must_wrap.Statement.{statement}
+use Rattle.rows.proofs.wrap.must_wrap.Tie as tie
 
 abbrev Inv-loop : tie.InvT-loop
 Inv-loop store from to row₀ row = MustAt store from to row
