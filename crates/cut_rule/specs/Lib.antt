@@ -6,3 +6,4 @@ pub mod Entries
 pub mod Laws
 pub mod Parts
 pub mod PartLaws
+pub mod Callers

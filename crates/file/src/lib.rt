@@ -9,10 +9,13 @@ ghost use Rattle.file.specs.Whole.{Formats, FormatsFrame};
 use image::Answer;
 use image::bytes::num32;
 use image::check;
+use layout_call::Document;
 use layout_call::Laying;
+use layout_call::LayoutArgs;
 use layout_call::LayoutState;
-use layout_call::accepted;
+use layout_call::layout_accepted;
 use layout_call::steps::count_declarations;
+use render_call::RenderArgs;
 use render_call::RenderState;
 use render_call::Rendering;
 use render_call::render_checked;
@@ -76,27 +79,22 @@ fn marks() -> [u8; 1800]
     [0; 1800]
 }
 
-// A file that is accepted, with n comments and the tree at `at`: all declarations in one layout call, all rows in one rendering call. The rows
+// A file that is accepted: all declarations in one layout call, all rows in one rendering call. The rows
 // of a file that 9 or 10 refuses can't be taken back out of a lent store, so that rows and marks are of its own.
-fn format_accepted(source: &[u8], image: &[u8], out: &mut [u8], n: usize, at: usize) -> Formatted
-    requires { ⌜ Accepts (now source) (now image) n at ⌝ }
+fn format_accepted(source: &[u8], image: &[u8], out: &mut [u8], doc: Document) -> Formatted
+    requires { ⌜ Accepts (now source) (now image) doc ⌝ }
     ensures { λ r. ⌜ Formats (now (source .entry)) (now (image .entry)) (now (out .entry)) r (now (out .exit)) ⌝ }
 {
     let mut store = rows();
     let mut used = marks();
-    let declarations = count_declarations(source, image, n, at);
-    match accepted(
-        source,
-        image,
-        &mut store,
-        n,
-        at,
-        layout_fresh(),
-        declarations,
-        true,
-    ) {
+    let all = LayoutArgs {
+        stop: count_declarations(source, image, doc),
+        close: true,
+    };
+    match layout_accepted(source, image, &mut store, doc, layout_fresh(), all) {
         Laying::Refused(number, place) => Formatted::Refused(number, place),
         Laying::Laid(state, left) => {
+            let to = RenderArgs { stop: state.row };
             match render_checked(
                 source,
                 image,
@@ -104,7 +102,7 @@ fn format_accepted(source: &[u8], image: &[u8], out: &mut [u8], n: usize, at: us
                 &mut used,
                 out,
                 render_fresh(),
-                state.row,
+                to,
             ) {
                 Rendering::Refused(number, place) => Formatted::Refused(number, place),
                 Rendering::Written(end, bytes) => Formatted::Text {
@@ -124,7 +122,13 @@ pub fn format_file(source: &[u8], image: &[u8], out: &mut [u8]) -> Formatted
 {
     match check(source, image) {
         Answer::Refused(number, place) => Formatted::Refused(number, place),
-        Answer::Accepted { comments, tree } => format_accepted(source, image, out, comments, tree),
+        Answer::Accepted { comments, tree } => {
+            let doc = Document {
+                comments: comments,
+                tree: tree,
+            };
+            format_accepted(source, image, out, doc)
+        }
     }
 }
 

@@ -10,6 +10,8 @@ use native.Mathlib.Decide.{decLt}
 use lib.Dec.{ltb, eqb}
 use lib.ListN.{getD}
 use lib.Seq.{getD-take}
+use borrow.Author.Tests.{le-ltb}
+use Rattle.rows.specs.Places.{PLACES}
 use Rattle.rows.specs.Node.{Node, Nodes, group, indent, indentNext, wrapParent, comment, str, ascii, line, emptyLine, lineOrSpace, ifWrap, call, none, _then_}
 use Rattle.rows.specs.View.{View, cell, viewOf, firstOf, nodeOf, endIn, secondIn, decode, nodesAt}
 use Rattle.rows.proofs.Decode.{step, decode-none}
@@ -159,9 +161,9 @@ places-by-cells s b store other k l at =
 module _ (n : ℕ) (store other : List ℕ) (e : SameBefore n store other) where
   pub cell-same : (k c : ℕ) → k < n → c < 9 → cell store k c ≡ cell other k c
   cell-same k c h l =
-      sym (getD-take (9 * n) store (k * 9 + c) 0 (omega arith))
-      ∙ ap (λ (x : List ℕ). getD x (k * 9 + c) 0) e
-      ∙ getD-take (9 * n) other (k * 9 + c) 0 (omega arith)
+      sym (getD-take (PLACES * n) store (k * PLACES + c) 0 (omega arith))
+      ∙ ap (λ (x : List ℕ). getD x (k * PLACES + c) 0) e
+      ∙ getD-take (PLACES * n) other (k * PLACES + c) 0 (omega arith)
 
   pub rows-same : (i : ℕ) → Agree (viewOf store) (viewOf other) i n
   unfolding viewOf

@@ -8,6 +8,7 @@ use mathlib.Core.List.{List, [], _++_, append-nil}
 use Prim.Native.Nat.{ℕ, _+_, _-_, _≤_, max}
 use native.Mathlib.Omega.{arith}
 use lib.ListN.{length}
+use Rattle.image.specs.Read.{Read, Image}
 use Rattle.rows.specs.Node.{Nodes}
 use Rattle.rows.specs.View.{viewOf, nodesAt}
 use Rattle.marks.specs.Marks.{marksNeeded}
@@ -17,7 +18,7 @@ use Rattle.renderer_rules.proofs.Joined.{renders-ranges}
 use Rattle.cut_rule.specs.Laws.{SameBefore}
 use Rattle.cut_rule.specs.Parts.{Pen, Drawn}
 use Rattle.cut_rule.specs.PartLaws.{withPast, thenDrawn, RenderPartLaws}
-use Rattle.plain_run.specs.Parts.{rendererOf, drawnBy, page, drawn, parts}
+use Rattle.plain_run.specs.Parts.{rendererOf, drawnBy, page, drawn, partsBy}
 use Rattle.plain_run.proofs.Local.{nodes-local, cell-same, rows-same}
 use Rattle.plain_run.proofs.Past.{Unders, ext, renders-length, renders-ext}
 use Rattle.plain_run.proofs.Marks.{marks-local, marks-add, nodes-under}
@@ -44,8 +45,8 @@ under-marks store marks i n h = nodes-under store (n - 0) 0 i n (length marks) h
 
 -- ---- going on
 -- what a renderer leaves with its text ahead
-abbrev onto : Renderer → Drawn → Drawn
-onto r d = record { pen = d .pen; marks = d .marks; text = r .buf ++ d .text }
+abbrev withAhead : Renderer → Drawn → Drawn
+withAhead r d = record { pen = d .pen; marks = d .marks; text = r .buf ++ d .text }
 
 abbrev penOf : Renderer → Pen
 penOf r = drawnBy r .pen
@@ -55,13 +56,13 @@ remade r t m = withBuf t (withMarks m r)
 
 -- to go on with a text is to go on without it, and to put it ahead
 resumed : (p : Page) (ns : Nodes) (r : Renderer) → Unders (length (r .marks)) ns
-    → drawnBy (renderNodes p ns true r) ≡ onto r (drawnBy (renderNodes p ns true (rendererOf (penOf r) (r .marks))))
+    → drawnBy (renderNodes p ns true r) ≡ withAhead r (drawnBy (renderNodes p ns true (rendererOf (penOf r) (r .marks))))
 resumed p ns r u =
     let t = rendererOf (penOf r) (r .marks) in
     let e : _≡_ {A = Renderer} (ext (r .buf) [] t) r = ap₂ (remade r) (append-nil (r .buf)) (append-nil (r .marks)) in
     ap (λ (x : Renderer). drawnBy (renderNodes p ns true x)) (sym e)
     ∙ ap drawnBy (renders-ext (r .buf) [] p ns true t u)
-    ∙ ap (λ (m : List ℕ). onto r (record { pen = penOf (renderNodes p ns true t); marks = m; text = renderNodes p ns true t .buf }))
+    ∙ ap (λ (m : List ℕ). withAhead r (record { pen = penOf (renderNodes p ns true t); marks = m; text = renderNodes p ns true t .buf }))
     (append-nil (renderNodes p ns true t .marks))
 
 module _ (s b : List ℕ) where
@@ -85,8 +86,8 @@ module _ (s b : List ℕ) where
       ∙ resumed (page s b) (nodesAt v n m) one
       (subst (λ (k : ℕ). Unders k (nodesAt v n m)) (sym (renders-length (page s b) (nodesAt v 0 n) true (rendererOf z marks))) (under-marks store marks n m g))
 
-  pub render-parts : RenderPartLaws (parts s b)
-  render-parts = record {
+  pub render-parts : (r : Read Image) → RenderPartLaws (partsBy r s b)
+  render-parts r = record {
     none-wrong = λ store. none-found s b store 0 0 (right-none s b store);
     right-join =
         λ store n m h e f.

@@ -21,15 +21,15 @@ use Rattle.layout.specs.Layout.{shebangRule, declaration}
 use Rattle.renderer_rules.specs.Renderer.{Page, Renderer, fresh, renderNodes}
 use Rattle.renderer_rules.specs.Page.{pageOf}
 use Rattle.renderer_rules.specs.Check.{wrongPlace}
-use Rattle.refusals.specs.Refusals.{Refusal, first, when}
-use Rattle.cut_rule.specs.CutRule.{Text}
-use Rattle.cut_rule.specs.Parts.{Cursor, Piece, Pen, Drawn, Parts}
+use Rattle.refusals.specs.Refusals.{Refusal, first, refuseIf}
+use Rattle.rows.specs.Node.{Text}
+use Rattle.cut_rule.specs.Parts.{Cursor, Piece, Pen, Drawn, RuleParts}
 
 -- ---- source and image
 -- 1 to 7
-abbrev pub refusalOf : Read Image → Option Refusal
-refusalOf (got i end) = none
-refusalOf (bad n p) = some (record { number = n; place = p })
+abbrev pub readRefusal : Read Image → Option Refusal
+readRefusal (got i end) = none
+readRefusal (bad n p) = some (record { number = n; place = p })
 
 -- the syntax tree of an accepted image; nothing is laid out of another
 abbrev pub treeOf : List ℕ → Read Image → SyntaxTree
@@ -38,7 +38,7 @@ treeOf b (bad n p) = record { shebang = none; declarations = [] }
 
 -- "rendering 1, 3 by the same tests"
 abbrev pub renderImage : List ℕ → List ℕ → Option Refusal
-renderImage s b = first (when (not (sourceFits s)) 1 0 ∷ when (not (header b)) 3 0 ∷ [])
+renderImage s b = first (refuseIf (not (sourceFits s)) 1 0 ∷ refuseIf (not (header b)) 3 0 ∷ [])
 
 -- the comment list as `Comment` rows have it: of the source, trimmed at the end
 abbrev pub listed : List ℕ → List ℕ → List Text
@@ -46,8 +46,8 @@ listed s b = map (λ c. record { origin = 0; start = c .start; size = trimEnd s 
 
 -- ---- layout
 -- a step of the layout rules, from a cursor: its nodes as rows, the first of them the cursor's next row
-abbrev pub pieceOf : Act → Cursor → Piece
-pieceOf a c =
+abbrev pub actPiece : Act → Cursor → Piece
+actPiece a c =
     let o = a (record { number = c .number; pos = c .position; placed = c .placed }) in
     record {
       cursor = record { row = c .row + sizes (o .nodes); number = c .number + o .taken; placed = o .placed; position = o .pos };
@@ -76,19 +76,23 @@ abbrev pub drawn : List ℕ → List ℕ → Pen → List ℕ → List ℕ → �
 drawn s b z marks store i stop = drawnBy (renderNodes (page s b) (nodesAt (viewOf store) i stop) true (rendererOf z marks))
 
 -- ---- the whole
-abbrev pub parts : List ℕ → List ℕ → Parts
-parts s b =
-    let tree = treeOf b (readAll s b) in
+-- by what was read of the image: another way to read is another r
+abbrev pub partsBy : Read Image → List ℕ → List ℕ → RuleParts
+partsBy r s b =
+    let tree = treeOf b r in
     record {
       source-size = length s;
       declarations = length (tree .declarations);
       comments = length (commentsOf b);
-      layout-image = refusalOf (readAll s b);
+      layout-image = readRefusal r;
       render-image = renderImage s b;
-      shebang = pieceOf (shebangRule (given s b) (tree .shebang));
-      declaration = λ n. pieceOf (declarationAct s b n (nth (tree .declarations) n));
-      final = pieceOf (push line);
+      shebang = actPiece (shebangRule (given s b) (tree .shebang));
+      declaration = λ n. actPiece (declarationAct s b n (nth (tree .declarations) n));
+      final = actPiece (push line);
       wrong-row = wrongPlace s b;
       needed = λ store i stop. marksNeeded (stop - i) store i;
       draw = drawn s b;
     }
+
+abbrev pub partsOf : List ℕ → List ℕ → RuleParts
+partsOf s b = partsBy (readAll s b) s b

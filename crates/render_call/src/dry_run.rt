@@ -1,8 +1,9 @@
 // How many bytes rows give, by rendering them into nothing.
 ghost use Rattle.render_call.specs.Whole.{Counted, Passing};
-use crate::MAX;
+use crate::RenderArgs;
 use crate::RenderState;
-use crate::start_text;
+use crate::run::MAX;
+use crate::run::start_text;
 use marks::keep::put_aside;
 use marks::keep::put_back;
 use renderer::machine::run_rows;
@@ -19,12 +20,13 @@ pub(crate) fn bytes_needed(
     marks: &mut [u8],
     out: &mut [u8],
     state: RenderState,
-    stop: usize,
+    args: RenderArgs,
 ) -> Bytes
-    requires { ⌜ Passing (now source) (now image) state stop (now store) (now marks) ⌝ }
-    ensures { λ r. ⌜ Counted (now (source .entry)) (now (image .entry)) state stop (now (store .entry)) (now (marks .entry)) (now (out .entry)) r (now (store .exit)) (now (marks .exit)) (now (out .exit)) ⌝ }
+    requires { ⌜ Passing (now source) (now image) state args (now store) (now marks) ⌝ }
+    ensures { λ r. ⌜ Counted (now (source .entry)) (now (image .entry)) state args (now (store .entry)) (now (marks .entry)) (now (out .entry)) r (now (store .exit)) (now (marks .exit)) (now (out .exit)) ⌝ }
 {
     let from = state.row;
+    let stop = args.stop;
     let rows = RowRange {
         from: from,
         stop: stop,

@@ -12,7 +12,7 @@ use lib.Seq.{getD-set-same, getD-set-other}
 use lib.Dec.{ltb, eqb}
 use borrow.Author.Tests.{lt-ltb, le-ltb, le-leb, lt-leb, ltb-true, eqb-true, eqb-false}
 use Rattle.rows.specs.View.{View, viewOf, cell}
-use Rattle.refusals.specs.Refusals.{Refusal, whenFound}
+use Rattle.refusals.specs.Refusals.{Refusal, refuseAt}
 use Rattle.renderer_rules.specs.Check.{rowFits, orLater, firstWrong, wrongRow, placesFit, wrongPlace}
 use Rattle.renderer_rules.proofs.Checked.{Fits, fits-row}
 
@@ -144,7 +144,7 @@ module _ (places : ℕ → Bool) (v : View) where
 
 -- the refusal of a row that is found
 abbrev pub refused : Option ℕ → Option Refusal
-refused o = whenFound o 11
+refused o = refuseAt o 11
 
 -- What the loop keeps.
 pub record Checking (places : ℕ → Bool) (s : List ℕ) (stop : ℕ) (answer : Option ℕ) (ends : List ℕ) (depth end row : ℕ) : Type 0 where

@@ -2,8 +2,8 @@
 -- Assumes nothing.
 use Rattle.render_call.proofs.Steps.{ends-ten, has-room, still-needed, then-run}
 use borrow.Author.Needs.{needs}
-use Rattle.render_call.proofs.render_counted.Statement.{statement}
-use Rattle.render_call.proofs.render_counted.Tie as tie
+use Rattle.render_call.proofs.run.render_counted.Statement.{statement}
+use Rattle.render_call.proofs.run.render_counted.Tie as tie
 
 returns : tie.Need-returns
 returns c = ends-ten _ _ _ _ _ _ (c .before .before .before .before .before .before .before .before .before .before .before .before .before .before .before .before .pre .0) _ _ _ _ _ (c .before .before .before .before .before .before .before .bytes-needed .ensures) (c .if1 .taken)

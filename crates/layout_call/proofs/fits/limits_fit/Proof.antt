@@ -1,7 +1,7 @@
 use Rattle.laws.proofs.Booleans.{at-most}
 use borrow.Author.Tests.{lt-ltb, le-ltb}
-use Rattle.layout_call.proofs.fits.numbers_fit.Statement.{statement}
-use Rattle.layout_call.proofs.fits.numbers_fit.Tie as tie
+use Rattle.layout_call.proofs.fits.limits_fit.Statement.{statement}
+use Rattle.layout_call.proofs.fits.limits_fit.Tie as tie
 
 returns : tie.Need-returns
 returns c = rw (lt-ltb _ _ (c .if1 .taken))
@@ -9,5 +9,5 @@ returns c = rw (lt-ltb _ _ (c .if1 .taken))
 returns-2 : tie.Need-returns-2
 returns-2 c = rw (le-ltb _ _ (c .before .if1 .left)) (at-most (c .before .before .before .args .state .number) 1048576)
 
-pub numbers-fit-spec : {M : Type 1} → statement M
-numbers-fit-spec = tie.close (tie.spec returns returns-2)
+pub limits-fit-spec : {M : Type 1} → statement M
+limits-fit-spec = tie.close (tie.spec returns returns-2)

@@ -2,8 +2,8 @@
 -- Assumes nothing.
 use Rattle.render_call.proofs.Steps.{marks-within, run-starts, run-ends}
 use borrow.Author.Needs.{needs}
-use Rattle.render_call.proofs.write_rows.Statement.{statement}
-use Rattle.render_call.proofs.write_rows.Tie as tie
+use Rattle.render_call.proofs.run.write_rows.Statement.{statement}
+use Rattle.render_call.proofs.run.write_rows.Tie as tie
 
 clear-marks-requires : tie.Need-clear-marks-requires
 clear-marks-requires c κs = marks-within _ _ _ _ _ _ _ (c .before .before .before .before .before .before .before .pre .0) _ (c .before .before .before .before .before .before .before .pre .1)
