@@ -14,7 +14,8 @@ use Rattle.cut_rule.specs.Rules.{LayoutArgs}
 use Rattle.rows.specs.Node.{Text}
 use Rattle.cut_rule.specs.CutRule.{commentsIn}
 use Rattle.cut_rule.specs.Laws.{CommentLaws}
-use Rattle.cut_rule.specs.Parts.{LayoutChoice, Cursor, layoutFresh, Piece, RuleParts, andThen, end, callPiece, rules}
+use Rattle.cut_rule.specs.States.{LayoutChoice, Cursor, layoutFresh}
+use Rattle.cut_rule.specs.Parts.{Piece, RuleParts, andThen, end, callPiece, rules}
 use Rattle.cut_rule.specs.PartLaws.{Counts, LayoutPartLaws, PlacesNext, CommentPartLaws}
 use Rattle.cut_rule.proofs.Comments.{comments-join}
 use Rattle.cut_rule.proofs.LayoutParts.{upTo, from-fresh, counts-then, fitting, layout-laws}

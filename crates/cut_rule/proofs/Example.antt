@@ -12,11 +12,15 @@ use lib.Dec.{ltb, leb}
 use lib.ListN.{length, getD, take, drop, replicate, take-append-drop, length-take}
 use lib.Seq.{take-take}
 use Rattle.rows.specs.Places.{PLACES}
+use Rattle.renderer_rules.specs.Limits.{MAX-INDENT, MAX-COLUMN}
+use Rattle.refusals.specs.Refusals.{any}
 use Rattle.cut_rule.specs.Run.{Call, layoutCall, renderCall, Carried, start, run, Answer, refused, laidOut, written, answers}
 use Rattle.cut_rule.specs.Plain.{atFirst, due, plain, AllReadLaid}
 use Rattle.rows.specs.Node.{Text}
 use Rattle.cut_rule.specs.CutRule.{commentsIn, CutRule}
-use Rattle.cut_rule.specs.Parts.{onlyLayoutChoice, onlyRenderChoice, Cursor, Piece, RuleParts, rules}
+use Rattle.cut_rule.specs.States.{onlyLayoutChoice, onlyRenderChoice, Cursor}
+use Rattle.cut_rule.specs.Tests.{penTests, markTests}
+use Rattle.cut_rule.specs.Parts.{Piece, RuleParts, rules}
 use Rattle.cut_rule.specs.PartLaws.{Counts, LayoutPartLaws, PlacesNext, CommentPartLaws, RenderPartLaws}
 use Rattle.cut_rule.proofs.Document.{parts-cut}
 
@@ -189,6 +193,17 @@ tried-store = refl
 
 tried-marks : run (rules small) (start (rules small) nines fives) tried .marks ≡ 0 ∷ 5 ∷ []
 tried-marks = refl
+
+-- 12's limits of a rendering state: each at its limit, and one past it; marks in use that are 0 and 1, a mark of 2, more marks than there are
+abbrev penAt : ℕ → ℕ → ℕ → Bool
+penAt indent next column = any (penTests (record { indent = indent; next-indent = next; column = column }))
+
+tried-pens : penAt MAX-INDENT MAX-INDENT MAX-COLUMN ∷ penAt 65 0 0 ∷ penAt 0 65 0 ∷ penAt 0 0 72057594037927937 ∷ []
+    ≡ false ∷ true ∷ true ∷ true ∷ []
+tried-pens = refl
+
+tried-used : any (markTests (0 ∷ 1 ∷ 2 ∷ []) 2) ∷ any (markTests (0 ∷ 1 ∷ 2 ∷ []) 3) ∷ any (markTests (0 ∷ 1 ∷ []) 3) ∷ [] ≡ false ∷ true ∷ true ∷ []
+tried-used = refl
 
 -- Why no accepted call may read rows not yet laid out: this one writes what the store held at first, and due is then a row of layout's.
 abbrev early : List (Call (rules small))

@@ -13,8 +13,8 @@ use Rattle.rows.specs.Places.{PLACES}
 use Rattle.cut_rule.specs.Rules.{LayoutArgs, LayoutResult}
 use Rattle.cut_rule.specs.Laws.{LayoutAfter, thenLaid, LayoutLaws}
 use Rattle.refusals.specs.Refusals.{first}
-use Rattle.cut_rule.specs.Parts.{LayoutChoice, Cursor, LayoutState, layoutFresh, Piece, RuleParts, still, andThen}
-use Rattle.cut_rule.specs.Parts.{begin, several, end, callPiece, laidOf, layoutTable, rules}
+use Rattle.cut_rule.specs.States.{LayoutChoice, Cursor, LayoutState, layoutFresh}
+use Rattle.cut_rule.specs.Parts.{Piece, RuleParts, still, andThen, begin, several, end, callPiece, laidOf, layoutTable, rules}
 use Rattle.cut_rule.specs.PartLaws.{Counts, LayoutPartLaws}
 use Rattle.cut_rule.proofs.Table.{layout-told}
 

@@ -14,10 +14,9 @@ use Rattle.renderer_rules.specs.Limits.{MAX-INDENT, MAX-COLUMN}
 use Rattle.refusals.specs.Refusals.{first, refuseIf, refuseAt, any}
 use Rattle.refusals.proofs.Groups.{none-left, none-right, passes-left, passes-right, passes-line, passes-others, not-if, not-at}
 use Rattle.cut_rule.specs.Rules.{LayoutArgs, RenderArgs}
-use Rattle.cut_rule.specs.Parts.{LayoutChoice, RenderChoice, LayoutState, Pen, RenderState, RuleParts, rowsIn, oddMark}
-use Rattle.cut_rule.specs.Parts.{placesTests, limitTests, begunTests, stopTests, layoutTestsIn, rowTests, penTests, markTests, renderTests}
-use Rattle.cut_rule.specs.Parts.{layoutTests, rowsNeeded, beforeRows, rowsLine, layoutTable, marksFor, beforeMarks, marksLine, beforeText}
-use Rattle.cut_rule.specs.Parts.{textLine, renderTable}
+use Rattle.cut_rule.specs.States.{LayoutChoice, RenderChoice, LayoutState, Pen, RenderState}
+use Rattle.cut_rule.specs.Tests.{rowsIn, oddMark, placesTests, limitTests, begunTests, stopTests, layoutTestsIn, rowTests, penTests, markTests, renderTests}
+use Rattle.cut_rule.specs.Parts.{RuleParts, layoutTests, rowsNeeded, beforeRows, rowsLine, layoutTable, marksFor, beforeMarks, marksLine, beforeText, textLine, renderTable}
 
 -- no test of a list holds, and the first is one of two numbers
 first-within : (a b : ℕ) (rest : Bool) → (ltb a b || rest) ≡ false → b ≤ a

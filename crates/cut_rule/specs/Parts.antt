@@ -1,62 +1,15 @@
--- Document 01's states and table, over parts that are open here: the shebang, one declaration, the final `Line`, the tests of image and rows,
+-- Document 01's rules and table, over parts that are open here: the shebang, one declaration, the final `Line`, the tests of image and rows,
 -- the renderer. `rules` puts them together; what the parts owe is in PartLaws.antt.
-use mathlib.Core.Bool.{Bool, true, false, not, _&&_, _||_}
+use mathlib.Core.Bool.{Bool, true, false}
 use mathlib.Core.Option.{Option}
 use mathlib.Core.List.{List, [], _∷_, _++_}
-use Prim.Native.Nat.{ℕ, zero, suc, _+_, _-_, _/_, max}
-use lib.Dec.{ltb, eqb}
+use Prim.Native.Nat.{ℕ, zero, suc, _+_, _-_, max}
+use lib.Dec.{ltb}
 use lib.ListN.{length, take, replicate}
 use Rattle.refusals.specs.Refusals.{Refusal, refuseIf, refuseAt, any, first}
-use Rattle.rows.specs.Places.{PLACES}
-use Rattle.rows.specs.Limits.{MAX-ROWS, MAX-NUMBER}
-use Rattle.renderer_rules.specs.Limits.{MAX-INDENT, MAX-COLUMN}
 use Rattle.cut_rule.specs.Rules.{LayoutArgs, RenderArgs, LayoutResult, RenderResult, Rules}
-
--- the numbers that a step of layout changes
-pub record Cursor : Type 0 where
-  pub row : ℕ
-  pub number : ℕ
-  pub placed : ℕ
-  pub position : ℕ
-
--- "Layout state: begun, closed, next declaration, next row, next number, comments placed, position."
-pub record LayoutState : Type 0 where
-  pub begun : Bool
-  pub closed : Bool
-  pub declaration : ℕ
-  pub cursor : Cursor
-
--- the numbers that rendering a row changes
-pub record Pen : Type 0 where
-  pub indent : ℕ
-  pub next-indent : ℕ
-  pub column : ℕ
-
--- "Rendering state: `indent`, `next_indent`, `column`, marks in use, next row."
-pub record RenderState : Type 0 where
-  pub pen : Pen
-  pub in-use : ℕ
-  pub row : ℕ
-
--- "Fresh is all 0."
-abbrev pub layoutFresh : LayoutState
-layoutFresh = record { begun = false; closed = false; declaration = 0; cursor = record { row = 0; number = 0; placed = 0; position = 0 } }
-
-abbrev pub renderFresh : RenderState
-renderFresh = record { pen = record { indent = 0; next-indent = 0; column = 0 }; in-use = 0; row = 0 }
-
--- What a call may choose beside its stop: nothing yet, so each has one value. Later tickets add fields.
-abbrev pub LayoutChoice : Type 0
-LayoutChoice = Unit {0}
-
-abbrev pub onlyLayoutChoice : LayoutChoice
-onlyLayoutChoice = tt
-
-abbrev pub RenderChoice : Type 0
-RenderChoice = Unit {0}
-
-abbrev pub onlyRenderChoice : RenderChoice
-onlyRenderChoice = tt
+use Rattle.cut_rule.specs.States.{LayoutChoice, RenderChoice, Cursor, LayoutState, Pen, RenderState, layoutFresh, renderFresh}
+use Rattle.cut_rule.specs.Tests.{rowsIn, layoutTestsIn, renderTests}
 
 -- what a piece of layout gives: the cursor behind it, and the rows that it adds, nine numbers a row
 pub record Piece : Type 0 where
@@ -88,72 +41,6 @@ pub record RuleParts : Type 0 where
   -- `Renderer` with its three numbers and marks enough, over the rows of a store from one up to a stop
   pub draw : Pen → List ℕ → List ℕ → ℕ → ℕ → Drawn
 
--- "A store has length / 9 rows, rounded down."
-abbrev pub rowsIn : List ℕ → ℕ
-rowsIn store = length store / PLACES
-
--- all of a state that has not begun is 0
-abbrev pub numbersZero : LayoutState → Bool
-numbersZero s =
-    eqb (s .declaration) 0
-    && (eqb (s .cursor .row) 0 && (eqb (s .cursor .number) 0 && (eqb (s .cursor .placed) 0 && eqb (s .cursor .position) 0)))
-
-abbrev pub allZero : LayoutState → Bool
-allZero s = not (s .closed) && numbersZero s
-
--- marks "not 0 or 1"
-abbrev pub oddMark : List ℕ → Bool
-oddMark [] = false
-oddMark (x ∷ xs) = ltb 1 x || oddMark xs
-
--- ---- 12, in groups: a test more goes into its group, a group more into the list
--- "place past declarations, comments, source, store", by how many there are of each
-abbrev pub placesTests : ℕ → ℕ → ℕ → ℕ → LayoutState → List Bool
-placesTests declarations comments size rows s =
-    ltb declarations (s .declaration)
-    ∷ ltb comments (s .cursor .placed)
-    ∷ ltb size (s .cursor .position)
-    ∷ ltb rows (s .cursor .row)
-    ∷ []
-
--- "next row over 2,097,152; next number over 1,048,576"
-abbrev pub limitTests : LayoutState → List Bool
-limitTests s = ltb MAX-ROWS (s .cursor .row) ∷ ltb MAX-NUMBER (s .cursor .number) ∷ []
-
--- "not begun yet not all 0"
-abbrev pub begunTests : LayoutState → List Bool
-begunTests s = (not (s .begun) && not (allZero s)) ∷ []
-
--- "stop before the next declaration or past their number; already closed; close elsewhere than at the end"
-abbrev pub stopTests : ℕ → LayoutArgs LayoutChoice → LayoutState → List Bool
-stopTests declarations q s =
-    ltb (q .stop) (s .declaration)
-    ∷ ltb declarations (q .stop)
-    ∷ s .closed
-    ∷ (q .close && not (eqb (q .stop) declarations))
-    ∷ []
-
-abbrev pub layoutTestsIn : ℕ → ℕ → ℕ → ℕ → LayoutArgs LayoutChoice → LayoutState → List Bool
-layoutTestsIn declarations comments size rows q s =
-    placesTests declarations comments size rows s ++ (limitTests s ++ (begunTests s ++ stopTests declarations q s))
-
--- "place past .. store or the rendering's stop; next row over 2,097,152"
-abbrev pub rowTests : ℕ → ℕ → ℕ → List Bool
-rowTests rows stop row = ltb rows row ∷ ltb stop row ∷ ltb MAX-ROWS row ∷ []
-
--- "`indent` or `next_indent` over 64; column over 72,057,594,037,927,936"
-abbrev pub penTests : Pen → List Bool
-penTests z = ltb MAX-INDENT (z .indent) ∷ ltb MAX-INDENT (z .next-indent) ∷ ltb MAX-COLUMN (z .column) ∷ []
-
--- "marks in use over the buffer or not 0 or 1"
-abbrev pub markTests : List ℕ → ℕ → List Bool
-markTests marks used = ltb (length marks) used ∷ oddMark (take used marks) ∷ []
-
--- 12, as far as it is of rendering
-abbrev pub renderTests : RenderArgs RenderChoice → RenderState → List ℕ → List ℕ → List Bool
-renderTests q s store marks = rowTests (rowsIn store) (q .stop) (s .row) ++ (penTests (s .pen) ++ markTests marks (s .in-use))
-
--- ---- the pieces and lines that the rules are made of
 -- the piece that adds nothing
 abbrev pub still : Cursor → Piece
 still c = record { cursor = c; rows = [] }

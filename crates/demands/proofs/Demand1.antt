@@ -13,6 +13,8 @@ use Rattle.image.specs.Read.{Read, got, bad, Image, readAll, readNumbers, outco
 use Rattle.image.proofs.Numbers.{read-numbers}
 use Rattle.cut_rule.specs.Run.{answerBy, laidOut, written}
 use Rattle.cut_rule.specs.Rules as rules
+use Rattle.cut_rule.specs.States as states
+use Rattle.cut_rule.specs.Tests as tests
 use Rattle.cut_rule.specs.Parts as cut
 use Rattle.plain_run.specs.Parts.{partsOf, readRefusal, renderImage}
 use Rattle.plain_run.specs.Demands.{rulesOf}
@@ -82,7 +84,7 @@ read-under s b = go (readAll s b) refl
     go (bad n p) e = under-if readNumbers true n p (read-numbers s b n p e)
 
 module _ (s b : List ℕ) where
-  pub layout-under : (q : rules.LayoutArgs cut.LayoutChoice) (z : cut.LayoutState) (store : List ℕ)
+  pub layout-under : (q : rules.LayoutArgs states.LayoutChoice) (z : states.LayoutState) (store : List ℕ)
       → Under layoutNumbers (rulesOf s b .layout-refusal q z store)
   layout-under q z store =
       let needed = cut.rowsNeeded (partsOf s b) q z in
@@ -91,7 +93,7 @@ module _ (s b : List ℕ) where
         read,
         (
           under-if layoutNumbers (any (cut.layoutTests (partsOf s b) q z store)) 12 0 refl,
-          (under-if layoutNumbers (ltb (cut.rowsIn store) needed) 8 needed refl, tt),
+          (under-if layoutNumbers (ltb (tests.rowsIn store) needed) 8 needed refl, tt),
         ),
       )
 
@@ -100,7 +102,7 @@ module _ (s b : List ℕ) where
       under-first renderNumbers (refuseIf (not (sourceFits s)) 1 0 ∷ refuseIf (not (header b)) 3 0 ∷ [])
       (under-if renderNumbers (not (sourceFits s)) 1 0 refl, (under-if renderNumbers (not (header b)) 3 0 refl, tt))
 
-  pub render-under : (q : rules.RenderArgs cut.RenderChoice) (z : cut.RenderState) (store marks : List ℕ)
+  pub render-under : (q : rules.RenderArgs states.RenderChoice) (z : states.RenderState) (store marks : List ℕ)
       → Under renderNumbers (rulesOf s b .render-refusal q z store marks)
   render-under q z store marks =
       let needed = cut.marksFor (partsOf s b) q z store in
@@ -110,7 +112,7 @@ module _ (s b : List ℕ) where
         (
           under-at renderNumbers (partsOf s b .wrong-row store (z .row) (q .stop)) 11 refl,
           (
-            under-if renderNumbers (any (cut.renderTests q z store marks)) 12 0 refl,
+            under-if renderNumbers (any (tests.renderTests q z store marks)) 12 0 refl,
             (
               under-if renderNumbers (ltb (length marks) needed) 9 needed refl,
               (under-if renderNumbers (ltb (q .room) bytes) 10 bytes refl, tt),
@@ -144,11 +146,11 @@ answered : {ns : List ℕ} {table told : Option Refusal} {Kept : Type 0} → tol
     → Answered ns table told Kept
 answered e u k = record { as-table = e; listed = λ r f. u .of r (sym e ∙ f); kept = λ r f. k r (sym e ∙ f) }
 
-laid-told : (s b : List ℕ) (o : Option Refusal) (t : cut.LayoutState) (n : ℕ) → callTold s b (answerBy (rulesOf s b) o (laidOut t n)) ≡ o
+laid-told : (s b : List ℕ) (o : Option Refusal) (t : states.LayoutState) (n : ℕ) → callTold s b (answerBy (rulesOf s b) o (laidOut t n)) ≡ o
 laid-told s b (some r) t n = refl
 laid-told s b none t n = refl
 
-written-told : (s b : List ℕ) (o : Option Refusal) (t : cut.RenderState) (n : ℕ) → callTold s b (answerBy (rulesOf s b) o (written t n)) ≡ o
+written-told : (s b : List ℕ) (o : Option Refusal) (t : states.RenderState) (n : ℕ) → callTold s b (answerBy (rulesOf s b) o (written t n)) ≡ o
 written-told s b (some r) t n = refl
 written-told s b none t n = refl
 

@@ -12,11 +12,12 @@ use Rattle.refusals.specs.Refusals.{Refusal, unless}
 use Rattle.cut_rule.specs.Rules.{LayoutResult}
 use Rattle.cut_rule.specs.Run.{writeFront}
 use Rattle.cut_rule.specs.Entries.{renderAnswer, renderMarks, renderOutput}
-use Rattle.cut_rule.specs.Parts as cut
+use Rattle.cut_rule.specs.States as states
+use Rattle.cut_rule.specs.Tests as tests
 use Rattle.cut_rule.proofs.Table.{layout-told}
 use Rattle.cut_rule.proofs.Answers.{LaidTold, laid-told, written-told}
 use Rattle.plain_run.specs.Parts.{partsOf}
-use Rattle.plain_run.specs.Demands.{rulesOf, Gives, laidTo, stopAt}
+use Rattle.plain_run.specs.Demands.{rulesOf, Gives, laidTo, stoppingAt}
 use Rattle.plain_run.specs.File.{drawnDue, laidRefusal, refusalIn, fileRefusal, fileAnswerBy, formatted}
 use Rattle.plain_run.proofs.Demands.{due-is-fmt-parsed, laid-within-limits}
 use Rattle.plain_run.proofs.File.{storeLeft, stateDue, renderedDue, layout-answer-due, layout-store-due, render-answer-due, render-marks-due, render-output-due}
@@ -47,7 +48,7 @@ module _ (s b store : List ℕ) (q : LayoutArgs) (t : LayoutState) (left : ℕ) 
   abbrev refusal : Option Refusal
   refusal = rulesOf s b .layout-refusal (layout.toArgs q) (layout.toState freshLayout) store
 
-  abbrev given : LayoutResult cut.LayoutState
+  abbrev given : LayoutResult states.LayoutState
   given = laidTo (readAll s b) s b (layout.toArgs q)
 
   told : LaidTold (rulesOf s b) refusal (layout.toState t) left (given .state) (given .left)
@@ -59,17 +60,17 @@ module _ (s b store : List ℕ) (q : LayoutArgs) (t : LayoutState) (left : ℕ) 
         p .store-left
         ∙ ap (λ (x : Option Refusal). unless x store (writeFront (given .rows) store)) (told .passes)
         ∙ ap (λ (x : List ℕ). writeFront x store) (g .rows-due);
-    row-due = ap (λ (x : cut.LayoutState). x .cursor .row) (told .state) ∙ g .row-due;
-    number-due = ap (λ (x : cut.LayoutState). x .cursor .number) (told .state) ∙ g .number-due;
-    position-due = ap (λ (x : cut.LayoutState). x .cursor .position) (told .state) ∙ g .position-due;
-    placed-due = ap (λ (x : cut.LayoutState). x .cursor .placed) (told .state) ∙ g .placed-due;
+    row-due = ap (λ (x : states.LayoutState). x .cursor .row) (told .state) ∙ g .row-due;
+    number-due = ap (λ (x : states.LayoutState). x .cursor .number) (told .state) ∙ g .number-due;
+    position-due = ap (λ (x : states.LayoutState). x .cursor .position) (told .state) ∙ g .position-due;
+    placed-due = ap (λ (x : states.LayoutState). x .cursor .placed) (told .state) ∙ g .placed-due;
     left-due = told .left ∙ g .left-due;
   }
 
 at-stop : AtStopDue
 at-stop s b store n t left store2 p =
     let w = told s b store _ t left store2 p in
-    let h = layout-told (partsOf s b) (stopAt n) (layout.toState freshLayout) store (w .passes) in
+    let h = layout-told (partsOf s b) (stoppingAt n) (layout.toState freshLayout) store (w .passes) in
     laid-as s b store _ t left store2 p _ (due-is-fmt-parsed (readAll s b) s b .at-stop n (h .fits .stop .to))
 
 closed : ClosedDue
@@ -78,10 +79,10 @@ closed s b store t left store2 p = laid-as s b store _ t left store2 p _ (due-is
 -- ---- rendering
 rendered : RenderedDue
 rendered s b store t left store2 p marks out u n store3 marks2 out2 q =
-    let w = laid-told (rulesOf s b) (laidRefusal s b (cut.rowsIn store)) (layout.toState t) left (stateDue s b) _ (p .answer ∙ layout-answer-due s b store) in
-    let row : t .row ≡ _ = ap (λ (x : cut.LayoutState). x .cursor .row) (w .state) in
+    let w = laid-told (rulesOf s b) (laidRefusal s b (tests.rowsIn store)) (layout.toState t) left (stateDue s b) _ (p .answer ∙ layout-answer-due s b store) in
+    let row : t .row ≡ _ = ap (λ (x : states.LayoutState). x .cursor .row) (w .state) in
     let left-store : store2 ≡ storeLeft s b store = p .store-left ∙ layout-store-due s b store in
-    let v = written-told (rulesOf s b) (refusalIn s b (cut.rowsIn store) (length marks) (length out)) (render.toState u) (n .0) (renderedDue s b) _
+    let v = written-told (rulesOf s b) (refusalIn s b (tests.rowsIn store) (length marks) (length out)) (render.toState u) (n .0) (renderedDue s b) _
     (q .answer
     ∙ ap₂ (λ (i : ℕ) (l : List ℕ). renderAnswer (rulesOf s b) (render.toArgs (record { stop = i }) (length out)) (render.toState freshRender) l marks) row left-store
     ∙ render-answer-due s b store marks out (w .passes))

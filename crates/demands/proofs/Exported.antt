@@ -14,7 +14,7 @@ use Rattle.refusals.specs.Refusals.{Refusal, isOneOf}
 use Rattle.image.specs.Read.{Read, got, bad, Image, readAll, readNumbers, outcome}
 use Rattle.cut_rule.specs.Run.{answerBy, laidOut, written, layoutCall, renderCall, call}
 use Rattle.cut_rule.specs.Entries.{renderAnswer, layoutNext, renderNext, leftNext, writtenOf, entryCall}
-use Rattle.cut_rule.specs.Parts as cut
+use Rattle.cut_rule.specs.States as states
 use Rattle.cut_rule.proofs.Entries.{entries-are-calls}
 use Rattle.cut_rule.proofs.Answers.{all-held}
 use Rattle.plain_run.specs.Parts.{readRefusal}
@@ -23,7 +23,7 @@ use Rattle.plain_run.specs.File.{fileRefusal, fileAnswerBy, formatted}
 use Rattle.plain_run.proofs.Demands.{rules-cut}
 use Rattle.layout_call.specs.Calls as layout
 use Rattle.render_call.specs.Calls as render
-use Rattle.exports.specs.Numbers.{flag, bit, layoutState, layoutArgs, renderState, renderArgs, told, toldRead, toldFile}
+use Rattle.exports.specs.Numbers.{flag, bit, layoutState, layoutArgs, renderState, renderArgs, toldCall, toldRead, toldFile}
 use Rattle.exports.specs.Calls.{Lays, Renders}
 use Rattle.demands.specs.Demand1.{layoutNumbers, renderNumbers, fileNumbers}
 use Rattle.demands.specs.Exported.{Told, Linked1, Holder, freshHolder, LinkedCall, laid, rendered, LinkedPromised, ifAccepted, afterLinked, callLinked, heldLinked, Linked3}
@@ -77,7 +77,7 @@ file-tells none n l k m out r e = let z : _≡_ {A = ℕ} 0 1 = cc in absurd (om
 
 module _ (s b : List ℕ) where
   -- the numbers of an accepted answer
-  abbrev laidNumbers : cut.LayoutState → ℕ → List ℕ
+  abbrev laidNumbers : states.LayoutState → ℕ → List ℕ
   laidNumbers t n =
       0
       ∷ n
@@ -90,28 +90,28 @@ module _ (s b : List ℕ) where
       ∷ t .cursor .position
       ∷ []
 
-  abbrev writtenNumbers : cut.RenderState → ℕ → List ℕ
+  abbrev writtenNumbers : states.RenderState → ℕ → List ℕ
   writtenNumbers t n = 0 ∷ n ∷ t .pen .indent ∷ t .pen .next-indent ∷ t .pen .column ∷ t .in-use ∷ t .row ∷ []
 
-  laid-zero : (o : Option Refusal) (t : cut.LayoutState) (n : ℕ) (out : List ℕ) → 9 ≤ length out → o ≡ none
-      → getD (told s b (answerBy (rulesOf s b) o (laidOut t n)) out) 0 0 ≡ 0
+  laid-zero : (o : Option Refusal) (t : states.LayoutState) (n : ℕ) (out : List ℕ) → 9 ≤ length out → o ≡ none
+      → getD (toldCall s b (answerBy (rulesOf s b) o (laidOut t n)) out) 0 0 ≡ 0
   laid-zero none t n out h e = ap (λ (x : List ℕ). getD x 0 0) (stored (laidNumbers t n) out h)
   laid-zero (some q) t n out h e = let z : _≡_ {A = ℕ} 0 1 = cc in absurd (omega arith)
 
-  laid-tells : (o : Option Refusal) (t : cut.LayoutState) (n : ℕ) (out : List ℕ) (r : Refusal) → o ≡ some r
-      → told s b (answerBy (rulesOf s b) o (laidOut t n)) out ≡ sets out 0 (r .number ∷ r .place ∷ [])
+  laid-tells : (o : Option Refusal) (t : states.LayoutState) (n : ℕ) (out : List ℕ) (r : Refusal) → o ≡ some r
+      → toldCall s b (answerBy (rulesOf s b) o (laidOut t n)) out ≡ sets out 0 (r .number ∷ r .place ∷ [])
   laid-tells (some q) t n out r e =
       let same : q ≡ r = cc in
       ap (λ (x : Refusal). sets out 0 (x .number ∷ x .place ∷ [])) same
   laid-tells none t n out r e = let z : _≡_ {A = ℕ} 0 1 = cc in absurd (omega arith)
 
-  written-zero : (o : Option Refusal) (t : cut.RenderState) (n : ℕ) (out : List ℕ) → 7 ≤ length out → o ≡ none
-      → getD (told s b (answerBy (rulesOf s b) o (written t n)) out) 0 0 ≡ 0
+  written-zero : (o : Option Refusal) (t : states.RenderState) (n : ℕ) (out : List ℕ) → 7 ≤ length out → o ≡ none
+      → getD (toldCall s b (answerBy (rulesOf s b) o (written t n)) out) 0 0 ≡ 0
   written-zero none t n out h e = ap (λ (x : List ℕ). getD x 0 0) (stored (writtenNumbers t n) out h)
   written-zero (some q) t n out h e = let z : _≡_ {A = ℕ} 0 1 = cc in absurd (omega arith)
 
-  written-tells : (o : Option Refusal) (t : cut.RenderState) (n : ℕ) (out : List ℕ) (r : Refusal) → o ≡ some r
-      → told s b (answerBy (rulesOf s b) o (written t n)) out ≡ sets out 0 (r .number ∷ r .place ∷ [])
+  written-tells : (o : Option Refusal) (t : states.RenderState) (n : ℕ) (out : List ℕ) (r : Refusal) → o ≡ some r
+      → toldCall s b (answerBy (rulesOf s b) o (written t n)) out ≡ sets out 0 (r .number ∷ r .place ∷ [])
   written-tells (some q) t n out r e =
       let same : q ≡ r = cc in
       ap (λ (x : Refusal). sets out 0 (x .number ∷ x .place ∷ [])) same
@@ -168,8 +168,8 @@ not-zero ns r f e = go (eqb (r .number) 0) refl
 
 module _ (s b : List ℕ) where
   -- the layout state and the comments left that are kept of an answer
-  layout-kept : (o : Option Refusal) (t : cut.LayoutState) (n : ℕ) → Under layoutNumbers o → (out out2 : List ℕ) → 9 ≤ length out
-      → out2 ≡ told s b (answerBy (rulesOf s b) o (laidOut t n)) out
+  layout-kept : (o : Option Refusal) (t : states.LayoutState) (n : ℕ) → Under layoutNumbers o → (out out2 : List ℕ) → 9 ≤ length out
+      → out2 ≡ toldCall s b (answerBy (rulesOf s b) o (laidOut t n)) out
       → (old : List ℕ)
       → layout.toState (layoutState (ifAccepted out2 (take 7 (drop 2 out2)) old))
       ≡ layoutNext (rulesOf s b) (answerBy (rulesOf s b) o (laidOut t n)) (layout.toState (layoutState old))
@@ -183,8 +183,8 @@ module _ (s b : List ℕ) where
       ap (λ (l : List ℕ). layout.toState (layoutState (ifAccepted l (take 7 (drop 2 l)) old))) at
       ∙ ap₂ (λ (x y : Bool). record { begun = x; closed = y; declaration = t .declaration; cursor = t .cursor }) (flag-bit (t .begun)) (flag-bit (t .closed))
 
-  left-kept : (o : Option Refusal) (t : cut.LayoutState) (n : ℕ) → Under layoutNumbers o → (out out2 : List ℕ) → 9 ≤ length out
-      → out2 ≡ told s b (answerBy (rulesOf s b) o (laidOut t n)) out
+  left-kept : (o : Option Refusal) (t : states.LayoutState) (n : ℕ) → Under layoutNumbers o → (out out2 : List ℕ) → 9 ≤ length out
+      → out2 ≡ toldCall s b (answerBy (rulesOf s b) o (laidOut t n)) out
       → (old : Option ℕ)
       → ifAccepted out2 (some (getD out2 1 0)) old ≡ leftNext (rulesOf s b) (answerBy (rulesOf s b) o (laidOut t n)) old
   left-kept (some r) t n u out out2 h e old =
@@ -196,8 +196,8 @@ module _ (s b : List ℕ) where
       ap (λ (l : List ℕ). ifAccepted l (some (getD l 1 0)) old) at
 
   -- the rendering state and the text that are kept of an answer
-  render-kept : (o : Option Refusal) (t : cut.RenderState) (n : ℕ) → Under renderNumbers o → (out out2 : List ℕ) → 7 ≤ length out
-      → out2 ≡ told s b (answerBy (rulesOf s b) o (written t n)) out
+  render-kept : (o : Option Refusal) (t : states.RenderState) (n : ℕ) → Under renderNumbers o → (out out2 : List ℕ) → 7 ≤ length out
+      → out2 ≡ toldCall s b (answerBy (rulesOf s b) o (written t n)) out
       → (old : List ℕ)
       → render.toState (renderState (ifAccepted out2 (take 5 (drop 2 out2)) old))
       ≡ renderNext (rulesOf s b) (answerBy (rulesOf s b) o (written t n)) (render.toState (renderState old))
@@ -210,8 +210,8 @@ module _ (s b : List ℕ) where
       let at : out2 ≡ writtenNumbers s b t n ++ drop 7 out = e ∙ stored (writtenNumbers s b t n) out h in
       ap (λ (l : List ℕ). render.toState (renderState (ifAccepted l (take 5 (drop 2 l)) old))) at
 
-  text-kept : (o : Option Refusal) (t : cut.RenderState) (n : ℕ) → Under renderNumbers o → (out out2 output2 : List ℕ) → 7 ≤ length out
-      → out2 ≡ told s b (answerBy (rulesOf s b) o (written t n)) out
+  text-kept : (o : Option Refusal) (t : states.RenderState) (n : ℕ) → Under renderNumbers o → (out out2 output2 : List ℕ) → 7 ≤ length out
+      → out2 ≡ toldCall s b (answerBy (rulesOf s b) o (written t n)) out
       → ifAccepted out2 (take (getD out2 1 0) output2) [] ≡ writtenOf (rulesOf s b) (answerBy (rulesOf s b) o (written t n)) output2
   text-kept (some r) t n u out out2 output2 h e =
       let at : out2 ≡ (r .number ∷ r .place ∷ []) ++ drop 2 out = e ∙ stored (r .number ∷ r .place ∷ []) out (omega arith) in

@@ -57,9 +57,9 @@ renderArgs stop = record { stop = stop }
 
 -- ---- answers
 -- a call's answer: a refusal's number and place; or 0, the comments left or the bytes written, and the new state
-abbrev pub told : (s b : List ℕ) → Answer (rulesOf s b) → List ℕ → List ℕ
-told s b (refused r) out = sets out 0 (r .number ∷ r .place ∷ [])
-told s b (laidOut t n) out =
+abbrev pub toldCall : (s b : List ℕ) → Answer (rulesOf s b) → List ℕ → List ℕ
+toldCall s b (refused r) out = sets out 0 (r .number ∷ r .place ∷ [])
+toldCall s b (laidOut t n) out =
     sets out 0
     (0
     ∷ n
@@ -71,7 +71,7 @@ told s b (laidOut t n) out =
     ∷ t .cursor .placed
     ∷ t .cursor .position
     ∷ [])
-told s b (written t n) out =
+toldCall s b (written t n) out =
     sets out 0 (0 ∷ n ∷ t .pen .indent ∷ t .pen .next-indent ∷ t .pen .column ∷ t .in-use ∷ t .row ∷ [])
 
 -- a whole file's answer: a refusal's number and place; or 0, the bytes written, the comments left, the rows and the group numbers

@@ -7,7 +7,7 @@ use Prim.Native.Nat.{ℕ, _-_}
 use native.Mathlib.Omega.{arith}
 use lib.Dec.{ltb}
 use lib.ListN.{length}
-use Rattle.image.specs.Read.{Read, got, bad, Image, readAll, answerOf}
+use Rattle.image.specs.Read.{readAll, answerOf}
 use Rattle.image.specs.declared.Answer.the-variants as checked
 use Rattle.rows.specs.Rows.{rows}
 use Rattle.rows.specs.declared.units.Bytes.{Bytes}
@@ -15,13 +15,16 @@ use Rattle.comments.specs.Listed.{commentsOf}
 use Rattle.refusals.specs.Refusals.{Refusal, unless, first, refuseIf}
 use Rattle.cut_rule.specs.Run.{Answer, refused, laidOut, written, answerBy, writeFront}
 use Rattle.cut_rule.specs.Entries.{layoutAnswer, layoutStore, renderAnswer, renderOutput}
-use Rattle.cut_rule.specs.Parts as cut
+use Rattle.cut_rule.specs.States as states
+use Rattle.cut_rule.specs.Tests as tests
 use Rattle.cut_rule.specs.Rules as rules
-use Rattle.cut_rule.specs.Parts.{layoutFresh, renderFresh, beforeMarks}
+use Rattle.cut_rule.specs.States.{layoutFresh, renderFresh}
+use Rattle.cut_rule.specs.Parts.{beforeMarks}
 use Rattle.cut_rule.proofs.Answers.{refused-told, LaidTold, laid-told, written-told}
-use Rattle.plain_run.specs.Parts.{partsOf, readRefusal}
-use Rattle.plain_run.specs.Demands.{rulesOf, closeAt}
+use Rattle.plain_run.specs.Parts.{partsOf}
+use Rattle.plain_run.specs.Demands.{rulesOf, closingAt}
 use Rattle.plain_run.specs.File.{fileRows, fileMarks, built, rowsDue, marksDue, drawnDue, laidRefusal, refusalIn, fileRefusal, formatted, fileAnswerBy}
+use Rattle.plain_run.proofs.Refused.{read-refused}
 use Rattle.plain_run.proofs.File.{storeLeft, outputLeft, stateDue, renderedDue, layout-answer-due, layout-store-due, render-early-due, render-answer-due, render-output-due}
 use Rattle.layout_call.specs.Calls as layouts
 use Rattle.layout_call.specs.Steps.{declared}
@@ -51,16 +54,6 @@ module _ (s b : List ℕ) where
   textDue = length (drawnDue s b .text)
 
   -- ---- 1 to 7
-  read-refused : (x : Read Image) (n p : ℕ) → answerOf x ≡ checked.Refused n p → readRefusal x ≡ some (at n p)
-  read-refused (got i end) n p e = let z : _≡_ {A = ℕ} 0 1 = cc in absurd (omega arith)
-  read-refused (bad m q) n p e = λ t. some (at (number t) (place t))
-    where
-      number : m ≡ n
-      number = cc
-
-      place : q ≡ p
-      place = cc
-
   pub check-refused : (out : List ℕ) (n p : ℕ) → answerOf (readAll s b) ≡ checked.Refused n p → Formats s b out (answer.Refused n p) out
   check-refused out n p e =
       let r : fileRefusal s b (length out) ≡ some (at n p) =
@@ -78,20 +71,20 @@ module _ (s b : List ℕ) where
       }
 
   -- ---- the two calls, with rows and marks as many as a whole file has
-  module _ (store marks out : List ℕ) (rowed : cut.rowsIn store ≡ fileRows) (marked : length marks ≡ fileMarks) where
+  module _ (store marks out : List ℕ) (rowed : tests.rowsIn store ≡ fileRows) (marked : length marks ≡ fileMarks) where
     -- a refusal of layout is one of the run
-    first-refused : (r : Refusal) → laidRefusal s b (cut.rowsIn store) ≡ some r → refusalIn s b (cut.rowsIn store) (length marks) (length out) ≡ some r
+    first-refused : (r : Refusal) → laidRefusal s b (tests.rowsIn store) ≡ some r → refusalIn s b (tests.rowsIn store) (length marks) (length out) ≡ some r
     first-refused r e =
         ap (λ (x : Option Refusal).
         first (x ∷ refuseIf (ltb (length marks) (marksDue s b)) 9 (marksDue s b) ∷ refuseIf (ltb (length out) textDue) 10 textDue ∷ []))
         e
 
     -- the table for these buffers is a whole file's
-    table-same : refusalIn s b (cut.rowsIn store) (length marks) (length out) ≡ fileRefusal s b (length out)
+    table-same : refusalIn s b (tests.rowsIn store) (length marks) (length out) ≡ fileRefusal s b (length out)
     table-same = ap₂ (λ (x y : ℕ). refusalIn s b x y (length out)) rowed marked
 
     -- refused
-    refused-formats : (n p : ℕ) (out2 : List ℕ) → refusalIn s b (cut.rowsIn store) (length marks) (length out) ≡ some (at n p)
+    refused-formats : (n p : ℕ) (out2 : List ℕ) → refusalIn s b (tests.rowsIn store) (length marks) (length out) ≡ some (at n p)
         → out2 ≡ outputLeft s b store marks out
         → Formats s b out (answer.Refused n p) out2
     refused-formats n p out2 e h = record {
@@ -101,45 +94,45 @@ module _ (s b : List ℕ) where
     }
 
     -- refused by the layout call, or before it
-    laid-refused : (n p : ℕ) → laidRefusal s b (cut.rowsIn store) ≡ some (at n p) → Formats s b out (answer.Refused n p) out
+    laid-refused : (n p : ℕ) → laidRefusal s b (tests.rowsIn store) ≡ some (at n p) → Formats s b out (answer.Refused n p) out
     laid-refused n p e =
         let r = first-refused (at n p) e in
         refused-formats n p out r (sym (ap (λ (x : Option Refusal). unless x out (writeFront (drawnDue s b .text) out)) r))
 
     -- ---- the layout call
     module _ (state : LayoutState) (q : LayoutArgs) (r : Laying) (store2 : List ℕ) (fresh : layouts.toState state ≡ layoutFresh)
-        (all : layouts.toArgs q ≡ closeAt (length (declared s b))) (call : LayoutCalled s b state q store r store2) where
-      layout-answer : layouts.layingAnswer s b r ≡ answerBy (rulesOf s b) (laidRefusal s b (cut.rowsIn store)) (laidOut (stateDue s b) leftDue)
+        (all : layouts.toArgs q ≡ closingAt (length (declared s b))) (call : LayoutCalled s b state q store r store2) where
+      layout-answer : layouts.layingAnswer s b r ≡ answerBy (rulesOf s b) (laidRefusal s b (tests.rowsIn store)) (laidOut (stateDue s b) leftDue)
       layout-answer =
           call .answer
-          ∙ ap₂ (λ (t : cut.LayoutState) (x : rules.LayoutArgs cut.LayoutChoice). layoutAnswer (rulesOf s b) x t store) fresh all
+          ∙ ap₂ (λ (t : states.LayoutState) (x : rules.LayoutArgs states.LayoutChoice). layoutAnswer (rulesOf s b) x t store) fresh all
           ∙ layout-answer-due s b store
 
       layout-left : store2 ≡ storeLeft s b store
       layout-left =
           call .store-left
-          ∙ ap₂ (λ (t : cut.LayoutState) (x : rules.LayoutArgs cut.LayoutChoice). layoutStore (rulesOf s b) x t store) fresh all
+          ∙ ap₂ (λ (t : states.LayoutState) (x : rules.LayoutArgs states.LayoutChoice). layoutStore (rulesOf s b) x t store) fresh all
           ∙ layout-store-due s b store
 
-      never-laid : (x : Refusal) (t : cut.LayoutState) (l : ℕ) → _≡_ {A = Answer (rulesOf s b)} (refused x) (laidOut t l) → ⊥
+      never-laid : (x : Refusal) (t : states.LayoutState) (l : ℕ) → _≡_ {A = Answer (rulesOf s b)} (refused x) (laidOut t l) → ⊥
       never-laid x t l e = let z : _≡_ {A = ℕ} 0 1 = cc in omega arith
 
       pub layout-refused : (n p : ℕ) → r ≡ laying.Refused n p → Formats s b out (answer.Refused n p) out
       layout-refused n p e =
           laid-refused n p
-          (refused-told (rulesOf s b) (laidRefusal s b (cut.rowsIn store)) (laidOut (stateDue s b) leftDue) (at n p) (ap (layouts.layingAnswer s b) (sym e) ∙ layout-answer)
+          (refused-told (rulesOf s b) (laidRefusal s b (tests.rowsIn store)) (laidOut (stateDue s b) leftDue) (at n p) (ap (layouts.layingAnswer s b) (sym e) ∙ layout-answer)
           (never-laid (at n p) (stateDue s b) leftDue))
 
       -- ---- the rendering call
       module _ (t : LayoutState) (left : ℕ) (is : r ≡ laying.Laid t left) (pen : RenderState) (blank : renders.toState pen ≡ renderFresh) where
-        told : LaidTold (rulesOf s b) (laidRefusal s b (cut.rowsIn store)) (layouts.toState t) left (stateDue s b) leftDue
-        told = laid-told (rulesOf s b) (laidRefusal s b (cut.rowsIn store)) (layouts.toState t) left (stateDue s b) leftDue (ap (layouts.layingAnswer s b) (sym is) ∙ layout-answer)
+        told : LaidTold (rulesOf s b) (laidRefusal s b (tests.rowsIn store)) (layouts.toState t) left (stateDue s b) leftDue
+        told = laid-told (rulesOf s b) (laidRefusal s b (tests.rowsIn store)) (layouts.toState t) left (stateDue s b) leftDue (ap (layouts.layingAnswer s b) (sym is) ∙ layout-answer)
 
         to-row : t .row ≡ rowsDue s b
-        to-row = ap (λ (x : cut.LayoutState). x .cursor .row) (told .state)
+        to-row = ap (λ (x : states.LayoutState). x .cursor .row) (told .state)
 
         -- what the call had is what is due
-        same : {A : Type 0} (f : cut.RenderState → RenderArgs → List ℕ → A)
+        same : {A : Type 0} (f : states.RenderState → RenderArgs → List ℕ → A)
             → f (renders.toState pen) (record { stop = t .row }) store2 ≡ f renderFresh (record { stop = rowsDue s b }) (storeLeft s b store)
         same f = λ i. f (blank i) (record { stop = to-row i }) (layout-left i)
 
@@ -152,7 +145,7 @@ module _ (s b : List ℕ) where
         }
 
         module _ (o : Rendering) (store3 marks2 out2 : List ℕ) (drew : RenderCalled s b pen (record { stop = t .row }) store2 marks out o store3 marks2 out2) where
-          drawn-answer : renders.renderingAnswer s b o ≡ answerBy (rulesOf s b) (refusalIn s b (cut.rowsIn store) (length marks) (length out)) (written (renderedDue s b) textDue)
+          drawn-answer : renders.renderingAnswer s b o ≡ answerBy (rulesOf s b) (refusalIn s b (tests.rowsIn store) (length marks) (length out)) (written (renderedDue s b) textDue)
           drawn-answer =
               drew .answer
               ∙ same (λ x q rows. renderAnswer (rulesOf s b) (renders.toArgs q (length out)) x rows marks)
@@ -164,23 +157,23 @@ module _ (s b : List ℕ) where
               ∙ same (λ x q rows. renderOutput (rulesOf s b) (renders.toArgs q (length out)) x rows marks out)
               ∙ render-output-due s b store marks out (told .passes)
 
-          never-written : (x : Refusal) (u : cut.RenderState) (l : ℕ) → _≡_ {A = Answer (rulesOf s b)} (refused x) (written u l) → ⊥
+          never-written : (x : Refusal) (u : states.RenderState) (l : ℕ) → _≡_ {A = Answer (rulesOf s b)} (refused x) (written u l) → ⊥
           never-written x u l e = let z : _≡_ {A = ℕ} 0 1 = cc in omega arith
 
           pub drawn-refused : (n p : ℕ) → o ≡ rendering.Refused n p → Formats s b out (answer.Refused n p) out2
           drawn-refused n p e =
               refused-formats n p out2
-              (refused-told (rulesOf s b) (refusalIn s b (cut.rowsIn store) (length marks) (length out)) (written (renderedDue s b) textDue) (at n p) (ap (renders.renderingAnswer s b) (sym e) ∙ drawn-answer)
+              (refused-told (rulesOf s b) (refusalIn s b (tests.rowsIn store) (length marks) (length out)) (written (renderedDue s b) textDue) (at n p) (ap (renders.renderingAnswer s b) (sym e) ∙ drawn-answer)
               (never-written (at n p) (renderedDue s b) textDue))
               output-same
 
           pub drawn-formats : (u : RenderState) (bytes : Bytes) → o ≡ rendering.Written u bytes
               → Formats s b out (answer.Text bytes left (t .row) (t .number)) out2
           drawn-formats u bytes e =
-              let w = written-told (rulesOf s b) (refusalIn s b (cut.rowsIn store) (length marks) (length out)) (renders.toState u) (bytes .0) (renderedDue s b) textDue
+              let w = written-told (rulesOf s b) (refusalIn s b (tests.rowsIn store) (length marks) (length out)) (renders.toState u) (bytes .0) (renderedDue s b) textDue
               (ap (renders.renderingAnswer s b) (sym e) ∙ drawn-answer)
               in
-              let number : t .number ≡ built s b .taken = ap (λ (x : cut.LayoutState). x .cursor .number) (told .state) in
+              let number : t .number ≡ built s b .taken = ap (λ (x : states.LayoutState). x .cursor .number) (told .state) in
               record {
                 answer =
                     (λ i. formatted (w .bytes i) (told .left i) (to-row i) (number i))

@@ -1,7 +1,10 @@
 // Module 8: the whole run of one file, and of a frame that the program reads.
 ghost use mathlib.Core.Path.{_≡_};
+ghost use Prim.Native.Nat.{_*_};
 ghost use lib.ListN.{length};
-ghost use Rattle.cut_rule.specs.Parts.{layoutFresh, renderFresh};
+ghost use Rattle.rows.specs.Places.{PLACES};
+ghost use Rattle.cut_rule.specs.States.{layoutFresh, renderFresh};
+ghost use Rattle.plain_run.specs.File.{fileRows, fileMarks};
 ghost use Rattle.layout_call.specs.Calls.{toState as laidState};
 ghost use Rattle.layout_call.specs.Steps.{Accepts};
 ghost use Rattle.render_call.specs.Calls.{toState as renderedState};
@@ -19,11 +22,19 @@ use render_call::RenderArgs;
 use render_call::RenderState;
 use render_call::Rendering;
 use render_call::render_checked;
+use rows::places::PLACES;
 use rows::units::Bytes;
 use rows::units::Columns;
 
 // The longest frame that the program takes.
 const MAX_FRAME: usize = 32768;
+
+// What a run has of its own: 1,800 rows and 1,800 marks.
+const ROWS: usize = 1800;
+
+const CELLS: usize = ROWS * PLACES;
+
+const MARKS: usize = 1800;
 
 pub enum Formatted {
     // the bytes written, the comments left, the rows and the group numbers
@@ -65,18 +76,18 @@ fn render_fresh() -> RenderState
     }
 }
 
-// 1,800 rows.
-fn rows() -> [u32; 16200]
-    ensures { λ r. ⌜ 16200 ≡ length r ⌝ }
+// The places of its rows.
+fn rows() -> [u32; CELLS]
+    ensures { λ r. ⌜ fileRows * PLACES ≡ length r ⌝ }
 {
-    [0; 16200]
+    [0; CELLS]
 }
 
-// 1,800 marks.
-fn marks() -> [u8; 1800]
-    ensures { λ r. ⌜ 1800 ≡ length r ⌝ }
+// Its marks.
+fn marks() -> [u8; MARKS]
+    ensures { λ r. ⌜ fileMarks ≡ length r ⌝ }
 {
-    [0; 1800]
+    [0; MARKS]
 }
 
 // A file that is accepted: all declarations in one layout call, all rows in one rendering call. The rows

@@ -3,16 +3,15 @@
 use mathlib.Core.Path.{_≡_, refl, sym, ap, ap₂, _∙_}
 use mathlib.Core.Bool.{Bool, true, false, not}
 use mathlib.Core.Option.{Option, none, some}
-use mathlib.Core.List.{List, [], _∷_, _++_, append-assoc}
+use mathlib.Core.List.{List, [], _∷_}
 use Prim.Native.Nat.{ℕ, _+_, _-_, _*_, _≤_, _<_}
 use native.Mathlib.Omega.{arith}
 use lib.ListN.{length, take, drop}
-use lib.Seq.{sets, sets-eq, drop-drop}
 use lib.Dec.{ltb, eqb}
 use borrow.Author.Tests.{lt-ltb, le-ltb, not-true, not-false}
 use Rattle.rows.specs.Places.{PLACES}
 use Rattle.image.specs.Read as image
-use Rattle.image.specs.Read.{Read, got, bad, Image, readAll}
+use Rattle.image.specs.Read.{readAll}
 use Rattle.image.specs.declared.Answer.the-variants as read
 use Rattle.rows.specs.Limits.{CELL-LIMIT}
 use Rattle.rows.specs.Rows.{sizes, rows}
@@ -26,11 +25,14 @@ use Rattle.cut_rule.specs.Rules as cut
 use Rattle.refusals.specs.Refusals.{Refusal, unless, any, first, refuseIf}
 use Rattle.refusals.proofs.Groups.{refuses-left, left-to}
 use Rattle.cut_rule.specs.Run.{writeAt, refused, laidOut, answerBy}
-use Rattle.cut_rule.specs.Parts as states
-use Rattle.cut_rule.specs.Parts.{Piece, rowsIn, layoutTestsIn, layoutTests, beforeRows, rowsLine, layoutTable, rowsNeeded, callPiece, laidOf}
+use Rattle.cut_rule.specs.States as states
+use Rattle.cut_rule.specs.Tests.{rowsIn, layoutTestsIn}
+use Rattle.cut_rule.specs.Parts.{Piece, layoutTests, beforeRows, rowsLine, layoutTable, rowsNeeded, callPiece, laidOf}
+use Rattle.cut_rule.proofs.Memory.{write-sets}
 use Rattle.cut_rule.proofs.Table.{LayoutFits, layout-fits}
 use Rattle.plain_run.specs.Parts.{readRefusal, partsOf, actPiece}
 use Rattle.plain_run.specs.Demands.{rulesOf}
+use Rattle.plain_run.proofs.Refused.{read-refused, read-accepted}
 use Rattle.plain_run.proofs.Whole.{call-piece}
 use Rattle.layout_call.specs.Calls.{toState, toArgs, layingAnswer}
 use Rattle.layout_call.specs.Whole.{LayoutCalled}
@@ -41,25 +43,6 @@ use Rattle.layout_call.specs.declared.Document.{Document}
 use Rattle.layout_call.specs.declared.Laying.{Laying}
 use Rattle.layout_call.specs.declared.Laying.the-variants as laying
 use Rattle.layout_call.proofs.Standing.{comments-count, few-comments, source-short, room}
-
--- ---- what the check of source and image says
-read-refused : (r : Read Image) (n p : ℕ) → image.answerOf r ≡ read.Refused n p → readRefusal r ≡ some (record { number = n; place = p })
-read-refused (got i end) n p e = let z : _≡_ {A = ℕ} 0 1 = cc in absurd (omega arith)
-read-refused (bad m q) n p e =
-    let f : m ≡ n = cc in
-    let g : q ≡ p = cc in
-    rw (f, g)
-
-read-accepted : (r : Read Image) (n at : ℕ) → image.answerOf r ≡ read.Accepted n at → readRefusal r ≡ none
-read-accepted (got i end) n at e = refl
-read-accepted (bad m q) n at e = let z : _≡_ {A = ℕ} 0 1 = cc in absurd (omega arith)
-
--- a run of stores within a memory is that run written over it
-sets-over : (i : ℕ) (xs l : List ℕ) → i + length xs ≤ length l → sets l i xs ≡ writeAt i xs l
-sets-over i xs l h =
-    sets-eq xs l i h
-    ∙ append-assoc (take i l) xs (drop (i + length xs) l)
-    ∙ ap (λ (r : List ℕ). take i l ++ (xs ++ r)) (sym (drop-drop (length xs) i l))
 
 module _ (s b : List ℕ) (state : LayoutState) (q : LayoutArgs) (store : List ℕ) where
   abbrev before : List (Option Refusal)
@@ -179,8 +162,8 @@ module _ (s b : List ℕ) (state : LayoutState) (q : LayoutArgs) (store : List �
         stored : store2 ≡ writeAt (PLACES * state .row) (gives .rows) store
         stored =
             laid .stored
-            ∙ sets-over (PLACES * state .row) (rows (act (st from) .nodes) (state .row)) store
-            (let l = length-rows (act (st from) .nodes) (state .row) in omega (arith, needed-is, roomy .fits))
+            ∙ sym (write-sets (PLACES * state .row) (rows (act (st from) .nodes) (state .row)) store
+            (let l = length-rows (act (st from) .nodes) (state .row) in omega (arith, needed-is, roomy .fits)))
             ∙ ap (λ (p : Piece). writeAt (PLACES * state .row) (p .rows) store) (sym due)
 
         pub ends-laid : (t : LayoutState) (left : ℕ) → t .begun ≡ true → t .closed ≡ q .close → t .declaration ≡ q .stop → t .row ≡ e .row

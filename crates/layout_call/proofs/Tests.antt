@@ -6,7 +6,7 @@ use mathlib.Core.List.{List, _++_}
 use Prim.Native.Nat.{ℕ}
 use Rattle.refusals.specs.Refusals.{any}
 use Rattle.refusals.proofs.Groups.{group-refuses, group-passes}
-use Rattle.cut_rule.specs.Parts.{placesTests, limitTests, begunTests, stopTests, layoutTestsIn}
+use Rattle.cut_rule.specs.Tests.{placesTests, limitTests, begunTests, stopTests, layoutTestsIn}
 use Rattle.layout_call.specs.Calls.{toState, toArgs}
 use Rattle.layout_call.specs.declared.LayoutState.{LayoutState}
 use Rattle.layout_call.specs.declared.LayoutArgs.{LayoutArgs}

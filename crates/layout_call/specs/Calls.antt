@@ -3,7 +3,7 @@ use mathlib.Core.List.{List}
 use Prim.Native.Nat.{ℕ}
 use Rattle.cut_rule.specs.Rules as cut
 use Rattle.cut_rule.specs.Run.{Answer, refused, laidOut}
-use Rattle.cut_rule.specs.Parts as states
+use Rattle.cut_rule.specs.States as states
 use Rattle.plain_run.specs.Demands.{rulesOf}
 use Rattle.layout_call.specs.declared.LayoutState.{LayoutState}
 use Rattle.layout_call.specs.declared.LayoutArgs.{LayoutArgs}

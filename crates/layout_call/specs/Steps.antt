@@ -15,8 +15,9 @@ use Rattle.comments.specs.Listed.{given}
 use Rattle.layout_facts.specs.Accepted.{callRule}
 use Rattle.state.specs.declared.Cursor.{Cursor}
 use Rattle.refusals.specs.Refusals.{any}
-use Rattle.cut_rule.specs.Parts.{rowsIn, layoutTests, rowsNeeded}
-use Rattle.plain_run.specs.Parts.{treeOf, partsOf}
+use Rattle.cut_rule.specs.Tests.{rowsIn}
+use Rattle.cut_rule.specs.Parts.{layoutTests, rowsNeeded}
+use Rattle.plain_run.specs.Parts.{acceptedTree, partsOf}
 use Rattle.layout_call.specs.Calls.{toState, toArgs}
 use Rattle.layout_call.specs.declared.LayoutState.{LayoutState}
 use Rattle.layout_call.specs.declared.LayoutArgs.{LayoutArgs}
@@ -28,7 +29,7 @@ pub record Accepts (s b : List ℕ) (d : Document) : Type 0 where
 
 -- its tree and its declarations
 abbrev pub tree : List ℕ → List ℕ → SyntaxTree
-tree s b = treeOf b (readAll s b)
+tree s b = acceptedTree b (readAll s b)
 
 abbrev pub declared : List ℕ → List ℕ → List Declaration
 declared s b = tree s b .declarations

@@ -2,7 +2,7 @@
 ghost use mathlib.Core.Path.{_≡_};
 ghost use mathlib.Core.Bool.{not};
 ghost use Rattle.refusals.specs.Refusals.{any};
-ghost use Rattle.cut_rule.specs.Parts.{numbersZero, placesTests, limitTests, begunTests, stopTests, layoutTestsIn};
+ghost use Rattle.cut_rule.specs.Tests.{numbersZero, placesTests, limitTests, begunTests, stopTests, layoutTestsIn};
 ghost use Rattle.layout_call.specs.Calls.{toState, toArgs};
 use crate::LayoutArgs;
 use crate::LayoutState;

@@ -4,7 +4,7 @@
 use mathlib.Core.Path.{_≡_, refl, sym, ap, ap₂, subst₂, _∙_}
 use mathlib.Core.Bool.{Bool, true, false}
 use mathlib.Core.Option.{Option, none, some}
-use mathlib.Core.List.{List, [], _∷_}
+use mathlib.Core.List.{List, [], _∷_, _++_}
 use Prim.Native.Nat.{ℕ, _+_, _*_, _-_, _≤_, max}
 use native.Mathlib.Omega.{arith}
 use native.Mathlib.Nat.{sub-zero}
@@ -22,14 +22,16 @@ use Rattle.marks.specs.Marks.{marksNeeded}
 use Rattle.comments.specs.Listed.{commentsOf}
 use Rattle.renderer_rules.specs.Check.{wrongPlace}
 use Rattle.refusals.specs.Refusals.{Refusal, unless, first, refuseIf, refuseAt, any}
+use Rattle.refusals.proofs.Groups.{none-both}
 use Rattle.cut_rule.specs.Rules.{LayoutArgs, RenderArgs, LayoutResult, RenderResult}
 use Rattle.cut_rule.specs.Laws.{SameBefore}
 use Rattle.cut_rule.specs.Run.{writeFront, answerBy, laidOut, written}
 use Rattle.cut_rule.specs.Entries.{layoutAnswer, layoutStore, renderGives, renderAnswer, renderMarks, renderOutput}
-use Rattle.cut_rule.specs.Parts.{LayoutState, RenderState, layoutFresh, renderFresh, rowsIn, layoutTests, rowsNeeded, drawnOf}
-use Rattle.cut_rule.specs.Parts.{LayoutChoice, RenderChoice, onlyRenderChoice, renderTests, beforeMarks, renderTable}
-use Rattle.plain_run.specs.Parts.{readRefusal, renderImage, treeOf, drawn, partsOf}
-use Rattle.plain_run.specs.Demands.{rulesOf, laidTo, closeAt}
+use Rattle.cut_rule.specs.States.{LayoutState, RenderState, layoutFresh, renderFresh, LayoutChoice, RenderChoice, onlyRenderChoice}
+use Rattle.cut_rule.specs.Tests.{rowsIn, renderTests, placesTests, limitTests, begunTests, stopTests, rowTests, penTests, markTests}
+use Rattle.cut_rule.specs.Parts.{layoutTests, rowsNeeded, drawnOf, beforeMarks, renderTable}
+use Rattle.plain_run.specs.Parts.{readRefusal, renderImage, acceptedTree, drawn, partsOf}
+use Rattle.plain_run.specs.Demands.{rulesOf, laidTo, closingAt}
 use Rattle.plain_run.specs.File.{built, rowsDue, marksDue, drawnDue, laidRefusal, refusalIn}
 use Rattle.plain_run.proofs.Whole.{fmt-parsed}
 use Rattle.plain_run.proofs.Limits.{all-limited}
@@ -67,11 +69,11 @@ first-none (some r) b e = let z : _≡_ {A = ℕ} 0 1 = cc in absurd (omega arit
 
 module _ (s b : List ℕ) where
   abbrev count : ℕ
-  count = length (treeOf b (readAll s b) .declarations)
+  count = length (acceptedTree b (readAll s b) .declarations)
 
   -- ---- the layout call: up to the last declaration, closing
   abbrev pub layoutArgs : LayoutArgs LayoutChoice
-  layoutArgs = closeAt count
+  layoutArgs = closingAt count
 
   -- the state that it answers
   abbrev pub stateDue : LayoutState
@@ -101,14 +103,18 @@ module _ (s b : List ℕ) where
   -- 12
   layout-passes : (store : List ℕ) → any (layoutTests (partsOf s b) layoutArgs layoutFresh store) ≡ false
   layout-passes store =
-      rw (
+      let stop = stopTests count layoutArgs layoutFresh in
+      none-both (placesTests count (length (commentsOf b)) (length s) (rowsIn store) layoutFresh)
+      (limitTests layoutFresh ++ (begunTests layoutFresh ++ stop))
+      (rw (
         le-ltb count 0 (omega arith),
         le-ltb (length (commentsOf b)) 0 (omega arith),
         le-ltb (length s) 0 (omega arith),
         le-ltb (rowsIn store) 0 (omega arith),
-        le-ltb count count (omega arith),
-        eq-eqb count count refl,
-      )
+      ))
+      (none-both (limitTests layoutFresh) (begunTests layoutFresh ++ stop) refl
+      (none-both (begunTests layoutFresh) stop refl
+      (rw (le-ltb count 0 (omega arith), le-ltb count count (omega arith), eq-eqb count count refl))))
 
   rows-needed : rowsNeeded (partsOf s b) layoutArgs layoutFresh ≡ rowsDue s b
   rows-needed = fmt-parsed (readAll s b) s b .closed .row-due
@@ -160,7 +166,9 @@ module _ (s b : List ℕ) where
   -- 12
   render-passes : (store marks out : List ℕ) → any (renderTests (renderArgs out) renderFresh store marks) ≡ false
   render-passes store marks out =
-      rw (le-ltb (rowsIn store) 0 (omega arith), le-ltb (rowsDue s b) 0 (omega arith), le-ltb (length marks) 0 (omega arith))
+      none-both (rowTests (rowsIn store) (rowsDue s b) 0) (penTests (renderFresh .pen) ++ markTests marks 0)
+      (rw (le-ltb (rowsIn store) 0 (omega arith), le-ltb (rowsDue s b) 0 (omega arith)))
+      (none-both (penTests (renderFresh .pen)) (markTests marks 0) refl (rw (le-ltb (length marks) 0 (omega arith))))
 
   module _ (store : List ℕ) (h : readRefusal (readAll s b) ≡ none) where
     abbrev rowed : List ℕ

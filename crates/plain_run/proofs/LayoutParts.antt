@@ -25,10 +25,10 @@ use Rattle.layout_facts.specs.Placing.{commentsOf as commentsOfNode, commentsIn
 use Rattle.layout_facts.proofs.Placing.{places-skip, places-push}
 use Rattle.layout_facts.proofs.InOrder.{places-shebang, places-declaration}
 use Rattle.cut_rule.specs.CutRule.{commentsIn}
-use Rattle.cut_rule.specs.Parts.{Cursor}
+use Rattle.cut_rule.specs.States.{Cursor}
 use Rattle.cut_rule.specs.PartLaws.{Counts, LayoutPartLaws, PlacesNext, CommentPartLaws}
 use Rattle.cut_rule.proofs.Comments.{comments-join}
-use Rattle.plain_run.specs.Parts.{treeOf, listed, actPiece, declarationAct, partsBy}
+use Rattle.plain_run.specs.Parts.{acceptedTree, listed, actPiece, declarationAct, partsBy}
 
 -- ---- rows
 counts : (a : Act) (c : Cursor) → Counts c (actPiece a c)
@@ -38,8 +38,8 @@ counts a c =
 
 pub layout-parts : (r : Read Image) (s b : List ℕ) → LayoutPartLaws (partsBy r s b)
 layout-parts r s b = record {
-  shebang-counts = λ e c. counts (shebangRule (given s b) (treeOf b r .shebang)) c;
-  declaration-counts = λ e n c l. counts (declarationAct s b n (nth (treeOf b r .declarations) n)) c;
+  shebang-counts = λ e c. counts (shebangRule (given s b) (acceptedTree b r .shebang)) c;
+  declaration-counts = λ e n c l. counts (declarationAct s b n (nth (acceptedTree b r .declarations) n)) c;
   final-counts = λ e c. counts (push line) c;
 }
 
@@ -119,7 +119,7 @@ module _ (s b : List ℕ) where
 
   pub comment-parts : (r : Read Image) → CommentPartLaws (partsBy r s b) (listed s b)
   comment-parts r =
-      let t = treeOf b r in
+      let t = acceptedTree b r in
       record {
         all-listed = sym (length-map (commentsOf b) _);
         shebang-places = λ e c h. places (shebangRule g (t .shebang)) c (places-shebang g (t .shebang)) h;

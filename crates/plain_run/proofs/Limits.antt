@@ -25,8 +25,8 @@ use Rattle.layout_facts.specs.Accepted.{Stands, Within}
 use Rattle.layout_facts.proofs.Limits.{stands, whole-within, upTo-within, due-passes}
 use Rattle.renderer_rules.specs.Check.{wrongPlace}
 use Rattle.cut_rule.specs.Rules.{LayoutResult}
-use Rattle.cut_rule.specs.Parts.{LayoutState}
-use Rattle.plain_run.specs.Parts.{readRefusal, treeOf}
+use Rattle.cut_rule.specs.States.{LayoutState}
+use Rattle.plain_run.specs.Parts.{readRefusal, acceptedTree}
 use Rattle.plain_run.specs.Demands.{Gives, Limited, AllLimited}
 use Rattle.plain_run.proofs.Whole.{fmt-parsed}
 
@@ -40,17 +40,17 @@ module _ (s b : List ℕ) where
   reads-image h w = rw (le-leb (length s) 65536 h, w)
 
   -- an accepted source and image have the tree at the answered offset
-  pub standing : (n at : ℕ) → answerOf (readAll s b) ≡ Accepted n at → Stands g (treeOf b (readAll s b)) at
+  pub standing : (n at : ℕ) → answerOf (readAll s b) ≡ Accepted n at → Stands g (acceptedTree b (readAll s b)) at
   standing n at h =
       let a = accepted s b n at h in
       let c = a .root in
       let same : readAll s b ≡ got (record { comments = n; tree = c .tree; at = at }) (length b) = reads-image (a .short) (a .well) ∙ c .whole in
-      subst (λ (t : SyntaxTree). Stands g t at) (sym (ap (treeOf b) same)) (stands false s b n at c)
+      subst (λ (t : SyntaxTree). Stands g t at) (sym (ap (acceptedTree b) same)) (stands false s b n at c)
 
   -- where the tree of what was read stands
   pub record Stood (r : Read Image) : Type 0 where
     pub at : ℕ
-    pub stood : Stands g (treeOf b r) at
+    pub stood : Stands g (acceptedTree b r) at
 
   stood : readRefusal (readAll s b) ≡ none → Stood (readAll s b)
   stood h = go (readAll s b) refl h
@@ -77,9 +77,9 @@ module _ (s b : List ℕ) where
       }
 
   -- a tree that stands in its image is laid within the limits, whatever way it was read
-  pub limited-by : (r : Read Image) → Stood r → AllLimited r s b (treeOf b r)
+  pub limited-by : (r : Read Image) → Stood r → AllLimited r s b (acceptedTree b r)
   limited-by r a =
-      let t = treeOf b r in
+      let t = acceptedTree b r in
       let f = fmt-parsed r s b in
       record {
         at-stop =
@@ -89,5 +89,5 @@ module _ (s b : List ℕ) where
         closed = limited r a _ _ (f .closed) (whole-within (a .stood));
       }
 
-  pub all-limited : readRefusal (readAll s b) ≡ none → AllLimited (readAll s b) s b (treeOf b (readAll s b))
+  pub all-limited : readRefusal (readAll s b) ≡ none → AllLimited (readAll s b) s b (acceptedTree b (readAll s b))
   all-limited h = limited-by (readAll s b) (stood h)

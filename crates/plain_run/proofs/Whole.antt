@@ -27,9 +27,10 @@ use Rattle.layout_facts.specs.Accepted.{fresh, upTo, callRule}
 use Rattle.renderer_rules.specs.Renderer.{renderNodes}
 use Rattle.cut_rule.specs.Rules.{LayoutArgs}
 use Rattle.cut_rule.specs.Parts as cut
-use Rattle.cut_rule.specs.Parts.{LayoutChoice, Cursor, LayoutState, Piece, Pen, layoutFresh, still, andThen, begin, several, end}
-use Rattle.plain_run.specs.Parts.{treeOf, actPiece, declarationAct, rendererOf, drawnBy, page, drawn, partsBy}
-use Rattle.plain_run.specs.Demands.{Gives, laidTo, stopAt, closeAt, FmtParsed}
+use Rattle.cut_rule.specs.States.{LayoutChoice, Cursor, LayoutState, Pen, layoutFresh}
+use Rattle.cut_rule.specs.Parts.{Piece, still, andThen, begin, several, end}
+use Rattle.plain_run.specs.Parts.{acceptedTree, actPiece, declarationAct, rendererOf, drawnBy, page, drawn, partsBy}
+use Rattle.plain_run.specs.Demands.{Gives, laidTo, stoppingAt, closingAt, FmtParsed}
 
 -- ---- pieces
 piece-then : (a b : Act) (c : Cursor) → actPiece (a ⨟ b) c ≡ andThen (actPiece a c) (actPiece b)
@@ -113,7 +114,7 @@ module _ (r : Read Image) (s b : List ℕ) where
   g = given s b
 
   abbrev tree : SyntaxTree
-  tree = treeOf b r
+  tree = acceptedTree b r
 
   abbrev ds : List Declaration
   ds = tree .declarations
@@ -208,10 +209,10 @@ module _ (r : Read Image) (s b : List ℕ) where
     at-stop =
         λ n h.
         let e = laid n h in
-        gives (stopAt n) (upTo g tree (take n ds)) (ap (λ (p : Piece). p .rows) e) (ap (λ (p : Piece). p .cursor) e);
+        gives (stoppingAt n) (upTo g tree (take n ds)) (ap (λ (p : Piece). p .rows) e) (ap (λ (p : Piece). p .cursor) e);
     closed =
         let e = closes in
-        gives (closeAt (length ds)) (fmtParsed g tree) (ap (λ (p : Piece). p .rows) e) (ap (λ (p : Piece). p .cursor) e);
+        gives (closingAt (length ds)) (fmtParsed g tree) (ap (λ (p : Piece). p .rows) e) (ap (λ (p : Piece). p .cursor) e);
   }
     where
       closes : andThen (several (partsBy r s b) (length ds - 0) 0 (partsBy r s b .shebang start)) (actPiece (push line)) ≡ actPiece (fmtParsed g tree) start

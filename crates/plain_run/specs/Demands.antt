@@ -20,8 +20,9 @@ use Rattle.cut_rule.specs.Rules.{LayoutArgs, LayoutResult, Rules}
 use Rattle.cut_rule.specs.Run.{Call, start}
 use Rattle.cut_rule.specs.Plain.{AllReadLaid}
 use Rattle.cut_rule.specs.CutRule.{CutRule}
-use Rattle.cut_rule.specs.Parts.{LayoutChoice, onlyLayoutChoice, Pen, LayoutState, layoutFresh, laidOf, rules}
-use Rattle.plain_run.specs.Parts.{readRefusal, treeOf, listed, rendererOf, drawnBy, page, drawn, partsBy}
+use Rattle.cut_rule.specs.States.{LayoutChoice, onlyLayoutChoice, Pen, LayoutState, layoutFresh}
+use Rattle.cut_rule.specs.Parts.{laidOf, rules}
+use Rattle.plain_run.specs.Parts.{readRefusal, acceptedTree, listed, rendererOf, drawnBy, page, drawn, partsBy}
 
 -- the rules and the table for one source s and one image b, by what was read of the image
 abbrev pub rulesBy : Read Image → List ℕ → List ℕ → Rules
@@ -57,21 +58,21 @@ abbrev pub laidTo : Read Image → List ℕ → List ℕ → LayoutArgs LayoutCh
 laidTo r s b q = laidOf (partsBy r s b) layoutFresh q
 
 -- the arguments that name a stop, and close there or not
-abbrev pub stopAt : ℕ → LayoutArgs LayoutChoice
-stopAt n = record { stop = n; close = false; choice = onlyLayoutChoice }
+abbrev pub stoppingAt : ℕ → LayoutArgs LayoutChoice
+stoppingAt n = record { stop = n; close = false; choice = onlyLayoutChoice }
 
-abbrev pub closeAt : ℕ → LayoutArgs LayoutChoice
-closeAt n = record { stop = n; close = true; choice = onlyLayoutChoice }
+abbrev pub closingAt : ℕ → LayoutArgs LayoutChoice
+closingAt n = record { stop = n; close = true; choice = onlyLayoutChoice }
 
 -- "The rows and state due at a stop are those `fmt_parsed` has when its loop reaches that declaration", and closed, those that it has in the
 -- end. (Of an image that is refused nothing is laid out but the final `Line`.)
 pub record FmtParsed (r : Read Image) (s b : List ℕ) (t : SyntaxTree) : Type 0 where
   pub at-stop : (n : ℕ) → n ≤ length (t .declarations)
-      → Gives s b (upTo (given s b) t (take n (t .declarations)) fresh) (laidTo r s b (stopAt n))
-  pub closed : Gives s b (fmtParsed (given s b) t fresh) (laidTo r s b (closeAt (length (t .declarations))))
+      → Gives s b (upTo (given s b) t (take n (t .declarations)) fresh) (laidTo r s b (stoppingAt n))
+  pub closed : Gives s b (fmtParsed (given s b) t fresh) (laidTo r s b (closingAt (length (t .declarations))))
 
 abbrev pub DueIsFmtParsed : Type 0
-DueIsFmtParsed = (r : Read Image) (s b : List ℕ) → FmtParsed r s b (treeOf b r)
+DueIsFmtParsed = (r : Read Image) (s b : List ℕ) → FmtParsed r s b (acceptedTree b r)
 
 -- ---- what is laid out of an accepted image
 -- It is within document 01's limits: 11 finds nothing wrong with its rows ("That no accepted tree yields deeper rows is proved"), and 12 none of
@@ -84,8 +85,8 @@ pub record Limited (s b : List ℕ) (l : LayoutResult LayoutState) : Type 0 wher
   pub placed-in : l .state .cursor .placed ≤ length (commentsOf b)
 
 pub record AllLimited (r : Read Image) (s b : List ℕ) (t : SyntaxTree) : Type 0 where
-  pub at-stop : (n : ℕ) → n ≤ length (t .declarations) → Limited s b (laidTo r s b (stopAt n))
-  pub closed : Limited s b (laidTo r s b (closeAt (length (t .declarations))))
+  pub at-stop : (n : ℕ) → n ≤ length (t .declarations) → Limited s b (laidTo r s b (stoppingAt n))
+  pub closed : Limited s b (laidTo r s b (closingAt (length (t .declarations))))
 
 abbrev pub LaidWithinLimits : Type 0
-LaidWithinLimits = (s b : List ℕ) → readRefusal (readAll s b) ≡ none → AllLimited (readAll s b) s b (treeOf b (readAll s b))
+LaidWithinLimits = (s b : List ℕ) → readRefusal (readAll s b) ≡ none → AllLimited (readAll s b) s b (acceptedTree b (readAll s b))

@@ -13,12 +13,12 @@ use Rattle.rows.specs.Rows.{sizes, rows}
 use Rattle.rows.specs.View.{cell}
 use Rattle.comments.specs.Listed.{span}
 use Rattle.cut_rule.specs.Run.{layoutCall, renderCall, Carried, start, run}
-use Rattle.cut_rule.specs.Parts.{onlyRenderChoice, layoutFresh}
-use Rattle.plain_run.specs.Demands.{rulesOf, closeAt}
+use Rattle.cut_rule.specs.States.{onlyRenderChoice, layoutFresh}
+use Rattle.plain_run.specs.Demands.{rulesOf, closingAt}
 
 -- ---- what an edge is
 -- nodes rendered as top rows, from an indent and a column: the text that this writes
-pub record Rendering : Type 0 where
+pub record EdgeRendering : Type 0 where
   pub source : List ℕ
   pub indent : ℕ
   pub column : ℕ
@@ -39,7 +39,7 @@ pub record EdgeFile : Type 0 where
   pub left : ℕ
 
 pub data Edge : Type 0 where
-  rendering : Rendering → Edge
+  rendering : EdgeRendering → Edge
   file : EdgeFile → Edge
 
 -- ---- running it
@@ -73,7 +73,7 @@ abbrev pub noBody : List ℕ
 noBody = 1 ∷ bytes4 0
 
 -- a rendering call over the rows of the nodes, with 2 marks and an output of 200 bytes
-abbrev pub rendersAs : Rendering → Seen
+abbrev pub rendersAs : EdgeRendering → Seen
 rendersAs e =
     let r = rulesOf (e .source) noBody in
     let w : Carried r = record {
@@ -105,7 +105,7 @@ formatsAs f =
     let r = rulesOf (f .source) image in
     seen (f .source) image
     (run r (start r (replicate 216 0) (0 ∷ 0 ∷ []))
-    (layoutCall (closeAt (length (f .declarations)))
+    (layoutCall (closingAt (length (f .declarations)))
     ∷ renderCall (record { stop = f .rows; room = 200; choice = onlyRenderChoice })
     ∷ []))
 

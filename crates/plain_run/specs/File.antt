@@ -16,8 +16,9 @@ use Rattle.layout_facts.specs.Accepted.{fresh}
 use Rattle.renderer_rules.specs.Renderer.{renderNodes}
 use Rattle.refusals.specs.Refusals.{Refusal, unless, first, refuseIf}
 use Rattle.cut_rule.specs.Run.{writeFront}
-use Rattle.cut_rule.specs.Parts.{Drawn, renderFresh}
-use Rattle.plain_run.specs.Parts.{readRefusal, treeOf, rendererOf, drawnBy, page}
+use Rattle.cut_rule.specs.States.{renderFresh}
+use Rattle.cut_rule.specs.Parts.{Drawn}
+use Rattle.plain_run.specs.Parts.{readRefusal, acceptedTree, rendererOf, drawnBy, page}
 
 -- What the run has of its own: "It has 1,800 rows, 1,800 marks and 65,536 output bytes." The output is lent.
 abbrev pub fileRows : ℕ
@@ -29,7 +30,7 @@ fileMarks = 1800
 module _ (s b : List ℕ) where
   -- what `fmt_parsed` builds
   abbrev pub built : Out
-  built = fmtParsed (given s b) (treeOf b (readAll s b)) fresh
+  built = fmtParsed (given s b) (acceptedTree b (readAll s b)) fresh
 
   -- "rows needed in all"
   abbrev pub rowsDue : ℕ

@@ -23,7 +23,8 @@ use Rattle.renderer_rules.specs.Page.{pageOf}
 use Rattle.renderer_rules.specs.Check.{wrongPlace}
 use Rattle.refusals.specs.Refusals.{Refusal, first, refuseIf}
 use Rattle.rows.specs.Node.{Text}
-use Rattle.cut_rule.specs.Parts.{Cursor, Piece, Pen, Drawn, RuleParts}
+use Rattle.cut_rule.specs.States.{Cursor, Pen}
+use Rattle.cut_rule.specs.Parts.{Piece, Drawn, RuleParts}
 
 -- ---- source and image
 -- 1 to 7
@@ -32,9 +33,9 @@ readRefusal (got i end) = none
 readRefusal (bad n p) = some (record { number = n; place = p })
 
 -- the syntax tree of an accepted image; nothing is laid out of another
-abbrev pub treeOf : List ℕ → Read Image → SyntaxTree
-treeOf b (got i end) = syntaxTree b (i .tree)
-treeOf b (bad n p) = record { shebang = none; declarations = [] }
+abbrev pub acceptedTree : List ℕ → Read Image → SyntaxTree
+acceptedTree b (got i end) = syntaxTree b (i .tree)
+acceptedTree b (bad n p) = record { shebang = none; declarations = [] }
 
 -- "rendering 1, 3 by the same tests"
 abbrev pub renderImage : List ℕ → List ℕ → Option Refusal
@@ -79,7 +80,7 @@ drawn s b z marks store i stop = drawnBy (renderNodes (page s b) (nodesAt (viewO
 -- by what was read of the image: another way to read is another r
 abbrev pub partsBy : Read Image → List ℕ → List ℕ → RuleParts
 partsBy r s b =
-    let tree = treeOf b r in
+    let tree = acceptedTree b r in
     record {
       source-size = length s;
       declarations = length (tree .declarations);

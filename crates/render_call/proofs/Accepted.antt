@@ -9,7 +9,7 @@ use lib.ListN.{length, take}
 use Rattle.rows.specs.Places.{PLACES}
 use Rattle.renderer_rules.specs.Limits.{MAX-INDENT, MAX-COLUMN}
 use Rattle.renderer_rules.specs.Check.{wrongPlace}
-use Rattle.cut_rule.specs.Parts.{oddMark}
+use Rattle.cut_rule.specs.Tests.{oddMark}
 use Rattle.cut_rule.proofs.Table.{before-told}
 use Rattle.marks.specs.Marks.{marksNeeded}
 use Rattle.plain_run.specs.Parts.{partsOf}

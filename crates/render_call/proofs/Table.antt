@@ -7,7 +7,7 @@ use Prim.Native.Nat.{ℕ}
 use borrow.Author.Tests.{not-true, not-false}
 use Rattle.refusals.specs.Refusals.{any, refuseIf}
 use Rattle.refusals.proofs.Groups.{group-refuses, group-passes}
-use Rattle.cut_rule.specs.Parts.{rowsIn, rowTests, penTests, markTests, renderTests}
+use Rattle.cut_rule.specs.Tests.{rowsIn, rowTests, penTests, markTests, renderTests}
 use Rattle.render_call.specs.Calls.{toState, toArgs, verdictRefusal}
 use Rattle.render_call.specs.declared.RenderState.{RenderState}
 use Rattle.render_call.specs.declared.RenderArgs.{RenderArgs}

@@ -17,7 +17,7 @@ use Rattle.rowcheck.specs.declared.Found.the-variants.{Right, Wrong}
 use Rattle.rows.specs.Limits.{MAX-ROWS}
 use Rattle.rows.specs.Places.{PLACES}
 use Rattle.refusals.specs.Refusals.{Refusal, refuseAt, first}
-use Rattle.cut_rule.specs.Parts.{oddMark}
+use Rattle.cut_rule.specs.Tests.{oddMark}
 
 -- ---- marks in use
 odd-next : (i n : ℕ) (m : List ℕ) → i < length m → oddMark (take (suc n) (drop i m)) ≡ (ltb 1 (getD m i 0) || oddMark (take n (drop (suc i) m)))

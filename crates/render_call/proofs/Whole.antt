@@ -12,7 +12,7 @@ use Rattle.refusals.proofs.Groups.{refuses-left, left-to}
 use Rattle.cut_rule.specs.Rules.{RenderResult}
 use Rattle.cut_rule.specs.Run.{writeFront, refused, written, answerBy}
 use Rattle.cut_rule.specs.Entries.{renderGives}
-use Rattle.cut_rule.specs.Parts as cut
+use Rattle.cut_rule.specs.States as states
 use Rattle.rows.specs.declared.units.Bytes.{Bytes}
 use Rattle.cut_rule.specs.Parts.{bytesNeeded, beforeText, textLine, renderTable}
 use Rattle.plain_run.specs.Parts.{partsOf}
@@ -41,7 +41,7 @@ module _ (s b : List ℕ) (state : RenderState) (args : RenderArgs) (store marks
   behind = textLine (partsOf s b) (toArgs args (length out)) (toState state) store marks
 
   -- what this call gives
-  abbrev gives : RenderResult cut.RenderState
+  abbrev gives : RenderResult states.RenderState
   gives = renderGives (rulesOf s b) (toArgs args (length out)) (toState state) store marks
 
   refused-by : (r : Refusal) (x : Rendering) → table ≡ some r → renderingAnswer s b x ≡ refused r → RenderCalled s b state args store marks out x store marks out

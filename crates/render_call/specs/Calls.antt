@@ -5,7 +5,7 @@ use Prim.Native.Nat.{ℕ}
 use Rattle.refusals.specs.Refusals.{Refusal, first}
 use Rattle.cut_rule.specs.Rules as cut
 use Rattle.cut_rule.specs.Run.{Answer, refused, written}
-use Rattle.cut_rule.specs.Parts as states
+use Rattle.cut_rule.specs.States as states
 use Rattle.cut_rule.specs.Parts.{beforeMarks, beforeText}
 use Rattle.plain_run.specs.Parts.{partsOf}
 use Rattle.plain_run.specs.Demands.{rulesOf}

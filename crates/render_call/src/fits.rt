@@ -4,7 +4,7 @@ ghost use mathlib.Core.Bool.{not};
 ghost use Prim.Native.Nat.{_≤_};
 ghost use lib.ListN.{length, take};
 ghost use Rattle.refusals.specs.Refusals.{refuseIf, any};
-ghost use Rattle.cut_rule.specs.Parts.{rowsIn, oddMark, rowTests, penTests, markTests, renderTests};
+ghost use Rattle.cut_rule.specs.Tests.{rowsIn, oddMark, rowTests, penTests, markTests, renderTests};
 ghost use Rattle.render_call.specs.Calls.{toState, toArgs, verdictRefusal};
 use crate::RenderArgs;
 use crate::RenderState;
