@@ -1,4 +1,4 @@
-pub mod Idents
+pub mod IdentLaws
 pub mod Lays
 pub mod Places
 pub mod Groups

@@ -38,9 +38,6 @@ typeRule mk g x = layout.typeForm g (mk (x .1))
 abbrev pub MaybePathAt : List ℕ → List ℕ → Option Path → ℕ → Type 0
 MaybePathAt s b = Maybe s b (PathAt s b)
 
-abbrev pub importFirst : Given → Option Path → Act
-importFirst = layout.importFirst
-
 -- at least one type from `from` up to `to`
 pub record SomeTypesAt (b : List ℕ) (from to : ℕ) : Type 0 where
   pub source : List ℕ

@@ -199,6 +199,22 @@ module _ (g : Given) where
   unfoldable pub separated : String → String → String → List Elem → Span → WrapStyle → Act
   separated start end separator es span style = grouped (λ id. inside start end separator es span style id)
 
+  -- `params`, `type_params`, `record_type`, `function_args` and `record`, over what the closure of each makes of the elements
+  abbrev pub params : List Elem → Span → Act
+  params es span = separated "(" ")" "," es span Tight
+
+  abbrev pub typeParams : List Elem → Span → Act
+  typeParams es span = separated "[" "]" "," es span Tight
+
+  abbrev pub recordTypeRule : List Elem → Span → WrapStyle → Act
+  recordTypeRule es span style = separated "{" "}" "," es span style
+
+  abbrev pub functionArgs : List Elem → Span → Act
+  functionArgs es span = separated "(" ")" "," es span Tight
+
+  abbrev pub recordRule : List Elem → Span → Act
+  recordRule es span = separated "{" "}" "," es span Spaced
+
   -- ---- `path`
   -- an identifier after the first, and all of them
   unfoldable pub pathNext : Bool → Ident → Act
@@ -222,7 +238,7 @@ module _ (g : Given) where
   abbrev pub named : Ident → Act → Act
   named i a = ident i ⨟ says ": " ⨟ a
 
-  -- ---- `type_expr`, `record_type`, `params`
+  -- ---- `type_expr`
   unfoldable mutual
     pub typeExpr : TypeExpr → Act
     typeExpr (type s f) = typeForm f
@@ -232,7 +248,7 @@ module _ (g : Given) where
     typeForm (typePath p a) = pathRule p true true ⨟ typeArgs a
     typeForm never = says "!"
     typeForm unit = says "()"
-    typeForm (recordType s fs) = separated "{" "}" "," (fieldElems fs) s Tight
+    typeForm (recordType s fs) = recordTypeRule (fieldElems fs) s Tight
 
     pub typeArgs : TypeArgs → Act
     typeArgs noArgs = skip
@@ -245,15 +261,6 @@ module _ (g : Given) where
     pub fieldElems : Fields → List Elem
     fieldElems noFields = []
     fieldElems (field s i t fs) = record { start = s .start; act = named i (typeExpr t) } ∷ fieldElems fs
-
-  unfoldable pub params : Fields → Span → Act
-  params fs s = separated "(" ")" "," (fieldElems fs) s Tight
-
-  unfoldable pub recordTypeRule : Fields → Span → WrapStyle → Act
-  recordTypeRule fs s style = separated "{" "}" "," (fieldElems fs) s style
-
-  unfoldable pub typeParams : Idents → Act
-  typeParams is = separated "[" "]" "," (identElems (is .elems)) (is .span) Tight
 
   -- ---- `import_path`
   abbrev pub importFirst : Option Path → Act
@@ -347,15 +354,14 @@ module _ (g : Given) where
         plain (λ outer. says "match " ⨟ whole (look e) Bottom ⨟ says " " ⨟ separated "{" "}" "" (armElems arms) t Wrap)
     lookForm s (functionCall e t es) =
         plain (λ outer.
-        cond (ltb outer Chain) (called (whole (look e) Chain) (separated "(" ")" "," (exprElems es) t Tight))
-        (whole (look e) Chain ⨟ separated "(" ")" "," (exprElems es) t Tight))
+        cond (ltb outer Chain) (called (whole (look e) Chain) (functionArgs (exprElems es) t)) (whole (look e) Chain ⨟ functionArgs (exprElems es) t))
     lookForm s (access e i) =
         plain (λ outer.
         cond (ltb outer Chain) (grouped (λ id. indentedNext (whole (look e) Chain ⨟ push line ⨟ says "." ⨟ ident i)))
         (whole (look e) Chain ⨟ push line ⨟ says "." ⨟ ident i))
     lookForm s (path p) = plain (λ outer. pathRule p (ltb outer Chain) true)
-    lookForm s (record′ t es) = plain (λ outer. separated "{" "}" "," (entryElems es) t Spaced)
-    lookForm s (typedRecord p t es) = plain (λ outer. pathRule p true true ⨟ says " " ⨟ separated "{" "}" "," (entryElems es) t Spaced)
+    lookForm s (record′ t es) = plain (λ outer. recordRule (entryElems es) t)
+    lookForm s (typedRecord p t es) = plain (λ outer. pathRule p true true ⨟ says " " ⨟ recordRule (entryElems es) t)
     lookForm s (list es) = plain (λ outer. separated "[" "]" "," (groupedElems es) s Tight)
     lookForm s (not′ e) = plain (λ outer. says "!" ⨟ whole (look e) Unit′)
     lookForm s (assign p e) = plain (λ outer. pathRule p true true ⨟ says " = " ⨟ whole (look e) Bottom)
@@ -381,7 +387,7 @@ module _ (g : Given) where
     otherwise noBlock = skip
     otherwise (someBlock b) = says " else " ⨟ blockRule b
 
-    -- the closures of `function_args`, of a list, of `record` and of `match`
+    -- the closures of `function_args`, of a list, of `record` and of `r#match`
     pub exprElems : Exprs → List Elem
     exprElems noExprs = []
     exprElems (e ∷ᵉ es) = record { start = exprSpan e .start; act = whole (look e) Bottom } ∷ exprElems es
@@ -448,7 +454,7 @@ module _ (g : Given) where
 
   abbrev pub someTypeParams : Option Idents → Act
   someTypeParams none = skip
-  someTypeParams (some is) = unlessEmpty (is .elems) (typeParams is)
+  someTypeParams (some is) = unlessEmpty (is .elems) (typeParams (identElems (is .elems)) (is .span))
 
   abbrev pub returnType : Option TypeExpr → Act
   returnType none = skip
@@ -468,12 +474,12 @@ module _ (g : Given) where
   declares w first i = opening (i .span .start) first ⨟ says w ⨟ ident i
 
   unfoldable pub declaration : Declaration → Bool → Act
-  declaration (filterMap i s fs b) first = declares "filtermap " first i ⨟ params fs s ⨟ says " " ⨟ blockRule b
+  declaration (filterMap i s fs b) first = declares "filtermap " first i ⨟ params (fieldElems fs) s ⨟ says " " ⨟ blockRule b
   declaration (const i t e) first = declares "const " first i ⨟ says ": " ⨟ typeExpr t ⨟ says " = " ⨟ exprRule e ⨟ says ";"
-  declaration (recordDecl i ps s fs) first = declares "record " first i ⨟ someTypeParams ps ⨟ says " " ⨟ recordTypeRule fs s Wrap
+  declaration (recordDecl i ps s fs) first = declares "record " first i ⨟ someTypeParams ps ⨟ says " " ⨟ recordTypeRule (fieldElems fs) s Wrap
   declaration (enumDecl i ps s vs) first =
       declares "enum " first i ⨟ someTypeParams ps ⨟ says " " ⨟ separated "{" "}" "," (variantElems vs) s Wrap
-  declaration (function i s fs t b) first = declares "fn " first i ⨟ params fs s ⨟ says " " ⨟ returnType t ⨟ blockRule b
+  declaration (function i s fs t b) first = declares "fn " first i ⨟ params (fieldElems fs) s ⨟ says " " ⨟ returnType t ⨟ blockRule b
   declaration (test i b) first = declares "test " first i ⨟ says " " ⨟ blockRule b
   declaration (importDecl p) first = opening (importSpan p .start) first ⨟ says "import " ⨟ importPath p ⨟ says ";"
 

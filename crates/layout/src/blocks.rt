@@ -10,20 +10,23 @@ ghost use Rattle.image.specs.Read.{stopAt, kindAt};
 ghost use Rattle.state.specs.Act.{when, says};
 ghost use Rattle.state.specs.Laid.{Room, Laid};
 ghost use Rattle.comments.specs.Listed.{given};
-ghost use Rattle.layout.specs.Layout.{beforeStmt, afterStmt, blockStart, assignSymbol};
-ghost use Rattle.layout.specs.Contracts.{Accepted, Within, Whole};
+ghost use Rattle.layout.specs.Layout.{beforeStmt, afterStmt, blockStart, assignSymbol, letType};
+ghost use Rattle.layout.specs.Contracts.{Accepted, Has, LaidAs, Within, Whole};
+ghost use Rattle.layout.specs.Forms.{MaybeTypeAt};
 use crate::numbers::HEAD;
 use crate::numbers::is_absent;
 use crate::numbers::kind;
 use crate::numbers::payload;
 use crate::numbers::second;
 use crate::pieces::gap;
+use crate::types::type_expr;
 use comments::pop_trailing_comment;
 use state::Cursor;
 use state::leaves::line;
 use state::leaves::wrap_parent;
 use state::words::ADD_ASSIGN;
 use state::words::BRACE_OPEN;
+use state::words::COLON;
 use state::words::COMMA;
 use state::words::SEMICOLON;
 use state::words::word;
@@ -134,4 +137,16 @@ pub(crate) fn assign_word(b: &[u8], at: usize) -> usize
     ensures { λ r. ⌜ getD table r "" ≡ assignSymbol (getD (now (b .entry)) (stopAt (now (b .entry)) (at + 13) + 13) 0) ⌝ }
 {
     ADD_ASSIGN + payload(b, second(b, at))
+}
+
+// The type of a `let`, where it is there.
+pub(crate) fn let_type(store: &mut [u32], c: Cursor, s: &[u8], b: &[u8], at: usize) -> Cursor
+    requires { ⌜ Has MaybeTypeAt letType (now s) (now b) at c ⌝ }
+    ensures { λ r. ⌜ LaidAs MaybeTypeAt letType (now (s .entry)) (now (b .entry)) at (now (store .entry)) c (now (store .exit)) r ⌝ }
+{
+    if is_absent(b, at) {
+        return c;
+    }
+    let d = word(store, c, COLON);
+    type_expr(store, d, s, b, at)
 }

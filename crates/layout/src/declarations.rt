@@ -13,11 +13,12 @@ ghost use Rattle.layout.specs.Forms.{two, three, four, five, OfDeclarati
 ghost use Rattle.layout.specs.Forms.{MaybeTypeAt, MaybeIdentAt, declarationsFrom};
 use crate::block;
 use crate::expr;
-use crate::item;
-use crate::kinds::BOTTOM;
-use crate::kinds::Element;
+use crate::idents::type_params;
+use crate::imports::import_path;
+use crate::kinds::ListForm;
 use crate::kinds::WrapStyle;
 use crate::numbers::HEAD;
+use crate::numbers::end;
 use crate::numbers::is_absent;
 use crate::numbers::kind;
 use crate::numbers::past;
@@ -25,8 +26,10 @@ use crate::numbers::second;
 use crate::numbers::start;
 use crate::numbers::third;
 use crate::paths::ident;
-use crate::seq;
-use crate::type_expr;
+use crate::types::params;
+use crate::types::record_type;
+use crate::types::type_expr;
+use crate::variants::separated;
 use comments::pop_whitespace;
 use image::bytes::num16;
 use rows::units::Bytes;
@@ -39,16 +42,12 @@ use state::words::ARROW;
 use state::words::ASSIGN;
 use state::words::BRACE_CLOSE;
 use state::words::BRACE_OPEN;
-use state::words::BRACKET_CLOSE;
-use state::words::BRACKET_OPEN;
 use state::words::COLON;
 use state::words::CONST;
 use state::words::ENUM;
 use state::words::FILTERMAP;
 use state::words::FN;
 use state::words::IMPORT;
-use state::words::PAREN_CLOSE;
-use state::words::PAREN_OPEN;
 use state::words::RECORD;
 use state::words::SEMICOLON;
 use state::words::SPACE;
@@ -99,7 +98,7 @@ fn declares(
 }
 
 // Type parameters, where there are any.
-fn type_params(store: &mut [u32], c: Cursor, s: &[u8], b: &[u8], at: usize) -> Cursor
+fn some_type_params(store: &mut [u32], c: Cursor, s: &[u8], b: &[u8], at: usize) -> Cursor
     requires { ⌜ Has MaybeListAt someTypeParams (now s) (now b) at c ⌝ }
     ensures { λ r. ⌜ LaidAs MaybeListAt someTypeParams (now (s .entry)) (now (b .entry)) at (now (store .entry)) c (now (store .exit)) r ⌝ }
 {
@@ -109,18 +108,7 @@ fn type_params(store: &mut [u32], c: Cursor, s: &[u8], b: &[u8], at: usize) -> C
     if at + HEAD == past(b, at) {
         return c;
     }
-    seq(
-        store,
-        c,
-        s,
-        b,
-        at,
-        Element::Ident,
-        BRACKET_OPEN,
-        BRACKET_CLOSE,
-        true,
-        WrapStyle::Tight,
-    )
+    type_params(store, c, s, b, at)
 }
 
 // The type that a function returns, where it says one.
@@ -143,18 +131,7 @@ fn filter_map(store: &mut [u32], c: Cursor, s: &[u8], b: &[u8], at: usize, first
     let p = second(b, at);
     let q = third(b, at);
     let d = declares(store, c, s, b, at + HEAD, FILTERMAP, first);
-    let e = seq(
-        store,
-        d,
-        s,
-        b,
-        p,
-        Element::Field,
-        PAREN_OPEN,
-        PAREN_CLOSE,
-        true,
-        WrapStyle::Tight,
-    );
+    let e = params(store, d, s, b, p);
     let f = word(store, e, SPACE);
     block(store, f, s, b, q)
 }
@@ -169,7 +146,7 @@ fn constant(store: &mut [u32], c: Cursor, s: &[u8], b: &[u8], at: usize, first: 
     let e = word(store, d, COLON);
     let f = type_expr(store, e, s, b, p);
     let g = word(store, f, ASSIGN);
-    let h = expr(store, g, s, b, q, BOTTOM);
+    let h = expr(store, g, s, b, q);
     word(store, h, SEMICOLON)
 }
 
@@ -180,20 +157,9 @@ fn decl_record(store: &mut [u32], c: Cursor, s: &[u8], b: &[u8], at: usize, firs
     let p = second(b, at);
     let q = third(b, at);
     let d = declares(store, c, s, b, at + HEAD, RECORD, first);
-    let e = type_params(store, d, s, b, p);
+    let e = some_type_params(store, d, s, b, p);
     let f = word(store, e, SPACE);
-    seq(
-        store,
-        f,
-        s,
-        b,
-        q,
-        Element::Field,
-        BRACE_OPEN,
-        BRACE_CLOSE,
-        true,
-        WrapStyle::Wrap,
-    )
+    record_type(store, f, s, b, q, WrapStyle::Wrap)
 }
 
 fn decl_enum(store: &mut [u32], c: Cursor, s: &[u8], b: &[u8], at: usize, first: bool) -> Cursor
@@ -203,20 +169,15 @@ fn decl_enum(store: &mut [u32], c: Cursor, s: &[u8], b: &[u8], at: usize, first:
     let p = second(b, at);
     let q = third(b, at);
     let d = declares(store, c, s, b, at + HEAD, ENUM, first);
-    let e = type_params(store, d, s, b, p);
+    let e = some_type_params(store, d, s, b, p);
     let f = word(store, e, SPACE);
-    seq(
-        store,
-        f,
-        s,
-        b,
-        q,
-        Element::Variant,
-        BRACE_OPEN,
-        BRACE_CLOSE,
-        true,
-        WrapStyle::Wrap,
-    )
+    let form = ListForm {
+        left: BRACE_OPEN,
+        right: BRACE_CLOSE,
+        commas: true,
+        style: WrapStyle::Wrap,
+    };
+    separated(store, f, s, b, q, end(b, q), form)
 }
 
 fn function(store: &mut [u32], c: Cursor, s: &[u8], b: &[u8], at: usize, first: bool) -> Cursor
@@ -226,18 +187,7 @@ fn function(store: &mut [u32], c: Cursor, s: &[u8], b: &[u8], at: usize, first: 
     let p = second(b, at);
     let q = third(b, at);
     let d = declares(store, c, s, b, at + HEAD, FN, first);
-    let e = seq(
-        store,
-        d,
-        s,
-        b,
-        p,
-        Element::Field,
-        PAREN_OPEN,
-        PAREN_CLOSE,
-        true,
-        WrapStyle::Tight,
-    );
+    let e = params(store, d, s, b, p);
     let f = word(store, e, SPACE);
     let g = return_type(store, f, s, b, q);
     block(store, g, s, b, past(b, q))
@@ -259,7 +209,7 @@ fn decl_import(store: &mut [u32], c: Cursor, s: &[u8], b: &[u8], at: usize, firs
 {
     let d = opening(store, c, s, b, start(b, at), first);
     let e = word(store, d, IMPORT);
-    let f = item(store, e, s, b, at);
+    let f = import_path(store, e, s, b, at);
     word(store, f, SEMICOLON)
 }
 

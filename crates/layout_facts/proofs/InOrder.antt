@@ -22,7 +22,7 @@ use Rattle.rows.specs.Node.{Text, ascii, str, line, lineOrSpace, wrapParent, if
 use Rattle.state.specs.Act.{Given, Act, push}
 use Rattle.layout.specs.declared.kinds.WrapStyle.{WrapStyle}
 use Rattle.layout.specs.declared.kinds.WrapStyle.the-variants.{Tight, Spaced, Wrap}
-use Rattle.layout.specs.Layout.{edge, isWrap, opens, ends, inside, beforeElem, pathNext, operator, whole, maybeExpr, placeholder, clause, blockStart, beforeStmt, afterStmt, lone, pickSpine, plain, extend, someTypeParams, Elem, Spine, Look, Bottom, Chain, Unit′, binopPrecedence, elements, separated, pathMore, pathRule, identElems, typeExpr, typeForm, typeArgs, typeElems, fieldElems, params, recordTypeRule, typeParams, importPath, importGroup, importItems, importElems, pattern, chained, literalRule, look, lookForm, otherwise, exprElems, groupedElems, entryElems, armElems, partsRule, blockRule, stmtsRule, lastRule, stmtRule, stmtForm, opening, variantElems, declaration, declares, shebangRule, declarationsRule, fmtParsed, importSpan, noneOf, isEmpty, isBlock, isBraced, unlessEmpty, oneOr}
+use Rattle.layout.specs.Layout.{edge, isWrap, opens, ends, inside, beforeElem, pathNext, operator, whole, maybeExpr, placeholder, clause, blockStart, beforeStmt, afterStmt, lone, pickSpine, plain, extend, someTypeParams, Elem, Spine, Look, Bottom, Chain, Unit′, binopPrecedence, elements, separated, pathMore, pathRule, identElems, typeExpr, typeForm, typeArgs, typeElems, fieldElems, params, typeParams, importPath, importGroup, importItems, importElems, pattern, chained, literalRule, look, lookForm, otherwise, exprElems, groupedElems, entryElems, armElems, partsRule, blockRule, stmtsRule, lastRule, stmtRule, stmtForm, opening, variantElems, declaration, declares, shebangRule, declarationsRule, fmtParsed, importSpan, noneOf, isEmpty, isBlock, isBraced, unlessEmpty, oneOr}
 use Rattle.comments.specs.Comments.{popWhitespace}
 use Rattle.layout_facts.specs.Placing.{commentsOf, commentsIn, trimmed, Places}
 use Rattle.layout_facts.specs.Accepted.{fresh, callRule}
@@ -328,12 +328,10 @@ module _ (g : Given) where
       places-asks (popWhitespace g p (not first) true (not first)) (places-gap p (not first) true (not first))
       (λ whitespace. places-when (not first && not whitespace) lined)
 
-  places-typeParams : (is : Idents) → Places g (typeParams g is)
-  unfolding typeParams
+  places-typeParams : (is : Idents) → Places g (typeParams g (identElems g (is .elems)) (is .span))
   places-typeParams is = places-separated "[" "]" "," (all-idents (is .elems)) (is .span) Tight
 
-  places-params : (fs : Fields) (s : Span) → Places g (params g fs s)
-  unfolding params
+  places-params : (fs : Fields) (s : Span) → Places g (params g (fieldElems g fs) s)
   places-params fs s = places-separated "(" ")" "," (all-fields fs) s Tight
 
   all-variants : (vs : Variants) → All (variantElems g vs)
@@ -353,7 +351,7 @@ module _ (g : Given) where
 
   -- ---- each declaration, and the whole file
   pub places-declaration : (d : Declaration) (first : Bool) → Places g (declaration g d first)
-  unfolding declaration declares recordTypeRule
+  unfolding declaration declares
   places-declaration (filterMap i s fs b) first =
       (places-opening (i .span .start) first ⨾ said ⨾ named) ⨾ places-params fs s ⨾ said ⨾ places-block b
   places-declaration (const i t e) first =
