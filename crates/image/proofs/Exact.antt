@@ -12,7 +12,7 @@ use lib.Seq.{drop-cons, take-add, drop-drop, length-take-le}
 use lib.Dec.{ltb, eqb}
 use borrow.Author.Tests.{ltb-false}
 use Rattle.image.specs.Bytes.{be32, part}
-use Rattle.image.specs.Grammar.{bare, place, after, over}
+use Rattle.image.specs.Grammar.{bare, place, after, complete}
 use Rattle.image.specs.Write.{bytes4, content, framed, written, writtens, plain, plains}
 use Rattle.image.specs.Read.{Read, got, bad, bind, headAt, stopAt, kindAt, Tree, Trees, absent, nil, _▸_, skips, childBy, childAt, recordAt, childrenAt, treeAt, stepOf}
 use Rattle.image.proofs.Shapes.{isGot, skips-within, opened-after, opened-order}
@@ -107,7 +107,7 @@ children-exact : (b : List ℕ) (one : ℕ → ℕ → ℕ → Read Tree) → Ri
     → childrenAt one n row at stop ≡ got ts e → part at stop b ≡ writtens (plains b ts)
 unfolding childrenAt written plain
 children-exact b one f zero row at stop ts e le l h = absurd (false≢true (ap isGot h))
-children-exact b one f (suc n) row at stop ts e le l h = go (ltb at stop) (eqb row 0) (over row) refl (children-exact b one f n (after row)) h
+children-exact b one f (suc n) row at stop ts e le l h = go (ltb at stop) (eqb row 0) (complete row) refl (children-exact b one f n (after row)) h
   where
     IH : Type 0
     IH = (a z : ℕ) (us : Trees) (k : ℕ) → a ≤ z → z ≤ length b → childrenAt one n (after row) a z ≡ got us k → part a z b ≡ writtens (plains b us)

@@ -9,7 +9,7 @@ use native.Mathlib.Omega.{arith}
 use native.Mathlib.Nat.{le-refl, le-of-suc-le-suc, not-suc-le-zero}
 use lib.Dec.{ltb, eqb}
 use borrow.Author.Tests.{ne-eqb, ltb-true, ltb-false}
-use Rattle.image.specs.Grammar.{bare, isMany, place, after, over}
+use Rattle.image.specs.Grammar.{bare, isMany, place, after, complete}
 use Rattle.image.specs.Read.{Read, got, bad, bind, Head, headAt, stopAt, Tree, Trees, absent, node, nil, _▸_, opens, skips, childBy, childAt, recordAt, childrenAt}
 use Rattle.image.proofs.Shapes.{Opened, opened, isGot}
 use Rattle.image.proofs.Reading.{EndsAt, within, record-bad, record-opens, children-end}
@@ -38,11 +38,11 @@ split-head one n p row at stop ts e (got t k) o h =
 split-head one n p row at stop ts e (bad m q) o h = absurd (false≢true (ap isGot h))
 
 -- a child that is due is there
-pub must : (one : ℕ → ℕ → ℕ → Read Tree) (n row at stop : ℕ) (ts : Trees) (e : ℕ) → over row ≡ false
+pub must : (one : ℕ → ℕ → ℕ → Read Tree) (n row at stop : ℕ) (ts : Trees) (e : ℕ) → complete row ≡ false
     → childrenAt one n row at stop ≡ got ts e → Split one (place row) (after row) at stop ts e
 unfolding childrenAt
 must one zero row at stop ts e o h = absurd (false≢true (ap isGot h))
-must one (suc n) row at stop ts e o h = go (ltb at stop) (eqb row 0) (over row) o h
+must one (suc n) row at stop ts e o h = go (ltb at stop) (eqb row 0) (complete row) o h
   where
     go : (t₁ t₂ t₃ : Bool) → t₃ ≡ false
         → cond t₁
@@ -148,11 +148,11 @@ children-more one two f (suc n) row at stop ts e h = go (ltb at stop) (eqb row 0
     go : (t₁ t₂ : Bool) → ((a z : ℕ) (us : Trees) (k : ℕ) → childrenAt one n (after row) a z ≡ got us k → childrenAt two n (after row) a z ≡ got us k)
         → cond t₁
         (cond t₂ (bad 4 at) (bind (one (place row) at stop) (λ t next. bind (childrenAt one n (after row) next stop) (λ us end. got (t ▸ us) end))))
-        (cond (over row) (got nil stop) (bad 4 at))
+        (cond (complete row) (got nil stop) (bad 4 at))
         ≡ got ts e
         → cond t₁
         (cond t₂ (bad 4 at) (bind (two (place row) at stop) (λ t next. bind (childrenAt two n (after row) next stop) (λ us end. got (t ▸ us) end))))
-        (cond (over row) (got nil stop) (bad 4 at))
+        (cond (complete row) (got nil stop) (bad 4 at))
         ≡ got ts e
     go true true g h = h
     go true false g h = heads (one (place row) at stop) refl g h

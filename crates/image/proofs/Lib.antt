@@ -11,3 +11,4 @@ pub mod Answers
 pub mod Exact
 pub mod Examples
 pub mod Numbers
+pub mod Unpacked

@@ -10,7 +10,7 @@ use Rattle.refusals.specs.Refusals.{isOneOf}
 use Rattle.text.specs.Utf8.{wellFormed}
 use Rattle.text.specs.Newlines.{isRange}
 use Rattle.image.specs.Bytes.{be16, be32}
-use Rattle.image.specs.Grammar.{bare, place, after, over, rowUnder}
+use Rattle.image.specs.Grammar.{bare, place, after, complete, rowUnder}
 use Rattle.image.specs.Read.{Read, got, bad, bind, Tree, absent, nil, header, widthBytes, commentFits, commentsFrom, comments, shape, opens, skips, childAt, recordAt, childrenAt, treeAt, readTree, readImage, sourceFits, readAll, readNumbers, ReadNumbers}
 
 -- read, or refused with a number of the reader
@@ -43,7 +43,7 @@ children-known one stop f (suc n) row at =
     (pick (eqb row 0) (bad 4 at) _ refl
     (then (one (place row) at stop) _ (f (place row) at)
     (λ t q e. then (childrenAt one n (after row) q stop) _ (later q) (λ ts end e. tt))))
-    (pick (over row) (got nil stop) (bad 4 at) tt refl)
+    (pick (complete row) (got nil stop) (bad 4 at) tt refl)
 
 -- with no level left
 deep-known : (s b : List ℕ) (v p at end : ℕ) → Known (recordAt s b v 0 p at end)

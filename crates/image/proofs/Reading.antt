@@ -10,7 +10,7 @@ use lib.ListN.{length}
 use lib.Dec.{ltb, eqb}
 use borrow.Author.Tests.{lt-ltb, le-ltb, eq-eqb, ne-eqb}
 use Rattle.image.specs.Bytes.{be32}
-use Rattle.image.specs.Grammar.{bare, place, after, over, rowUnder, firstChild}
+use Rattle.image.specs.Grammar.{bare, place, after, complete, rowUnder, firstChild}
 use Rattle.image.specs.Read.{Read, got, bad, bind, Head, headAt, stopAt, kindAt, Tree, Trees, absent, node, nil, _▸_, opens, skips, childAt, recordAt, childrenAt, openOf, stepOf}
 use Rattle.image.specs.declared.records.Step.{Step}
 use Rattle.image.specs.declared.records.Step.the-variants.{Next, Fault}
@@ -67,16 +67,16 @@ open-record s b v left p at end f st row e = go (opens s b v left p at end) refl
           rows = (cc) ∙ ap (λ (g : Head). rowUnder p (g .kind)) is;
         }
 
--- ---- the loop over the children
+-- ---- the loop complete the children
 pub spare : (one : ℕ → ℕ → ℕ → Read Tree) (n row at stop : ℕ) → at < stop → row ≡ 0 → childrenAt one (suc n) row at stop ≡ bad 4 at
 unfolding childrenAt
 spare one n row at stop h e = simp (lt-ltb at stop h, eq-eqb row 0 e)
 
-pub missing : (one : ℕ → ℕ → ℕ → Read Tree) (n row at stop : ℕ) → stop ≤ at → over row ≡ false → childrenAt one (suc n) row at stop ≡ bad 4 at
+pub missing : (one : ℕ → ℕ → ℕ → Read Tree) (n row at stop : ℕ) → stop ≤ at → complete row ≡ false → childrenAt one (suc n) row at stop ≡ bad 4 at
 unfolding childrenAt
 missing one n row at stop h m = simp (le-ltb at stop h, m)
 
-pub ended : (one : ℕ → ℕ → ℕ → Read Tree) (n row at stop : ℕ) → stop ≤ at → over row ≡ true → childrenAt one (suc n) row at stop ≡ got nil stop
+pub ended : (one : ℕ → ℕ → ℕ → Read Tree) (n row at stop : ℕ) → stop ≤ at → complete row ≡ true → childrenAt one (suc n) row at stop ≡ got nil stop
 unfolding childrenAt
 ended one n row at stop h m = simp (le-ltb at stop h, m)
 
@@ -156,7 +156,7 @@ children-end one (suc n) row at stop =
     (cond-ends stop (eqb row 0) (bad 4 at) _ tt
     (bind-ends stop (one (place row) at stop) _
     (λ t next. map-ends stop (childrenAt one n (after row) next stop) t (children-end one n (after row) next stop))))
-    (cond-ends stop (over row) (got nil stop) (bad 4 at) refl tt)
+    (cond-ends stop (complete row) (got nil stop) (bad 4 at) refl tt)
 
 pub record-steps : (s b : List ℕ) (v left p at end f st row : ℕ) → Opens s b v left p at end f st row
     → stepOf (recordAt s b v left p at end) ≡ stepOf (childrenAt (childAt s b v (left - 1)) (suc (length b)) row f st)

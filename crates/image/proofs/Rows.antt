@@ -10,7 +10,7 @@ use native.Mathlib.Nat.{lt-irrefl, lt-of-lt-of-le}
 use lib.ListN.{length}
 use lib.Dec.{lit≤}
 use Rattle.image.specs.Bytes.{be32}
-use Rattle.image.specs.Grammar.{bare, isList, isOptional, isMany, many, element, place, after, over, rowOf, rowUnder, firstChild}
+use Rattle.image.specs.Grammar.{bare, isList, isOptional, isMany, many, element, place, after, complete, rowOf, rowUnder, firstChild}
 use Rattle.image.specs.Read.{got, headAt, stopAt, kindAt, Tree, Trees, absent, node, nil, _▸_, skips, childAt, recordAt, childrenAt, treeAt}
 use Rattle.image.proofs.Shapes.{Opened, opened-order, skips-within, kind-list}
 use Rattle.image.proofs.Inside.{inside, none-deep, record-more, Split, must, any-number, none-left}
@@ -84,7 +84,7 @@ module _ (s b : List ℕ) (v : ℕ) where
   plain-place left p at stop e = simp e
 
   -- one record is due
-  pub row-must : (row at stop : ℕ) (ts : Trees) → over row ≡ false → isOptional (place row) ≡ false → Row s b v row at stop ts
+  pub row-must : (row at stop : ℕ) (ts : Trees) → complete row ≡ false → isOptional (place row) ≡ false → Row s b v row at stop ts
       → More s b v (bare (place row)) (after row) at stop ts
   row-must row at stop ts o f r =
       let c = must (childAt s b v (r .levels)) (r .turns) row at stop ts stop o (r .reads) in
@@ -105,7 +105,7 @@ module _ (s b : List ℕ) (v : ℕ) where
       (any-number (childAt s b v (r .levels)) (r .turns) row at stop ts stop z m (r .reads))
 
   -- one child is due and may be absent
-  pub row-may : (row at stop : ℕ) (ts : Trees) → over row ≡ false → Row s b v row at stop ts
+  pub row-may : (row at stop : ℕ) (ts : Trees) → complete row ≡ false → Row s b v row at stop ts
       → Gone s b v (after row) at stop ts ⊎ More s b v (bare (place row)) (after row) at stop ts
   row-may row at stop ts o r = go (skips b (place row) at stop) refl (c .reads)
     where
@@ -130,11 +130,11 @@ module _ (s b : List ℕ) (v : ℕ) where
       go false k h = inr (more-of (place row) (after row) at stop ts (r .levels) (r .low) (r .far) c h)
 
   -- a length other than 0 says that an optional child is there, and 0 that it is not
-  pub row-there : (row at stop : ℕ) (ts : Trees) → over row ≡ false → ¬ (be32 b at ≡ 0) → Row s b v row at stop ts
+  pub row-there : (row at stop : ℕ) (ts : Trees) → complete row ≡ false → ¬ (be32 b at ≡ 0) → Row s b v row at stop ts
       → More s b v (bare (place row)) (after row) at stop ts
   row-there row at stop ts o n r = ⊎-elim (λ g. absurd (n (g .none))) (λ m. m) (row-may row at stop ts o r)
 
-  pub row-absent : (row at stop : ℕ) (ts : Trees) → over row ≡ false → be32 b at ≡ 0 → Row s b v row at stop ts → Gone s b v (after row) at stop ts
+  pub row-absent : (row at stop : ℕ) (ts : Trees) → complete row ≡ false → be32 b at ≡ 0 → Row s b v row at stop ts → Gone s b v (after row) at stop ts
   row-absent row at stop ts o z r = ⊎-elim (λ g. g) (λ m. absurd (omega (arith, m .here .long))) (row-may row at stop ts o r)
 
   -- no place is left

@@ -7,6 +7,11 @@ use lib.ListN.{getD}
 use lib.Dec.{ltb, leb, eqb}
 use Rattle.text.specs.Utf8.{wellFormed}
 use Rattle.image.specs.Bytes.{part}
+use Rattle.image.specs.Kinds.{ACCESS, ARM, ASSIGN, BIN-OP, BLOCK, BLOCK-EXPR, COMPOUND-ASSIGN, CONST, ENUM, ENUM-VARIANT, EXPR-PART}
+use Rattle.image.specs.Kinds.{EXPR-STMT, F-STRING, FIELD, FILTER-MAP, FOR, FUNCTION, FUNCTION-CALL, IF-ELSE, IMPORT, IMPORT-STMT, LET, LIST}
+use Rattle.image.specs.Kinds.{LIST-EXPR, LITERAL, LITERAL-EXPR, MATCH, NAME-AND-TYPE, NEGATE, NOT, OPERATOR, OPTION, PARENTHESES, PATH}
+use Rattle.image.specs.Kinds.{PATH-EXPR, QUESTION-MARK, RECORD, RECORD-EXPR, RECORD-FIELDS, RECORD-TYPE, RETURN, TEST, TEXT, TEXT-PART}
+use Rattle.image.specs.Kinds.{TREE, TYPE-PATH, TYPED-RECORD, UNDERSCORE, VARIANT, WHILE}
 
 -- ---- places
 -- any kind of low to high; a kind alone is the place for that kind
@@ -17,9 +22,9 @@ upTo low high = low + 128 * (high - low)
 abbrev pub list : ℕ → ℕ
 list p = 4096 + p
 
--- 86 under 62, an operator of `CompoundAssignOp`
+-- an operator of `CompoundAssignOp`, which stands under 62
 abbrev pub assign : ℕ
-assign = 8192 + 86
+assign = 8192 + OPERATOR
 
 -- p?
 abbrev pub may : ℕ → ℕ
@@ -51,17 +56,23 @@ abbrev pub element : ℕ → ℕ
 element p = p % 4096
 
 -- the kinds that document 01 names together
-abbrev pub declaration : ℕ
-declaration = upTo 10 16
+abbrev pub anyDeclaration : ℕ
+anyDeclaration = upTo FILTER-MAP IMPORT
 
-abbrev pub statement : ℕ
-statement = upTo 30 32
+abbrev pub anyStatement : ℕ
+anyStatement = upTo LET EXPR-STMT
 
-abbrev pub type : ℕ
-type = upTo 40 44
+abbrev pub anyType : ℕ
+anyType = upTo OPTION RECORD-TYPE
 
-abbrev pub expr : ℕ
-expr = upTo 50 70
+abbrev pub anyExpr : ℕ
+anyExpr = upTo RETURN PARENTHESES
+
+abbrev pub anyPattern : ℕ
+anyPattern = upTo UNDERSCORE ENUM-VARIANT
+
+abbrev pub anyPart : ℕ
+anyPart = upTo TEXT-PART EXPR-PART
 
 -- ---- rows
 infixr 40 _⊳_
@@ -83,70 +94,70 @@ abbrev pub after : ℕ → ℕ
 after row = cond (isMany row) row (row / 65536)
 
 -- no child is due any more
-abbrev pub over : ℕ → Bool
-over row = eqb row 0 || isMany row
+abbrev pub complete : ℕ → Bool
+complete row = eqb row 0 || isMany row
 
 -- a rule gives the row of a kind; a kind without a rule has no children
-pub data Rules : Type 0 where
-  others : Rules
-  _⇒_∣_ : ℕ → ℕ → Rules → Rules
+pub data Grammar : Type 0 where
+  others : Grammar
+  _⇒_∣_ : ℕ → ℕ → Grammar → Grammar
 
 -- document 01's table
-abbrev pub rules : Rules
-rules =
-    1 ⇒ may 2 ⊳ many declaration ⊳ none ∣
-    4 ⇒ 2 ⊳ many 2 ⊳ none ∣
-    10 ⇒ 2 ⊳ list 20 ⊳ 23 ⊳ none ∣
-    11 ⇒ 2 ⊳ type ⊳ expr ⊳ none ∣
-    12 ⇒ 2 ⊳ may (list 2) ⊳ list 20 ⊳ none ∣
-    13 ⇒ 2 ⊳ may (list 2) ⊳ list 21 ⊳ none ∣
-    14 ⇒ 2 ⊳ list 20 ⊳ may type ⊳ 23 ⊳ none ∣
-    15 ⇒ 2 ⊳ 23 ⊳ none ∣
-    16 ⇒ may 4 ⊳ may (list 16) ⊳ none ∣
-    20 ⇒ 2 ⊳ type ⊳ none ∣
-    21 ⇒ 2 ⊳ list type ⊳ none ∣
-    22 ⇒ 2 ⊳ expr ⊳ none ∣
-    23 ⇒ list statement ⊳ may expr ⊳ none ∣
-    30 ⇒ 2 ⊳ may type ⊳ expr ⊳ none ∣
-    31 ⇒ 16 ⊳ none ∣
-    32 ⇒ expr ⊳ none ∣
-    40 ⇒ type ⊳ none ∣
-    41 ⇒ 4 ⊳ may (list type) ⊳ none ∣
-    44 ⇒ list 20 ⊳ none ∣
-    50 ⇒ may expr ⊳ none ∣
-    51 ⇒ 87 ⊳ none ∣
-    52 ⇒ 23 ⊳ none ∣
-    53 ⇒ expr ⊳ list 81 ⊳ none ∣
-    54 ⇒ expr ⊳ list expr ⊳ none ∣
-    55 ⇒ expr ⊳ 2 ⊳ none ∣
-    56 ⇒ 4 ⊳ none ∣
-    57 ⇒ 80 ⊳ none ∣
-    58 ⇒ 4 ⊳ 80 ⊳ none ∣
-    59 ⇒ list expr ⊳ none ∣
-    60 ⇒ expr ⊳ none ∣
-    61 ⇒ 4 ⊳ expr ⊳ none ∣
-    62 ⇒ 4 ⊳ assign ⊳ expr ⊳ none ∣
-    63 ⇒ expr ⊳ 86 ⊳ expr ⊳ none ∣
-    64 ⇒ expr ⊳ none ∣
-    65 ⇒ expr ⊳ 23 ⊳ may 23 ⊳ none ∣
-    66 ⇒ expr ⊳ 23 ⊳ none ∣
-    67 ⇒ 2 ⊳ expr ⊳ 23 ⊳ none ∣
-    68 ⇒ expr ⊳ none ∣
-    69 ⇒ list (upTo 84 85) ⊳ none ∣
-    70 ⇒ expr ⊳ none ∣
-    80 ⇒ many 22 ⊳ none ∣
-    81 ⇒ upTo 82 83 ⊳ may expr ⊳ expr ⊳ none ∣
-    83 ⇒ 2 ⊳ may (list 2) ⊳ none ∣
-    85 ⇒ expr ⊳ none ∣
+abbrev pub grammar : Grammar
+grammar =
+    TREE ⇒ may TEXT ⊳ many anyDeclaration ⊳ none ∣
+    PATH ⇒ TEXT ⊳ many TEXT ⊳ none ∣
+    FILTER-MAP ⇒ TEXT ⊳ list NAME-AND-TYPE ⊳ BLOCK ⊳ none ∣
+    CONST ⇒ TEXT ⊳ anyType ⊳ anyExpr ⊳ none ∣
+    RECORD ⇒ TEXT ⊳ may (list TEXT) ⊳ list NAME-AND-TYPE ⊳ none ∣
+    ENUM ⇒ TEXT ⊳ may (list TEXT) ⊳ list VARIANT ⊳ none ∣
+    FUNCTION ⇒ TEXT ⊳ list NAME-AND-TYPE ⊳ may anyType ⊳ BLOCK ⊳ none ∣
+    TEST ⇒ TEXT ⊳ BLOCK ⊳ none ∣
+    IMPORT ⇒ may PATH ⊳ may (list IMPORT) ⊳ none ∣
+    NAME-AND-TYPE ⇒ TEXT ⊳ anyType ⊳ none ∣
+    VARIANT ⇒ TEXT ⊳ list anyType ⊳ none ∣
+    FIELD ⇒ TEXT ⊳ anyExpr ⊳ none ∣
+    BLOCK ⇒ list anyStatement ⊳ may anyExpr ⊳ none ∣
+    LET ⇒ TEXT ⊳ may anyType ⊳ anyExpr ⊳ none ∣
+    IMPORT-STMT ⇒ IMPORT ⊳ none ∣
+    EXPR-STMT ⇒ anyExpr ⊳ none ∣
+    OPTION ⇒ anyType ⊳ none ∣
+    TYPE-PATH ⇒ PATH ⊳ may (list anyType) ⊳ none ∣
+    RECORD-TYPE ⇒ list NAME-AND-TYPE ⊳ none ∣
+    RETURN ⇒ may anyExpr ⊳ none ∣
+    LITERAL-EXPR ⇒ LITERAL ⊳ none ∣
+    BLOCK-EXPR ⇒ BLOCK ⊳ none ∣
+    MATCH ⇒ anyExpr ⊳ list ARM ⊳ none ∣
+    FUNCTION-CALL ⇒ anyExpr ⊳ list anyExpr ⊳ none ∣
+    ACCESS ⇒ anyExpr ⊳ TEXT ⊳ none ∣
+    PATH-EXPR ⇒ PATH ⊳ none ∣
+    RECORD-EXPR ⇒ RECORD-FIELDS ⊳ none ∣
+    TYPED-RECORD ⇒ PATH ⊳ RECORD-FIELDS ⊳ none ∣
+    LIST-EXPR ⇒ list anyExpr ⊳ none ∣
+    NOT ⇒ anyExpr ⊳ none ∣
+    ASSIGN ⇒ PATH ⊳ anyExpr ⊳ none ∣
+    COMPOUND-ASSIGN ⇒ PATH ⊳ assign ⊳ anyExpr ⊳ none ∣
+    BIN-OP ⇒ anyExpr ⊳ OPERATOR ⊳ anyExpr ⊳ none ∣
+    NEGATE ⇒ anyExpr ⊳ none ∣
+    IF-ELSE ⇒ anyExpr ⊳ BLOCK ⊳ may BLOCK ⊳ none ∣
+    WHILE ⇒ anyExpr ⊳ BLOCK ⊳ none ∣
+    FOR ⇒ TEXT ⊳ anyExpr ⊳ BLOCK ⊳ none ∣
+    QUESTION-MARK ⇒ anyExpr ⊳ none ∣
+    F-STRING ⇒ list anyPart ⊳ none ∣
+    PARENTHESES ⇒ anyExpr ⊳ none ∣
+    RECORD-FIELDS ⇒ many FIELD ⊳ none ∣
+    ARM ⇒ anyPattern ⊳ may anyExpr ⊳ anyExpr ⊳ none ∣
+    ENUM-VARIANT ⇒ TEXT ⊳ may (list TEXT) ⊳ none ∣
+    EXPR-PART ⇒ anyExpr ⊳ none ∣
     others
 
 -- the row of kind k
-abbrev pub look : ℕ → Rules → ℕ
-look k others = none
-look k (n ⇒ r ∣ rs) = cond (eqb k n) r (look k rs)
+abbrev pub rowIn : ℕ → Grammar → ℕ
+rowIn k others = none
+rowIn k (n ⇒ r ∣ rs) = cond (eqb k n) r (rowIn k rs)
 
 unfoldable pub rowOf : ℕ → ℕ
-rowOf k = look k rules
+rowOf k = rowIn k grammar
 
 -- the row of a record of kind k at place p: a list's element kind is set by its place
 unfoldable pub rowUnder : ℕ → ℕ → ℕ
@@ -154,24 +165,24 @@ rowUnder p k = cond (isList p) (many (element p)) (rowOf k)
 
 -- kind k is right at place p
 unfoldable pub kindFits : ℕ → ℕ → Bool
-kindFits p k = cond (isList p) (eqb k 3) (leb (p % 128) k && leb k (p % 128 + p / 128 % 32))
+kindFits p k = cond (isList p) (eqb k LIST) (leb (p % 128) k && leb k (p % 128 + p / 128 % 32))
 
 -- ---- payloads
 -- the kinds with a payload byte: return, operator, literal
 abbrev pub hasByte : ℕ → Bool
-hasByte k = eqb k 50 || eqb k 86 || eqb k 87
+hasByte k = eqb k RETURN || eqb k OPERATOR || eqb k LITERAL
 
 -- the largest payload byte of such a kind at place p
 abbrev pub topByte : ℕ → ℕ → ℕ
-topByte p k = cond (eqb k 50) 2 (cond (eqb k 87) 3 (cond (isAssign p) 4 13))
+topByte p k = cond (eqb k RETURN) 2 (cond (eqb k LITERAL) 3 (cond (isAssign p) 4 13))
 
 -- What follows a record's span, from `from` to `stop`, starts with a payload right for kind k at place p. A text's width has v bytes.
 unfoldable pub payloadFits : List ℕ → ℕ → ℕ → ℕ → ℕ → ℕ → Bool
 payloadFits b v p k from stop =
-    cond (eqb k 2) (leb (from + v) stop && wellFormed (part (from + v) stop b))
+    cond (eqb k TEXT) (leb (from + v) stop && wellFormed (part (from + v) stop b))
     (cond (hasByte k) (ltb from stop && leb (getD b from 0) (topByte p k))
     true)
 
 -- where the payload ends and the children start: a text is payload to its end
 unfoldable pub firstChild : ℕ → ℕ → ℕ → ℕ
-firstChild k from stop = cond (eqb k 2) stop (cond (hasByte k) (from + 1) from)
+firstChild k from stop = cond (eqb k TEXT) stop (cond (hasByte k) (from + 1) from)

@@ -1,4 +1,6 @@
 pub mod Bytes
+pub mod Kinds
 pub mod Grammar
+pub mod Unpacked
 pub mod Read
 pub mod Write

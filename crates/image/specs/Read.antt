@@ -10,7 +10,7 @@ use Rattle.refusals.specs.Refusals.{Refusal, isOneOf}
 use Rattle.text.specs.Utf8.{prefix, wellFormed}
 use Rattle.text.specs.Newlines.{isRange}
 use Rattle.image.specs.Bytes.{be16, be32}
-use Rattle.image.specs.Grammar.{isOptional, bare, place, after, over, rowUnder, kindFits, payloadFits, firstChild}
+use Rattle.image.specs.Grammar.{isOptional, bare, place, after, complete, rowUnder, kindFits, payloadFits, firstChild}
 use Rattle.image.specs.declared.records.Open.{Open}
 use Rattle.image.specs.declared.records.Open.the-variants.{Record, Wrong}
 use Rattle.image.specs.declared.records.Step.{Step}
@@ -124,7 +124,7 @@ childrenAt one (suc n) row at stop =
     cond (ltb at stop)
     (cond (eqb row 0) (bad 4 at)
     (bind (one (place row) at stop) (λ t next. bind (childrenAt one n (after row) next stop) (λ ts end. got (t ▸ ts) end))))
-    (cond (over row) (got nil stop) (bad 4 at))
+    (cond (complete row) (got nil stop) (bad 4 at))
 
 -- length 0 alone, at a place marked `?`
 unfoldable pub skips : List ℕ → ℕ → ℕ → ℕ → Bool

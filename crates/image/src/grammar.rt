@@ -5,8 +5,58 @@ ghost use Prim.Native.Nat.{_+_, _≤_, _<_, _^_};
 ghost use lib.ListN.{length};
 ghost use Rattle.text.specs.Utf8.{wellFormed};
 ghost use Rattle.image.specs.Bytes.{part};
-ghost use Rattle.image.specs.Grammar.{rowOf, rowUnder, kindFits, hasByte, topByte, payloadFits, firstChild, after, over};
+ghost use Rattle.image.specs.Grammar.{rowOf, rowUnder, kindFits, hasByte, topByte, payloadFits, firstChild, after, complete};
 use crate::bytes::wide;
+use crate::kinds::ACCESS;
+use crate::kinds::ARM;
+use crate::kinds::ASSIGN;
+use crate::kinds::BIN_OP;
+use crate::kinds::BLOCK;
+use crate::kinds::BLOCK_EXPR;
+use crate::kinds::COMPOUND_ASSIGN;
+use crate::kinds::CONST;
+use crate::kinds::ENUM;
+use crate::kinds::ENUM_VARIANT;
+use crate::kinds::EXPR_PART;
+use crate::kinds::EXPR_STMT;
+use crate::kinds::FIELD;
+use crate::kinds::FILTER_MAP;
+use crate::kinds::FOR;
+use crate::kinds::FUNCTION;
+use crate::kinds::FUNCTION_CALL;
+use crate::kinds::F_STRING;
+use crate::kinds::IF_ELSE;
+use crate::kinds::IMPORT;
+use crate::kinds::IMPORT_STMT;
+use crate::kinds::LET;
+use crate::kinds::LIST;
+use crate::kinds::LIST_EXPR;
+use crate::kinds::LITERAL;
+use crate::kinds::LITERAL_EXPR;
+use crate::kinds::MATCH;
+use crate::kinds::NAME_AND_TYPE;
+use crate::kinds::NEGATE;
+use crate::kinds::NOT;
+use crate::kinds::OPERATOR;
+use crate::kinds::OPTION;
+use crate::kinds::PARENTHESES;
+use crate::kinds::PATH;
+use crate::kinds::PATH_EXPR;
+use crate::kinds::QUESTION_MARK;
+use crate::kinds::RECORD;
+use crate::kinds::RECORD_EXPR;
+use crate::kinds::RECORD_FIELDS;
+use crate::kinds::RECORD_TYPE;
+use crate::kinds::RETURN;
+use crate::kinds::TEST;
+use crate::kinds::TEXT;
+use crate::kinds::TEXT_PART;
+use crate::kinds::TREE;
+use crate::kinds::TYPED_RECORD;
+use crate::kinds::TYPE_PATH;
+use crate::kinds::UNDERSCORE;
+use crate::kinds::VARIANT;
+use crate::kinds::WHILE;
 use text::utf8::Checked;
 
 const B: usize = 65536;
@@ -16,10 +66,10 @@ const C: usize = B * B;
 const D: usize = C * B;
 
 // a list of such
-const LIST: usize = 4096;
+const LIST_OF: usize = 4096;
 
-// an operator under 62
-const ASSIGN: usize = 8192;
+// an operator of a compound assignment
+const UNDER_ASSIGN: usize = 8192;
 
 // may be absent
 const MAY: usize = 16384;
@@ -27,84 +77,82 @@ const MAY: usize = 16384;
 // any number
 const MANY: usize = 32768;
 
-const TEXT: usize = 2;
+const DECLARATIONS: usize = FILTER_MAP + 128 * (IMPORT - FILTER_MAP);
 
-const PATH: usize = 4;
+const STATEMENTS: usize = LET + 128 * (EXPR_STMT - LET);
 
-const DECL: usize = 10 + 128 * 6;
+const TYPES: usize = OPTION + 128 * (RECORD_TYPE - OPTION);
 
-const NAMED: usize = 20;
+const EXPRS: usize = RETURN + 128 * (PARENTHESES - RETURN);
 
-const BLOCK: usize = 23;
+const PATTERNS: usize = UNDERSCORE + 128 * (ENUM_VARIANT - UNDERSCORE);
 
-const TYPE: usize = 40 + 128 * 4;
-
-const EXPR: usize = 50 + 128 * 20;
+const STRING_PARTS: usize = TEXT_PART + 128 * (EXPR_PART - TEXT_PART);
 
 // The rows by kind.
-const ROW_1: usize = MAY + TEXT + B * (MANY + DECL);
+const TREE_ROW: usize = MAY + TEXT + B * (MANY + DECLARATIONS);
 
-const ROW_4: usize = TEXT + B * (MANY + TEXT);
+const PATH_ROW: usize = TEXT + B * (MANY + TEXT);
 
-const ROW_10: usize = TEXT + B * (LIST + NAMED) + C * BLOCK;
+const FILTER_MAP_ROW: usize = TEXT + B * (LIST_OF + NAME_AND_TYPE) + C * BLOCK;
 
-const ROW_11: usize = TEXT + B * TYPE + C * EXPR;
+const CONST_ROW: usize = TEXT + B * TYPES + C * EXPRS;
 
-const ROW_12: usize = TEXT + B * (MAY + LIST + TEXT) + C * (LIST + NAMED);
+const RECORD_ROW: usize = TEXT + B * (MAY + LIST_OF + TEXT) + C * (LIST_OF + NAME_AND_TYPE);
 
-const ROW_13: usize = TEXT + B * (MAY + LIST + TEXT) + C * (LIST + 21);
+const ENUM_ROW: usize = TEXT + B * (MAY + LIST_OF + TEXT) + C * (LIST_OF + VARIANT);
 
-const ROW_14: usize = TEXT + B * (LIST + NAMED) + C * (MAY + TYPE) + D * BLOCK;
+const FUNCTION_ROW: usize = TEXT + B * (LIST_OF + NAME_AND_TYPE) + C * (MAY + TYPES) + D * BLOCK;
 
-const ROW_15: usize = TEXT + B * BLOCK;
+const TEST_ROW: usize = TEXT + B * BLOCK;
 
-const ROW_16: usize = MAY + PATH + B * (MAY + LIST + 16);
+const IMPORT_ROW: usize = MAY + PATH + B * (MAY + LIST_OF + IMPORT);
 
-const ROW_20: usize = TEXT + B * TYPE;
+const NAME_AND_TYPE_ROW: usize = TEXT + B * TYPES;
 
-const ROW_21: usize = TEXT + B * (LIST + TYPE);
+const VARIANT_ROW: usize = TEXT + B * (LIST_OF + TYPES);
 
-const ROW_22: usize = TEXT + B * EXPR;
+const FIELD_ROW: usize = TEXT + B * EXPRS;
 
-const ROW_23: usize = LIST + 30 + 128 * 2 + B * (MAY + EXPR);
+const BLOCK_ROW: usize = LIST_OF + STATEMENTS + B * (MAY + EXPRS);
 
-const ROW_30: usize = TEXT + B * (MAY + TYPE) + C * EXPR;
+const LET_ROW: usize = TEXT + B * (MAY + TYPES) + C * EXPRS;
 
-const ROW_41: usize = PATH + B * (MAY + LIST + TYPE);
+const TYPE_PATH_ROW: usize = PATH + B * (MAY + LIST_OF + TYPES);
 
-const ROW_44: usize = LIST + NAMED;
+const RECORD_TYPE_ROW: usize = LIST_OF + NAME_AND_TYPE;
 
-const ROW_50: usize = MAY + EXPR;
+const RETURN_ROW: usize = MAY + EXPRS;
 
-const ROW_53: usize = EXPR + B * (LIST + 81);
+const MATCH_ROW: usize = EXPRS + B * (LIST_OF + ARM);
 
-const ROW_54: usize = EXPR + B * (LIST + EXPR);
+const FUNCTION_CALL_ROW: usize = EXPRS + B * (LIST_OF + EXPRS);
 
-const ROW_55: usize = EXPR + B * TEXT;
+const ACCESS_ROW: usize = EXPRS + B * TEXT;
 
-const ROW_58: usize = PATH + B * 80;
+const TYPED_RECORD_ROW: usize = PATH + B * RECORD_FIELDS;
 
-const ROW_59: usize = LIST + EXPR;
+const LIST_EXPR_ROW: usize = LIST_OF + EXPRS;
 
-const ROW_61: usize = PATH + B * EXPR;
+const ASSIGN_ROW: usize = PATH + B * EXPRS;
 
-const ROW_62: usize = PATH + B * (ASSIGN + 86) + C * EXPR;
+const COMPOUND_ASSIGN_ROW: usize = PATH + B * (UNDER_ASSIGN + OPERATOR) + C * EXPRS;
 
-const ROW_63: usize = EXPR + B * 86 + C * EXPR;
+const BIN_OP_ROW: usize = EXPRS + B * OPERATOR + C * EXPRS;
 
-const ROW_65: usize = EXPR + B * BLOCK + C * (MAY + BLOCK);
+const IF_ELSE_ROW: usize = EXPRS + B * BLOCK + C * (MAY + BLOCK);
 
-const ROW_66: usize = EXPR + B * BLOCK;
+const WHILE_ROW: usize = EXPRS + B * BLOCK;
 
-const ROW_67: usize = TEXT + B * EXPR + C * BLOCK;
+const FOR_ROW: usize = TEXT + B * EXPRS + C * BLOCK;
 
-const ROW_69: usize = LIST + 84 + 128;
+const F_STRING_ROW: usize = LIST_OF + STRING_PARTS;
 
-const ROW_80: usize = MANY + 22;
+const RECORD_FIELDS_ROW: usize = MANY + FIELD;
 
-const ROW_81: usize = 82 + 128 + B * (MAY + EXPR) + C * EXPR;
+const ARM_ROW: usize = PATTERNS + B * (MAY + EXPRS) + C * EXPRS;
 
-const ROW_83: usize = TEXT + B * (MAY + LIST + TEXT);
+const ENUM_VARIANT_ROW: usize = TEXT + B * (MAY + LIST_OF + TEXT);
 
 // The row of a kind below 50.
 fn low_row(k: usize) -> usize
@@ -112,25 +160,25 @@ fn low_row(k: usize) -> usize
     ensures { λ r. ⌜ r ≡ rowOf k ⌝ }
 {
     match k {
-        1 => ROW_1,
-        4 => ROW_4,
-        10 => ROW_10,
-        11 => ROW_11,
-        12 => ROW_12,
-        13 => ROW_13,
-        14 => ROW_14,
-        15 => ROW_15,
-        16 => ROW_16,
-        20 => ROW_20,
-        21 => ROW_21,
-        22 => ROW_22,
-        23 => ROW_23,
-        30 => ROW_30,
-        31 => 16,
-        32 => EXPR,
-        40 => TYPE,
-        41 => ROW_41,
-        44 => ROW_44,
+        TREE => TREE_ROW,
+        PATH => PATH_ROW,
+        FILTER_MAP => FILTER_MAP_ROW,
+        CONST => CONST_ROW,
+        RECORD => RECORD_ROW,
+        ENUM => ENUM_ROW,
+        FUNCTION => FUNCTION_ROW,
+        TEST => TEST_ROW,
+        IMPORT => IMPORT_ROW,
+        NAME_AND_TYPE => NAME_AND_TYPE_ROW,
+        VARIANT => VARIANT_ROW,
+        FIELD => FIELD_ROW,
+        BLOCK => BLOCK_ROW,
+        LET => LET_ROW,
+        IMPORT_STMT => IMPORT,
+        EXPR_STMT => EXPRS,
+        OPTION => TYPES,
+        TYPE_PATH => TYPE_PATH_ROW,
+        RECORD_TYPE => RECORD_TYPE_ROW,
         _ => 0,
     }
 }
@@ -141,31 +189,31 @@ fn high_row(k: usize) -> usize
     ensures { λ r. ⌜ r ≡ rowOf k ⌝ }
 {
     match k {
-        50 => ROW_50,
-        51 => 87,
-        52 => BLOCK,
-        53 => ROW_53,
-        54 => ROW_54,
-        55 => ROW_55,
-        56 => PATH,
-        57 => 80,
-        58 => ROW_58,
-        59 => ROW_59,
-        60 => EXPR,
-        61 => ROW_61,
-        62 => ROW_62,
-        63 => ROW_63,
-        64 => EXPR,
-        65 => ROW_65,
-        66 => ROW_66,
-        67 => ROW_67,
-        68 => EXPR,
-        69 => ROW_69,
-        70 => EXPR,
-        80 => ROW_80,
-        81 => ROW_81,
-        83 => ROW_83,
-        85 => EXPR,
+        RETURN => RETURN_ROW,
+        LITERAL_EXPR => LITERAL,
+        BLOCK_EXPR => BLOCK,
+        MATCH => MATCH_ROW,
+        FUNCTION_CALL => FUNCTION_CALL_ROW,
+        ACCESS => ACCESS_ROW,
+        PATH_EXPR => PATH,
+        RECORD_EXPR => RECORD_FIELDS,
+        TYPED_RECORD => TYPED_RECORD_ROW,
+        LIST_EXPR => LIST_EXPR_ROW,
+        NOT => EXPRS,
+        ASSIGN => ASSIGN_ROW,
+        COMPOUND_ASSIGN => COMPOUND_ASSIGN_ROW,
+        BIN_OP => BIN_OP_ROW,
+        NEGATE => EXPRS,
+        IF_ELSE => IF_ELSE_ROW,
+        WHILE => WHILE_ROW,
+        FOR => FOR_ROW,
+        QUESTION_MARK => EXPRS,
+        F_STRING => F_STRING_ROW,
+        PARENTHESES => EXPRS,
+        RECORD_FIELDS => RECORD_FIELDS_ROW,
+        ARM => ARM_ROW,
+        ENUM_VARIANT => ENUM_VARIANT_ROW,
+        EXPR_PART => EXPRS,
         _ => 0,
     }
 }
@@ -183,8 +231,8 @@ fn row_of(k: usize) -> usize
 pub(crate) fn row_under(p: usize, k: usize) -> usize
     ensures { λ r. ⌜ r ≡ rowUnder p k ⌝ }
 {
-    if p / LIST % 2 == 1 {
-        return MANY + p % LIST;
+    if p / LIST_OF % 2 == 1 {
+        return MANY + p % LIST_OF;
     }
     row_of(k)
 }
@@ -201,7 +249,7 @@ pub(crate) fn after_row(row: usize) -> usize
 
 // Whether no child is due any more.
 pub(crate) fn is_over(row: usize) -> bool
-    ensures { λ r. ⌜ r ≡ over row ⌝ }
+    ensures { λ r. ⌜ r ≡ complete row ⌝ }
 {
     if row == 0 {
         return true;
@@ -213,8 +261,8 @@ pub(crate) fn is_over(row: usize) -> bool
 pub(crate) fn kind_fits(p: usize, k: usize) -> bool
     ensures { λ r. ⌜ r ≡ kindFits p k ⌝ }
 {
-    if p / LIST % 2 == 1 {
-        return k == 3;
+    if p / LIST_OF % 2 == 1 {
+        return k == LIST;
     }
     if k < p % 128 {
         return false;
@@ -226,26 +274,26 @@ pub(crate) fn kind_fits(p: usize, k: usize) -> bool
 fn has_byte(k: usize) -> bool
     ensures { λ r. ⌜ r ≡ hasByte k ⌝ }
 {
-    if k == 50 {
+    if k == RETURN {
         return true;
     }
-    if k == 86 {
+    if k == OPERATOR {
         return true;
     }
-    k == 87
+    k == LITERAL
 }
 
 // The largest payload byte of such a kind at place p.
 fn top_byte(p: usize, k: usize) -> usize
     ensures { λ r. ⌜ r ≡ topByte p k ⌝ }
 {
-    if k == 50 {
+    if k == RETURN {
         return 2;
     }
-    if k == 87 {
+    if k == LITERAL {
         return 3;
     }
-    if p / ASSIGN % 2 == 1 {
+    if p / UNDER_ASSIGN % 2 == 1 {
         return 4;
     }
     13
@@ -267,7 +315,7 @@ pub(crate) fn payload_fits(b: &[u8], v: usize, p: usize, k: usize, from: usize, 
     requires { ⌜ (from ≤ stop) × (stop ≤ length (now b)) ⌝ }
     ensures { λ r. ⌜ r ≡ payloadFits (now (b .entry)) v p k from stop ⌝ }
 {
-    if k == 2 {
+    if k == TEXT {
         if stop - from < v {
             return false;
         }
@@ -287,7 +335,7 @@ pub(crate) fn first_child(k: usize, from: usize, stop: usize) -> usize
     requires { ⌜ from + 1 < 2 ^ 64 ⌝ }
     ensures { λ r. ⌜ r ≡ firstChild k from stop ⌝ }
 {
-    if k == 2 {
+    if k == TEXT {
         return stop;
     }
     if has_byte(k) {

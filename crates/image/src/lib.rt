@@ -2,6 +2,7 @@
 pub mod bytes;
 mod comments;
 mod grammar;
+pub mod kinds;
 mod records;
 
 ghost use mathlib.Core.Path.{_≡_};

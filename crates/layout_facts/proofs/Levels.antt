@@ -9,7 +9,7 @@ use mathlib.Core.List.{List, [], _∷_}
 use native.Mathlib.Omega.{arith}
 use lib.ListN.{length}
 use lib.Dec.{ltb, eqb}
-use Rattle.image.specs.Grammar.{bare, place, after, over}
+use Rattle.image.specs.Grammar.{bare, place, after, complete}
 use Rattle.image.specs.Read.{Read, got, bad, bind, Head, Tree, Trees, absent, node, nil, _▸_, skips, childBy, recordAt, childrenAt, treeAt}
 use Rattle.image.proofs.Shapes.{isGot}
 use Rattle.image.proofs.Inside.{inside, none-deep}
@@ -26,7 +26,7 @@ children-few : (one : ℕ → ℕ → ℕ → Read Tree) (l : ℕ) → ((p at st
     → (n row at stop : ℕ) (ts : Trees) (e : ℕ) → childrenAt one n row at stop ≡ got ts e → levelsIn ts ≤ l
 unfolding childrenAt levels
 children-few one l f zero row at stop ts e h = absurd (false≢true (ap isGot h))
-children-few one l f (suc n) row at stop ts e h = go (ltb at stop) (eqb row 0) (over row) (children-few one l f n (after row)) h
+children-few one l f (suc n) row at stop ts e h = go (ltb at stop) (eqb row 0) (complete row) (children-few one l f n (after row)) h
   where
     tails : (t : Tree) (x : Read Trees) → levels t ≤ l → ((us : Trees) (k : ℕ) → x ≡ got us k → levelsIn us ≤ l)
         → bind x (λ us end. got (t ▸ us) end) ≡ got ts e → levelsIn ts ≤ l

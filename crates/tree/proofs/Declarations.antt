@@ -2,7 +2,7 @@
 -- Assumes nothing.
 use mathlib.Core.List.{List}
 use Prim.Native.Nat.{ℕ, suc, _+_, _≤_}
-use Rattle.image.specs.Grammar.{list, type, declaration, rowOf, rowUnder, firstChild}
+use Rattle.image.specs.Grammar.{list, anyType, anyDeclaration, rowOf, rowUnder, firstChild}
 use Rattle.image.specs.Read.{Tree, stopAt}
 use Rattle.tree.specs.Syntax.{Variants}
 use Rattle.tree.specs.At.{Before, Head, Maybe, IdentAt, PathAt, ListAt, TypeAt, ImportAt, BlockAt, VariantsAt, DeclarationAt}
@@ -59,10 +59,10 @@ module _ (s b : List ℕ) where
     block-of : {at end : ℕ} {t : Tree} → Kid s b d 23 at end t → BlockAt s b (views b t .block) at
     block-of k = block-at s b d low _ _ _ k
 
-    pub declaration-at : All s b (suc d) declaration DeclarationHere
+    pub declaration-at : All s b (suc d) anyDeclaration DeclarationHere
     unfolding views DeclarationAt ImportAt rowUnder rowOf firstChild
     declaration-at =
-        all s b d declaration DeclarationHere
+        all s b d anyDeclaration DeclarationHere
         -- 10 to 16
         (λ at end.
         (λ n.
@@ -87,7 +87,7 @@ module _ (s b : List ℕ) where
           text-of ki,
           l .0,
           l .1,
-          optional s b d type (λ x. x .type) (TypeAt s b) (type-at s b d) _ _ _ kt,
+          optional s b d anyType (λ x. x .type) (TypeAt s b) (type-at s b d) _ _ _ kt,
           block-of kk,
           z,
         ))

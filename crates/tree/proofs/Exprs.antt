@@ -5,7 +5,7 @@ use mathlib.Core.Path.{_≡_, refl}
 use mathlib.Core.List.{List}
 use Prim.Native.Nat.{ℕ, zero, suc, _+_, _≤_}
 use native.Mathlib.Omega.{arith}
-use Rattle.image.specs.Grammar.{list, upTo, type, expr, statement, rowOf, rowUnder, firstChild, payloadFits}
+use Rattle.image.specs.Grammar.{list, upTo, anyType, anyExpr, anyStatement, rowOf, rowUnder, firstChild, payloadFits}
 use Rattle.image.specs.Read.{Tree, node, stopAt}
 use Rattle.tree.specs.Syntax.{Entries, Arms, Parts}
 use Rattle.tree.specs.At.{Before, Head, TypeAt, leftDepth, ExprAt, ExprsAt, MaybeExprAt, EntriesAt, ArmsAt, PartsAt, BlockAt, MaybeBlockAt, StmtsAt, StmtAt}
@@ -19,11 +19,11 @@ module _ (s b : List ℕ) where
   abbrev Shallow : ℕ → Tree → ℕ → Type 0
   Shallow d t at = leftDepth (views b t .expr) ≤ d
 
-  left : (d : ℕ) → All s b d expr (Shallow d)
+  left : (d : ℕ) → All s b d anyExpr (Shallow d)
   unfolding views leftDepth rowUnder rowOf firstChild
-  left zero = none s b expr (Shallow 0)
+  left zero = none s b anyExpr (Shallow 0)
   left (suc d) =
-      all s b d expr (Shallow (suc d))
+      all s b d anyExpr (Shallow (suc d))
       (λ at end.
       flat ∣ flat ∣ flat ∣ flat ∣ flat ∣ flat ∣ flat ∣ flat ∣ flat ∣ flat ∣ flat ∣ flat ∣ flat
       ∣ (λ n. let l = left d _ _ _ (n .kids .1) in omega arith)
@@ -69,8 +69,8 @@ module _ (s b : List ℕ) where
 
   -- what is known of the records with d levels left
   record Known (d : ℕ) : Type 0 where
-    expression : All s b d expr ExprHere
-    exprs : All s b d (list expr) ExprsHere
+    expression : All s b d anyExpr ExprHere
+    exprs : All s b d (list anyExpr) ExprsHere
     entry : All s b d 22 EntryHere
     entries : All s b d 80 EntriesHere
     arm : All s b d 81 ArmHere
@@ -78,30 +78,30 @@ module _ (s b : List ℕ) where
     part : All s b d (upTo 84 85) PartHere
     parts : All s b d (list (upTo 84 85)) PartsHere
     block : All s b d 23 BlockHere
-    stmt : All s b d statement StmtHere
-    stmts : All s b d (list statement) StmtsHere
+    stmt : All s b d anyStatement StmtHere
+    stmts : All s b d (list anyStatement) StmtsHere
 
   module _ (d : ℕ) (w : Known d) where
-    expr-of : {at end : ℕ} {t : Tree} → Kid s b d expr at end t → ExprHere t at
+    expr-of : {at end : ℕ} {t : Tree} → Kid s b d anyExpr at end t → ExprHere t at
     expr-of k = w .expression _ _ _ k
 
     block-of : {at end : ℕ} {t : Tree} → Kid s b d 23 at end t → BlockHere t at
     block-of k = w .block _ _ _ k
 
-    maybe-expr : (at end : ℕ) (t : Tree) → Perhaps s b d expr at end t → MaybeExprAt s b (maybeExpr (views b t .there) (views b t .expr)) at
+    maybe-expr : (at end : ℕ) (t : Tree) → Perhaps s b d anyExpr at end t → MaybeExprAt s b (maybeExpr (views b t .there) (views b t .expr)) at
     unfolding views ExprAt
     maybe-expr at end =
-        perhaps s b d expr at end (λ t. MaybeExprAt s b (maybeExpr (views b t .there) (views b t .expr)) at) (λ a. a) (λ h ts k. w .expression at end (node h ts) k)
+        perhaps s b d anyExpr at end (λ t. MaybeExprAt s b (maybeExpr (views b t .there) (views b t .expr)) at) (λ a. a) (λ h ts k. w .expression at end (node h ts) k)
 
     maybe-block : (at end : ℕ) (t : Tree) → Perhaps s b d 23 at end t → MaybeBlockAt s b (maybeBlock (views b t .there) (views b t .block)) at
     unfolding views ExprAt
     maybe-block at end =
         perhaps s b d 23 at end (λ t. MaybeBlockAt s b (maybeBlock (views b t .there) (views b t .block)) at) (λ a. a) (λ h ts k. w .block at end (node h ts) k)
 
-    one-expr : suc d ≤ 64 → All s b (suc d) expr ExprHere
+    one-expr : suc d ≤ 64 → All s b (suc d) anyExpr ExprHere
     unfolding views ExprAt rowUnder rowOf firstChild payloadFits
     one-expr low =
-        all s b d expr ExprHere
+        all s b d anyExpr ExprHere
         -- 50 to 70
         (λ at end.
         (λ n.
@@ -141,14 +141,14 @@ module _ (s b : List ℕ) where
         ∣ (λ n. let (x, kx, z) = n .kids in (head s b n, (expr-of kx, z)))
         ∣ tt)
 
-    expr-list : All s b (suc d) (list expr) ExprsHere
+    expr-list : All s b (suc d) (list anyExpr) ExprsHere
     unfolding views ExprAt rowUnder firstChild
     expr-list =
-        all s b d (list expr) ExprsHere
+        all s b d (list anyExpr) ExprsHere
         (λ at end.
         (λ n. (
           head s b n,
-          run s b d expr (stopAt b at) (λ ts i. ExprsAt s b (exprs (each b ts)) i (stopAt b at)) (λ i e. e)
+          run s b d anyExpr (stopAt b at) (λ ts i. ExprsAt s b (exprs (each b ts)) i (stopAt b at)) (λ i e. e)
               (λ i t ts k more. (expr-of k, before s b k, more)) (at + 13) (n .kids),
         ))
         ∣ tt)
@@ -227,27 +227,27 @@ module _ (s b : List ℕ) where
         (head s b n, record { span = _; head = l .0 }, l .1, maybe-expr _ _ _ kx, z))
         ∣ tt)
 
-    one-stmt : All s b (suc d) statement StmtHere
+    one-stmt : All s b (suc d) anyStatement StmtHere
     unfolding views ExprAt rowUnder rowOf firstChild
     one-stmt =
-        all s b d statement StmtHere
+        all s b d anyStatement StmtHere
         -- 30 to 32
         (λ at end.
         (λ n.
         let (i, ki, (t, kt, (x, kx, z))) = n .kids in
-        (head s b n, (ident s b d _ _ _ ki, optional s b d type (λ x. x .type) (TypeAt s b) (type-at s b d) _ _ _ kt, expr-of kx, z)))
+        (head s b n, (ident s b d _ _ _ ki, optional s b d anyType (λ x. x .type) (TypeAt s b) (type-at s b d) _ _ _ kt, expr-of kx, z)))
         ∣ (λ n. let (p, kp, z) = n .kids in (head s b n, (import-at s b d _ _ _ kp, z)))
         ∣ (λ n. let (x, kx, z) = n .kids in (head s b n, (expr-of kx, z)))
         ∣ tt)
 
-    stmt-list : All s b (suc d) (list statement) StmtsHere
+    stmt-list : All s b (suc d) (list anyStatement) StmtsHere
     unfolding views ExprAt rowUnder firstChild
     stmt-list =
-        all s b d (list statement) StmtsHere
+        all s b d (list anyStatement) StmtsHere
         (λ at end.
         (λ n. (
           head s b n,
-          run s b d statement (stopAt b at) (λ ts i. StmtsAt s b (stmts (each b ts)) i (stopAt b at)) (λ i e. e)
+          run s b d anyStatement (stopAt b at) (λ ts i. StmtsAt s b (stmts (each b ts)) i (stopAt b at)) (λ i e. e)
               (λ i t ts k more. (w .stmt _ _ _ k, before s b k, more)) (at + 13) (n .kids),
         ))
         ∣ tt)
@@ -255,8 +255,8 @@ module _ (s b : List ℕ) where
   known : (d : ℕ) → d ≤ 64 → Known d
   known zero low =
       record {
-        expression = none s b expr ExprHere;
-        exprs = none s b (list expr) ExprsHere;
+        expression = none s b anyExpr ExprHere;
+        exprs = none s b (list anyExpr) ExprsHere;
         entry = none s b 22 EntryHere;
         entries = none s b 80 EntriesHere;
         arm = none s b 81 ArmHere;
@@ -264,8 +264,8 @@ module _ (s b : List ℕ) where
         part = none s b (upTo 84 85) PartHere;
         parts = none s b (list (upTo 84 85)) PartsHere;
         block = none s b 23 BlockHere;
-        stmt = none s b statement StmtHere;
-        stmts = none s b (list statement) StmtsHere;
+        stmt = none s b anyStatement StmtHere;
+        stmts = none s b (list anyStatement) StmtsHere;
       }
   known (suc d) low =
       let w = known d (omega arith) in
@@ -283,7 +283,7 @@ module _ (s b : List ℕ) where
         stmts = stmt-list d w;
       }
 
-  pub expr-at : (d : ℕ) → d ≤ 64 → All s b d expr ExprHere
+  pub expr-at : (d : ℕ) → d ≤ 64 → All s b d anyExpr ExprHere
   expr-at d low = known d low .expression
 
   pub block-at : (d : ℕ) → d ≤ 64 → All s b d 23 BlockHere

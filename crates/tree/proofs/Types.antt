@@ -3,7 +3,7 @@
 -- Assumes nothing.
 use mathlib.Core.List.{List}
 use Prim.Native.Nat.{ℕ, zero, suc, _+_}
-use Rattle.image.specs.Grammar.{list, type, rowOf, rowUnder, firstChild}
+use Rattle.image.specs.Grammar.{list, anyType, rowOf, rowUnder, firstChild}
 use Rattle.image.specs.Read.{Tree, node, stopAt}
 use Rattle.tree.specs.Syntax.{Fields}
 use Rattle.tree.specs.At.{Before, Head, PathAt, TypeAt, TypeArgsAt, TypesAt, FieldsAt, ImportAt, ImportGroupAt, ImportsAt}
@@ -27,23 +27,23 @@ module _ (s b : List ℕ) where
 
   -- what is known of the records with d levels left
   record Typed (d : ℕ) : Type 0 where
-    one : All s b d type TypeHere
-    many : All s b d (list type) TypesHere
+    one : All s b d anyType TypeHere
+    many : All s b d (list anyType) TypesHere
     field : All s b d 20 FieldHere
     fields : All s b d (list 20) FieldsHere
 
   module _ (d : ℕ) (w : Typed d) where
-    type-args : (at end : ℕ) (t : Tree) → Perhaps s b d (list type) at end t
+    type-args : (at end : ℕ) (t : Tree) → Perhaps s b d (list anyType) at end t
         → TypeArgsAt s b (maybeArgs (views b t .there) (views b t .span) (views b t .types)) at
     unfolding views TypeAt
     type-args at end =
-        perhaps s b d (list type) at end (λ t. TypeArgsAt s b (maybeArgs (views b t .there) (views b t .span) (views b t .types)) at) (λ a. a)
+        perhaps s b d (list anyType) at end (λ t. TypeArgsAt s b (maybeArgs (views b t .there) (views b t .span) (views b t .types)) at) (λ a. a)
         (λ h ts k. w .many at end (node h ts) k)
 
-    one-type : All s b (suc d) type TypeHere
+    one-type : All s b (suc d) anyType TypeHere
     unfolding views TypeAt rowUnder rowOf firstChild
     one-type =
-        all s b d type TypeHere
+        all s b d anyType TypeHere
         -- 40 to 44
         (λ at end.
         (λ n. let (t, k, e) = n .kids in (head s b n, (w .one _ _ _ k, e)))
@@ -53,14 +53,14 @@ module _ (s b : List ℕ) where
         ∣ (λ n. let (t, k, e) = n .kids in let f = w .fields _ _ _ k in (head s b n, (f .0, f .1, e)))
         ∣ tt)
 
-    type-list : All s b (suc d) (list type) TypesHere
+    type-list : All s b (suc d) (list anyType) TypesHere
     unfolding views TypeAt rowUnder firstChild
     type-list =
-        all s b d (list type) TypesHere
+        all s b d (list anyType) TypesHere
         (λ at end.
         (λ n. (
           head s b n,
-          run s b d type (stopAt b at) (λ ts i. TypesAt s b (types (each b ts)) i (stopAt b at)) (λ i e. e)
+          run s b d anyType (stopAt b at) (λ ts i. TypesAt s b (types (each b ts)) i (stopAt b at)) (λ i e. e)
               (λ i t ts k more. (w .one _ _ _ k, before s b k, more)) (at + 13) (n .kids),
         ))
         ∣ tt)
@@ -86,15 +86,15 @@ module _ (s b : List ℕ) where
         ∣ tt)
 
   typed : (d : ℕ) → Typed d
-  typed zero = record { one = none s b type TypeHere; many = none s b (list type) TypesHere; field = none s b 20 FieldHere; fields = none s b (list 20) FieldsHere }
+  typed zero = record { one = none s b anyType TypeHere; many = none s b (list anyType) TypesHere; field = none s b 20 FieldHere; fields = none s b (list 20) FieldsHere }
   typed (suc d) =
       let w = typed d in
       record { one = one-type d w; many = type-list d w; field = one-field d w; fields = field-list d w }
 
-  pub type-at : (d : ℕ) → All s b d type TypeHere
+  pub type-at : (d : ℕ) → All s b d anyType TypeHere
   type-at d = typed d .one
 
-  pub types-at : (d : ℕ) → All s b d (list type) TypesHere
+  pub types-at : (d : ℕ) → All s b d (list anyType) TypesHere
   types-at d = typed d .many
 
   pub fields-at : (d : ℕ) → All s b d (list 20) FieldsHere

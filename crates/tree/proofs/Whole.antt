@@ -8,7 +8,7 @@ use native.Mathlib.Omega.{arith}
 use lib.ListN.{length}
 use lib.Dec.{lit≤}
 use Rattle.text.specs.Utf8.{prefix, wellFormed}
-use Rattle.image.specs.Grammar.{declaration, rowOf, rowUnder, firstChild}
+use Rattle.image.specs.Grammar.{anyDeclaration, rowOf, rowUnder, firstChild}
 use Rattle.image.specs.Read.{got, bad, Tree, Trees, Image, stopAt, treeAt, readImage, sourceFits, readAll, answerOf}
 use Rattle.image.proofs.Shapes.{isGot}
 use Rattle.image.proofs.Accepted.{Root, rooted}
@@ -19,10 +19,10 @@ use Rattle.tree.proofs.Texts.{optional, ident}
 use Rattle.tree.proofs.Declarations.{declaration-at}
 
 module _ (s b : List ℕ) where
-  declarations-at : (end at : ℕ) (c : (ts : Trees) × Elements s b 63 declaration end ts at) → DeclarationsAt s b (declarations (each b (c .0))) at end
+  declarations-at : (end at : ℕ) (c : (ts : Trees) × Elements s b 63 anyDeclaration end ts at) → DeclarationsAt s b (declarations (each b (c .0))) at end
   unfolding views DeclarationsAt
   declarations-at end =
-      run s b 63 declaration end (λ ts i. DeclarationsAt s b (declarations (each b ts)) i end) (λ i e. e)
+      run s b 63 anyDeclaration end (λ ts i. DeclarationsAt s b (declarations (each b ts)) i end) (λ i e. e)
       (λ i t ts k more. (declaration-at s b 62 (lit≤ tt) _ _ _ k, before s b k, more))
 
   abbrev TreeHere : Tree → ℕ → Type 0

@@ -9,6 +9,11 @@ use lib.ListN.{length, getD}
 use Rattle.text.specs.Newlines.{isRange}
 use Rattle.image.specs.Bytes.{be16, be32}
 use Rattle.image.specs.Read.{stopAt, kindAt}
+use Rattle.image.specs.Kinds.{ACCESS, ARM, ASSIGN, BIN-OP, BLOCK, BLOCK-EXPR, COMPOUND-ASSIGN, CONST, ENUM, ENUM-VARIANT, EXPR-PART, EXPR-STMT}
+use Rattle.image.specs.Kinds.{F-STRING, FIELD, FILTER-MAP, FOR, FUNCTION, FUNCTION-CALL, IF-ELSE, IMPORT, IMPORT-STMT, LET, LIST, LIST-EXPR}
+use Rattle.image.specs.Kinds.{LITERAL, LITERAL-EXPR, MATCH, NAME-AND-TYPE, NEGATE, NEVER, NOT, OPERATOR, OPTION, PARENTHESES, PATH, PATH-EXPR}
+use Rattle.image.specs.Kinds.{QUESTION-MARK, RECORD, RECORD-EXPR, RECORD-FIELDS, RECORD-TYPE, RETURN, TEST, TEXT, TEXT-PART, TREE, TYPE-PATH}
+use Rattle.image.specs.Kinds.{TYPED-RECORD, UNDERSCORE, UNIT, VARIANT, WHILE}
 use Rattle.tree.specs.Syntax.{Span, Ident, Path, Idents, TypeExpr, type, TypeForm, option, typePath, never, unit, recordType, TypeArgs, noArgs}
 use Rattle.tree.specs.Syntax.{args, Types, noTypes, _∷ᵗ_, Fields, noFields, field, Import, import, ImportGroup, noGroup, group, Imports}
 use Rattle.tree.specs.Syntax.{noImports, _∷ⁱ_, Pattern, underscore, enumVariant, Expr, expr, Form, return′, literal, block, match′, functionCall}
@@ -51,39 +56,39 @@ pub record Before (b : List ℕ) (at end : ℕ) : Type 0 where
 
 -- the kind of an expression
 abbrev pub formKind : Form → ℕ
-formKind (return′ k e) = 50
-formKind (literal s w) = 51
-formKind (block b) = 52
-formKind (match′ e s a) = 53
-formKind (functionCall e s es) = 54
-formKind (access e i) = 55
-formKind (path p) = 56
-formKind (record′ s es) = 57
-formKind (typedRecord p s es) = 58
-formKind (list es) = 59
-formKind (not′ e) = 60
-formKind (assign p e) = 61
-formKind (compoundAssign p o e) = 62
-formKind (binOp l s o r) = 63
-formKind (negate e) = 64
-formKind (ifElse c b e) = 65
-formKind (while c b) = 66
-formKind (for i e b) = 67
-formKind (questionMark e) = 68
-formKind (fString ps) = 69
-formKind (parentheses e) = 70
+formKind (return′ k e) = RETURN
+formKind (literal s w) = LITERAL-EXPR
+formKind (block b) = BLOCK-EXPR
+formKind (match′ e s a) = MATCH
+formKind (functionCall e s es) = FUNCTION-CALL
+formKind (access e i) = ACCESS
+formKind (path p) = PATH-EXPR
+formKind (record′ s es) = RECORD-EXPR
+formKind (typedRecord p s es) = TYPED-RECORD
+formKind (list es) = LIST-EXPR
+formKind (not′ e) = NOT
+formKind (assign p e) = ASSIGN
+formKind (compoundAssign p o e) = COMPOUND-ASSIGN
+formKind (binOp l s o r) = BIN-OP
+formKind (negate e) = NEGATE
+formKind (ifElse c b e) = IF-ELSE
+formKind (while c b) = WHILE
+formKind (for i e b) = FOR
+formKind (questionMark e) = QUESTION-MARK
+formKind (fString ps) = F-STRING
+formKind (parentheses e) = PARENTHESES
 
 abbrev pub typeKind : TypeForm → ℕ
-typeKind (option t) = 40
-typeKind (typePath p a) = 41
-typeKind never = 42
-typeKind unit = 43
-typeKind (recordType s fs) = 44
+typeKind (option t) = OPTION
+typeKind (typePath p a) = TYPE-PATH
+typeKind never = NEVER
+typeKind unit = UNIT
+typeKind (recordType s fs) = RECORD-TYPE
 
 abbrev pub stmtKind : StmtForm → ℕ
-stmtKind (let′ i t e) = 30
-stmtKind (importStmt p) = 31
-stmtKind (does e) = 32
+stmtKind (let′ i t e) = LET
+stmtKind (importStmt p) = IMPORT-STMT
+stmtKind (does e) = EXPR-STMT
 
 -- how many operators stand one in the other's left operand
 unfoldable mutual
@@ -118,13 +123,26 @@ module _ (s b : List ℕ) where
   abbrev pub past : ℕ → ℕ
   past = stopAt b
 
+  -- where the children of a record without a payload stand: a head is 13 bytes, length, kind and span
+  abbrev pub firstAt : ℕ → ℕ
+  firstAt at = at + 13
+
+  abbrev pub secondAt : ℕ → ℕ
+  secondAt at = past (firstAt at)
+
+  abbrev pub thirdAt : ℕ → ℕ
+  thirdAt at = past (secondAt at)
+
+  abbrev pub fourthAt : ℕ → ℕ
+  fourthAt at = past (thirdAt at)
+
   -- the last child ends where its record does
   abbrev pub Ends : ℕ → ℕ → Type 0
   Ends last at = Done (past last) (past at)
 
   -- a text: its width in two bytes, then its bytes to the record's end
   pub record IdentAt (i : Ident) (at : ℕ) : Type 0 where
-    pub head : Head s b 2 (i .span) at
+    pub head : Head s b TEXT (i .span) at
     pub wide : be16 b (at + 13) ≡ i .width
     pub starts : at + 15 ≡ i .start
     pub ends : i .start + i .size ≡ past at
@@ -136,15 +154,15 @@ module _ (s b : List ℕ) where
 
   -- 4: a text, and any number more
   pub record PathAt (p : Path) (at : ℕ) : Type 0 where
-    pub head : Record s b 4 at
-    pub first : IdentAt (p .first) (at + 13)
-    pub inside : Before b (at + 13) (past at)
-    pub more : IdentsAt (p .more) (past (at + 13)) (past at)
+    pub head : Record s b PATH at
+    pub first : IdentAt (p .first) (firstAt at)
+    pub inside : Before b (firstAt at) (past at)
+    pub more : IdentsAt (p .more) (secondAt at) (past at)
 
   -- 3 of 2
   pub record ListAt (is : Idents) (at : ℕ) : Type 0 where
-    pub head : Head s b 3 (is .span) at
-    pub elems : IdentsAt (is .elems) (at + 13) (past at)
+    pub head : Head s b LIST (is .span) at
+    pub elems : IdentsAt (is .elems) (firstAt at) (past at)
 
   -- an optional child
   unfoldable pub Maybe : {A : Type 0} → (A → ℕ → Type 0) → Option A → ℕ → Type 0
@@ -157,15 +175,15 @@ module _ (s b : List ℕ) where
     TypeAt (type p f) at = Head s b (typeKind f) p at × TypeFormAt f at
 
     pub TypeFormAt : TypeForm → ℕ → Type 0
-    TypeFormAt (option t) at = TypeAt t (at + 13) × Ends (at + 13) at
-    TypeFormAt (typePath p a) at = PathAt p (at + 13) × TypeArgsAt a (past (at + 13)) × Ends (past (at + 13)) at
-    TypeFormAt never at = Done (at + 13) (past at)
-    TypeFormAt unit at = Done (at + 13) (past at)
-    TypeFormAt (recordType p fs) at = Head s b 3 p (at + 13) × FieldsAt fs (at + 13 + 13) (past (at + 13)) × Ends (at + 13) at
+    TypeFormAt (option t) at = TypeAt t (firstAt at) × Ends (firstAt at) at
+    TypeFormAt (typePath p a) at = PathAt p (firstAt at) × TypeArgsAt a (secondAt at) × Ends (secondAt at) at
+    TypeFormAt never at = Done (firstAt at) (past at)
+    TypeFormAt unit at = Done (firstAt at) (past at)
+    TypeFormAt (recordType p fs) at = Head s b LIST p (firstAt at) × FieldsAt fs (firstAt (firstAt at)) (secondAt at) × Ends (firstAt at) at
 
     pub TypeArgsAt : TypeArgs → ℕ → Type 0
     TypeArgsAt noArgs at = Absent b at
-    TypeArgsAt (args p ts) at = Head s b 3 p at × TypesAt ts (at + 13) (past at)
+    TypeArgsAt (args p ts) at = Head s b LIST p at × TypesAt ts (firstAt at) (past at)
 
     pub TypesAt : Types → ℕ → ℕ → Type 0
     TypesAt noTypes at end = Done at end
@@ -175,10 +193,10 @@ module _ (s b : List ℕ) where
     pub FieldsAt : Fields → ℕ → ℕ → Type 0
     FieldsAt noFields at end = Done at end
     FieldsAt (field p i t fs) at end =
-        Head s b 20 p at
-        × IdentAt i (at + 13)
-        × TypeAt t (past (at + 13))
-        × Ends (past (at + 13)) at
+        Head s b NAME-AND-TYPE p at
+        × IdentAt i (firstAt at)
+        × TypeAt t (secondAt at)
+        × Ends (secondAt at) at
         × Before b at end
         × FieldsAt fs (past at) end
 
@@ -186,11 +204,11 @@ module _ (s b : List ℕ) where
   unfoldable mutual
     pub ImportAt : Import → ℕ → Type 0
     ImportAt (import p q g) at =
-        Head s b 16 p at × Maybe PathAt q (at + 13) × ImportGroupAt g (past (at + 13)) × Ends (past (at + 13)) at
+        Head s b IMPORT p at × Maybe PathAt q (firstAt at) × ImportGroupAt g (secondAt at) × Ends (secondAt at) at
 
     pub ImportGroupAt : ImportGroup → ℕ → Type 0
     ImportGroupAt noGroup at = Absent b at
-    ImportGroupAt (group p is) at = Head s b 3 p at × ImportsAt is (at + 13) (past at)
+    ImportGroupAt (group p is) at = Head s b LIST p at × ImportsAt is (firstAt at) (past at)
 
     pub ImportsAt : Imports → ℕ → ℕ → Type 0
     ImportsAt noImports at end = Done at end
@@ -198,9 +216,9 @@ module _ (s b : List ℕ) where
 
   -- ---- patterns: 82, 83
   unfoldable pub PatternAt : Pattern → ℕ → Type 0
-  PatternAt underscore at = Record s b 82 at × Done (at + 13) (past at)
+  PatternAt underscore at = Record s b UNDERSCORE at × Done (firstAt at) (past at)
   PatternAt (enumVariant i is) at =
-      Record s b 83 at × IdentAt i (at + 13) × Maybe ListAt is (past (at + 13)) × Ends (past (at + 13)) at
+      Record s b ENUM-VARIANT at × IdentAt i (firstAt at) × Maybe ListAt is (secondAt at) × Ends (secondAt at) at
 
   -- 86 and 87: a payload byte and nothing more
   pub record ByteAt (kind : ℕ) (p : Span) (n at : ℕ) : Type 0 where
@@ -211,7 +229,7 @@ module _ (s b : List ℕ) where
   -- an operator whose span isn't read
   pub record OpAt (n at : ℕ) : Type 0 where
     pub span : Span
-    pub op : ByteAt 86 span n at
+    pub op : ByteAt OPERATOR span n at
 
   -- ---- expressions, blocks and statements
   unfoldable mutual
@@ -220,57 +238,57 @@ module _ (s b : List ℕ) where
 
     pub FormAt : Form → ℕ → Type 0
     FormAt (return′ k e) at = Payload b k at × (k < 3) × MaybeExprAt e (at + 14) × Ends (at + 14) at
-    FormAt (literal p w) at = ByteAt 87 p w (at + 13) × (w < 4) × Ends (at + 13) at
-    FormAt (block k) at = BlockAt k (at + 13) × Ends (at + 13) at
+    FormAt (literal p w) at = ByteAt LITERAL p w (firstAt at) × (w < 4) × Ends (firstAt at) at
+    FormAt (block k) at = BlockAt k (firstAt at) × Ends (firstAt at) at
     FormAt (match′ e p a) at =
-        ExprAt e (at + 13)
-        × Head s b 3 p (past (at + 13))
-        × ArmsAt a (past (at + 13) + 13) (past (past (at + 13)))
-        × Ends (past (at + 13)) at
+        ExprAt e (firstAt at)
+        × Head s b LIST p (secondAt at)
+        × ArmsAt a (firstAt (secondAt at)) (thirdAt at)
+        × Ends (secondAt at) at
     FormAt (functionCall e p es) at =
-        ExprAt e (at + 13)
-        × Head s b 3 p (past (at + 13))
-        × ExprsAt es (past (at + 13) + 13) (past (past (at + 13)))
-        × Ends (past (at + 13)) at
-    FormAt (access e i) at = ExprAt e (at + 13) × IdentAt i (past (at + 13)) × Ends (past (at + 13)) at
-    FormAt (path p) at = PathAt p (at + 13) × Ends (at + 13) at
-    FormAt (record′ p es) at = Head s b 80 p (at + 13) × EntriesAt es (at + 13 + 13) (past (at + 13)) × Ends (at + 13) at
+        ExprAt e (firstAt at)
+        × Head s b LIST p (secondAt at)
+        × ExprsAt es (firstAt (secondAt at)) (thirdAt at)
+        × Ends (secondAt at) at
+    FormAt (access e i) at = ExprAt e (firstAt at) × IdentAt i (secondAt at) × Ends (secondAt at) at
+    FormAt (path p) at = PathAt p (firstAt at) × Ends (firstAt at) at
+    FormAt (record′ p es) at = Head s b RECORD-FIELDS p (firstAt at) × EntriesAt es (firstAt (firstAt at)) (secondAt at) × Ends (firstAt at) at
     FormAt (typedRecord q p es) at =
-        PathAt q (at + 13)
-        × Head s b 80 p (past (at + 13))
-        × EntriesAt es (past (at + 13) + 13) (past (past (at + 13)))
-        × Ends (past (at + 13)) at
-    FormAt (list es) at = Record s b 3 (at + 13) × ExprsAt es (at + 13 + 13) (past (at + 13)) × Ends (at + 13) at
-    FormAt (not′ e) at = ExprAt e (at + 13) × Ends (at + 13) at
-    FormAt (assign p e) at = PathAt p (at + 13) × ExprAt e (past (at + 13)) × Ends (past (at + 13)) at
+        PathAt q (firstAt at)
+        × Head s b RECORD-FIELDS p (secondAt at)
+        × EntriesAt es (firstAt (secondAt at)) (thirdAt at)
+        × Ends (secondAt at) at
+    FormAt (list es) at = Record s b LIST (firstAt at) × ExprsAt es (firstAt (firstAt at)) (secondAt at) × Ends (firstAt at) at
+    FormAt (not′ e) at = ExprAt e (firstAt at) × Ends (firstAt at) at
+    FormAt (assign p e) at = PathAt p (firstAt at) × ExprAt e (secondAt at) × Ends (secondAt at) at
     FormAt (compoundAssign p o e) at =
-        PathAt p (at + 13)
-        × OpAt o (past (at + 13))
+        PathAt p (firstAt at)
+        × OpAt o (secondAt at)
         × (o < 5)
-        × ExprAt e (past (past (at + 13)))
-        × Ends (past (past (at + 13))) at
+        × ExprAt e (thirdAt at)
+        × Ends (thirdAt at) at
     FormAt (binOp l p o r) at =
-        ExprAt l (at + 13)
-        × ByteAt 86 p o (past (at + 13))
+        ExprAt l (firstAt at)
+        × ByteAt OPERATOR p o (secondAt at)
         × (o < 14)
-        × ExprAt r (past (past (at + 13)))
-        × Ends (past (past (at + 13))) at
+        × ExprAt r (thirdAt at)
+        × Ends (thirdAt at) at
         × (1 + leftDepth l ≤ 64)
-    FormAt (negate e) at = ExprAt e (at + 13) × Ends (at + 13) at
+    FormAt (negate e) at = ExprAt e (firstAt at) × Ends (firstAt at) at
     FormAt (ifElse c k e) at =
-        ExprAt c (at + 13)
-        × BlockAt k (past (at + 13))
-        × MaybeBlockAt e (past (past (at + 13)))
-        × Ends (past (past (at + 13))) at
-    FormAt (while c k) at = ExprAt c (at + 13) × BlockAt k (past (at + 13)) × Ends (past (at + 13)) at
+        ExprAt c (firstAt at)
+        × BlockAt k (secondAt at)
+        × MaybeBlockAt e (thirdAt at)
+        × Ends (thirdAt at) at
+    FormAt (while c k) at = ExprAt c (firstAt at) × BlockAt k (secondAt at) × Ends (secondAt at) at
     FormAt (for i e k) at =
-        IdentAt i (at + 13)
-        × ExprAt e (past (at + 13))
-        × BlockAt k (past (past (at + 13)))
-        × Ends (past (past (at + 13))) at
-    FormAt (questionMark e) at = ExprAt e (at + 13) × Ends (at + 13) at
-    FormAt (fString ps) at = Record s b 3 (at + 13) × PartsAt ps (at + 13 + 13) (past (at + 13)) × Ends (at + 13) at
-    FormAt (parentheses e) at = ExprAt e (at + 13) × Ends (at + 13) at
+        IdentAt i (firstAt at)
+        × ExprAt e (secondAt at)
+        × BlockAt k (thirdAt at)
+        × Ends (thirdAt at) at
+    FormAt (questionMark e) at = ExprAt e (firstAt at) × Ends (firstAt at) at
+    FormAt (fString ps) at = Record s b LIST (firstAt at) × PartsAt ps (firstAt (firstAt at)) (secondAt at) × Ends (firstAt at) at
+    FormAt (parentheses e) at = ExprAt e (firstAt at) × Ends (firstAt at) at
 
     pub ExprsAt : Exprs → ℕ → ℕ → Type 0
     ExprsAt noExprs at end = Done at end
@@ -284,10 +302,10 @@ module _ (s b : List ℕ) where
     pub EntriesAt : Entries → ℕ → ℕ → Type 0
     EntriesAt noEntries at end = Done at end
     EntriesAt (entry p i e es) at end =
-        Head s b 22 p at
-        × IdentAt i (at + 13)
-        × ExprAt e (past (at + 13))
-        × Ends (past (at + 13)) at
+        Head s b FIELD p at
+        × IdentAt i (firstAt at)
+        × ExprAt e (secondAt at)
+        × Ends (secondAt at) at
         × Before b at end
         × EntriesAt es (past at) end
 
@@ -295,28 +313,28 @@ module _ (s b : List ℕ) where
     pub ArmsAt : Arms → ℕ → ℕ → Type 0
     ArmsAt noArms at end = Done at end
     ArmsAt (arm p q g e more) at end =
-        Head s b 81 p at
-        × PatternAt q (at + 13)
-        × MaybeExprAt g (past (at + 13))
-        × ExprAt e (past (past (at + 13)))
-        × Ends (past (past (at + 13))) at
+        Head s b ARM p at
+        × PatternAt q (firstAt at)
+        × MaybeExprAt g (secondAt at)
+        × ExprAt e (thirdAt at)
+        × Ends (thirdAt at) at
         × Before b at end
         × ArmsAt more (past at) end
 
     -- 84 and 85, one after the other
     pub PartsAt : Parts → ℕ → ℕ → Type 0
     PartsAt noParts at end = Done at end
-    PartsAt (string p ps) at end = Head s b 84 p at × Done (at + 13) (past at) × Before b at end × PartsAt ps (past at) end
+    PartsAt (string p ps) at end = Head s b TEXT-PART p at × Done (firstAt at) (past at) × Before b at end × PartsAt ps (past at) end
     PartsAt (value e ps) at end =
-        Record s b 85 at × ExprAt e (at + 13) × Ends (at + 13) at × Before b at end × PartsAt ps (past at) end
+        Record s b EXPR-PART at × ExprAt e (firstAt at) × Ends (firstAt at) at × Before b at end × PartsAt ps (past at) end
 
     pub BlockAt : Block → ℕ → Type 0
     BlockAt (braces p ss last) at =
-        Head s b 23 p at
-        × Record s b 3 (at + 13)
-        × StmtsAt ss (at + 13 + 13) (past (at + 13))
-        × MaybeExprAt last (past (at + 13))
-        × Ends (past (at + 13)) at
+        Head s b BLOCK p at
+        × Record s b LIST (firstAt at)
+        × StmtsAt ss (firstAt (firstAt at)) (secondAt at)
+        × MaybeExprAt last (secondAt at)
+        × Ends (secondAt at) at
 
     pub MaybeBlockAt : MaybeBlock → ℕ → Type 0
     MaybeBlockAt noBlock at = Absent b at
@@ -331,64 +349,64 @@ module _ (s b : List ℕ) where
 
     pub StmtFormAt : StmtForm → ℕ → Type 0
     StmtFormAt (let′ i t e) at =
-        IdentAt i (at + 13)
-        × Maybe TypeAt t (past (at + 13))
-        × ExprAt e (past (past (at + 13)))
-        × Ends (past (past (at + 13))) at
-    StmtFormAt (importStmt p) at = ImportAt p (at + 13) × Ends (at + 13) at
-    StmtFormAt (does e) at = ExprAt e (at + 13) × Ends (at + 13) at
+        IdentAt i (firstAt at)
+        × Maybe TypeAt t (secondAt at)
+        × ExprAt e (thirdAt at)
+        × Ends (thirdAt at) at
+    StmtFormAt (importStmt p) at = ImportAt p (firstAt at) × Ends (firstAt at) at
+    StmtFormAt (does e) at = ExprAt e (firstAt at) × Ends (firstAt at) at
 
   -- ---- declarations
   -- 21, one after the other
   unfoldable pub VariantsAt : Variants → ℕ → ℕ → Type 0
   VariantsAt noVariants at end = Done at end
   VariantsAt (variant p i ts vs) at end =
-      Head s b 21 p at
-      × IdentAt i (at + 13)
-      × Record s b 3 (past (at + 13))
-      × TypesAt ts (past (at + 13) + 13) (past (past (at + 13)))
-      × Ends (past (at + 13)) at
+      Head s b VARIANT p at
+      × IdentAt i (firstAt at)
+      × Record s b LIST (secondAt at)
+      × TypesAt ts (firstAt (secondAt at)) (thirdAt at)
+      × Ends (secondAt at) at
       × Before b at end
       × VariantsAt vs (past at) end
 
   unfoldable pub DeclarationAt : Declaration → ℕ → Type 0
   DeclarationAt (filterMap i p fs k) at =
-      Record s b 10 at
-      × IdentAt i (at + 13)
-      × Head s b 3 p (past (at + 13))
-      × FieldsAt fs (past (at + 13) + 13) (past (past (at + 13)))
-      × BlockAt k (past (past (at + 13)))
-      × Ends (past (past (at + 13))) at
+      Record s b FILTER-MAP at
+      × IdentAt i (firstAt at)
+      × Head s b LIST p (secondAt at)
+      × FieldsAt fs (firstAt (secondAt at)) (thirdAt at)
+      × BlockAt k (thirdAt at)
+      × Ends (thirdAt at) at
   DeclarationAt (const i t e) at =
-      Record s b 11 at
-      × IdentAt i (at + 13)
-      × TypeAt t (past (at + 13))
-      × ExprAt e (past (past (at + 13)))
-      × Ends (past (past (at + 13))) at
+      Record s b CONST at
+      × IdentAt i (firstAt at)
+      × TypeAt t (secondAt at)
+      × ExprAt e (thirdAt at)
+      × Ends (thirdAt at) at
   DeclarationAt (recordDecl i ps p fs) at =
-      Record s b 12 at
-      × IdentAt i (at + 13)
-      × Maybe ListAt ps (past (at + 13))
-      × Head s b 3 p (past (past (at + 13)))
-      × FieldsAt fs (past (past (at + 13)) + 13) (past (past (past (at + 13))))
-      × Ends (past (past (at + 13))) at
+      Record s b RECORD at
+      × IdentAt i (firstAt at)
+      × Maybe ListAt ps (secondAt at)
+      × Head s b LIST p (thirdAt at)
+      × FieldsAt fs (firstAt (thirdAt at)) (fourthAt at)
+      × Ends (thirdAt at) at
   DeclarationAt (enumDecl i ps p vs) at =
-      Record s b 13 at
-      × IdentAt i (at + 13)
-      × Maybe ListAt ps (past (at + 13))
-      × Head s b 3 p (past (past (at + 13)))
-      × VariantsAt vs (past (past (at + 13)) + 13) (past (past (past (at + 13))))
-      × Ends (past (past (at + 13))) at
+      Record s b ENUM at
+      × IdentAt i (firstAt at)
+      × Maybe ListAt ps (secondAt at)
+      × Head s b LIST p (thirdAt at)
+      × VariantsAt vs (firstAt (thirdAt at)) (fourthAt at)
+      × Ends (thirdAt at) at
   DeclarationAt (function i p fs t k) at =
-      Record s b 14 at
-      × IdentAt i (at + 13)
-      × Head s b 3 p (past (at + 13))
-      × FieldsAt fs (past (at + 13) + 13) (past (past (at + 13)))
-      × Maybe TypeAt t (past (past (at + 13)))
-      × BlockAt k (past (past (past (at + 13))))
-      × Ends (past (past (past (at + 13)))) at
+      Record s b FUNCTION at
+      × IdentAt i (firstAt at)
+      × Head s b LIST p (secondAt at)
+      × FieldsAt fs (firstAt (secondAt at)) (thirdAt at)
+      × Maybe TypeAt t (thirdAt at)
+      × BlockAt k (fourthAt at)
+      × Ends (fourthAt at) at
   DeclarationAt (test i k) at =
-      Record s b 15 at × IdentAt i (at + 13) × BlockAt k (past (at + 13)) × Ends (past (at + 13)) at
+      Record s b TEST at × IdentAt i (firstAt at) × BlockAt k (secondAt at) × Ends (secondAt at) at
   DeclarationAt (importDecl p) at = ImportAt p at
 
   unfoldable pub DeclarationsAt : List Declaration → ℕ → ℕ → Type 0
@@ -397,8 +415,8 @@ module _ (s b : List ℕ) where
 
   -- 1: the shebang or its absence, then the declarations, up to the image's end
   pub record TreeAt (t : SyntaxTree) (at : ℕ) : Type 0 where
-    pub head : Record s b 1 at
-    pub shebang : Maybe IdentAt (t .shebang) (at + 13)
-    pub inside : Before b (at + 13) (past at)
-    pub declarations : DeclarationsAt (t .declarations) (past (at + 13)) (past at)
+    pub head : Record s b TREE at
+    pub shebang : Maybe IdentAt (t .shebang) (firstAt at)
+    pub inside : Before b (firstAt at) (past at)
+    pub declarations : DeclarationsAt (t .declarations) (secondAt at) (past at)
     pub end : past at ≡ length b

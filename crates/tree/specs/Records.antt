@@ -8,6 +8,9 @@ use lib.ListN.{getD}
 use lib.Dec.{eqb}
 use Rattle.image.specs.Bytes.{be16}
 use Rattle.image.specs.Read.{Head, Tree, Trees, absent, node, nil, _▸_}
+use Rattle.image.specs.Kinds.{ACCESS, ASSIGN, BIN-OP, BLOCK-EXPR, COMPOUND-ASSIGN, CONST, ENUM, F-STRING, FILTER-MAP, FOR, FUNCTION}
+use Rattle.image.specs.Kinds.{FUNCTION-CALL, IF-ELSE, IMPORT-STMT, LET, LIST-EXPR, LITERAL-EXPR, MATCH, NEGATE, NEVER, NOT, OPTION, PATH-EXPR}
+use Rattle.image.specs.Kinds.{QUESTION-MARK, RECORD, RECORD-EXPR, RETURN, TEST, TEXT-PART, TYPE-PATH, TYPED-RECORD, UNDERSCORE, UNIT, WHILE}
 use Rattle.tree.specs.Syntax.{Span, Ident, Path, Idents, TypeExpr, type, TypeForm, option, typePath, never, unit, recordType, TypeArgs, noArgs}
 use Rattle.tree.specs.Syntax.{args, Types, noTypes, _∷ᵗ_, Fields, noFields, field, Import, import, ImportGroup, noGroup, group, Imports}
 use Rattle.tree.specs.Syntax.{noImports, _∷ⁱ_, Pattern, underscore, enumVariant, Expr, expr, Form, return′, literal, block, match′, functionCall}
@@ -23,20 +26,20 @@ pub record Views : Type 0 where
   pub there : Bool
   pub span : Span
   pub byte : ℕ
-  pub ident : Ident  -- 2
-  pub path : Path  -- 4
-  pub type : TypeExpr  -- 40 to 44
-  pub field : Fields → Fields  -- 20
-  pub import : Import  -- 16
-  pub pattern : Pattern  -- 82, 83
-  pub expr : Expr  -- 50 to 70
-  pub entry : Entries → Entries  -- 22
-  pub arm : Arms → Arms  -- 81
-  pub part : Parts → Parts  -- 84, 85
-  pub block : Block  -- 23
-  pub stmt : Stmt  -- 30 to 32
-  pub variant : Variants → Variants  -- 21
-  pub declaration : Declaration  -- 10 to 16
+  pub ident : Ident  -- TEXT
+  pub path : Path  -- PATH
+  pub type : TypeExpr  -- any type
+  pub field : Fields → Fields  -- NAME-AND-TYPE
+  pub import : Import  -- IMPORT
+  pub pattern : Pattern  -- any pattern
+  pub expr : Expr  -- any expression
+  pub entry : Entries → Entries  -- FIELD
+  pub arm : Arms → Arms  -- ARM
+  pub part : Parts → Parts  -- a part of an f-string
+  pub block : Block  -- BLOCK
+  pub stmt : Stmt  -- any statement
+  pub variant : Variants → Variants  -- VARIANT
+  pub declaration : Declaration  -- any declaration
   -- its children, as the elements of each list
   pub idents : List Ident
   pub types : Types
@@ -177,7 +180,7 @@ declarations [] = []
 declarations (x ∷ xs) = x .declaration ∷ declarations xs
 
 -- ---- the forms of a part, by the record's kind, from its children in order: document 01, "Kinds and children"
--- `else` is the one kind left: 44, 83, 70, 85, 32 and 16.
+-- `else` is the one kind left: RECORD-TYPE, ENUM-VARIANT, PARENTHESES, EXPR-PART, EXPR-STMT and IMPORT.
 infixr 30 _⇒_∣_
 pub data Forms (A : Type 0) : Type 0 where
   else : A → Forms A
@@ -189,47 +192,47 @@ form k (n ⇒ a ∣ fs) = cond (eqb k n) a (form k fs)
 
 abbrev pub typeForms : List Views → Forms TypeForm
 typeForms xs =
-    40 ⇒ option (first xs .type) ∣
-    41 ⇒ typePath (first xs .path) (maybeArgs (second xs .there) (second xs .span) (second xs .types)) ∣
-    42 ⇒ never ∣
-    43 ⇒ unit ∣
+    OPTION ⇒ option (first xs .type) ∣
+    TYPE-PATH ⇒ typePath (first xs .path) (maybeArgs (second xs .there) (second xs .span) (second xs .types)) ∣
+    NEVER ⇒ never ∣
+    UNIT ⇒ unit ∣
     else (recordType (first xs .span) (first xs .fields))
 
 abbrev pub patterns : List Views → Forms Pattern
-patterns xs = 82 ⇒ underscore ∣ else (enumVariant (first xs .ident) (maybe (second xs .there) (listOf (second xs))))
+patterns xs = UNDERSCORE ⇒ underscore ∣ else (enumVariant (first xs .ident) (maybe (second xs .there) (listOf (second xs))))
 
 -- n is the payload byte of `return`
 abbrev pub exprForms : ℕ → List Views → Forms Form
 exprForms n xs =
-    50 ⇒ return′ n (maybeExpr (first xs .there) (first xs .expr)) ∣
-    51 ⇒ literal (first xs .span) (first xs .byte) ∣
-    52 ⇒ block (first xs .block) ∣
-    53 ⇒ match′ (first xs .expr) (second xs .span) (second xs .arms) ∣
-    54 ⇒ functionCall (first xs .expr) (second xs .span) (second xs .exprs) ∣
-    55 ⇒ access (first xs .expr) (second xs .ident) ∣
-    56 ⇒ path (first xs .path) ∣
-    57 ⇒ record′ (first xs .span) (first xs .entries) ∣
-    58 ⇒ typedRecord (first xs .path) (second xs .span) (second xs .entries) ∣
-    59 ⇒ list (first xs .exprs) ∣
-    60 ⇒ not′ (first xs .expr) ∣
-    61 ⇒ assign (first xs .path) (second xs .expr) ∣
-    62 ⇒ compoundAssign (first xs .path) (second xs .byte) (third xs .expr) ∣
-    63 ⇒ binOp (first xs .expr) (second xs .span) (second xs .byte) (third xs .expr) ∣
-    64 ⇒ negate (first xs .expr) ∣
-    65 ⇒ ifElse (first xs .expr) (second xs .block) (maybeBlock (third xs .there) (third xs .block)) ∣
-    66 ⇒ while (first xs .expr) (second xs .block) ∣
-    67 ⇒ for (first xs .ident) (second xs .expr) (third xs .block) ∣
-    68 ⇒ questionMark (first xs .expr) ∣
-    69 ⇒ fString (first xs .parts) ∣
+    RETURN ⇒ return′ n (maybeExpr (first xs .there) (first xs .expr)) ∣
+    LITERAL-EXPR ⇒ literal (first xs .span) (first xs .byte) ∣
+    BLOCK-EXPR ⇒ block (first xs .block) ∣
+    MATCH ⇒ match′ (first xs .expr) (second xs .span) (second xs .arms) ∣
+    FUNCTION-CALL ⇒ functionCall (first xs .expr) (second xs .span) (second xs .exprs) ∣
+    ACCESS ⇒ access (first xs .expr) (second xs .ident) ∣
+    PATH-EXPR ⇒ path (first xs .path) ∣
+    RECORD-EXPR ⇒ record′ (first xs .span) (first xs .entries) ∣
+    TYPED-RECORD ⇒ typedRecord (first xs .path) (second xs .span) (second xs .entries) ∣
+    LIST-EXPR ⇒ list (first xs .exprs) ∣
+    NOT ⇒ not′ (first xs .expr) ∣
+    ASSIGN ⇒ assign (first xs .path) (second xs .expr) ∣
+    COMPOUND-ASSIGN ⇒ compoundAssign (first xs .path) (second xs .byte) (third xs .expr) ∣
+    BIN-OP ⇒ binOp (first xs .expr) (second xs .span) (second xs .byte) (third xs .expr) ∣
+    NEGATE ⇒ negate (first xs .expr) ∣
+    IF-ELSE ⇒ ifElse (first xs .expr) (second xs .block) (maybeBlock (third xs .there) (third xs .block)) ∣
+    WHILE ⇒ while (first xs .expr) (second xs .block) ∣
+    FOR ⇒ for (first xs .ident) (second xs .expr) (third xs .block) ∣
+    QUESTION-MARK ⇒ questionMark (first xs .expr) ∣
+    F-STRING ⇒ fString (first xs .parts) ∣
     else (parentheses (first xs .expr))
 
 abbrev pub fstringParts : Span → List Views → Forms (Parts → Parts)
-fstringParts s xs = 84 ⇒ (λ ps. string s ps) ∣ else (λ ps. value (first xs .expr) ps)
+fstringParts s xs = TEXT-PART ⇒ (λ ps. string s ps) ∣ else (λ ps. value (first xs .expr) ps)
 
 abbrev pub stmtForms : List Views → Forms StmtForm
 stmtForms xs =
-    30 ⇒ let′ (first xs .ident) (maybe (second xs .there) (second xs .type)) (third xs .expr) ∣
-    31 ⇒ importStmt (first xs .import) ∣
+    LET ⇒ let′ (first xs .ident) (maybe (second xs .there) (second xs .type)) (third xs .expr) ∣
+    IMPORT-STMT ⇒ importStmt (first xs .import) ∣
     else (does (first xs .expr))
 
 abbrev pub importOf : Span → List Views → Import
@@ -237,12 +240,12 @@ importOf s xs = import s (maybe (first xs .there) (first xs .path)) (maybeGroup 
 
 abbrev pub declarationForms : Span → List Views → Forms Declaration
 declarationForms s xs =
-    10 ⇒ filterMap (first xs .ident) (second xs .span) (second xs .fields) (third xs .block) ∣
-    11 ⇒ const (first xs .ident) (second xs .type) (third xs .expr) ∣
-    12 ⇒ recordDecl (first xs .ident) (maybe (second xs .there) (listOf (second xs))) (third xs .span) (third xs .fields) ∣
-    13 ⇒ enumDecl (first xs .ident) (maybe (second xs .there) (listOf (second xs))) (third xs .span) (third xs .variants) ∣
-    14 ⇒ function (first xs .ident) (second xs .span) (second xs .fields) (maybe (third xs .there) (third xs .type)) (fourth xs .block) ∣
-    15 ⇒ test (first xs .ident) (second xs .block) ∣
+    FILTER-MAP ⇒ filterMap (first xs .ident) (second xs .span) (second xs .fields) (third xs .block) ∣
+    CONST ⇒ const (first xs .ident) (second xs .type) (third xs .expr) ∣
+    RECORD ⇒ recordDecl (first xs .ident) (maybe (second xs .there) (listOf (second xs))) (third xs .span) (third xs .fields) ∣
+    ENUM ⇒ enumDecl (first xs .ident) (maybe (second xs .there) (listOf (second xs))) (third xs .span) (third xs .variants) ∣
+    FUNCTION ⇒ function (first xs .ident) (second xs .span) (second xs .fields) (maybe (third xs .there) (third xs .type)) (fourth xs .block) ∣
+    TEST ⇒ test (first xs .ident) (second xs .block) ∣
     else (importDecl (importOf s xs))
 
 -- ---- a record, and records one after the other

@@ -28,8 +28,10 @@ usage: judge run [--true-widths] < frame      what the program must write
        judge stored-frames                    a fixed set of frames, answered
        judge stored-calls                     a fixed set of lists, answered
        judge stored-table                     what the fixed sets reach
-       judge replay                           what the replay is run on
-       judge replay-counts                    what the replay must write
+       judge replay-calls                     what replay_calls is run on
+       judge replay-calls-counts              what it must write
+       judge replay-frames                    what replay_frames is run on
+       judge replay-frames-counts             what it must write
        judge text-answers                     answers of Rust's text functions
 CLASS: realistic, wild, edges, damaged or sizes
 ";
@@ -97,8 +99,10 @@ fn command(words: &[&str]) -> Result<Pieces, String> {
             stored::lists().map(|case| answers::calls::answered(&case)),
         ),
         ["stored-table"] => one(table::stored()),
-        ["replay"] => one(answers::replay::input()),
-        ["replay-counts"] => one(answers::replay::output()),
+        ["replay-calls"] => one(answers::replay::calls_input()),
+        ["replay-calls-counts"] => one(answers::replay::calls_output()),
+        ["replay-frames"] => one(answers::replay::frames_input()),
+        ["replay-frames-counts"] => one(answers::replay::frames_output()),
         ["text-answers"] => one(answers::text::answers()),
         ["table", seed, count] => {
             one(table::table(number(seed)?, number(count)?))

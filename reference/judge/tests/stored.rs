@@ -83,8 +83,14 @@ fn the_worked_frames_come_first() {
 /// `reference/replay-answers` was run after the last change.
 #[test]
 fn the_replay_has_these_answers() {
-    let at = concat!(env!("CARGO_MANIFEST_DIR"), "/../../crates/replay");
+    let at = concat!(env!("CARGO_MANIFEST_DIR"), "/../../crates");
     let read = |name| std::fs::read(format!("{at}/{name}")).expect("there");
-    assert!(read("stdin") == replay::input());
-    assert!(read("stdout") == replay::output().into_bytes());
+    assert!(read("replay_calls/stdin") == replay::calls_input());
+    assert!(
+        read("replay_calls/stdout") == replay::calls_output().into_bytes()
+    );
+    assert!(read("replay_frames/stdin") == replay::frames_input());
+    assert!(
+        read("replay_frames/stdout") == replay::frames_output().into_bytes()
+    );
 }

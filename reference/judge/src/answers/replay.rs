@@ -1,8 +1,8 @@
-//! What the port's program `replay` is run on, and what it must write.
+//! What the port's programs `replay_calls` and `replay_frames` are run on, and what they must write.
 
 use std::{collections::BTreeMap, fmt::Write};
 
-use super::{calls, frames, put_bytes, stored};
+use super::{calls, frames, stored};
 use crate::{
     calls::{self as layout_and_rendering, Call, Given},
     generate::{self, CallCase},
@@ -17,41 +17,43 @@ fn lists() -> impl Iterator<Item = CallCase> {
     stored::lists().chain(generate::rendering_cases())
 }
 
-/// The lists with their answers, led by their length, and then the frames.
-pub fn input() -> Vec<u8> {
-    let answered: Vec<u8> =
-        lists().flat_map(|case| calls::answered(&case)).collect();
-    let mut out = Vec::new();
-    put_bytes(&mut out, &answered);
-    out.extend(stored::frames().flat_map(|f| frames::answered(&f)));
-    out
+/// The lists with their answers.
+pub fn calls_input() -> Vec<u8> {
+    lists().flat_map(|case| calls::answered(&case)).collect()
 }
 
-/// The counts of all answers, and that none differs.
-pub fn output() -> String {
+/// The frames with their answers.
+pub fn frames_input() -> Vec<u8> {
+    stored::frames().flat_map(|f| frames::answered(&f)).collect()
+}
+
+/// How often each answer to a call is given, and that no list differs.
+pub fn calls_output() -> String {
     let mut out = String::new();
-    let [mut laid, mut rendered, mut run] = [const { Numbers::new() }; 3];
+    let [mut laid, mut rendered] = [const { Numbers::new() }; 2];
     let mut count = 0;
     for case in lists() {
         count += 1;
         add_calls(&case, &mut laid, &mut rendered);
     }
-    writeln!(out, "lists: {count}").unwrap();
-    for (what, numbers) in [("layout", &laid), ("rendering", &rendered)] {
-        let calls: usize = numbers.values().sum();
-        writeln!(out, "{what} calls: {calls}").unwrap();
-        put_numbers(&mut out, what, numbers);
-    }
-    out.push_str("differ: 0\n");
+    put_numbers(&mut out, "layout calls", &laid);
+    put_numbers(&mut out, "rendering calls", &rendered);
+    put_end(&mut out, "lists", count);
+    out
+}
+
+/// How often each answer to a frame is given, and that none differs.
+pub fn frames_output() -> String {
+    let mut out = String::new();
+    let mut run = Numbers::new();
     for frame in stored::frames() {
         let answer = program::answer(&frame, Widths::Supplied);
         let number = answer.err().map_or(0, |refusal| refusal.number);
         *run.entry(number).or_default() += 1;
     }
-    let frames: usize = run.values().sum();
-    writeln!(out, "frames: {frames}").unwrap();
     put_numbers(&mut out, "frames", &run);
-    out + "differ: 0\n"
+    put_end(&mut out, "frames", run.values().sum());
+    out
 }
 
 fn add_calls(case: &CallCase, laid: &mut Numbers, rendered: &mut Numbers) {
@@ -79,4 +81,8 @@ fn put_numbers(out: &mut String, what: &str, numbers: &Numbers) {
         }
         .unwrap();
     }
+}
+
+fn put_end(out: &mut String, what: &str, count: usize) {
+    writeln!(out, "{what}: {count}\ndiffer: 0").unwrap();
 }

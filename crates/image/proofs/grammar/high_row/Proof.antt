@@ -5,7 +5,7 @@ use Prim.Native.Nat.{ℕ}
 use native.Mathlib.Omega.{arith}
 use lib.Dec.{leb}
 use borrow.Author.Tests.{leb-false}
-use Rattle.image.specs.Grammar.{rowOf, rules}
+use Rattle.image.specs.Grammar.{rowOf, grammar}
 use Rattle.image.proofs.Table.{none}
 use Rattle.image.proofs.grammar.high_row.Statement.{statement}
 use Rattle.image.proofs.grammar.high_row.Tie as tie
@@ -112,7 +112,7 @@ returns-25 c = ap rowOf (sym (c .match .keys25))
 
 returns-26 : tie.Need-returns-26
 unfolding rowOf
-returns-26 c = none (λ n. leb 50 n) (c .before .args .k) (λ n e q. omega (arith, leb-false 50 n e)) rules (c .match .rest)
+returns-26 c = none (λ n. leb 50 n) (c .before .args .k) (λ n e q. omega (arith, leb-false 50 n e)) grammar (c .match .rest)
 
 pub high-row-spec : {M : Type 1} → statement M
 high-row-spec =

@@ -5,7 +5,7 @@ use Prim.Native.Nat.{ℕ}
 use native.Mathlib.Omega.{arith}
 use lib.Dec.{ltb}
 use borrow.Author.Tests.{ltb-false}
-use Rattle.image.specs.Grammar.{rowOf, rules}
+use Rattle.image.specs.Grammar.{rowOf, grammar}
 use Rattle.image.proofs.Table.{none}
 use Rattle.image.proofs.grammar.low_row.Statement.{statement}
 use Rattle.image.proofs.grammar.low_row.Tie as tie
@@ -88,7 +88,7 @@ returns-19 c = ap rowOf (sym (c .match .keys19))
 
 returns-20 : tie.Need-returns-20
 unfolding rowOf
-returns-20 c = none (λ n. ltb n 50) (c .before .args .k) (λ n e q. omega (arith, ltb-false n 50 e)) rules (c .match .rest)
+returns-20 c = none (λ n. ltb n 50) (c .before .args .k) (λ n e q. omega (arith, ltb-false n 50 e)) grammar (c .match .rest)
 
 pub low-row-spec : {M : Type 1} → statement M
 low-row-spec =

@@ -128,4 +128,4 @@ on-new-line-spec 𝓤 H 𝓜 𝓖 𝓡 =
     entered 𝓤 H (tripleOf 𝓤 H (𝓖 .A) on-new-line.signature (on-new-line.spec 𝓤 H (𝓖 .A) (𝓜 .mem) (𝓡 .run)))
     (tables 𝓤 H 𝓜 𝓡 code.env .C) (tables 𝓤 H 𝓜 𝓡 code.env .Λ) #render·lent·on-new-line code.function (code.unfolded 𝓤 H 𝓜 𝓡)
     (on-new-line-meets 𝓤 H (𝓖 .A) (givenOf 𝓤 H 𝓜 𝓖) (𝓜 .mem) (𝓡 .run) (tablesOf 𝓤 H 𝓜 (tables 𝓤 H 𝓜 𝓡 code.env))
-    (cited 𝓤 H (BreakLine 𝓤 H (𝓖 .A) (𝓜 .mem) (𝓡 .run)) 𝓜 𝓡 code.env #render·lent·break-line break-line-def.routine code.calls-render·lent·break-line (break-line-thm.met 𝓤 H 𝓜 𝓖 𝓡)))
+    (cited 𝓤 H (BreakLine 𝓤 H (𝓖 .A) (𝓜 .mem) (𝓡 .run)) 𝓜 𝓡 code.env #render·lent·break-line break-line-def.routine code.calls-renderer·lent·break-line (break-line-thm.met 𝓤 H 𝓜 𝓖 𝓡)))

@@ -1,0 +1,210 @@
+// The stored lists of calls, each with the world before it and after it.
+use crate::calls::Run;
+use crate::calls::replay_calls;
+use stored_answers::found::bytes_found;
+use stored_answers::compare::copy;
+use stored_answers::compare::fill;
+use stored_answers::compare::same_numbers;
+use stored_answers::numbers::end;
+use stored_answers::numbers::forward;
+use stored_answers::numbers::long;
+use stored_answers::numbers::past;
+use stored_answers::numbers::short;
+use stored_answers::numbers::start;
+use stored_answers::report::Compared;
+use stored_answers::found::Found;
+use stored_answers::found::first;
+use stored_answers::report::told;
+use stored_answers::found::unless;
+use crate::states::LAYOUT;
+use crate::states::RENDER;
+use crate::states::layout_state;
+use crate::states::render_state;
+use crate::states::same_layout;
+use crate::states::same_render;
+
+// Where a case ends, and its first difference.
+struct Case {
+    next: usize,
+    found: Found,
+}
+
+// The store against the one stored at `at`.
+fn store_found(store: &[u32], d: &[u8], at: usize) -> Found {
+    first(
+        unless(long(d, at) == store.len(), Found::Rows),
+        unless(same_numbers(store, d, past(at, 4)), Found::Rows),
+    )
+}
+
+// Where the numbers end that a length at `at` leads.
+fn numbers_end(d: &[u8], at: usize) -> usize {
+    past(past(at, 4), 4 * long(d, at))
+}
+
+// Where the bytes end that a length at `at` leads.
+fn bytes_end(d: &[u8], at: usize) -> usize {
+    past(past(at, 4), long(d, at))
+}
+
+// The joined texts, stored at `at`.
+fn text_found(text: &[u8], written: usize, d: &[u8], at: usize) -> Found {
+    if text.len() < written {
+        return Found::Room;
+    }
+    bytes_found(&text[..written], d, at, Found::Text)
+}
+
+// The world after the calls, which is stored where they end, and the texts behind it.
+fn world_found(d: &[u8], store: &[u32], marks: &[u8], text: &[u8], run: Run) -> Case {
+    let at = run.at;
+    let marks_at = numbers_end(d, at);
+    let layout_at = bytes_end(d, marks_at);
+    let render_at = past(layout_at, LAYOUT);
+    let text_at = past(render_at, RENDER);
+    let layout = run.layout;
+    let render = run.render;
+    let calls = run.found;
+    let buffers = first(
+        store_found(store, d, at),
+        bytes_found(marks, d, marks_at, Found::Marks),
+    );
+    let states = first(
+        unless(
+            same_layout(layout, layout_state(d, layout_at)),
+            Found::Layout,
+        ),
+        unless(
+            same_render(render, render_state(d, render_at)),
+            Found::Rendering,
+        ),
+    );
+    let texts = text_found(text, run.written, d, text_at);
+    Case {
+        next: bytes_end(d, text_at),
+        found: first(first(calls, buffers), first(states, texts)),
+    }
+}
+
+// The run before the first call; the states are stored at `at`, and behind them the number of calls and the calls.
+fn beginning(d: &[u8], at: usize) -> Run {
+    let render_at = past(at, LAYOUT);
+    let count_at = past(render_at, RENDER);
+    Run {
+        at: past(count_at, 2),
+        layout: layout_state(d, at),
+        render: render_state(d, render_at),
+        written: 0,
+        found: Found::Same,
+    }
+}
+
+// How many calls there are, behind the states stored at `at`.
+fn calls_count(d: &[u8], at: usize) -> usize {
+    short(d, past(past(at, LAYOUT), RENDER))
+}
+
+// A case whose world before the calls is stored at `at`, with a store and marks of its size.
+fn in_world(
+    d: &[u8],
+    at: usize,
+    source: &[u8],
+    image: &[u8],
+    store: &mut [u32],
+    marks: &mut [u8],
+    out: &mut [u8],
+    text: &mut [u8],
+    laid: &mut [usize],
+    rendered: &mut [usize],
+) -> Case {
+    let marks_at = numbers_end(d, at);
+    let states_at = bytes_end(d, marks_at);
+    fill(store, d, past(at, 4));
+    copy(marks, d, past(marks_at, 4));
+    let run = replay_calls(
+        d,
+        calls_count(d, states_at),
+        source,
+        image,
+        store,
+        marks,
+        out,
+        text,
+        laid,
+        rendered,
+        beginning(d, states_at),
+    );
+    world_found(d, store, marks, text, run)
+}
+
+// A case for which the replay has no room; no later one is run.
+fn no_room() -> Case {
+    Case {
+        next: 0,
+        found: Found::Room,
+    }
+}
+
+// The case stored at `at`.
+fn replay_case(
+    d: &[u8],
+    at: usize,
+    store: &mut [u32],
+    marks: &mut [u8],
+    out: &mut [u8],
+    text: &mut [u8],
+    laid: &mut [usize],
+    rendered: &mut [usize],
+) -> Case {
+    let source_from = start(d, at);
+    let source_to = end(d, source_from, long(d, at));
+    let image_from = start(d, source_to);
+    let world = end(d, image_from, long(d, source_to));
+    let numbers = long(d, world);
+    let count = long(d, numbers_end(d, world));
+    if store.len() < numbers {
+        return no_room();
+    }
+    if marks.len() < count {
+        return no_room();
+    }
+    in_world(
+        d,
+        world,
+        &d[source_from..source_to],
+        &d[image_from..world],
+        &mut store[..numbers],
+        &mut marks[..count],
+        out,
+        text,
+        laid,
+        rendered,
+    )
+}
+
+// All cases; each that differs is shown.
+pub(crate) fn replay_cases(
+    d: &[u8],
+    store: &mut [u32],
+    marks: &mut [u8],
+    out: &mut [u8],
+    text: &mut [u8],
+    laid: &mut [usize],
+    rendered: &mut [usize],
+) -> Compared {
+    let mut at: usize = 0;
+    let mut cases: usize = 0;
+    let mut differ: usize = 0;
+    while at < d.len() {
+        let c = replay_case(d, at, store, marks, out, text, laid, rendered);
+        let found = c.found;
+        cases += 1;
+        differ += told(cases, found);
+        at = forward(at, c.next);
+    }
+    Compared {
+        cases: cases,
+        differ: differ,
+        cut: d.len() < at,
+    }
+}
