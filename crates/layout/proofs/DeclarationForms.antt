@@ -20,7 +20,7 @@ use Rattle.state.specs.declared.Cursor.{Cursor}
 use Rattle.state.proofs.Laws.{Lays, lays-then, lays-skip, room-first, room-next}
 use Rattle.comments.specs.Listed.{given}
 use Rattle.layout.specs.Layout.{typeExpr, unlessEmpty, someTypeParams, returnType, declaration, shebangRule, declarationsRule}
-use Rattle.layout.specs.Contracts.{Has, HasAll, Whole, Accepted}
+use Rattle.layout.specs.Contracts.{Has, HasAll, Whole, Readable}
 use Rattle.layout.specs.Elems.{typeParamsRule}
 use Rattle.layout.specs.Forms.{two, three, four, five, OfDeclaration, declarationRule, anyDeclaration, MaybeListAt, MaybeTypeAt, MaybeIdentAt, declarationsFrom}
 use Rattle.layout.proofs.Places.{head-whole, type-whole, import-whole}
@@ -223,7 +223,7 @@ module _ {s b : List ℕ} {at : ℕ} where
 
 -- ---- declarations one after the other
 pub record MoreDeclarations (first : Bool) (s b : List ℕ) (p to : ℕ) (c : Cursor) : Type 0 where
-  pub accepted : Accepted s b
+  pub accepted : Readable s b
   pub tree : Declaration
   pub held : DeclarationAt s b tree p
   pub whole : Whole b p

@@ -19,12 +19,12 @@ use Rattle.state.specs.declared.Cursor.{Cursor}
 use Rattle.state.proofs.Laws.{Lays, lays-then, lays-skip}
 use Rattle.comments.specs.Listed.{given}
 use Rattle.layout.specs.Layout.{pathRule, isSome, isGroup, importFirst, importPath, importGroup, importItems, importElems, separated}
-use Rattle.layout.specs.Contracts.{Has, Within, Whole}
+use Rattle.layout.specs.Contracts.{Has, InImage, Whole}
 use Rattle.layout.specs.Forms.{MaybePathAt}
 use Rattle.layout.proofs.Places.{within, head-whole, import-whole}
 use Rattle.layout.proofs.Runs.{list-of, import-elems, braces}
 use Rattle.layout.specs.Elems.{ImportElem, HasList}
-use Rattle.layout.specs.declared.kinds.WrapStyle.the-variants.{Tight}
+use Rattle.layout.specs.declared.forms.WrapStyle.the-variants.{Tight}
 use Rattle.layout.proofs.Lays.{LaysAs, LaysList}
 
 module _ (s b : List ℕ) (at : ℕ) where
@@ -141,7 +141,7 @@ module _ (s b : List ℕ) (at : ℕ) (f : be32 b at ≡ 0 → ⊥) where
   group-whole noGroup a = absurd (f (a .zero))
   group-whole (group p is) a = head-whole (a .0)
 
-  pub group-next : (q : ImportGroup) → ImportGroupAt s b q at → (stopAt b at ≡ at + 13 → ⊥) → Within b (at + 13)
+  pub group-next : (q : ImportGroup) → ImportGroupAt s b q at → (stopAt b at ≡ at + 13 → ⊥) → InImage b (at + 13)
   unfolding ImportGroupAt ImportsAt
   group-next noGroup a g = absurd (f (a .zero))
   group-next (group p noImports) a g = absurd (g (sym (a .1 .same)))

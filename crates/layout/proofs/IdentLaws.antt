@@ -17,7 +17,7 @@ use Rattle.state.specs.declared.Cursor.{Cursor}
 use Rattle.state.proofs.Laws.{Lays, lays-then, lays-skip, room-first, room-next}
 use Rattle.comments.specs.Listed.{given}
 use Rattle.layout.specs.Layout.{ident, pathNext, pathMore}
-use Rattle.layout.specs.Contracts.{Accepted, Has, HasAll}
+use Rattle.layout.specs.Contracts.{Readable, Has, HasAll}
 use Rattle.layout.proofs.Lays.{LaysAll, LaysAs}
 
 -- the text that the numbers of its record say
@@ -37,7 +37,7 @@ module _ {s b : List ℕ} {at w f n : ℕ} {i : Ident} (a : IdentAt s b i at) (p
 
 -- the first of the identifiers that are left, and those after it
 pub record More (breaks : Bool) (s b : List ℕ) (p to : ℕ) (c : Cursor) : Type 0 where
-  pub accepted : Accepted s b
+  pub accepted : Readable s b
   pub first : Ident
   pub held : IdentAt s b first p
   pub least : stopAt b p ≤ to

@@ -12,9 +12,9 @@ use Rattle.state.specs.Laid.{Room}
 use Rattle.state.specs.declared.Cursor.{Cursor}
 use Rattle.state.proofs.Laws.{Lays}
 use Rattle.comments.specs.Listed.{given}
-use Rattle.layout.specs.declared.kinds.ListForm.{ListForm}
-use Rattle.layout.specs.Layout.{Elem, lone}
-use Rattle.layout.specs.Contracts.{Accepted, Has, LaidAs, HasAll, LaidAll}
+use Rattle.layout.specs.declared.forms.ListForm.{ListForm}
+use Rattle.layout.specs.Layout.{Elem, leftmost}
+use Rattle.layout.specs.Contracts.{Readable, Has, LaidAs, HasAll, LaidAll}
 use Rattle.layout.specs.Elems.{ListOf, listRule, LaidList, LaidEmpty}
 use Rattle.layout.specs.Chains.{Above, grown, Filled, LaidTail}
 
@@ -34,18 +34,18 @@ pub record LaysEmpty (form : ListForm) (end : ℕ) (s b : List ℕ) (x : List �
   pub of : (p : Span) → end ≡ p .end → Lays (listRule form (given s b) [] p) x c y d
 
 pub record LaysTail (s b : List ℕ) (at left : ℕ) (x : List ℕ) (c : Cursor) (y : List ℕ) (d : Cursor) : Type 0 where
-  pub of : (q : ℕ) (e : Expr) → ExprAt s b e at → (l : Expr) (a : Above q s b e at left l) (h : Act) → Lays (grown a (lone h) .tail) x c y d
+  pub of : (q : ℕ) (e : Expr) → ExprAt s b e at → (l : Expr) (a : Above q s b e at left l) (h : Act) → Lays (grown a (leftmost h) .ops) x c y d
 
 module _ {T : Type 0} {rule : Given → T → Act} {s b : List ℕ} {x y : List ℕ} {c d : Cursor} where
   module _ {R : List ℕ → List ℕ → T → ℕ → Type 0} {at : ℕ} where
-    pub lays-as : Accepted s b → LaidAs R rule s b at x c y d → LaysAs R rule s b at x c y d
+    pub lays-as : Readable s b → LaidAs R rule s b at x c y d → LaysAs R rule s b at x c y d
     lays-as k l = record { of = λ t a. record { does = λ room. l .of (record { accepted = k; tree = t; held = a; room = room }) } }
 
     pub laid-as : LaysAs R rule s b at x c y d → LaidAs R rule s b at x c y d
     laid-as l = record { of = λ h. l .of (h .tree) (h .held) .does (h .room) }
 
   module _ {R : List ℕ → List ℕ → T → ℕ → ℕ → Type 0} {from to : ℕ} where
-    pub lays-all : Accepted s b → to ≤ length b → LaidAll R rule s b from to x c y d → LaysAll R rule s b from to x c y d
+    pub lays-all : Readable s b → to ≤ length b → LaidAll R rule s b from to x c y d → LaysAll R rule s b from to x c y d
     lays-all k i l = record { of = λ t a. record { does = λ room. l .of (record { accepted = k; tree = t; held = a; inside = i; room = room }) } }
 
     pub laid-all : LaysAll R rule s b from to x c y d → LaidAll R rule s b from to x c y d
@@ -53,7 +53,7 @@ module _ {T : Type 0} {rule : Given → T → Act} {s b : List ℕ} {x y : List 
 
 module _ {form : ListForm} {end : ℕ} {s b : List ℕ} {x y : List ℕ} {c d : Cursor} where
   module _ {P : List ℕ → List ℕ → Elem → ℕ → Type 0} {at : ℕ} where
-    pub lays-list : Accepted s b → LaidList P form end s b at x c y d → LaysList P form end s b at x c y d
+    pub lays-list : Readable s b → LaidList P form end s b at x c y d → LaysList P form end s b at x c y d
     lays-list i l =
         record {
           of =
@@ -64,14 +64,14 @@ module _ {form : ListForm} {end : ℕ} {s b : List ℕ} {x y : List ℕ} {c d : 
     pub laid-list : LaysList P form end s b at x c y d → LaidList P form end s b at x c y d
     laid-list l = record { of = λ h. l .of (h .tree) (h .held) (h .span) (h .ended) .does (h .room) }
 
-  pub lays-empty : Accepted s b → LaidEmpty form end s b x c y d → LaysEmpty form end s b x c y d
+  pub lays-empty : Readable s b → LaidEmpty form end s b x c y d → LaysEmpty form end s b x c y d
   lays-empty i l = record { of = λ p e. record { does = λ room. l .of (record { accepted = i; span = p; ended = e; room = room }) } }
 
   pub laid-empty : LaysEmpty form end s b x c y d → LaidEmpty form end s b x c y d
   laid-empty l = record { of = λ h. l .of (h .span) (h .ended) .does (h .room) }
 
 module _ {s b : List ℕ} {at left : ℕ} {ops : List ℕ} {x y : List ℕ} {c d : Cursor} where
-  pub lays-tail : Accepted s b → Filled ops at left → LaidTail s b at left ops x c y d → LaysTail s b at left x c y d
+  pub lays-tail : Readable s b → Filled ops at left → LaidTail s b at left ops x c y d → LaysTail s b at left x c y d
   lays-tail k f l =
       record {
         of =

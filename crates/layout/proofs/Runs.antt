@@ -16,13 +16,14 @@ use Rattle.state.specs.Laid.{Room, Laid}
 use Rattle.state.specs.declared.Cursor.{Cursor}
 use Rattle.state.proofs.Laws.{Lays, lays, lays-then, lays-skip, room-first, room-next}
 use Rattle.state.proofs.Nested.{room-group, laid-group, room-indent, lays-indent}
+use Rattle.comments.specs.Comments.{popTrailingComment}
 use Rattle.comments.specs.Listed.{given, span}
-use Rattle.layout.specs.declared.kinds.ListForm.{ListForm}
-use Rattle.layout.specs.declared.kinds.WrapStyle.the-variants.{Tight}
-use Rattle.layout.specs.declared.kinds.TypeElement.the-variants as types
-use Rattle.layout.specs.declared.kinds.ExprElement.the-variants as exprs
-use Rattle.layout.specs.Layout.{Elem, elements, separated, inside, beforeElem, identElems, typeElems, fieldElems, importElems, variantElems, exprElems, groupedElems, entryElems, armElems, edge, trailing, ends}
-use Rattle.layout.specs.Contracts.{Has, HasAll, Whole, Accepted}
+use Rattle.layout.specs.declared.forms.ListForm.{ListForm}
+use Rattle.layout.specs.declared.forms.WrapStyle.the-variants.{Tight}
+use Rattle.layout.specs.declared.forms.TypeElement.the-variants as types
+use Rattle.layout.specs.declared.forms.ExprElement.the-variants as exprs
+use Rattle.layout.specs.Layout.{Elem, elements, separated, inside, beforeElem, identElems, typeElems, fieldElems, importElems, variantElems, exprElems, groupedElems, entryElems, armElems, edge, ends}
+use Rattle.layout.specs.Contracts.{Has, HasAll, Whole, Readable}
 use Rattle.layout.specs.Elems.{Is, elemRule, IdentElem, ImportElem, VariantElem, TypeElem, ExprElem, ElemAt, ElemsAt, mark, elementsRule, ListOf}
 use Rattle.layout.specs.Elems.{starts, listRule, HasList, HasEmpty, Begins, Begun, HasElems, LaidElems}
 use Rattle.layout.proofs.Places.{head-whole}
@@ -30,7 +31,7 @@ use Rattle.layout.proofs.Lays.{LaysAll, LaysAs, LaysList, LaysEmpty}
 
 -- the first of the elements that are left, and those after it
 pub record MoreElems (P : List ℕ → List ℕ → Elem → ℕ → Type 0) (commas first : Bool) (s b : List ℕ) (p to : ℕ) (c : Cursor) : Type 0 where
-  pub accepted : Accepted s b
+  pub accepted : Readable s b
   pub elem : Elem
   pub held : P s b elem p
   pub whole : Whole b p
@@ -226,7 +227,7 @@ listSteps form end id g es =
     ⨟ indented (elementsRule (form .commas) true g es ⨟ ends g (mark (form .commas)) id (span 0 end))
     ⨟ edge (form .style)
     ⨟ says (getD table (form .right) "")
-    ⨟ trailing g
+    ⨟ popTrailingComment g
 
 -- what a list lays goes by the end of the span alone
 pub list-same : (form : ListForm) (g : Given) (e : Elem) (es : List Elem) {end : ℕ} (p : Span) → end ≡ p .end
@@ -236,7 +237,7 @@ list-same form g e es p q = rw q refl
 
 module _ {form : ListForm} {end : ℕ} {s b : List ℕ} where
   -- a list that was begun, with its elements laid
-  abbrev ended-list : {x y z : List ℕ} {c i d : Cursor} → Accepted s b → Begun form x c y i → (e : Elem) (es : List Elem)
+  abbrev ended-list : {x y z : List ℕ} {c i d : Cursor} → Readable s b → Begun form x c y i → (e : Elem) (es : List Elem)
       → Lays (elementsRule (form .commas) true (given s b) (e ∷ es)) y i z d → (p : Span) → end ≡ p .end
       → Room (listRule form (given s b) (e ∷ es) p) c → HasElems form end s b c i z d
   ended-list {x} {y} {c = c} k w e es l p j room =
@@ -319,7 +320,7 @@ module _ {P : List ℕ → List ℕ → Elem → ℕ → Type 0} {form : ListFor
       go (e ∷ es) a room = ended-list (h .accepted) w e es (l .of (e ∷ es) (a .elems)) (h .span) (h .ended) room
 
   -- a list that was begun, whose elements were laid, and that was ended
-  pub list-laid : (at + 13 ≡ stopAt b at → ⊥) → {x y z w : List ℕ} {c i d e : Cursor} → Accepted s b → Begun form x c y i
+  pub list-laid : (at + 13 ≡ stopAt b at → ⊥) → {x y z w : List ℕ} {c i d e : Cursor} → Readable s b → Begun form x c y i
       → LaysAll (ElemsAt P) (elementsRule (form .commas) true) s b (at + 13) (stopAt b at) y i z d
       → LaidElems form end s b c i z d w e → LaysList P form end s b at x c w e
   unfolding ElemsAt
@@ -353,10 +354,10 @@ module _ {form : ListForm} {end : ℕ} {s b : List ℕ} {c i d : Cursor} {y : Li
         lays-indent (h .begun .indent) (lays-then (lays (h .elems)) (lays l))
         (k ∙ ap (λ (n : ℕ). set z (9 * n + 4) (e .row)) (omega (arith, indent-row)))
 
-    pub close-room : Room (edge (form .style) ⨟ says (getD table (form .right) "") ⨟ trailing (given s b)) e
+    pub close-room : Room (edge (form .style) ⨟ says (getD table (form .right) "") ⨟ popTrailingComment (given s b)) e
     close-room = room-next (room-next in-list (lays (h .begun .words))) inner
 
-    pub list-ended : {u v : List ℕ} {r : Cursor} → Laid (edge (form .style) ⨟ says (getD table (form .right) "") ⨟ trailing (given s b)) w e u r
+    pub list-ended : {u v : List ℕ} {r : Cursor} → Laid (edge (form .style) ⨟ says (getD table (form .right) "") ⨟ popTrailingComment (given s b)) w e u r
         → v ≡ set u (9 * c .row + 4) (r .row) → Laid (listRule form (given s b) (h .first ∷ h .more) (h .span)) (h .store₀) c v r
     list-ended {v = v} {r = r} m j =
         subst (λ (a : Act). Laid a (h .store₀) c v r) (sym same)

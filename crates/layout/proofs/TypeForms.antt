@@ -19,9 +19,9 @@ use Rattle.comments.specs.Listed.{given}
 use Rattle.layout.proofs.Places.{head-whole, type-whole}
 use Rattle.layout.proofs.Runs.{list-of, type-elems, parens, brackets}
 use Rattle.layout.specs.Layout.{typeExpr, typeForm, typeArgs, typeElems, variantTypes, lastSpan}
-use Rattle.layout.specs.Contracts.{Has, Whole, Accepted}
+use Rattle.layout.specs.Contracts.{Has, Whole, Readable}
 use Rattle.layout.specs.Elems.{TypeElem, ElemsAt, ListOf, HasList}
-use Rattle.layout.specs.declared.kinds.TypeElement.the-variants as types
+use Rattle.layout.specs.declared.forms.TypeElement.the-variants as types
 use Rattle.layout.specs.Forms.{OfType, typeRule, two, SomeTypesAt, LastEnd}
 use Rattle.layout.proofs.Lays.{LaysAs, LaysList}
 
@@ -147,7 +147,7 @@ types-laid f h e l noTypes a = absurd (f (a .same))
 types-laid {s} {b} {at} f h e l (t ∷ᵗ ts) a =
     l .of (typeElems (given s b) (t ∷ᵗ ts)) (list-of h (type-elems s b (stopAt b at) (at + 13) (t ∷ᵗ ts) a)) (lastSpan t ts) (e .of s t ts a)
 
-pub types-list : {s b : List ℕ} {at r : ℕ} {c : Cursor} {n : ℕ} {q : Span} → Accepted s b → (at + 13 ≡ stopAt b at → ⊥) → Head s b n q at
+pub types-list : {s b : List ℕ} {at r : ℕ} {c : Cursor} {n : ℕ} {q : Span} → Readable s b → (at + 13 ≡ stopAt b at → ⊥) → Head s b n q at
     → LastEnd b (at + 13) (stopAt b at) r → (ts : Types) → TypesAt s b ts (at + 13) (stopAt b at) → Room (variantTypes (given s b) ts) c
     → HasList (TypeElem types.Type) parens r s b at c
 unfolding TypesAt

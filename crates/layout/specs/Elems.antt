@@ -6,61 +6,62 @@ use mathlib.Core.Bool.{Bool, true, cond, not}
 use mathlib.Core.List.{List, [], _∷_}
 use lib.ListN.{length, getD}
 use Rattle.image.specs.Bytes.{be32}
+use Rattle.image.specs.Kinds.{LIST, NAME-AND-TYPE, VARIANT, FIELD, ARM}
 use Rattle.image.specs.Read.{stopAt}
 use Rattle.tree.specs.Syntax.{Span, Ident, Idents, TypeExpr, Types, Fields, Pattern, MaybeExpr, Expr, Exprs, Entries}
-use Rattle.tree.specs.At.{Head, Record, Ends, Done, Before, IdentAt, TypeAt, TypesAt, FieldsAt, ImportAt, PatternAt, MaybeExprAt, ExprAt, ExprsAt, EntriesAt}
+use Rattle.tree.specs.At.{Head, Record, firstAt, secondAt, thirdAt, Ends, Done, Before, IdentAt, TypeAt, TypesAt, FieldsAt, ImportAt, PatternAt, MaybeExprAt, ExprAt, ExprsAt, EntriesAt}
 use Rattle.rows.specs.Kinds.{GROUP, INDENT}
 use Rattle.rows.specs.Words.{table}
 use Rattle.state.specs.Act.{Given, Act, _⨟_, says, when, grouped, indented}
 use Rattle.state.specs.Laid.{Room, Laid, Opened}
 use Rattle.state.specs.declared.Cursor.{Cursor}
 use Rattle.comments.specs.Listed.{given}
-use Rattle.layout.specs.declared.kinds.ListForm.{ListForm}
-use Rattle.layout.specs.declared.kinds.TypeElement.{TypeElement}
-use Rattle.layout.specs.declared.kinds.TypeElement.the-variants as types
-use Rattle.layout.specs.declared.kinds.ExprElement.{ExprElement}
-use Rattle.layout.specs.declared.kinds.ExprElement.the-variants as exprs
-use Rattle.layout.specs.declared.kinds.WrapStyle.{WrapStyle}
-use Rattle.layout.specs.Contracts.{Accepted}
+use Rattle.layout.specs.declared.forms.ListForm.{ListForm}
+use Rattle.layout.specs.declared.forms.TypeElement.{TypeElement}
+use Rattle.layout.specs.declared.forms.TypeElement.the-variants as types
+use Rattle.layout.specs.declared.forms.ExprElement.{ExprElement}
+use Rattle.layout.specs.declared.forms.ExprElement.the-variants as exprs
+use Rattle.layout.specs.declared.forms.WrapStyle.{WrapStyle}
+use Rattle.layout.specs.Contracts.{Readable}
 use Rattle.layout.specs.Layout.{Elem, ident, named, typeExpr, importPath, opens, elements, separated, params, typeParams, recordTypeRule, functionArgs, recordRule}
 use Rattle.layout.specs.Layout.{identElems, fieldElems, exprElems, entryElems, variantTypes, pattern, maybeExpr, exprRule, isBlock}
 
--- 20: a name and its type
+-- a name and its type
 abbrev pub FieldAt : List ℕ → List ℕ → Span × Ident × TypeExpr → ℕ → Type 0
 FieldAt s b f at =
-    Head s b 20 (f .0) at × IdentAt s b (f .1) (at + 13) × TypeAt s b (f .2) (stopAt b (at + 13)) × Ends s b (stopAt b (at + 13)) at
+    Head s b NAME-AND-TYPE (f .0) at × IdentAt s b (f .1) (firstAt s b at) × TypeAt s b (f .2) (secondAt s b at) × Ends s b (secondAt s b at) at
 
 abbrev pub fieldRule : Given → Span × Ident × TypeExpr → Act
 fieldRule g f = named g (f .1) (typeExpr g (f .2))
 
--- 21: a variant and its types
+-- a variant and its types
 abbrev pub VariantAt : List ℕ → List ℕ → Span × Ident × Types → ℕ → Type 0
 VariantAt s b v at =
-    Head s b 21 (v .0) at
-    × IdentAt s b (v .1) (at + 13)
-    × Record s b 3 (stopAt b (at + 13))
-    × TypesAt s b (v .2) (stopAt b (at + 13) + 13) (stopAt b (stopAt b (at + 13)))
-    × Ends s b (stopAt b (at + 13)) at
+    Head s b VARIANT (v .0) at
+    × IdentAt s b (v .1) (firstAt s b at)
+    × Record s b LIST (secondAt s b at)
+    × TypesAt s b (v .2) (secondAt s b at + 13) (thirdAt s b at)
+    × Ends s b (secondAt s b at) at
 
 abbrev pub variantRule : Given → Span × Ident × Types → Act
 variantRule g v = ident g (v .1) ⨟ variantTypes g (v .2)
 
--- 22: a name and its value
+-- a name and its value
 abbrev pub EntryAt : List ℕ → List ℕ → Span × Ident × Expr → ℕ → Type 0
 EntryAt s b f at =
-    Head s b 22 (f .0) at × IdentAt s b (f .1) (at + 13) × ExprAt s b (f .2) (stopAt b (at + 13)) × Ends s b (stopAt b (at + 13)) at
+    Head s b FIELD (f .0) at × IdentAt s b (f .1) (firstAt s b at) × ExprAt s b (f .2) (secondAt s b at) × Ends s b (secondAt s b at) at
 
 abbrev pub entryRule : Given → Span × Ident × Expr → Act
 entryRule g f = named g (f .1) (exprRule g (f .2))
 
--- 81: pattern, guard and body
+-- pattern, guard and body
 abbrev pub ArmAt : List ℕ → List ℕ → Span × Pattern × MaybeExpr × Expr → ℕ → Type 0
 ArmAt s b a at =
-    Head s b 81 (a .0) at
-    × PatternAt s b (a .1) (at + 13)
-    × MaybeExprAt s b (a .2) (stopAt b (at + 13))
-    × ExprAt s b (a .3) (stopAt b (stopAt b (at + 13)))
-    × Ends s b (stopAt b (stopAt b (at + 13))) at
+    Head s b ARM (a .0) at
+    × PatternAt s b (a .1) (firstAt s b at)
+    × MaybeExprAt s b (a .2) (secondAt s b at)
+    × ExprAt s b (a .3) (thirdAt s b at)
+    × Ends s b (thirdAt s b at) at
 
 abbrev pub armRule : Given → Span × Pattern × MaybeExpr × Expr → Act
 armRule g a =
@@ -135,7 +136,7 @@ listRule form g es span =
 
 -- a list stands at `at`, and there is room for `separated` over a span that ends at `end`
 pub record HasList (P : List ℕ → List ℕ → Elem → ℕ → Type 0) (form : ListForm) (end : ℕ) (s b : List ℕ) (at : ℕ) (c : Cursor) : Type 0 where
-  pub accepted : Accepted s b
+  pub accepted : Readable s b
   pub tree : List Elem
   pub held : ListOf P s b tree at
   pub span : Span
@@ -148,7 +149,7 @@ pub record LaidList (P : List ℕ → List ℕ → Elem → ℕ → Type 0) (for
 
 -- the same where there is no element
 pub record HasEmpty (form : ListForm) (end : ℕ) (s b : List ℕ) (c : Cursor) : Type 0 where
-  pub accepted : Accepted s b
+  pub accepted : Readable s b
   pub span : Span
   pub ended : end ≡ span .end
   pub room : Room (listRule form (given s b) [] span) c
@@ -174,7 +175,7 @@ pub record Begun (form : ListForm) (store : List ℕ) (c : Cursor) (store′ : L
 
 -- a list was begun at c, and its elements are laid from i up to d
 pub record HasElems (form : ListForm) (end : ℕ) (s b : List ℕ) (c i : Cursor) (store : List ℕ) (d : Cursor) : Type 0 where
-  pub accepted : Accepted s b
+  pub accepted : Readable s b
   pub store₀ : List ℕ
   pub store₁ : List ℕ
   pub begun : Begun form store₀ c store₁ i

@@ -8,15 +8,15 @@ ghost use Rattle.state.specs.Act.{when, push};
 ghost use Rattle.state.specs.Laid.{Room, Laid};
 ghost use Rattle.comments.specs.Listed.{given};
 ghost use Rattle.layout.specs.Layout.{opening, someTypeParams, returnType, shebangRule};
-ghost use Rattle.layout.specs.Contracts.{Accepted, Has, LaidAs, HasAll, LaidAll};
+ghost use Rattle.layout.specs.Contracts.{Readable, Has, LaidAs, HasAll, LaidAll};
 ghost use Rattle.layout.specs.Forms.{two, three, four, five, OfDeclaration, declarationRule, anyDeclaration, declaresAt, MaybeListAt};
 ghost use Rattle.layout.specs.Forms.{MaybeTypeAt, MaybeIdentAt, declarationsFrom};
 use crate::block;
 use crate::expr;
+use crate::forms::ListForm;
+use crate::forms::WrapStyle;
 use crate::idents::type_params;
 use crate::imports::import_path;
-use crate::kinds::ListForm;
-use crate::kinds::WrapStyle;
 use crate::numbers::HEAD;
 use crate::numbers::end;
 use crate::numbers::is_absent;
@@ -32,6 +32,7 @@ use crate::types::type_expr;
 use crate::variants::separated;
 use comments::pop_whitespace;
 use image::bytes::num16;
+use image::kinds;
 use rows::units::Bytes;
 use rows::units::Columns;
 use state::Cursor;
@@ -71,7 +72,7 @@ fn line_between(store: &mut [u32], c: Cursor, first: bool, whitespace: bool) -> 
 
 // How each declaration begins.
 fn opening(store: &mut [u32], c: Cursor, s: &[u8], b: &[u8], position: u32, first: bool) -> Cursor
-    requires { ⌜ Accepted (now s) (now b) ⌝ }
+    requires { ⌜ Readable (now s) (now b) ⌝ }
     requires { ⌜ Room (opening (given (now s) (now b)) position first) c ⌝ }
     ensures { λ r. ⌜ Laid (opening (given (now (s .entry)) (now (b .entry))) position first) (now (store .entry)) c (now (store .exit)) r ⌝ }
 {
@@ -226,12 +227,12 @@ pub(crate) fn declaration(
     ensures { λ r. ⌜ LaidAs (OfDeclaration anyDeclaration) (declarationRule anyDeclaration first) (now (s .entry)) (now (b .entry)) at (now (store .entry)) c (now (store .exit)) r ⌝ }
 {
     match kind(b, at) {
-        10 => filter_map(store, c, s, b, at, first),
-        11 => constant(store, c, s, b, at, first),
-        12 => decl_record(store, c, s, b, at, first),
-        13 => decl_enum(store, c, s, b, at, first),
-        14 => function(store, c, s, b, at, first),
-        15 => test(store, c, s, b, at, first),
+        kinds::FILTER_MAP => filter_map(store, c, s, b, at, first),
+        kinds::CONST => constant(store, c, s, b, at, first),
+        kinds::RECORD => decl_record(store, c, s, b, at, first),
+        kinds::ENUM => decl_enum(store, c, s, b, at, first),
+        kinds::FUNCTION => function(store, c, s, b, at, first),
+        kinds::TEST => test(store, c, s, b, at, first),
         _ => decl_import(store, c, s, b, at, first),
     }
 }

@@ -5,9 +5,9 @@ ghost use Rattle.tree.specs.At.{ListAt, PatternAt};
 ghost use Rattle.layout.specs.Layout.{pattern};
 ghost use Rattle.layout.specs.Contracts.{Has, LaidAs};
 ghost use Rattle.layout.specs.Elems.{IdentElem, HasList, LaidList, typeParamsRule};
-use crate::kinds::BRACKETS;
-use crate::kinds::ListForm;
-use crate::kinds::PARENS;
+use crate::forms::BRACKETS;
+use crate::forms::ListForm;
+use crate::forms::PARENS;
 use crate::numbers::HEAD;
 use crate::numbers::end;
 use crate::numbers::is_absent;
@@ -20,6 +20,7 @@ use crate::pieces::before_elem;
 use crate::pieces::begin_list;
 use crate::pieces::empty_list;
 use crate::pieces::finish_list;
+use image::kinds;
 use state::Cursor;
 use state::words::UNDERSCORE;
 use state::words::word;
@@ -66,7 +67,7 @@ pub(crate) fn pattern(store: &mut [u32], c: Cursor, s: &[u8], b: &[u8], at: usiz
     requires { ⌜ Has PatternAt pattern (now s) (now b) at c ⌝ }
     ensures { λ r. ⌜ LaidAs PatternAt pattern (now (s .entry)) (now (b .entry)) at (now (store .entry)) c (now (store .exit)) r ⌝ }
 {
-    if kind(b, at) == 82 {
+    if kind(b, at) == kinds::UNDERSCORE {
         return word(store, c, UNDERSCORE);
     }
     let p = second(b, at);

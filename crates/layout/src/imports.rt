@@ -9,11 +9,11 @@ ghost use Rattle.tree.specs.At.{ImportAt, ImportGroupAt};
 ghost use Rattle.state.specs.Act.{when, says};
 ghost use Rattle.state.specs.Laid.{Room, Laid};
 ghost use Rattle.layout.specs.Layout.{importFirst, importPath, importGroup};
-ghost use Rattle.layout.specs.Contracts.{Has, LaidAs, Within, Whole};
+ghost use Rattle.layout.specs.Contracts.{Has, LaidAs, InImage, Whole};
 ghost use Rattle.layout.specs.Elems.{ImportElem, HasList, LaidList};
 ghost use Rattle.layout.specs.Forms.{MaybePathAt};
-use crate::kinds::BRACES;
-use crate::kinds::ListForm;
+use crate::forms::BRACES;
+use crate::forms::ListForm;
 use crate::numbers::HEAD;
 use crate::numbers::end;
 use crate::numbers::is_absent;
@@ -42,8 +42,8 @@ fn import_first(store: &mut [u32], c: Cursor, s: &[u8], b: &[u8], at: usize) -> 
 
 // The dot between the path at `from` and the group at `at`, where both are there.
 fn import_dot(store: &mut [u32], c: Cursor, b: &[u8], from: usize, at: usize) -> Cursor
-    requires { ⌜ Within (now b) from ⌝ }
-    requires { ⌜ Within (now b) at ⌝ }
+    requires { ⌜ InImage (now b) from ⌝ }
+    requires { ⌜ InImage (now b) at ⌝ }
     requires { ⌜ Room (when (not (eqb (be32 (now b) from) 0) && not (eqb (be32 (now b) at) 0)) (says ".")) c ⌝ }
     ensures { λ r. ⌜ Laid (when (not (eqb (be32 (now (b .entry)) from) 0) && not (eqb (be32 (now (b .entry)) at) 0)) (says ".")) (now (store .entry)) c (now (store .exit)) r ⌝ }
 {
@@ -59,7 +59,7 @@ fn import_dot(store: &mut [u32], c: Cursor, b: &[u8], from: usize, at: usize) ->
 // Whether the list at `at` has one element.
 fn is_single(b: &[u8], at: usize) -> bool
     requires { ⌜ Whole (now b) at ⌝ }
-    requires { ⌜ ((stopAt (now b) at ≡ at + 13 → ⊥) → Within (now b) (at + 13)) ⌝ }
+    requires { ⌜ ((stopAt (now b) at ≡ at + 13 → ⊥) → InImage (now b) (at + 13)) ⌝ }
     ensures { λ r. ⌜ r ≡ (not (eqb (stopAt (now (b .entry)) at) (at + 13)) && eqb (stopAt (now (b .entry)) (at + 13)) (stopAt (now (b .entry)) at)) ⌝ }
 {
     let to = past(b, at);

@@ -4,9 +4,9 @@
 mod blocks;
 mod chains;
 pub mod declarations;
+pub mod forms;
 mod idents;
 mod imports;
-pub mod kinds;
 mod literals;
 pub mod numbers;
 mod paths;
@@ -17,7 +17,7 @@ mod variants;
 ghost use mathlib.Core.Path.{_≡_};
 ghost use mathlib.Core.Bool.{true};
 ghost use Prim.Native.Nat.{_+_};
-ghost use Rattle.image.specs.Bytes.{be32};
+ghost use Rattle.image.specs.Kinds.{LIST, RECORD-FIELDS};
 ghost use Rattle.tree.specs.Syntax.{return′, match′, functionCall, access, binOp, ifElse, for, fString, parentheses};
 ghost use Rattle.tree.specs.At.{ExprAt, ExprsAt, EntriesAt, MaybeExprAt, PartsAt, BlockAt, StmtsAt, StmtAt};
 ghost use Rattle.layout.specs.Layout.{exprRule, partsRule, blockRule, stmtRule};
@@ -38,16 +38,17 @@ use crate::blocks::semicolon;
 use crate::chains::leftmost;
 use crate::chains::operator;
 use crate::chains::precedence;
+use crate::forms::BOTTOM;
+use crate::forms::BRACKETS;
+use crate::forms::CHAIN;
+use crate::forms::ExprElement;
+use crate::forms::GROUPED;
+use crate::forms::ListForm;
+use crate::forms::PARENS;
+use crate::forms::UNIT_PRECEDENCE;
+use crate::forms::WrapStyle;
 use crate::idents::pattern;
 use crate::imports::import_path;
-use crate::kinds::BOTTOM;
-use crate::kinds::BRACKETS;
-use crate::kinds::CHAIN;
-use crate::kinds::ExprElement;
-use crate::kinds::ListForm;
-use crate::kinds::PARENS;
-use crate::kinds::UNIT_PRECEDENCE;
-use crate::kinds::WrapStyle;
 use crate::literals::content;
 use crate::literals::literal;
 use crate::numbers::HEAD;
@@ -68,6 +69,7 @@ use crate::pieces::empty_list;
 use crate::pieces::finish_list;
 use crate::pieces::gap;
 use comments::pop_trailing_comment;
+use image::kinds;
 use state::Cursor;
 use state::leaves::line;
 use state::leaves::line_or_space;
@@ -181,48 +183,39 @@ fn form(store: &mut [u32], c: Cursor, s: &[u8], b: &[u8], at: usize, outer: usiz
     ensures { λ r. ⌜ LaidAs ExprAt (formWith outer) (now (s .entry)) (now (b .entry)) at (now (store .entry)) c (now (store .exit)) r ⌝ }
 {
     match kind(b, at) {
-        50 => ret(store, c, s, b, at),
-        51 => literal(store, c, s, b, at + HEAD),
-        52 => block(store, c, s, b, at + HEAD),
-        53 => match_expr(store, c, s, b, at),
-        54 => call(store, c, s, b, at, outer),
-        55 => access(store, c, s, b, at, outer),
-        56 => path(store, c, s, b, at + HEAD, outer < CHAIN, true),
-        57 => record(store, c, s, b, at + HEAD),
-        58 => {
+        kinds::RETURN => ret(store, c, s, b, at),
+        kinds::LITERAL_EXPR => literal(store, c, s, b, at + HEAD),
+        kinds::BLOCK_EXPR => block(store, c, s, b, at + HEAD),
+        kinds::MATCH => match_expr(store, c, s, b, at),
+        kinds::FUNCTION_CALL => call(store, c, s, b, at, outer),
+        kinds::ACCESS => access(store, c, s, b, at, outer),
+        kinds::PATH_EXPR => path(store, c, s, b, at + HEAD, outer < CHAIN, true),
+        kinds::RECORD_EXPR => record(store, c, s, b, at + HEAD),
+        kinds::TYPED_RECORD => {
             let d = path(store, c, s, b, at + HEAD, true, true);
             let e = word(store, d, SPACE);
             record(store, e, s, b, second(b, at))
         }
-        59 => separated(
-            store,
-            c,
-            s,
-            b,
-            at + HEAD,
-            end(b, at),
-            BRACKETS,
-            ExprElement::Grouped,
-        ),
-        60 => after(store, c, s, b, at + HEAD, NOT, UNIT_PRECEDENCE),
-        61 => {
+        kinds::LIST_EXPR => separated(store, c, s, b, at + HEAD, end(b, at), BRACKETS, GROUPED),
+        kinds::NOT => after(store, c, s, b, at + HEAD, NOT, UNIT_PRECEDENCE),
+        kinds::ASSIGN => {
             let d = path(store, c, s, b, at + HEAD, true, true);
             after(store, d, s, b, second(b, at), ASSIGN, BOTTOM)
         }
-        62 => {
+        kinds::COMPOUND_ASSIGN => {
             let d = path(store, c, s, b, at + HEAD, true, true);
             after(store, d, s, b, third(b, at), assign_word(b, at), BOTTOM)
         }
-        63 => binop(store, c, s, b, at),
-        64 => after(store, c, s, b, at + HEAD, MINUS, BOTTOM),
-        65 => alt(store, c, s, b, at),
-        66 => cond(store, c, s, b, at + HEAD, WHILE),
-        67 => each(store, c, s, b, at),
-        68 => {
+        kinds::BIN_OP => binop(store, c, s, b, at),
+        kinds::NEGATE => after(store, c, s, b, at + HEAD, MINUS, BOTTOM),
+        kinds::IF_ELSE => alt(store, c, s, b, at),
+        kinds::WHILE => cond(store, c, s, b, at + HEAD, WHILE),
+        kinds::FOR => each(store, c, s, b, at),
+        kinds::QUESTION_MARK => {
             let d = expr_with_precedence(store, c, s, b, at + HEAD, outer);
             word(store, d, QUESTION)
         }
-        69 => fstr(store, c, s, b, at),
+        kinds::F_STRING => fstr(store, c, s, b, at),
         _ => par(store, c, s, b, at),
     }
 }
@@ -331,8 +324,8 @@ fn call(store: &mut [u32], c: Cursor, s: &[u8], b: &[u8], at: usize, outer: usiz
 }
 
 fn function_args(store: &mut [u32], c: Cursor, s: &[u8], b: &[u8], at: usize) -> Cursor
-    requires { ⌜ Has (ListWith 3 ExprsAt) argsRule (now s) (now b) at c ⌝ }
-    ensures { λ r. ⌜ LaidAs (ListWith 3 ExprsAt) argsRule (now (s .entry)) (now (b .entry)) at (now (store .entry)) c (now (store .exit)) r ⌝ }
+    requires { ⌜ Has (ListWith LIST ExprsAt) argsRule (now s) (now b) at c ⌝ }
+    ensures { λ r. ⌜ LaidAs (ListWith LIST ExprsAt) argsRule (now (s .entry)) (now (b .entry)) at (now (store .entry)) c (now (store .exit)) r ⌝ }
 {
     separated(store, c, s, b, at, end(b, at), PARENS, ExprElement::Expr)
 }
@@ -357,8 +350,8 @@ fn access(store: &mut [u32], c: Cursor, s: &[u8], b: &[u8], at: usize, outer: us
 }
 
 fn record(store: &mut [u32], c: Cursor, s: &[u8], b: &[u8], at: usize) -> Cursor
-    requires { ⌜ Has (ListWith 80 EntriesAt) entriesRule (now s) (now b) at c ⌝ }
-    ensures { λ r. ⌜ LaidAs (ListWith 80 EntriesAt) entriesRule (now (s .entry)) (now (b .entry)) at (now (store .entry)) c (now (store .exit)) r ⌝ }
+    requires { ⌜ Has (ListWith RECORD-FIELDS EntriesAt) entriesRule (now s) (now b) at c ⌝ }
+    ensures { λ r. ⌜ LaidAs (ListWith RECORD-FIELDS EntriesAt) entriesRule (now (s .entry)) (now (b .entry)) at (now (store .entry)) c (now (store .exit)) r ⌝ }
 {
     let form = ListForm {
         left: BRACE_OPEN,
@@ -479,7 +472,7 @@ fn part(store: &mut [u32], c: Cursor, s: &[u8], b: &[u8], at: usize) -> Cursor
     requires { ⌜ Has PartAt partRule (now s) (now b) at c ⌝ }
     ensures { λ r. ⌜ LaidAs PartAt partRule (now (s .entry)) (now (b .entry)) at (now (store .entry)) c (now (store .exit)) r ⌝ }
 {
-    if kind(b, at) == 84 {
+    if kind(b, at) == kinds::TEXT_PART {
         return content(store, c, s, b, at);
     }
     let d = word(store, c, BRACE_OPEN);
@@ -564,8 +557,8 @@ fn stmt(store: &mut [u32], c: Cursor, s: &[u8], b: &[u8], at: usize) -> Cursor
     ensures { λ r. ⌜ LaidAs StmtAt stmtRule (now (s .entry)) (now (b .entry)) at (now (store .entry)) c (now (store .exit)) r ⌝ }
 {
     match kind(b, at) {
-        30 => bind(store, c, s, b, at),
-        31 => {
+        kinds::LET => bind(store, c, s, b, at),
+        kinds::IMPORT_STMT => {
             let d = word(store, c, IMPORT);
             let e = import_path(store, d, s, b, at + HEAD);
             word(store, e, SEMICOLON)

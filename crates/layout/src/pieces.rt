@@ -5,12 +5,13 @@ ghost use Rattle.rows.specs.Words.{table};
 ghost use Rattle.rows.specs.Node.{wrapParent};
 ghost use Rattle.state.specs.Act.{_⨟_, says, when, push};
 ghost use Rattle.state.specs.Laid.{Room, Laid};
+ghost use Rattle.comments.specs.Comments.{popTrailingComment};
 ghost use Rattle.comments.specs.Listed.{span, given};
-ghost use Rattle.layout.specs.Layout.{gap, trailing, edge, isWrap, beforeElem, ends};
-ghost use Rattle.layout.specs.Contracts.{Accepted};
+ghost use Rattle.layout.specs.Layout.{gap, edge, isWrap, beforeElem, ends};
+ghost use Rattle.layout.specs.Contracts.{Readable};
 ghost use Rattle.layout.specs.Elems.{mark, starts, Begins, Begun, HasElems, LaidElems, HasEmpty, LaidEmpty};
-use crate::kinds::ListForm;
-use crate::kinds::WrapStyle;
+use crate::forms::ListForm;
+use crate::forms::WrapStyle;
 use comments::pop_trailing_comment;
 use comments::pop_whitespace;
 use state::Cursor;
@@ -35,7 +36,7 @@ pub(crate) fn gap(
     trailing: bool,
     only: bool,
 ) -> Cursor
-    requires { ⌜ Accepted (now s) (now b) ⌝ }
+    requires { ⌜ Readable (now s) (now b) ⌝ }
     requires { ⌜ Room (gap (given (now s) (now b)) position leading trailing only) c ⌝ }
     ensures { λ r. ⌜ Laid (gap (given (now (s .entry)) (now (b .entry))) position leading trailing only) (now (store .entry)) c (now (store .exit)) r ⌝ }
 {
@@ -98,7 +99,7 @@ pub(crate) fn before_elem(
     first: bool,
     commas: bool,
 ) -> Cursor
-    requires { ⌜ Accepted (now s) (now b) ⌝ }
+    requires { ⌜ Readable (now s) (now b) ⌝ }
     requires { ⌜ Room (beforeElem (given (now s) (now b)) (mark commas) first position) c ⌝ }
     ensures { λ r. ⌜ Laid (beforeElem (given (now (s .entry)) (now (b .entry))) (mark commas) first position) (now (store .entry)) c (now (store .exit)) r ⌝ }
 {
@@ -124,7 +125,7 @@ fn end_elems(
     id: u32,
     commas: bool,
 ) -> Cursor
-    requires { ⌜ Accepted (now s) (now b) ⌝ }
+    requires { ⌜ Readable (now s) (now b) ⌝ }
     requires { ⌜ Room (ends (given (now s) (now b)) (mark commas) id (span 0 end)) c ⌝ }
     ensures { λ r. ⌜ Laid (ends (given (now (s .entry)) (now (b .entry))) (mark commas) id (span 0 end)) (now (store .entry)) c (now (store .exit)) r ⌝ }
 {
@@ -137,9 +138,9 @@ fn end_elems(
 
 // The end of a list: its line or space, its word and the comment after it.
 fn close_list(store: &mut [u32], c: Cursor, s: &[u8], b: &[u8], form: ListForm) -> Cursor
-    requires { ⌜ Accepted (now s) (now b) ⌝ }
-    requires { ⌜ Room (edge (form .style) ⨟ says (getD table (form .right) "") ⨟ trailing (given (now s) (now b))) c ⌝ }
-    ensures { λ r. ⌜ Laid (edge (form .style) ⨟ says (getD table (form .right) "") ⨟ trailing (given (now (s .entry)) (now (b .entry)))) (now (store .entry)) c (now (store .exit)) r ⌝ }
+    requires { ⌜ Readable (now s) (now b) ⌝ }
+    requires { ⌜ Room (edge (form .style) ⨟ says (getD table (form .right) "") ⨟ popTrailingComment (given (now s) (now b))) c ⌝ }
+    ensures { λ r. ⌜ Laid (edge (form .style) ⨟ says (getD table (form .right) "") ⨟ popTrailingComment (given (now (s .entry)) (now (b .entry)))) (now (store .entry)) c (now (store .exit)) r ⌝ }
 {
     let style = form.style;
     let d = edge(store, c, style);

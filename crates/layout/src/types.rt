@@ -1,17 +1,18 @@
 // Types, and lists of types and of fields. They call each other, and the record's length falls at each call.
 ghost use mathlib.Core.Path.{_≡_};
 ghost use mathlib.Core.Bool.{true};
+ghost use Rattle.image.specs.Kinds.{LIST};
 ghost use Rattle.tree.specs.Syntax.{typePath};
 ghost use Rattle.tree.specs.At.{TypeAt, FieldsAt};
 ghost use Rattle.layout.specs.Layout.{typeExpr};
 ghost use Rattle.layout.specs.Contracts.{Has, LaidAs};
 ghost use Rattle.layout.specs.Elems.{TypeElem, elemRule, FieldAt, fieldRule, HasList, LaidList, ListWith, paramsRule, recordTypeWith};
 ghost use Rattle.layout.specs.Forms.{two, OfType, typeRule};
-use crate::kinds::BRACKETS;
-use crate::kinds::ListForm;
-use crate::kinds::PARENS;
-use crate::kinds::TypeElement;
-use crate::kinds::WrapStyle;
+use crate::forms::BRACKETS;
+use crate::forms::ListForm;
+use crate::forms::PARENS;
+use crate::forms::TypeElement;
+use crate::forms::WrapStyle;
 use crate::numbers::HEAD;
 use crate::numbers::end;
 use crate::numbers::is_absent;
@@ -25,6 +26,7 @@ use crate::pieces::before_elem;
 use crate::pieces::begin_list;
 use crate::pieces::empty_list;
 use crate::pieces::finish_list;
+use image::kinds;
 use state::Cursor;
 use state::words::BRACE_CLOSE;
 use state::words::BRACE_OPEN;
@@ -81,13 +83,13 @@ pub(crate) fn type_expr(store: &mut [u32], c: Cursor, s: &[u8], b: &[u8], at: us
     ensures { λ r. ⌜ LaidAs TypeAt typeExpr (now (s .entry)) (now (b .entry)) at (now (store .entry)) c (now (store .exit)) r ⌝ }
 {
     match kind(b, at) {
-        40 => {
+        kinds::OPTION => {
             let d = type_expr(store, c, s, b, at + HEAD);
             word(store, d, QUESTION)
         }
-        41 => type_path(store, c, s, b, at),
-        42 => word(store, c, NOT),
-        43 => word(store, c, UNIT),
+        kinds::TYPE_PATH => type_path(store, c, s, b, at),
+        kinds::NEVER => word(store, c, NOT),
+        kinds::UNIT => word(store, c, UNIT),
         _ => record_type(store, c, s, b, at + HEAD, WrapStyle::Tight),
     }
 }
@@ -113,8 +115,8 @@ pub(crate) fn record_type(
     at: usize,
     style: WrapStyle,
 ) -> Cursor
-    requires { ⌜ Has (ListWith 3 FieldsAt) (recordTypeWith style) (now s) (now b) at c ⌝ }
-    ensures { λ r. ⌜ LaidAs (ListWith 3 FieldsAt) (recordTypeWith style) (now (s .entry)) (now (b .entry)) at (now (store .entry)) c (now (store .exit)) r ⌝ }
+    requires { ⌜ Has (ListWith LIST FieldsAt) (recordTypeWith style) (now s) (now b) at c ⌝ }
+    ensures { λ r. ⌜ LaidAs (ListWith LIST FieldsAt) (recordTypeWith style) (now (s .entry)) (now (b .entry)) at (now (store .entry)) c (now (store .exit)) r ⌝ }
 {
     let form = ListForm {
         left: BRACE_OPEN,
@@ -137,8 +139,8 @@ fn field(store: &mut [u32], c: Cursor, s: &[u8], b: &[u8], at: usize) -> Cursor
 }
 
 pub(crate) fn params(store: &mut [u32], c: Cursor, s: &[u8], b: &[u8], at: usize) -> Cursor
-    requires { ⌜ Has (ListWith 3 FieldsAt) paramsRule (now s) (now b) at c ⌝ }
-    ensures { λ r. ⌜ LaidAs (ListWith 3 FieldsAt) paramsRule (now (s .entry)) (now (b .entry)) at (now (store .entry)) c (now (store .exit)) r ⌝ }
+    requires { ⌜ Has (ListWith LIST FieldsAt) paramsRule (now s) (now b) at c ⌝ }
+    ensures { λ r. ⌜ LaidAs (ListWith LIST FieldsAt) paramsRule (now (s .entry)) (now (b .entry)) at (now (store .entry)) c (now (store .exit)) r ⌝ }
 {
     separated(store, c, s, b, at, end(b, at), PARENS, TypeElement::Field)
 }

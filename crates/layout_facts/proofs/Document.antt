@@ -8,19 +8,20 @@ use mathlib.Core.Option.{Option, none as nothing, some}
 use native.Mathlib.Omega.{arith}
 use lib.ListN.{length}
 use Rattle.image.specs.Bytes.{be32}
+use Rattle.text.proofs.Trims.{trim-before}
 use Rattle.tree.specs.Syntax.{Span, Ident, Idents, noTypes, _∷ᵗ_, Fields, Variants, noVariants, variant, Declaration, filterMap, const, recordDecl}
 use Rattle.tree.specs.Syntax.{enumDecl, function, test, importDecl, SyntaxTree}
 use Rattle.tree.specs.At.{Head, past, IdentAt, ListAt, Maybe, TypesAt, FieldsAt, VariantsAt, DeclarationAt, DeclarationsAt, TreeAt}
 use Rattle.rows.specs.Words.{among}
 use Rattle.state.specs.Act.{Given, Act}
 use Rattle.comments.specs.Comments.{popWhitespace}
-use Rattle.layout.specs.declared.kinds.WrapStyle.the-variants.{Tight, Wrap}
+use Rattle.layout.specs.declared.forms.WrapStyle.the-variants.{Tight, Wrap}
 use Rattle.layout.specs.Layout.{someTypeParams, Bottom, params, typeParams, identElems, fieldElems, opening, variantElems, declaration, declares, shebangRule}
 use Rattle.layout.specs.Layout.{declarationsRule, fmtParsed, importSpan, unlessEmpty}
 use Rattle.layout_facts.specs.Sound.{Ranged, Commented, Sounds}
 use Rattle.layout_facts.specs.Height.{fieldsHeight, variantsHeight, declarationHeight, declarationsHeight, treeHeight}
 use Rattle.layout_facts.proofs.Steps.{_⨾_, fewer, sound-skip, sound-line, sound-emptyLine, sound-str, sound-when, sound-asks}
-use Rattle.layout_facts.proofs.Gaps.{trimEnd-le, sound-gap}
+use Rattle.layout_facts.proofs.Gaps.{sound-gap}
 use Rattle.layout_facts.proofs.Parts.{no-word, sound-says, ranged, from-start, sound-ident, All, none, also, sound-separated, sound-idents, sound-type}
 use Rattle.layout_facts.proofs.Parts.{all-types, all-fields, last-ranged, import-ranged, import-long, sound-import}
 use Rattle.layout_facts.proofs.Exprs.{sound-expr, sound-block}
@@ -178,7 +179,7 @@ module _ {g : Given} (commented : Commented g) where
       sound-str
       (record {
         origin = omega arith;
-        fits = omega (arith, trimEnd-le (g .image) (i .start) (i .start + i .size), a .ends, a .head .fits);
+        fits = omega (arith, trim-before (g .image) (i .start) (i .start + i .size), a .ends, a .head .fits);
         due = no-word (omega arith);
       })
       ⨾ sound-emptyLine

@@ -22,7 +22,7 @@ unfolding ExprAt
 alt-add-cond t c = omega (arith, c .before .before .before .before .before .pre .1 .accepted .small, c .before .before .before .before .before .pre .1 .held .0 .long, c .before .before .before .before .before .pre .1 .held .0 .fits)
 
 pub alt-cond-requires : (t : ℕ) → alt-lts.Need-cond-requires (alt-calls t) (alt-at t) alt.Post
-unfolding ExprAt rules.look
+unfolding ExprAt rules.exprWithPrecedence
 alt-cond-requires t c κs = (omega (arith, c .before .before .before .before .before .pre .0, c .before .before .before .before .before .pre .1 .held .1 .3 .same), record { accepted = c .before .before .before .before .before .pre .1 .accepted; tree = (c .before .before .before .before .before .pre .1 .tree .1 .0, c .before .before .before .before .before .pre .1 .tree .1 .1); held = (c .before .before .before .before .before .pre .1 .held .1 .0, c .before .before .before .before .before .pre .1 .held .1 .1); room = room-first _ (c .before .before .before .before .before .pre .1 .room) })
 
 pub alt-is-absent-requires : (t : ℕ) → alt-lts.Need-is-absent-requires (alt-calls t) (alt-at t) alt.Post
@@ -33,19 +33,19 @@ pub alt-same-length : (t : ℕ) → alt-lts.Need-same-length (alt-calls t) (alt-
 alt-same-length t c = c .before .before .before .before .cond .kept .0
 
 pub alt-returns : (t : ℕ) → alt-lts.Need-returns (alt-calls t) (alt-at t) alt.Post
-unfolding ExprAt rules.look
+unfolding ExprAt rules.exprWithPrecedence
 alt-returns t c = laid-as
     (let e : be32 (c .before .before .before .before .before .before .before .before .before .before .args .b .now) (stopAt (c .before .before .before .before .before .before .before .before .before .before .args .b .now) (stopAt (c .before .before .before .before .before .before .before .before .before .before .args .b .now) (c .before .before .before .before .before .before .before .before .before .before .args .at + 13))) ≡ 0 = absent (rw (c .before .before .before .before .before .before .third .ensures) at (c .before .is-absent .ensures)) (c .if1 .taken) in
     record { of = λ x a. lays-then (lays-as (c .before .before .before .before .before .before .before .before .before .before .pre .1 .accepted) (c .before .before .before .before .cond .ensures) .of (x .1 .0, x .1 .1) (a .1 .0, a .1 .1)) (no-else e .of (x .1 .2) (a .1 .2)) })
 
 pub alt-word-requires : (t : ℕ) → alt-lts.Need-word-requires (alt-calls t) (alt-at t) alt.Post
-unfolding ExprAt rules.look
+unfolding ExprAt rules.exprWithPrecedence
 alt-word-requires t c κs = let f : be32 (c .before .before .before .before .before .before .before .before .before .before .before .args .b .now) (stopAt (c .before .before .before .before .before .before .before .before .before .before .before .args .b .now) (stopAt (c .before .before .before .before .before .before .before .before .before .before .before .args .b .now) (c .before .before .before .before .before .before .before .before .before .before .before .args .at + 13))) ≡ 0 → ⊥ = present (rw (c .before .before .before .before .before .before .before .third .ensures) at (c .before .before .is-absent .ensures)) (c .before .if1 .left) in
     let h = has-block f (record { accepted = c .before .before .before .before .before .before .before .before .before .before .before .pre .1 .accepted; tree = c .before .before .before .before .before .before .before .before .before .before .before .pre .1 .tree .1 .2; held = c .before .before .before .before .before .before .before .before .before .before .before .pre .1 .held .1 .2; room = room-next (c .before .before .before .before .before .before .before .before .before .before .before .pre .1 .room) (lays-as (c .before .before .before .before .before .before .before .before .before .before .before .pre .1 .accepted) (c .before .before .before .before .before .cond .ensures) .of (c .before .before .before .before .before .before .before .before .before .before .before .pre .1 .tree .1 .0, c .before .before .before .before .before .before .before .before .before .before .before .pre .1 .tree .1 .1) (c .before .before .before .before .before .before .before .before .before .before .before .pre .1 .held .1 .0, c .before .before .before .before .before .before .before .before .before .before .before .pre .1 .held .1 .1)) }) in
     room-first _ (h .room)
 
 pub alt-block-requires : (t : ℕ) → alt-lts.Need-block-requires (alt-calls t) (alt-at t) alt.Post
-unfolding ExprAt rules.look
+unfolding ExprAt rules.exprWithPrecedence
 alt-block-requires t c κs = let f : be32 (c .before .before .before .before .before .before .before .before .before .before .before .before .before .before .before .args .b .now) (stopAt (c .before .before .before .before .before .before .before .before .before .before .before .before .before .before .before .args .b .now) (stopAt (c .before .before .before .before .before .before .before .before .before .before .before .before .before .before .before .args .b .now) (c .before .before .before .before .before .before .before .before .before .before .before .before .before .before .before .args .at + 13))) ≡ 0 → ⊥ = present (rw (c .before .before .before .before .before .before .before .before .before .before .before .third .ensures) at (c .before .before .before .before .before .before .is-absent .ensures)) (c .before .before .before .before .before .if1 .left) in
     let h = has-block f (record { accepted = c .before .before .before .before .before .before .before .before .before .before .before .before .before .before .before .pre .1 .accepted; tree = c .before .before .before .before .before .before .before .before .before .before .before .before .before .before .before .pre .1 .tree .1 .2; held = c .before .before .before .before .before .before .before .before .before .before .before .before .before .before .before .pre .1 .held .1 .2; room = room-next (c .before .before .before .before .before .before .before .before .before .before .before .before .before .before .before .pre .1 .room) (lays-as (c .before .before .before .before .before .before .before .before .before .before .before .before .before .before .before .pre .1 .accepted) (c .before .before .before .before .before .before .before .before .before .cond .ensures) .of (c .before .before .before .before .before .before .before .before .before .before .before .before .before .before .before .pre .1 .tree .1 .0, c .before .before .before .before .before .before .before .before .before .before .before .before .before .before .before .pre .1 .tree .1 .1) (c .before .before .before .before .before .before .before .before .before .before .before .before .before .before .before .pre .1 .held .1 .0, c .before .before .before .before .before .before .before .before .before .before .before .before .before .before .before .pre .1 .held .1 .1)) }) in
     rw (c .before .before .before .before .before .before .before .before .before .before .before .third .ensures) (omega (arith, c .before .before .before .before .before .before .before .before .before .before .before .before .before .before .before .pre .0, c .before .before .before .before .before .before .before .before .before .before .before .before .before .before .before .pre .1 .held .1 .3 .same), has-at h (room-next (h .room) (lays (c .before .before .before .word .ensures))))
@@ -54,7 +54,7 @@ pub alt-same-length-2 : (t : ℕ) → alt-lts.Need-same-length-2 (alt-calls t) (
 alt-same-length-2 t c = c .before .before .block .kept .0 ∙ c .before .before .before .before .before .before .word .kept .0 ∙ c .before .before .before .before .before .before .before .before .before .before .before .before .cond .kept .0
 
 pub alt-returns-2 : (t : ℕ) → alt-lts.Need-returns-2 (alt-calls t) (alt-at t) alt.Post
-unfolding ExprAt rules.look
+unfolding ExprAt rules.exprWithPrecedence
 alt-returns-2 t c = laid-as
     (let f : be32 (c .before .before .before .before .before .before .before .before .before .before .before .before .before .before .before .before .before .before .args .b .now) (stopAt (c .before .before .before .before .before .before .before .before .before .before .before .before .before .before .before .before .before .before .args .b .now) (stopAt (c .before .before .before .before .before .before .before .before .before .before .before .before .before .before .before .before .before .before .args .b .now) (c .before .before .before .before .before .before .before .before .before .before .before .before .before .before .before .before .before .before .args .at + 13))) ≡ 0 → ⊥ = present (rw (c .before .before .before .before .before .before .before .before .before .before .before .before .before .before .third .ensures) at (c .before .before .before .before .before .before .before .before .before .is-absent .ensures)) (c .before .before .before .before .before .before .before .before .if1 .left) in
     let l = rw (c .before .before .before .before .before .before .before .before .before .before .before .before .before .before .third .ensures) at (lays-as (c .before .before .before .before .before .before .before .before .before .before .before .before .before .before .before .before .before .before .pre .1 .accepted) (c .before .before .block .ensures)) in

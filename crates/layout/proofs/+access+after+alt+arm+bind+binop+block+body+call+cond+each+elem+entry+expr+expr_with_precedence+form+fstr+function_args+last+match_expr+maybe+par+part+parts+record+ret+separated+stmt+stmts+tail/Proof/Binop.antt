@@ -11,7 +11,7 @@ use Rattle.comments.specs.Listed.{given}
 use Rattle.layout.specs.Layout as rules
 use Rattle.layout.specs.Forms.{four, exprWith}
 use Rattle.layout.proofs.Places.{within, expr-whole}
-use Rattle.layout.proofs.Spines.{above-size, chain-room, chain-laid, chain-form}
+use Rattle.layout.proofs.Operands.{above-size, chain-room, chain-laid, chain-form}
 use Rattle.layout.proofs.binop.Reads as binop
 use Rattle.layout.proofs.+access+after+alt+arm+bind+binop+block+body+call+cond+each+elem+entry+expr+expr_with_precedence+form+fstr+function_args+last+match_expr+maybe+par+part+parts+record+ret+separated+stmt+stmts+tail.Lts-binop as binop-lts
 use Rattle.layout.proofs.+access+after+alt+arm+bind+binop+block+body+call+cond+each+elem+entry+expr+expr_with_precedence+form+fstr+function_args+last+match_expr+maybe+par+part+parts+record+ret+separated+stmt+stmts+tail.Proof.Base.{binop-at, binop-calls}

@@ -17,7 +17,7 @@ unfolding ExprAt
 call-second-requires t c κs = within (expr-whole _ _ _ (c .before .before .before .pre .1 .tree .1 .0) (c .before .before .before .pre .1 .held .1 .0))
 
 pub call-open-call-requires : (t : ℕ) → call-lts.Need-open-call-requires (call-calls t) (call-at t) call.Post
-unfolding ExprAt rules.look
+unfolding ExprAt rules.exprWithPrecedence
 call-open-call-requires t c κs = opens-called _ _ (room-if _ (lt-ltb _ _ (c .before .if1 .taken)) (c .before .before .before .before .before .before .pre .1 .room))
 
 pub call-add-expr-with-precedence : (t : ℕ) → call-lts.Need-add-expr-with-precedence (call-calls t) (call-at t) call.Post
@@ -25,11 +25,11 @@ unfolding ExprAt
 call-add-expr-with-precedence t c = omega (arith, c .before .before .before .before .before .before .before .before .before .before .pre .1 .accepted .small, c .before .before .before .before .before .before .before .before .before .before .pre .1 .held .0 .long, c .before .before .before .before .before .before .before .before .before .before .pre .1 .held .0 .fits)
 
 pub call-expr-with-precedence-requires : (t : ℕ) → call-lts.Need-expr-with-precedence-requires (call-calls t) (call-at t) call.Post
-unfolding ExprAt rules.look
+unfolding ExprAt rules.exprWithPrecedence
 call-expr-with-precedence-requires t c κs = (omega (arith, c .before .before .before .before .before .before .before .before .before .before .pre .0, c .before .before .before .before .before .before .before .before .before .before .pre .1 .held .1 .3 .same), record { accepted = c .before .before .before .before .before .before .before .before .before .before .pre .1 .accepted; tree = c .before .before .before .before .before .before .before .before .before .before .pre .1 .tree .1 .0; held = c .before .before .before .before .before .before .before .before .before .before .pre .1 .held .1 .0; room = room-called _ (room-if _ (lt-ltb _ _ (c .before .before .before .before .before .if1 .taken)) (c .before .before .before .before .before .before .before .before .before .before .pre .1 .room)) (c .before .before .before .open-call .ensures) })
 
 pub call-function-args-requires : (t : ℕ) → call-lts.Need-function-args-requires (call-calls t) (call-at t) call.Post
-unfolding ExprAt rules.look
+unfolding ExprAt rules.exprWithPrecedence
 call-function-args-requires t c κs = rw (c .before .before .before .before .before .before .before .before .before .before .second .ensures) (omega (arith, c .before .before .before .before .before .before .before .before .before .before .before .before .before .before .pre .0, c .before .before .before .before .before .before .before .before .before .before .before .before .before .before .pre .1 .held .1 .3 .same), record { accepted = c .before .before .before .before .before .before .before .before .before .before .before .before .before .before .pre .1 .accepted; tree = (c .before .before .before .before .before .before .before .before .before .before .before .before .before .before .pre .1 .tree .1 .1, c .before .before .before .before .before .before .before .before .before .before .before .before .before .before .pre .1 .tree .1 .2); held = (c .before .before .before .before .before .before .before .before .before .before .before .before .before .before .pre .1 .held .1 .1, c .before .before .before .before .before .before .before .before .before .before .before .before .before .before .pre .1 .held .1 .2); room = room-called-next (room-if _ (lt-ltb _ _ (c .before .before .before .before .before .before .before .before .before .if1 .taken)) (c .before .before .before .before .before .before .before .before .before .before .before .before .before .before .pre .1 .room)) (c .before .before .before .before .before .before .before .open-call .ensures) (lays-as (c .before .before .before .before .before .before .before .before .before .before .before .before .before .before .pre .1 .accepted) (c .before .before .before .expr-with-precedence .ensures) .of (c .before .before .before .before .before .before .before .before .before .before .before .before .before .before .pre .1 .tree .1 .0) (c .before .before .before .before .before .before .before .before .before .before .before .before .before .before .pre .1 .held .1 .0)) })
 
 pub call-set-second-requires : (t : ℕ) → call-lts.Need-set-second-requires (call-calls t) (call-at t) call.Post
@@ -42,7 +42,7 @@ pub call-same-length : (t : ℕ) → call-lts.Need-same-length (call-calls t) (c
 call-same-length t c = c .before .before .close .kept .0 ∙ c .before .before .before .before .before .before .set-second .kept .0 ∙ c .before .before .before .before .before .before .before .before .before .before .function-args .kept .0 ∙ c .before .before .before .before .before .before .before .before .before .before .before .before .before .before .expr-with-precedence .kept .0 ∙ c .before .before .before .before .before .before .before .before .before .before .before .before .before .before .before .before .before .before .open-call .kept .0
 
 pub call-returns : (t : ℕ) → call-lts.Need-returns (call-calls t) (call-at t) call.Post
-unfolding ExprAt rules.look
+unfolding ExprAt rules.exprWithPrecedence
 call-returns t c = laid-as
     (let l = rw (c .before .before .before .before .before .before .before .before .before .before .before .before .before .before .before .before .before .before .before .before .before .second .ensures) at (lays-as (c .before .before .before .before .before .before .before .before .before .before .before .before .before .before .before .before .before .before .before .before .before .before .before .before .before .pre .1 .accepted) (c .before .before .before .before .before .before .before .before .before .before .function-args .ensures)) in
     record {
@@ -57,18 +57,18 @@ unfolding ExprAt
 call-add-expr-with-precedence-2 t c = omega (arith, c .before .before .before .before .before .before .pre .1 .accepted .small, c .before .before .before .before .before .before .pre .1 .held .0 .long, c .before .before .before .before .before .before .pre .1 .held .0 .fits)
 
 pub call-expr-with-precedence-requires-2 : (t : ℕ) → call-lts.Need-expr-with-precedence-requires-2 (call-calls t) (call-at t) call.Post
-unfolding ExprAt rules.look
+unfolding ExprAt rules.exprWithPrecedence
 call-expr-with-precedence-requires-2 t c κs = (omega (arith, c .before .before .before .before .before .before .pre .0, c .before .before .before .before .before .before .pre .1 .held .1 .3 .same), record { accepted = c .before .before .before .before .before .before .pre .1 .accepted; tree = c .before .before .before .before .before .before .pre .1 .tree .1 .0; held = c .before .before .before .before .before .before .pre .1 .held .1 .0; room = room-first _ (room-else _ (le-ltb _ _ (c .before .if1 .left)) (c .before .before .before .before .before .before .pre .1 .room)) })
 
 pub call-function-args-requires-2 : (t : ℕ) → call-lts.Need-function-args-requires-2 (call-calls t) (call-at t) call.Post
-unfolding ExprAt rules.look
+unfolding ExprAt rules.exprWithPrecedence
 call-function-args-requires-2 t c κs = rw (c .before .before .before .before .before .before .second .ensures) (omega (arith, c .before .before .before .before .before .before .before .before .before .before .pre .0, c .before .before .before .before .before .before .before .before .before .before .pre .1 .held .1 .3 .same), record { accepted = c .before .before .before .before .before .before .before .before .before .before .pre .1 .accepted; tree = (c .before .before .before .before .before .before .before .before .before .before .pre .1 .tree .1 .1, c .before .before .before .before .before .before .before .before .before .before .pre .1 .tree .1 .2); held = (c .before .before .before .before .before .before .before .before .before .before .pre .1 .held .1 .1, c .before .before .before .before .before .before .before .before .before .before .pre .1 .held .1 .2); room = room-next (room-else _ (le-ltb _ _ (c .before .before .before .before .before .if1 .left)) (c .before .before .before .before .before .before .before .before .before .before .pre .1 .room)) (lays-as (c .before .before .before .before .before .before .before .before .before .before .pre .1 .accepted) (c .before .before .before .expr-with-precedence2 .ensures) .of (c .before .before .before .before .before .before .before .before .before .before .pre .1 .tree .1 .0) (c .before .before .before .before .before .before .before .before .before .before .pre .1 .held .1 .0)) })
 
 pub call-same-length-2 : (t : ℕ) → call-lts.Need-same-length-2 (call-calls t) (call-at t) call.Post
 call-same-length-2 t c = c .before .before .function-args2 .kept .0 ∙ c .before .before .before .before .before .before .expr-with-precedence2 .kept .0
 
 pub call-returns-2 : (t : ℕ) → call-lts.Need-returns-2 (call-calls t) (call-at t) call.Post
-unfolding ExprAt rules.look
+unfolding ExprAt rules.exprWithPrecedence
 call-returns-2 t c = laid-as
     (let l = rw (c .before .before .before .before .before .before .before .before .before .second .ensures) at (lays-as (c .before .before .before .before .before .before .before .before .before .before .before .before .before .pre .1 .accepted) (c .before .before .function-args2 .ensures)) in
     record { of = λ x a. lays-else _ (le-ltb _ _ (c .before .before .before .before .before .before .before .before .if1 .left)) (lays-then (lays-as (c .before .before .before .before .before .before .before .before .before .before .before .before .before .pre .1 .accepted) (c .before .before .before .before .before .before .expr-with-precedence2 .ensures) .of (x .1 .0) (a .1 .0)) (l .of (x .1 .1, x .1 .2) (a .1 .1, a .1 .2))) })

@@ -22,7 +22,7 @@ unfolding ExprAt
 ret-add-word t c = omega (arith, c .before .payload .ensures, c .before .before .before .before .before .pre .1 .held .1 .0 .byte, c .before .before .before .before .before .pre .1 .held .1 .1)
 
 pub ret-word-requires : (t : ℕ) → ret-lts.Need-word-requires (ret-calls t) (ret-at t) ret.Post
-unfolding ExprAt rules.look
+unfolding ExprAt rules.exprWithPrecedence
 ret-word-requires t c κs = let e : getD table (9 + c .before .payload .result) "" ≡ rules.returnWord (c .before .before .before .before .before .pre .1 .tree .1 .0) =
     return-word (c .before .payload .result) (omega (arith, c .before .payload .ensures, c .before .before .before .before .before .pre .1 .held .1 .0 .byte, c .before .before .before .before .before .pre .1 .held .1 .1)) ∙ ap rules.returnWord (c .before .payload .ensures ∙ c .before .before .before .before .before .pre .1 .held .1 .0 .byte) in
     room-first _ (rw (← e) at (c .before .before .before .before .before .pre .1 .room))
@@ -32,7 +32,7 @@ unfolding ExprAt
 ret-add-maybe t c = let w = maybe-expr _ _ _ (c .before .before .before .before .before .before .before .before .before .pre .1 .tree .1 .1) (c .before .before .before .before .before .before .before .before .before .pre .1 .held .1 .2) in omega (arith, c .before .before .before .before .before .before .before .before .before .pre .1 .accepted .small, w .fits)
 
 pub ret-maybe-requires : (t : ℕ) → ret-lts.Need-maybe-requires (ret-calls t) (ret-at t) ret.Post
-unfolding ExprAt rules.look
+unfolding ExprAt rules.exprWithPrecedence
 ret-maybe-requires t c κs = let e : getD table (9 + c .before .before .before .before .before .payload .result) "" ≡ rules.returnWord (c .before .before .before .before .before .before .before .before .before .pre .1 .tree .1 .0) =
     return-word (c .before .before .before .before .before .payload .result) (omega (arith, c .before .before .before .before .before .payload .ensures, c .before .before .before .before .before .before .before .before .before .pre .1 .held .1 .0 .byte, c .before .before .before .before .before .before .before .before .before .pre .1 .held .1 .1)) ∙ ap rules.returnWord (c .before .before .before .before .before .payload .ensures ∙ c .before .before .before .before .before .before .before .before .before .pre .1 .held .1 .0 .byte) in
     (omega (arith, c .before .before .before .before .before .before .before .before .before .pre .0, c .before .before .before .before .before .before .before .before .before .pre .1 .held .1 .3 .same), record { accepted = c .before .before .before .before .before .before .before .before .before .pre .1 .accepted; tree = c .before .before .before .before .before .before .before .before .before .pre .1 .tree .1 .1; held = c .before .before .before .before .before .before .before .before .before .pre .1 .held .1 .2; room = room-next (rw (← e) at (c .before .before .before .before .before .before .before .before .before .pre .1 .room)) (lays (c .before .before .before .word .ensures)) })
@@ -41,7 +41,7 @@ pub ret-same-length : (t : ℕ) → ret-lts.Need-same-length (ret-calls t) (ret-
 ret-same-length t c = c .before .before .maybe .kept .0 ∙ c .before .before .before .before .before .before .word .kept .0
 
 pub ret-returns : (t : ℕ) → ret-lts.Need-returns (ret-calls t) (ret-at t) ret.Post
-unfolding ExprAt rules.look
+unfolding ExprAt rules.exprWithPrecedence
 ret-returns t c = laid-as
     (record {
       of =

@@ -10,7 +10,7 @@ use Rattle.tree.specs.At.{ExprAt}
 use Rattle.layout.specs.Layout as rules
 use Rattle.layout.specs.Forms.{four}
 use Rattle.layout.proofs.Places.{within, expr-whole, head-whole}
-use Rattle.layout.proofs.Spines.{above-size, above-at, Going, going-next, operator-has, right-has, going-step, going-end}
+use Rattle.layout.proofs.Operands.{above-size, above-at, Going, going-next, operator-has, right-has, going-step, going-end}
 use mathlib.Core.Bool.{true, false}
 use Rattle.state.specs.Act.{Act}
 use Rattle.state.specs.Laid.{Room}
@@ -25,7 +25,7 @@ tail-Inv-loop store₀ s b at left ops n₀ d₀ first₀ store n d first = (len
     × ((i : ℕ) → i < n → getD ops i 0 ≡ at + 13 * i)
     × ((e : Expr) × ExprAt s b e at × (q : ℕ) × (x : Expr) × Above q s b e at (at + 13 * n) x)
     × ((q : ℕ) (e : Expr) → ExprAt s b e at → (x : Expr) (a : Above q s b e at left x) (h : Act)
-    → Room (grown a (rules.lone h) .tail) d₀ → Going q s b e at (at + 13 * n) first (grown a (rules.lone h)) store₀ d₀ store d)
+    → Room (grown a (rules.leftmost h) .ops) d₀ → Going q s b e at (at + 13 * n) first (grown a (rules.leftmost h)) store₀ d₀ store d)
 
 abbrev pub tail-μ-loop : tail-lts.MeasureT-loop
 tail-μ-loop store₀ s b at left ops n₀ d₀ first₀ store n d first = n
@@ -48,8 +48,8 @@ tail-loop-holds t c = let f = c .before .before .before .pre .1 .filled in
         subst (λ (v : ℕ). Above (c .before .before .before .pre .1 .precedence) (c .before .before .before .args .s .now) (c .before .before .before .args .b .now) (c .before .before .before .pre .1 .tree) (c .before .before .before .args .at) v (c .before .before .before .pre .1 .low)) z (c .before .before .before .pre .1 .above),
       ),
       λ q e held x a h room.
-          subst (λ (v : ℕ). Going q (c .before .before .before .args .s .now) (c .before .before .before .args .b .now) e (c .before .before .before .args .at) v true (grown a (rules.lone h)) (c .before .before .before .args .store .now) (c .before .before .before .args .c) (c .before .before .before .args .store .now) (c .before .before .before .args .c)) z
-          (record { low = x; above = a; spine = rules.lone h; alone = refl; laid = lays-skip; same = refl; room = room }),
+          subst (λ (v : ℕ). Going q (c .before .before .before .args .s .now) (c .before .before .before .args .b .now) e (c .before .before .before .args .at) v true (grown a (rules.leftmost h)) (c .before .before .before .args .store .now) (c .before .before .before .args .c) (c .before .before .before .args .store .now) (c .before .before .before .args .c)) z
+          (record { low = x; above = a; done = rules.leftmost h; begun = refl; laid = lays-skip; same = refl; room = room }),
     )
 
 pub tail-sub-n-2 : (t : ℕ) → tail-lts.Need-sub-n-2 (tail-calls t) (tail-at t) tail.Post tail-Inv-loop tail-μ-loop
@@ -98,7 +98,7 @@ tail-loop-again t c = let k : getD (c .before .before .before .before .before .b
         subst (λ (v : ℕ). Above (c .before .before .before .before .before .before .before .before .before .before .before .before .loop .inv .3 .2) (c .before .before .before .before .before .before .before .before .before .before .before .before .before .before .before .before .args .s .now) (c .before .before .before .before .before .before .before .before .before .before .before .before .before .before .before .before .args .b .now) (c .before .before .before .before .before .before .before .before .before .before .before .before .loop .inv .3 .0) (c .before .before .before .before .before .before .before .before .before .before .before .before .before .before .before .before .args .at) v (syntax.expr (y .tree .0) (four binOp (y .tree .1)))) k (y .above),
       ),
       λ q e held x a h room.
-          subst (λ (v : ℕ). Going q (c .before .before .before .before .before .before .before .before .before .before .before .before .before .before .before .before .args .s .now) (c .before .before .before .before .before .before .before .before .before .before .before .before .before .before .before .before .args .b .now) e (c .before .before .before .before .before .before .before .before .before .before .before .before .before .before .before .before .args .at) v false (grown a (rules.lone h)) (c .before .before .before .before .before .before .before .before .before .before .before .before .before .before .before .before .args .store .now) (c .before .before .before .before .before .before .before .before .before .before .before .before .before .before .before .before .args .c) (c .before .before .expr .last .0) (c .before .before .expr .result)) k
+          subst (λ (v : ℕ). Going q (c .before .before .before .before .before .before .before .before .before .before .before .before .before .before .before .before .args .s .now) (c .before .before .before .before .before .before .before .before .before .before .before .before .before .before .before .before .args .b .now) e (c .before .before .before .before .before .before .before .before .before .before .before .before .before .before .before .before .args .at) v false (grown a (rules.leftmost h)) (c .before .before .before .before .before .before .before .before .before .before .before .before .before .before .before .before .args .store .now) (c .before .before .before .before .before .before .before .before .before .before .before .before .before .before .before .before .args .c) (c .before .before .expr .last .0) (c .before .before .expr .result)) k
           (going-step (omega (arith, c .before .before .before .before .before .before .before .before .before .before .before .loop-test .taken)) (omega (arith, k, c .before .before .before .before .before .before .before .before .before .before .before .loop-test .taken)) (c .before .before .before .before .before .before .before .before .before .before .before .before .loop .inv .4 q e held x a h room)
           (rw (c .before .before .before .before .before .before .before .before .second .ensures) at (lays-as (c .before .before .before .before .before .before .before .before .before .before .before .before .before .before .before .before .pre .1 .accepted) (c .before .before .before .before .before .before .before .operator .ensures))) (rw (c .before .before .before .third .ensures) at (lays-as (c .before .before .before .before .before .before .before .before .before .before .before .before .before .before .before .before .pre .1 .accepted) (c .before .before .expr .ensures)))),
     )

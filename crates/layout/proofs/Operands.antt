@@ -21,8 +21,8 @@ use Rattle.state.specs.declared.Cursor.{Cursor}
 use Rattle.state.proofs.Laws.{Lays, lays-then, room-first, room-next}
 use Rattle.state.proofs.Nested.{lays-group, lays-indent}
 use Rattle.comments.specs.Listed.{given}
-use Rattle.layout.specs.Layout.{Spine, lone, extend, chained, binopPrecedence, look, operator, pickSpine}
-use Rattle.layout.specs.Contracts.{Within, Whole, Accepted, Has}
+use Rattle.layout.specs.Layout.{Operands, leftmost, popped, binop, binopPrecedence, exprWithPrecedence, exprForm, operands, operator}
+use Rattle.layout.specs.Contracts.{InImage, Whole, Readable, Has}
 use Rattle.layout.specs.Forms.{four, Of, exprWith, formWith, formRule, OperatorAt, operatorRule}
 use Rattle.layout.specs.Chains.{Above, top, up, grown, Starts}
 use Rattle.layout.proofs.Places.{within, expr-whole}
@@ -31,21 +31,21 @@ use Rattle.layout.proofs.Lays.{LaysAs}
 
 -- an operator of the chain's precedence goes on with the chain; another, and what is no operator, is a chain of one
 module _ (g : Given) (m : Span) (l : Expr) (t : Span) (o : ℕ) (r : Expr) where
-  under-step : (q : ℕ) → binopPrecedence o ≡ q → look g (expr m (binOp l t o r)) .under q ≡ extend g (look g l .under q) t o (exprWith 0 g r)
-  unfolding look
-  under-step q h = rw (eq-eqb _ _ h)
+  operands-step : (q : ℕ) → binopPrecedence o ≡ q → operands g q (expr m (binOp l t o r)) ≡ popped g (operands g q l) t o (exprWith 0 g r)
+  unfolding exprWithPrecedence
+  operands-step q h = rw (eq-eqb _ _ h)
 
-  stop-prec : (q : ℕ) → (binopPrecedence o ≡ q → ⊥) → look g (expr m (binOp l t o r)) .under q ≡ lone (exprWith q g (expr m (binOp l t o r)))
-  unfolding look
+  stop-prec : (q : ℕ) → (binopPrecedence o ≡ q → ⊥) → operands g q (expr m (binOp l t o r)) ≡ leftmost (exprWith q g (expr m (binOp l t o r)))
+  unfolding exprWithPrecedence
   stop-prec q h = rw (ne-eqb _ _ h)
 
-  form-under : (outer : ℕ) → look g (expr m (binOp l t o r)) .form outer ≡ chained (look g (expr m (binOp l t o r)) .under (binopPrecedence o))
-  unfolding look
-  form-under outer = rw (eq-eqb (binopPrecedence o) (binopPrecedence o) refl)
+  form-operands : (outer : ℕ) → exprForm g m (binOp l t o r) outer ≡ binop (operands g (binopPrecedence o) (expr m (binOp l t o r)))
+  unfolding exprWithPrecedence
+  form-operands outer = rw (eq-eqb (binopPrecedence o) (binopPrecedence o) refl)
 
 module _ (s b : List ℕ) (p q : ℕ) where
-  pub stop-kind : (x : Expr) → ExprAt s b x p → (kindAt b p ≡ 63 → ⊥) → look (given s b) x .under q ≡ lone (exprWith q (given s b) x)
-  unfolding look ExprAt
+  pub stop-kind : (x : Expr) → ExprAt s b x p → (kindAt b p ≡ 63 → ⊥) → operands (given s b) q x ≡ leftmost (exprWith q (given s b) x)
+  unfolding exprWithPrecedence ExprAt
   stop-kind (expr m (return′ x y)) a h = refl
   stop-kind (expr m (literal x y)) a h = refl
   stop-kind (expr m (block x)) a h = refl
@@ -69,16 +69,16 @@ module _ (s b : List ℕ) (p q : ℕ) where
   stop-kind (expr m (parentheses x)) a h = refl
 
 module _ {q : ℕ} {s b : List ℕ} {e : Expr} {at : ℕ} where
-  grown-under : {p : ℕ} {x : Expr} (a : Above q s b e at p x) → look (given s b) e .under q ≡ grown a (look (given s b) x .under q)
+  grown-operands : {p : ℕ} {x : Expr} (a : Above q s b e at p x) → operands (given s b) q e ≡ grown a (operands (given s b) q x)
   unfolding grown
-  grown-under top = refl
-  grown-under (up {o = o} {x = x} {r = r} {m = m} {t = t} i j k a) =
-      grown-under a ∙ ap (λ (c : Spine). grown a c) (under-step (given s b) m x t o r q j)
+  grown-operands top = refl
+  grown-operands (up {o = o} {x = x} {r = r} {m = m} {t = t} i j k a) =
+      grown-operands a ∙ ap (λ (c : Operands). grown a c) (operands-step (given s b) m x t o r q j)
 
-  grown-head : {p : ℕ} {x : Expr} (a : Above q s b e at p x) (c : Spine) → grown a c .head ≡ c .head
+  grown-head : {p : ℕ} {x : Expr} (a : Above q s b e at p x) (c : Operands) → grown a c .left ≡ c .left
   unfolding grown
   grown-head top c = refl
-  grown-head (up {o = o} {r = r} {t = t} i j k a) c = grown-head a (extend (given s b) c t o (exprWith 0 (given s b) r))
+  grown-head (up {o = o} {r = r} {t = t} i j k a) c = grown-head a (popped (given s b) c t o (exprWith 0 (given s b) r))
 
   -- how far down the chain x stands
   pub above-size : {p : ℕ} {x : Expr} → Above q s b e at p x → (at ≤ p) × (be32 b p + (p - at) ≤ be32 b at)
@@ -95,36 +95,36 @@ module _ {q : ℕ} {s b : List ℕ} {e : Expr} {at : ℕ} where
   above-depth (up {p = p} {p′ = p′} {x = x} i j k a) = omega (arith, i, above-depth a)
 
   -- room for a chain is room for its steps
-  pub chain-room : {p : ℕ} {x : Expr} (a : Above q s b e at p x) (h : Act) {c : Cursor} → Room (chained (grown a (lone h))) c
-      → Room (grouped (λ id. h ⨟ push lineOrSpace ⨟ indented (grown a (lone h) .tail))) c
-  unfolding chained
+  pub chain-room : {p : ℕ} {x : Expr} (a : Above q s b e at p x) (h : Act) {c : Cursor} → Room (binop (grown a (leftmost h))) c
+      → Room (grouped (λ id. h ⨟ push lineOrSpace ⨟ indented (grown a (leftmost h) .ops))) c
+  unfolding binop
   chain-room a h {c} room =
-      subst (λ (z : Act). Room (grouped (λ id. z ⨟ push lineOrSpace ⨟ indented (grown a (lone h) .tail))) c) (grown-head a (lone h)) room
+      subst (λ (z : Act). Room (grouped (λ id. z ⨟ push lineOrSpace ⨟ indented (grown a (leftmost h) .ops))) c) (grown-head a (leftmost h)) room
 
   -- and for the operators up to one of them
-  room-below : {p : ℕ} {x : Expr} (a : Above q s b e at p x) (z : Spine) {c : Cursor} → Room (grown a z .tail) c → Room (z .tail) c
+  room-below : {p : ℕ} {x : Expr} (a : Above q s b e at p x) (z : Operands) {c : Cursor} → Room (grown a z .ops) c → Room (z .ops) c
   unfolding grown
   room-below top z room = room
-  room-below (up {o = o} {r = r} {t = t} i j k a) z room = room-first _ (room-below a (extend (given s b) z t o (exprWith 0 (given s b) r)) room)
+  room-below (up {o = o} {r = r} {t = t} i j k a) z room = room-first _ (room-below a (popped (given s b) z t o (exprWith 0 (given s b) r)) room)
 
   pub chain-laid : {p : ℕ} {x : Expr} (a : Above q s b e at p x) (h : Act) {s₀ s₁ s₂ s₃ s₄ s₅ s₆ s₇ : List ℕ} {c c₁ c₂ c₃ c₄ c₅ : Cursor}
       → Opened 0 (c .number) 0 1 s₀ c s₁ c₁ → Lays h s₁ c₁ s₂ c₂ → Lays (push lineOrSpace) s₂ c₂ s₃ c₃ → Opened 1 0 0 0 s₃ c₃ s₄ c₄
-      → Lays (grown a (lone h) .tail) s₄ c₄ s₅ c₅ → s₆ ≡ set s₅ (9 * c₃ .row + 4) (c₅ .row) → s₇ ≡ set s₆ (9 * c .row + 4) (c₅ .row)
-      → Lays (chained (grown a (lone h))) s₀ c s₇ c₅
-  unfolding chained
+      → Lays (grown a (leftmost h) .ops) s₄ c₄ s₅ c₅ → s₆ ≡ set s₅ (9 * c₃ .row + 4) (c₅ .row) → s₇ ≡ set s₆ (9 * c .row + 4) (c₅ .row)
+      → Lays (binop (grown a (leftmost h))) s₀ c s₇ c₅
+  unfolding binop
   chain-laid a h {s₁ = s₁} {s₂ = s₂} {c₁ = c₁} {c₂ = c₂} o l m i t k j =
-      lays-group _ o (lays-then (subst (λ (z : Act). Lays z s₁ c₁ s₂ c₂) (sym (grown-head a (lone h))) l) (lays-then m (lays-indent i t k))) j
+      lays-group _ o (lays-then (subst (λ (z : Act). Lays z s₁ c₁ s₂ c₂) (sym (grown-head a (leftmost h))) l) (lays-then m (lays-indent i t k))) j
 
 -- the whole chain, from its leftmost operand on
 pub chain-form : (s b : List ℕ) (t : Span × (Expr × Span × ℕ × Expr)) (q at left : ℕ) (w : Starts q s b (expr (t .0) (four binOp (t .1))) at left)
     → binopPrecedence (t .1 .2) ≡ q
-    → formRule (four binOp) 0 (given s b) t ≡ chained (grown (w .above) (lone (exprWith q (given s b) (w .tree))))
-unfolding look
+    → formRule (four binOp) 0 (given s b) t ≡ binop (grown (w .above) (leftmost (exprWith q (given s b) (w .tree))))
+unfolding exprWithPrecedence
 chain-form s b t q at left w same =
     let g = given s b in
-    form-under g (t .0) (t .1 .0) (t .1 .1) (t .1 .2) (t .1 .3) 0
-    ∙ ap (λ (p : ℕ). chained (look g (expr (t .0) (four binOp (t .1))) .under p)) same
-    ∙ ap (λ (z : Spine). chained z) (grown-under (w .above) ∙ ap (λ (z : Spine). grown (w .above) z) (w .stop))
+    form-operands g (t .0) (t .1 .0) (t .1 .1) (t .1 .2) (t .1 .3) 0
+    ∙ ap (λ (p : ℕ). binop (operands g p (expr (t .0) (four binOp (t .1))))) same
+    ∙ ap (λ (z : Operands). binop z) (grown-operands (w .above) ∙ ap (λ (z : Operands). grown (w .above) z) (w .stop))
 
 -- ---- down
 module _ (s b : List ℕ) (p q n : ℕ) (kind : kindAt b p ≡ 63) (op : n ≡ binopPrecedence (getD b (stopAt b (p + 13) + 13) 0)) where
@@ -137,18 +137,18 @@ module _ (s b : List ℕ) (p q n : ℕ) (kind : kindAt b p ≡ 63) (op : n ≡ b
       let a′ : Above q s b e at p v = subst (λ (u : Expr). Above q s b e at p u) (sym (y .1)) a in
       (y .0 .1 .0, up refl (ap binopPrecedence (sym (held′ .1 .1 .which .byte)) ∙ sym op ∙ same) held′ a′, held′ .1 .0)
 
-  pub stop-op : (x : Expr) → (n ≡ q → ⊥) → ExprAt s b x p → look (given s b) x .under q ≡ lone (exprWith q (given s b) x)
+  pub stop-op : (x : Expr) → (n ≡ q → ⊥) → ExprAt s b x p → operands (given s b) q x ≡ leftmost (exprWith q (given s b) x)
   unfolding ExprAt
   stop-op x other held =
       let y = expr-is s b p 63 kind x held in
       let z = y .0 .1 in
       let held′ : ExprAt s b (expr (y .0 .0) (four binOp z)) p = subst (λ (u : Expr). ExprAt s b u p) (sym (y .1)) held in
-      subst (λ (u : Expr). look (given s b) u .under q ≡ lone (exprWith q (given s b) u)) (y .1)
+      subst (λ (u : Expr). operands (given s b) q u ≡ leftmost (exprWith q (given s b) u)) (y .1)
       (stop-prec (given s b) (y .0 .0) (z .0) (z .1) (z .2) (z .3) q (λ h. other (op ∙ ap binopPrecedence (held′ .1 .1 .which .byte) ∙ h)))
 
 -- what the symbol of an operator needs
 pub record Symbol (b : List ℕ) (p : ℕ) : Type 0 where
-  pub operand : Within b (p + 13)
+  pub operand : InImage b (p + 13)
   pub byte : stopAt b (p + 13) + 14 ≤ length b
 
 pub symbol-of : (s b : List ℕ) (p : ℕ) → kindAt b p ≡ 63 → (x : Expr) → ExprAt s b x p → Symbol b p
@@ -195,15 +195,15 @@ above-at {q} {s} {b} {e} {at} m lt i (up {p = p} {o = o} {x = x} {r = r} {m = w}
     }
 
 -- how far the operators of a chain are laid: those above p are left
-pub record Going (q : ℕ) (s b : List ℕ) (e : Expr) (at p : ℕ) (first : Bool) (all : Spine)
+pub record Going (q : ℕ) (s b : List ℕ) (e : Expr) (at p : ℕ) (first : Bool) (all : Operands)
     (x : List ℕ) (c : Cursor) (x′ : List ℕ) (c′ : Cursor) : Type 0 where
   pub low : Expr
   pub above : Above q s b e at p low
-  pub spine : Spine
-  pub alone : spine .alone ≡ first
-  pub laid : Lays (spine .tail) x c x′ c′
-  pub same : grown above spine ≡ all
-  pub room : Room (all .tail) c
+  pub done : Operands
+  pub begun : done .first ≡ first
+  pub laid : Lays (done .ops) x c x′ c′
+  pub same : grown above done ≡ all
+  pub room : Room (all .ops) c
 
 -- the operator that is next, with its right operand
 pub record NextOperator (f : Bool) (s b : List ℕ) (m : ℕ) (c : Cursor) : Type 0 where
@@ -213,28 +213,28 @@ pub record NextOperator (f : Bool) (s b : List ℕ) (m : ℕ) (c : Cursor) : Typ
   pub right-held : ExprAt s b right (stopAt b (stopAt b (m + 13)))
   pub room : Room (operatorRule f (given s b) symbol ⨟ exprWith 0 (given s b) right) c
 
-pub going-next : {q : ℕ} {s b : List ℕ} {e : Expr} {at p m : ℕ} {f : Bool} {all : Spine} {x x₁ : List ℕ} {c c₁ : Cursor}
+pub going-next : {q : ℕ} {s b : List ℕ} {e : Expr} {at p m : ℕ} {f : Bool} {all : Operands} {x x₁ : List ℕ} {c c₁ : Cursor}
     → at < p → p ≡ m + 13 → Going q s b e at p f all x c x₁ c₁ → NextOperator f s b m c₁
 unfolding grown ExprAt
 going-next {q} {s} {b} {e} {at} {p} {m} {f} {all} {x} {x₁} {c} {c₁} lt i g = go p (g .low) (g .above) lt i (g .same)
   where
-    go : (n : ℕ) (y : Expr) (a : Above q s b e at n y) → at < n → n ≡ m + 13 → grown a (g .spine) ≡ all → NextOperator f s b m c₁
+    go : (n : ℕ) (y : Expr) (a : Above q s b e at n y) → at < n → n ≡ m + 13 → grown a (g .done) ≡ all → NextOperator f s b m c₁
     go n y top lt′ j h = absurd (omega arith)
     go n y (up {p = p′} {o = o} {r = r} {m = w} {t = t} j′ _ k a) lt′ j h =
         let z : p′ ≡ m = omega (arith, j, j′) in
-        let longer : Spine = extend (given s b) (g .spine) t o (exprWith 0 (given s b) r) in
-        let below : Room (longer .tail) c = room-below a longer (subst (λ (v : Spine). Room (v .tail) c) (sym h) (g .room)) in
-        let next : Room (operator (given s b) (g .spine .alone) t o ⨟ exprWith 0 (given s b) r) c₁ = room-next below (g .laid) in
+        let longer : Operands = popped (given s b) (g .done) t o (exprWith 0 (given s b) r) in
+        let below : Room (longer .ops) c = room-below a longer (subst (λ (v : Operands). Room (v .ops) c) (sym h) (g .room)) in
+        let next : Room (operator (given s b) (g .done .first) t o ⨟ exprWith 0 (given s b) r) c₁ = room-next below (g .laid) in
         subst (λ (v : ℕ). NextOperator f s b v c₁) z
         (record {
           symbol = (t, o);
           symbol-held = (k .1 .1, k .1 .2);
           right = r;
           right-held = k .1 .3;
-          room = subst (λ (v : Bool). Room (operator (given s b) v t o ⨟ exprWith 0 (given s b) r) c₁) (g .alone) next;
+          room = subst (λ (v : Bool). Room (operator (given s b) v t o ⨟ exprWith 0 (given s b) r) c₁) (g .begun) next;
         })
 
-module _ {f : Bool} {s b : List ℕ} {m : ℕ} {c : Cursor} (k : Accepted s b) (n : NextOperator f s b m c) where
+module _ {f : Bool} {s b : List ℕ} {m : ℕ} {c : Cursor} (k : Readable s b) (n : NextOperator f s b m c) where
   pub operator-has : Has OperatorAt (operatorRule f) s b (stopAt b (m + 13)) c
   operator-has = record { accepted = k; tree = n .symbol; held = n .symbol-held; room = room-first _ (n .room) }
 
@@ -243,14 +243,14 @@ module _ {f : Bool} {s b : List ℕ} {m : ℕ} {c : Cursor} (k : Accepted s b) (
   right-has l =
       record { accepted = k; tree = n .right; held = n .right-held; room = room-next (n .room) (l .of (n .symbol) (n .symbol-held)) }
 
-pub going-step : {q : ℕ} {s b : List ℕ} {e : Expr} {at p m : ℕ} {f : Bool} {all : Spine} {x x₁ x₂ x₃ : List ℕ} {c c₁ c₂ c₃ : Cursor}
+pub going-step : {q : ℕ} {s b : List ℕ} {e : Expr} {at p m : ℕ} {f : Bool} {all : Operands} {x x₁ x₂ x₃ : List ℕ} {c c₁ c₂ c₃ : Cursor}
     → at < p → p ≡ m + 13 → Going q s b e at p f all x c x₁ c₁
     → LaysAs OperatorAt (operatorRule f) s b (stopAt b (m + 13)) x₁ c₁ x₂ c₂
     → LaysAs ExprAt (exprWith 0) s b (stopAt b (stopAt b (m + 13))) x₂ c₂ x₃ c₃ → Going q s b e at m false all x c x₃ c₃
 unfolding grown ExprAt
 going-step {q} {s} {b} {e} {at} {p} {m} {f} {all} {x} {x₁} {x₂} {x₃} {c} {c₁} {c₂} {c₃} lt i g op right = go p (g .low) (g .above) lt i (g .same)
   where
-    go : (n : ℕ) (y : Expr) (a : Above q s b e at n y) → at < n → n ≡ m + 13 → grown a (g .spine) ≡ all → Going q s b e at m false all x c x₃ c₃
+    go : (n : ℕ) (y : Expr) (a : Above q s b e at n y) → at < n → n ≡ m + 13 → grown a (g .done) ≡ all → Going q s b e at m false all x c x₃ c₃
     go n y top lt′ j h = absurd (omega arith)
     go n y (up {p = p′} {o = o} {r = r} {m = w} {t = t} j′ _ k a) lt′ j h =
         let z : m ≡ p′ = omega (arith, j, j′) in
@@ -262,23 +262,23 @@ going-step {q} {s} {b} {e} {at} {p} {m} {f} {all} {x} {x₁} {x₂} {x₃} {c} {
         record {
           low = expr w (binOp y t o r);
           above = a;
-          spine = extend (given s b) (g .spine) t o (exprWith 0 (given s b) r);
-          alone = refl;
+          done = popped (given s b) (g .done) t o (exprWith 0 (given s b) r);
+          begun = refl;
           laid =
               lays-then (g .laid)
               (lays-then
-              (subst (λ (v : Bool). Lays (operator (given s b) v t o) x₁ c₁ x₂ c₂) (sym (g .alone)) (op′ .of (t, o) (k .1 .1, k .1 .2)))
+              (subst (λ (v : Bool). Lays (operator (given s b) v t o) x₁ c₁ x₂ c₂) (sym (g .begun)) (op′ .of (t, o) (k .1 .1, k .1 .2)))
               (right′ .of r (k .1 .3)));
           same = h;
           room = g .room;
         } in
         subst (λ (v : ℕ). Going q s b e at v false all x c x₃ c₃) (sym z) here
 
-pub going-end : {q : ℕ} {s b : List ℕ} {e : Expr} {at p : ℕ} {f : Bool} {all : Spine} {x x′ : List ℕ} {c c′ : Cursor} → p ≤ at
-    → Going q s b e at p f all x c x′ c′ → Lays (all .tail) x c x′ c′
+pub going-end : {q : ℕ} {s b : List ℕ} {e : Expr} {at p : ℕ} {f : Bool} {all : Operands} {x x′ : List ℕ} {c c′ : Cursor} → p ≤ at
+    → Going q s b e at p f all x c x′ c′ → Lays (all .ops) x c x′ c′
 unfolding grown
 going-end {q} {s} {b} {e} {at} {p} {f} {all} {x} {x′} {c} {c′} le g = go p (g .low) (g .above) le (g .same)
   where
-    go : (n : ℕ) (y : Expr) (a : Above q s b e at n y) → n ≤ at → grown a (g .spine) ≡ all → Lays (all .tail) x c x′ c′
-    go n y top le′ h = subst (λ (z : Spine). Lays (z .tail) x c x′ c′) h (g .laid)
+    go : (n : ℕ) (y : Expr) (a : Above q s b e at n y) → n ≤ at → grown a (g .done) ≡ all → Lays (all .ops) x c x′ c′
+    go n y top le′ h = subst (λ (z : Operands). Lays (z .ops) x c x′ c′) h (g .laid)
     go n y (up i j k a) le′ h = absurd (omega (arith, i, above-size a .0))

@@ -36,6 +36,9 @@ pub enum ExprElement {
     Arm,
 }
 
+// Those of a list in brackets: each in a group of its own.
+pub const GROUPED: ExprElement = ExprElement::Grouped;
+
 // `WrapStyle`
 pub enum WrapStyle {
     Tight,
