@@ -35,6 +35,7 @@ kinds low more k h m =
   where
     lowest : (a b : ℕ) → a < 128 → b < 32 → (a + 128 * b) % 128 ≡ a
     lowest a b h m = omega arith
+
     above : (a b : ℕ) → a < 128 → b < 32 → (a + 128 * b) / 128 % 32 ≡ b
     above a b h m = omega arith
 
@@ -56,11 +57,15 @@ unpacked = record {
   where
     by-itself : (n : ℕ) → n ≡ n + 128 * 0
     by-itself n = omega arith
+
     none-above : (n : ℕ) → n + 0 ≡ n
     none-above n = omega arith
+
     up : (low high : ℕ) → low ≤ high → low + (high - low) ≡ high
     up low high o = omega arith
+
     inside : (p : ℕ) → p < 4096 → element (list p) ≡ p
     inside p h = omega arith
+
     rest : (p r : ℕ) → p < 32768 → (p + 65536 * r) / 65536 ≡ r
     rest p r h = omega arith

@@ -18,7 +18,7 @@ use Rattle.state.specs.declared.Cursor.{Cursor}
 use Rattle.comments.specs.Listed.{given, commentsOf}
 use Rattle.comments.proofs.Accepted.{accepted-listed}
 use Rattle.comments.proofs.Fronts.{count-of}
-use Rattle.layout.specs.Contracts.{Accepted, Has, LaidAs, HasAll, LaidAll, Within}
+use Rattle.layout.specs.Contracts.{Readable, Has, LaidAs, HasAll, LaidAll, InImage}
 use Rattle.layout.specs.Forms.{MaybeIdentAt, declarationsFrom}
 use Rattle.layout.specs.Layout.{shebangRule, declarationsRule}
 use Rattle.layout_facts.specs.Accepted.{Stands}
@@ -49,7 +49,7 @@ module _ {s b : List ℕ} {d : Document} (a : Accepts s b d) where
   pub few-comments : n ≤ 8192
   few-comments = omega (arith, comments-count, stands .count)
 
-  ready : Accepted s b
+  ready : Readable s b
   ready = record { listed = accepted-listed s b n at (a .answer); small = stands .small }
 
   pub has-shebang : {c : Cursor} → Room (shebangRule (given s b) (tree s b .shebang)) c → Has MaybeIdentAt shebangRule s b (at + 13) c
@@ -67,10 +67,10 @@ module _ {s b : List ℕ} {d : Document} (a : Accepts s b d) where
   all : DeclarationsAt s b ds (stopAt b (at + 13)) (stopAt b at)
   all = stands .tree .declarations
 
-  pub first-in : Within b (at + 13)
+  pub first-in : InImage b (at + 13)
   first-in = record { fits = omega (arith, stands .tree .inside .least, stands .tree .end) }
 
-  pub tree-in : Within b at
+  pub tree-in : InImage b at
   tree-in = record { fits = omega (arith, stands .tree .end) }
 
   rest : (k : ℕ) → DeclarationsAt s b (drop k ds) (startOf s b at k) (stopAt b at)
@@ -120,7 +120,7 @@ module _ {s b : List ℕ} {d : Document} (a : Accepts s b d) where
       here : More (drop k ds) (startOf s b at k) (stopAt b at)
       here = more-at (drop k ds) _ _ (rest k) (omega (arith, length-drop k ds))
 
-      pub record-in : Within b (startOf s b at k)
+      pub record-in : InImage b (startOf s b at k)
       record-in = record { fits = omega (arith, here .inside, stands .tree .end) }
 
       pub goes-on : stopAt b (startOf s b at k) ≡ startOf s b at (k + 1)

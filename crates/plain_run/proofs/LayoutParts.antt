@@ -21,7 +21,7 @@ use Rattle.state.specs.Act.{Given, St, Act, push}
 use Rattle.comments.specs.Comments.{nth}
 use Rattle.comments.specs.Listed.{commentsOf, given}
 use Rattle.layout.specs.Layout.{shebangRule}
-use Rattle.layout_facts.specs.Placing.{commentsOf as commentsOfNode, commentsIn as commentsInNodes, Places as StepPlaces}
+use Rattle.layout_facts.specs.Placing.{commentsOfNode, commentsInNodes, Places as StepPlaces}
 use Rattle.layout_facts.proofs.Placing.{places-skip, places-push}
 use Rattle.layout_facts.proofs.InOrder.{places-shebang, places-declaration}
 use Rattle.cut_rule.specs.CutRule.{commentsIn}

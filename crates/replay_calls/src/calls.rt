@@ -1,13 +1,4 @@
 // The calls of a list, one after the other.
-use stored_answers::compare::copy;
-use stored_answers::found::refusal_found;
-use stored_answers::numbers::byte;
-use stored_answers::numbers::long;
-use stored_answers::numbers::past;
-use stored_answers::found::Found;
-use stored_answers::report::count;
-use stored_answers::found::first;
-use stored_answers::found::unless;
 use crate::states::LAYOUT;
 use crate::states::RENDER;
 use crate::states::layout_state;
@@ -22,6 +13,15 @@ use render_call::RenderArgs;
 use render_call::RenderState;
 use render_call::Rendering;
 use render_call::render_call;
+use stored_answers::compare::copy;
+use stored_answers::found::Found;
+use stored_answers::found::first;
+use stored_answers::found::refusal_found;
+use stored_answers::found::unless;
+use stored_answers::numbers::byte;
+use stored_answers::numbers::long;
+use stored_answers::numbers::past;
+use stored_answers::report::count;
 
 // Where the next call is stored, the states that the calls so far left, the bytes that they wrote, and the first difference.
 pub(crate) struct Run {

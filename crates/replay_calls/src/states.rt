@@ -1,11 +1,11 @@
 // Stored states.
+use layout_call::LayoutState;
+use render_call::RenderState;
+use rows::units::Columns;
 use stored_answers::numbers::byte;
 use stored_answers::numbers::eight;
 use stored_answers::numbers::long;
 use stored_answers::numbers::past;
-use layout_call::LayoutState;
-use render_call::RenderState;
-use rows::units::Columns;
 
 // How many bytes a layout state has.
 pub(crate) const LAYOUT: usize = 22;

@@ -1,17 +1,17 @@
 // The stored frames.
 use crate::clear::clear_bytes;
 use crate::clear::clear_numbers;
+use crate::pieces::pieces;
+use crate::stored::answer_end;
+use crate::whole::whole;
+use stored_answers::found::Found;
+use stored_answers::found::first;
 use stored_answers::numbers::end;
 use stored_answers::numbers::forward;
 use stored_answers::numbers::long;
 use stored_answers::numbers::start;
-use crate::pieces::pieces;
 use stored_answers::report::Compared;
-use stored_answers::found::Found;
-use stored_answers::found::first;
 use stored_answers::report::told;
-use crate::stored::answer_end;
-use crate::whole::whole;
 
 // Where a frame's answer ends, and the first difference.
 struct Frame {

@@ -1,8 +1,8 @@
 // The line that refuses a frame, by the kit's own decimal numbers.
-use stored_answers::numbers::past;
 use stored_answers::found::Found;
 use stored_answers::found::first;
 use stored_answers::found::unless;
+use stored_answers::numbers::past;
 
 // Whether a text stands at a place.
 fn has(b: &[u8], at: usize, text: &[u8]) -> bool {

@@ -1,11 +1,4 @@
 // A frame by declarations: a layout call to each stop, a closing one, and a rendering call.
-use stored_answers::found::refusal_found;
-use stored_answers::numbers::byte;
-use stored_answers::numbers::long;
-use stored_answers::numbers::past;
-use stored_answers::found::Found;
-use stored_answers::found::first;
-use stored_answers::found::unless;
 use crate::stored::Output;
 use crate::stored::STOP;
 use crate::stored::STOPS;
@@ -20,6 +13,13 @@ use render_call::RenderState;
 use render_call::Rendering;
 use render_call::render_call;
 use rows::units::Columns;
+use stored_answers::found::Found;
+use stored_answers::found::first;
+use stored_answers::found::refusal_found;
+use stored_answers::found::unless;
+use stored_answers::numbers::byte;
+use stored_answers::numbers::long;
+use stored_answers::numbers::past;
 
 // The state that the last call answered, the comments left, and the first difference.
 struct Laid {

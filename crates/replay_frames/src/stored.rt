@@ -1,17 +1,17 @@
 // The stored answer to a frame, which starts with the refusal number and the place; and buffers against it.
 ghost use Prim.Native.Nat.{_<_};
-use stored_answers::found::bytes_found;
 use crate::hash::of_bytes;
 use crate::hash::of_numbers;
 use crate::line::line_found;
+use stored_answers::found::Found;
+use stored_answers::found::bytes_found;
+use stored_answers::found::first;
+use stored_answers::found::unless;
 use stored_answers::numbers::byte;
 use stored_answers::numbers::eight;
 use stored_answers::numbers::long;
 use stored_answers::numbers::past;
 use stored_answers::numbers::short;
-use stored_answers::found::Found;
-use stored_answers::found::first;
-use stored_answers::found::unless;
 
 // Offsets in an answer.
 const ROWS: usize = 9;

@@ -1,15 +1,15 @@
 // A frame by the whole run: what it answers, and what the program writes.
 use crate::clear::clear_bytes;
-use stored_answers::found::refusal_found;
-use stored_answers::found::Found;
-use stored_answers::report::count;
-use stored_answers::found::first;
 use crate::stored::Output;
 use crate::stored::reply_found;
 use crate::stored::told_found;
 use file::Formatted;
 use file::format_frame;
 use reply::reply;
+use stored_answers::found::Found;
+use stored_answers::found::first;
+use stored_answers::found::refusal_found;
+use stored_answers::report::count;
 
 fn wide(x: u8) -> usize {
     x as usize
