@@ -9,18 +9,21 @@ use native.Mathlib.Nat.{sub-zero}
 use native.Mathlib.Omega.{arith}
 use lib.ListN.{length, take, drop, length-drop}
 use lib.Seq.{take-add, drop-drop}
+use Rattle.rows.specs.Places.{PLACES}
 use Rattle.cut_rule.specs.Rules.{LayoutArgs}
-use Rattle.cut_rule.specs.CutRule.{Text, commentsIn}
+use Rattle.rows.specs.Node.{Text}
+use Rattle.cut_rule.specs.CutRule.{commentsIn}
 use Rattle.cut_rule.specs.Laws.{CommentLaws}
-use Rattle.cut_rule.specs.Parts.{Cursor, layoutFresh, Piece, Parts, andThen, end, pieceOf, rules}
-use Rattle.cut_rule.specs.PartLaws.{Counts, LayoutPartLaws, Places, CommentPartLaws}
+use Rattle.cut_rule.specs.States.{LayoutChoice, Cursor, layoutFresh}
+use Rattle.cut_rule.specs.Parts.{Piece, RuleParts, andThen, end, callPiece, rules}
+use Rattle.cut_rule.specs.PartLaws.{Counts, LayoutPartLaws, PlacesNext, CommentPartLaws}
 use Rattle.cut_rule.proofs.Comments.{comments-join}
 use Rattle.cut_rule.proofs.LayoutParts.{upTo, from-fresh, counts-then, fitting, layout-laws}
 
 -- a piece that counts its rows and places the next comments
 record Laying (listed : List Text) (c : Cursor) (p : Piece) : Type 0 where
   counts : Counts c p
-  places : Places listed c p
+  places : PlacesNext listed c p
 
 laying-then : (listed : List Text) (c : Cursor) (p : Piece) (g : Cursor → Piece)
     → Laying listed c p → Laying listed (p .cursor) (g (p .cursor)) → Laying listed c (andThen p g)
@@ -30,7 +33,7 @@ laying-then listed c p g u v =
     let m = q .cursor .row - p .cursor .row in
     let i = p .cursor .placed - c .placed in
     let j = q .cursor .placed - p .cursor .placed in
-    let rows : length (p .rows) ≡ 9 * n = omega (arith, u .counts .row) in
+    let rows : length (p .rows) ≡ PLACES * n = omega (arith, u .counts .row) in
     let all : n + m ≡ q .cursor .row - c .row = omega (arith, u .counts .row, v .counts .row) in
     let at : c .placed + i ≡ p .cursor .placed = omega (arith, u .places .more) in
     let both : i + j ≡ q .cursor .placed - c .placed = omega (arith, u .places .more, v .places .more) in
@@ -49,7 +52,7 @@ laying-then listed c p g u v =
       };
     }
 
-module _ (P : Parts) (L : LayoutPartLaws P) (listed : List Text) (K : CommentPartLaws P listed) (image : P .layout-image ≡ none) where
+module _ (P : RuleParts) (L : LayoutPartLaws P) (listed : List Text) (K : CommentPartLaws P listed) (image : P .layout-image ≡ none) where
   abbrev c₀ : Cursor
   c₀ = layoutFresh .cursor
 
@@ -69,14 +72,14 @@ module _ (P : Parts) (L : LayoutPartLaws P) (listed : List Text) (K : CommentPar
       laying-then listed c₀ (upTo P n) (P .final) t
       (record { counts = L .final-counts image (upTo P n .cursor); places = K .final-places image (upTo P n .cursor) (t .places .within) })
 
-  laying-due : (q : LayoutArgs (Unit {0})) → q .stop ≤ P .declarations → Laying listed c₀ (pieceOf P layoutFresh q)
+  laying-due : (q : LayoutArgs LayoutChoice) → q .stop ≤ P .declarations → Laying listed c₀ (callPiece P layoutFresh q)
   laying-due q h = subst (Laying listed c₀) (sym (from-fresh P q)) (laying-end (q .close) (q .stop) h)
 
-module _ (P : Parts) (L : LayoutPartLaws P) (listed : List Text) (K : CommentPartLaws P listed) where
-  first-placed : (q : LayoutArgs (Unit {0})) → P .layout-image ≡ none → q .stop ≤ P .declarations
-      → commentsIn (pieceOf P layoutFresh q .rows) (pieceOf P layoutFresh q .cursor .row) ≡ take (pieceOf P layoutFresh q .cursor .placed) listed
+module _ (P : RuleParts) (L : LayoutPartLaws P) (listed : List Text) (K : CommentPartLaws P listed) where
+  first-placed : (q : LayoutArgs LayoutChoice) → P .layout-image ≡ none → q .stop ≤ P .declarations
+      → commentsIn (callPiece P layoutFresh q .rows) (callPiece P layoutFresh q .cursor .row) ≡ take (callPiece P layoutFresh q .cursor .placed) listed
   first-placed q image h =
-      let p = pieceOf P layoutFresh q in
+      let p = callPiece P layoutFresh q in
       ap (commentsIn (p .rows)) (sym (sub-zero (p .cursor .row)))
       ∙ laying-due P L listed K image q h .places .next
       ∙ ap (λ (k : ℕ). take k listed) (sub-zero (p .cursor .placed))
@@ -84,5 +87,5 @@ module _ (P : Parts) (L : LayoutPartLaws P) (listed : List Text) (K : CommentPar
   pub comment-laws : CommentLaws (rules P) (layout-laws P L) listed
   comment-laws = record {
     first-placed = λ q k. first-placed q (fitting P L q k .image) (fitting P L q k .to);
-    rest-left = λ q k. omega (arith, K .all-listed, length-drop (pieceOf P layoutFresh q .cursor .placed) listed);
+    rest-left = λ q k. omega (arith, K .all-listed, length-drop (callPiece P layoutFresh q .cursor .placed) listed);
   }

@@ -7,9 +7,10 @@ use mathlib.Core.List.{List, _++_, append-nil}
 use Prim.Native.Nat.{ℕ, _*_}
 use lib.ListN.{length, drop}
 use lib.Seq.{take-append-seam}
+use Rattle.rows.specs.Places.{PLACES}
 use Rattle.refusals.specs.Refusals.{Refusal, unless}
 use Rattle.cut_rule.specs.Rules.{LayoutArgs, RenderArgs, Rules}
-use Rattle.cut_rule.specs.Run.{onto, over, Call, layoutCall, renderCall, Carried, accepted, call, answerBy, laidOut, written}
+use Rattle.cut_rule.specs.Run.{writeFront, writeAt, Call, layoutCall, renderCall, Carried, accepted, call, answerBy, laidOut, written}
 use Rattle.cut_rule.specs.Entries.{layoutNext, renderNext, leftNext, writtenOf, renderGives, entryCall}
 
 module _ (R : Rules) (w : Carried R) (out : List ℕ) where
@@ -17,7 +18,7 @@ module _ (R : Rules) (w : Carried R) (out : List ℕ) where
   layout-same q = go (R .layout-refusal q (w .layout-state) (w .store))
     where
       go : (o : Option Refusal) → _≡_ {A = Carried R} (record {
-        store = unless o (w .store) (over (9 * R .next-row (w .layout-state)) (R .layout (w .layout-state) q .rows) (w .store));
+        store = unless o (w .store) (writeAt (PLACES * R .next-row (w .layout-state)) (R .layout (w .layout-state) q .rows) (w .store));
         marks = w .marks;
         layout-state = layoutNext R (answerBy R o (laidOut (R .layout (w .layout-state) q .state) (R .layout (w .layout-state) q .left))) (w .layout-state);
         render-state = w .render-state;
@@ -44,7 +45,7 @@ module _ (R : Rules) (w : Carried R) (out : List ℕ) where
         marks = unless o (w .marks) (new .marks);
         layout-state = w .layout-state;
         render-state = renderNext R (answerBy R o (written (new .render-state) (length txt))) (w .render-state);
-        text = w .text ++ writtenOf R (answerBy R o (written (new .render-state) (length txt))) (unless o out (onto txt out));
+        text = w .text ++ writtenOf R (answerBy R o (written (new .render-state) (length txt))) (unless o out (writeFront txt out));
         left = w .left;
       }) (unless o w (accepted R w (renderCall q)))
       go (some r) = ap (withText w) (append-nil (w .text))

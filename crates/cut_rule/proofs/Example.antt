@@ -11,11 +11,17 @@ use borrow.Author.Tests.{leb-true, le-leb, ltb-true}
 use lib.Dec.{ltb, leb}
 use lib.ListN.{length, getD, take, drop, replicate, take-append-drop, length-take}
 use lib.Seq.{take-take}
+use Rattle.rows.specs.Places.{PLACES}
+use Rattle.renderer_rules.specs.Limits.{MAX-INDENT, MAX-COLUMN}
+use Rattle.refusals.specs.Refusals.{any}
 use Rattle.cut_rule.specs.Run.{Call, layoutCall, renderCall, Carried, start, run, Answer, refused, laidOut, written, answers}
 use Rattle.cut_rule.specs.Plain.{atFirst, due, plain, AllReadLaid}
-use Rattle.cut_rule.specs.CutRule.{Text, commentsIn, CutRule}
-use Rattle.cut_rule.specs.Parts.{Cursor, Piece, Parts, rules}
-use Rattle.cut_rule.specs.PartLaws.{Counts, LayoutPartLaws, Places, CommentPartLaws, RenderPartLaws}
+use Rattle.rows.specs.Node.{Text}
+use Rattle.cut_rule.specs.CutRule.{commentsIn, CutRule}
+use Rattle.cut_rule.specs.States.{onlyLayoutChoice, onlyRenderChoice, Cursor}
+use Rattle.cut_rule.specs.Tests.{penTests, markTests}
+use Rattle.cut_rule.specs.Parts.{Piece, RuleParts, rules}
+use Rattle.cut_rule.specs.PartLaws.{Counts, LayoutPartLaws, PlacesNext, CommentPartLaws, RenderPartLaws}
 use Rattle.cut_rule.proofs.Document.{parts-cut}
 
 abbrev listed : List Text
@@ -38,7 +44,7 @@ abbrev inStore : Bool → Option ℕ
 inStore true = none
 inStore false = some 0
 
-abbrev small : Parts
+abbrev small : RuleParts
 small = record {
   source-size = 100;
   declarations = 2;
@@ -48,9 +54,9 @@ small = record {
   shebang = λ c. record { cursor = c; rows = [] };
   declaration = λ n c. placing (ltb (c .placed) 2) c;
   final = line;
-  wrong-row = λ store i n. inStore (leb (9 * n) (length store));
+  wrong-row = λ store i n. inStore (leb (PLACES * n) (length store));
   needed = λ store i n. 1;
-  draw = λ z marks store i n. record { pen = z; marks = marks; text = drop (9 * i) (take (9 * n) store) };
+  draw = λ z marks store i n. record { pen = z; marks = marks; text = drop (PLACES * i) (take (PLACES * n) store) };
 }
 
 placing-counts : (b : Bool) (c : Cursor) → Counts c (placing b c)
@@ -79,7 +85,7 @@ listed-at zero h = refl
 listed-at (suc zero) h = refl
 listed-at (suc (suc k)) h = absurd (omega arith)
 
-placing-places : (b : Bool) (c : Cursor) → ltb (c .placed) 2 ≡ b → c .placed ≤ 2 → Places listed c (placing b c)
+placing-places : (b : Bool) (c : Cursor) → ltb (c .placed) 2 ≡ b → c .placed ≤ 2 → PlacesNext listed c (placing b c)
 placing-places true c e h =
     let l : c .placed < 2 = ltb-true (c .placed) 2 e in
     record { more = omega arith; within = omega arith; next = one-more (c .row) (c .placed) _ (placing true c .rows) refl (listed-at (c .placed) l) }
@@ -97,21 +103,21 @@ comment-parts = record {
   };
 }
 
-stop-in : (n : ℕ) (store : List ℕ) → inStore (leb (9 * n) (length store)) ≡ none → 9 * n ≤ length store
-stop-in n store e = go (leb (9 * n) (length store)) refl e
+stop-in : (n : ℕ) (store : List ℕ) → inStore (leb (PLACES * n) (length store)) ≡ none → PLACES * n ≤ length store
+stop-in n store e = go (leb (PLACES * n) (length store)) refl e
   where
-    go : (b : Bool) → leb (9 * n) (length store) ≡ b → inStore b ≡ none → 9 * n ≤ length store
-    go true g f = leb-true (9 * n) (length store) g
+    go : (b : Bool) → leb (PLACES * n) (length store) ≡ b → inStore b ≡ none → PLACES * n ≤ length store
+    go true g f = leb-true (PLACES * n) (length store) g
     go false g f = let z : _≡_ {A = ℕ} 0 1 = cc in absurd (omega arith)
 
-right-in : (n : ℕ) (store : List ℕ) → 9 * n ≤ length store → inStore (leb (9 * n) (length store)) ≡ none
-right-in n store h = ap inStore (le-leb (9 * n) (length store) h)
+right-in : (n : ℕ) (store : List ℕ) → PLACES * n ≤ length store → inStore (leb (PLACES * n) (length store)) ≡ none
+right-in n store h = ap inStore (le-leb (PLACES * n) (length store) h)
 
 parts-join : (store : List ℕ) (n m : ℕ) → n ≤ m
-    → drop (9 * 0) (take (9 * m) store) ≡ drop (9 * 0) (take (9 * n) store) ++ drop (9 * n) (take (9 * m) store)
+    → drop (PLACES * 0) (take (PLACES * m) store) ≡ drop (PLACES * 0) (take (PLACES * n) store) ++ drop (PLACES * n) (take (PLACES * m) store)
 parts-join store n m h =
-    sym (take-append-drop (9 * n) (take (9 * m) store))
-    ∙ ap (λ (r : List ℕ). r ++ drop (9 * n) (take (9 * m) store)) (take-take (9 * n) (9 * m) store (omega arith))
+    sym (take-append-drop (PLACES * n) (take (PLACES * m) store))
+    ∙ ap (λ (r : List ℕ). r ++ drop (PLACES * n) (take (PLACES * m) store)) (take-take (PLACES * n) (PLACES * m) store (omega arith))
 
 render-parts : RenderPartLaws small
 render-parts = record {
@@ -119,10 +125,10 @@ render-parts = record {
   right-join = λ store n m h e f. f;
   needed-join = λ store n m h. refl;
   right-local = λ store other n e f.
-      let h : 9 * n ≤ length store = stop-in n store f in
-      right-in n other (omega (arith, ap length e, length-take (9 * n) store, length-take (9 * n) other));
+      let h : PLACES * n ≤ length store = stop-in n store f in
+      right-in n other (omega (arith, ap length e, length-take (PLACES * n) store, length-take (PLACES * n) other));
   needed-local = λ store other i n e. refl;
-  draw-local = λ z marks store other i n e. ap (λ (r : List ℕ). record { pen = z; marks = marks; text = drop (9 * i) r }) e;
+  draw-local = λ z marks store other i n e. ap (λ (r : List ℕ). record { pen = z; marks = marks; text = drop (PLACES * i) r }) e;
   draw-marks = λ z marks store i n. refl;
   draw-past = λ z marks past store n e h. refl;
   draw-join = λ z marks store n m h e f g. ap (λ (t : List ℕ). record { pen = z; marks = marks; text = t }) (parts-join store n m h);
@@ -135,10 +141,10 @@ example = parts-cut small listed layout-parts render-parts comment-parts
 
 -- ---- lists of calls
 abbrev layTo : ℕ → Bool → Call (rules small)
-layTo n b = layoutCall (record { stop = n; close = b; choice = tt })
+layTo n b = layoutCall (record { stop = n; close = b; choice = onlyLayoutChoice })
 
 abbrev renderTo : ℕ → ℕ → Call (rules small)
-renderTo n room = renderCall (record { stop = n; room = room; choice = tt })
+renderTo n room = renderCall (record { stop = n; room = room; choice = onlyRenderChoice })
 
 -- number and place of a refusal; 100 and the comments left; 200 and the bytes written
 abbrev asNumbers : List (Answer (rules small)) → List (List ℕ)
@@ -187,6 +193,17 @@ tried-store = refl
 
 tried-marks : run (rules small) (start (rules small) nines fives) tried .marks ≡ 0 ∷ 5 ∷ []
 tried-marks = refl
+
+-- 12's limits of a rendering state: each at its limit, and one past it; marks in use that are 0 and 1, a mark of 2, more marks than there are
+abbrev penAt : ℕ → ℕ → ℕ → Bool
+penAt indent next column = any (penTests (record { indent = indent; next-indent = next; column = column }))
+
+tried-pens : penAt MAX-INDENT MAX-INDENT MAX-COLUMN ∷ penAt 65 0 0 ∷ penAt 0 65 0 ∷ penAt 0 0 72057594037927937 ∷ []
+    ≡ false ∷ true ∷ true ∷ true ∷ []
+tried-pens = refl
+
+tried-used : any (markTests (0 ∷ 1 ∷ 2 ∷ []) 2) ∷ any (markTests (0 ∷ 1 ∷ 2 ∷ []) 3) ∷ any (markTests (0 ∷ 1 ∷ []) 3) ∷ [] ≡ false ∷ true ∷ true ∷ []
+tried-used = refl
 
 -- Why no accepted call may read rows not yet laid out: this one writes what the store held at first, and due is then a row of layout's.
 abbrev early : List (Call (rules small))

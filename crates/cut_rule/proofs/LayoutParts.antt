@@ -9,18 +9,19 @@ use Prim.Native.Nat.{ℕ, zero, suc, _+_, _-_, _*_, _≤_}
 use native.Mathlib.Nat.{sub-zero, zero-add, suc-add}
 use native.Mathlib.Omega.{arith}
 use lib.ListN.{length, length-append}
-use Rattle.cut_rule.specs.Rules.{LayoutArgs, Laid}
+use Rattle.rows.specs.Places.{PLACES}
+use Rattle.cut_rule.specs.Rules.{LayoutArgs, LayoutResult}
 use Rattle.cut_rule.specs.Laws.{LayoutAfter, thenLaid, LayoutLaws}
 use Rattle.refusals.specs.Refusals.{first}
-use Rattle.cut_rule.specs.Parts.{Cursor, LayoutState, layoutFresh, Piece, Parts, still, andThen}
-use Rattle.cut_rule.specs.Parts.{begin, several, end, pieceOf, laidOf, layoutTable, rules}
+use Rattle.cut_rule.specs.States.{LayoutChoice, Cursor, LayoutState, layoutFresh}
+use Rattle.cut_rule.specs.Parts.{Piece, RuleParts, still, andThen, begin, several, end, callPiece, laidOf, layoutTable, rules}
 use Rattle.cut_rule.specs.PartLaws.{Counts, LayoutPartLaws}
 use Rattle.cut_rule.proofs.Table.{layout-told}
 
 pub counts-then : (c : Cursor) (p : Piece) (g : Cursor → Piece) → Counts c p → Counts (p .cursor) (g (p .cursor)) → Counts c (andThen p g)
 counts-then c p g u v = record { row = omega (arith, u .row, v .row, length-append (p .rows) (g (p .cursor) .rows)) }
 
-module _ (P : Parts) where
+module _ (P : RuleParts) where
   -- ---- pieces one after the other
   abbrev piece : Cursor → List ℕ → Piece
   piece c r = record { cursor = c; rows = r }
@@ -51,14 +52,14 @@ module _ (P : Parts) where
   abbrev pub upTo : ℕ → Piece
   upTo n = several P n 0 (P .shebang (layoutFresh .cursor))
 
-  pub from-fresh : (q : LayoutArgs (Unit {0})) → pieceOf P layoutFresh q ≡ end P (q .close) (upTo (q .stop))
+  pub from-fresh : (q : LayoutArgs LayoutChoice) → callPiece P layoutFresh q ≡ end P (q .close) (upTo (q .stop))
   from-fresh q = ap (λ (n : ℕ). end P (q .close) (upTo n)) (sub-zero (q .stop))
 
   -- where a call to p, not closing, left layout
   abbrev stoppedAt : ℕ → LayoutState
   stoppedAt n = record { begun = true; closed = false; declaration = n; cursor = upTo n .cursor }
 
-  piece-on : (n : ℕ) (q : LayoutArgs (Unit {0})) → n ≤ q .stop → pieceOf P layoutFresh q ≡ glue (upTo n) (pieceOf P (stoppedAt n) q)
+  piece-on : (n : ℕ) (q : LayoutArgs LayoutChoice) → n ≤ q .stop → callPiece P layoutFresh q ≡ glue (upTo n) (callPiece P (stoppedAt n) q)
   piece-on n q h =
       let x = upTo n in
       let m : (q .stop - n) + n ≡ q .stop = omega arith in
@@ -70,7 +71,7 @@ module _ (P : Parts) where
       ∙ sym (glue-several (q .stop - n) n x))
       ∙ sym (glue-end (q .close) x (several P (q .stop - n) n (still (x .cursor))))
 
-  stopped : (p : LayoutArgs (Unit {0})) → p .close ≡ false → pieceOf P layoutFresh p ≡ upTo (p .stop)
+  stopped : (p : LayoutArgs LayoutChoice) → p .close ≡ false → callPiece P layoutFresh p ≡ upTo (p .stop)
   stopped p e = from-fresh p ∙ ap (λ (b : Bool). end P b (upTo (p .stop))) e
 
   -- ---- the next row counts the rows
@@ -89,8 +90,8 @@ module _ (P : Parts) where
     counts-end false c p k = k
     counts-end true c p k = counts-then c p (P .final) k (L .final-counts image (p .cursor))
 
-    pub counts-piece : (s : LayoutState) (q : LayoutArgs (Unit {0})) → s .declaration ≤ q .stop → q .stop ≤ P .declarations
-        → Counts (s .cursor) (pieceOf P s q)
+    pub counts-piece : (s : LayoutState) (q : LayoutArgs LayoutChoice) → s .declaration ≤ q .stop → q .stop ≤ P .declarations
+        → Counts (s .cursor) (callPiece P s q)
     counts-piece s q h g =
         let d = s .declaration in
         let p = begin P (s .begun) (s .cursor) in
@@ -98,30 +99,30 @@ module _ (P : Parts) where
         (counts-several (q .stop - d) d (s .cursor) p (omega arith) (counts-begin (s .begun) (s .cursor)))
 
   module _ (L : LayoutPartLaws P) where
-    pub record FitsParts (q : LayoutArgs (Unit {0})) : Type 0 where
+    pub record FitsParts (q : LayoutArgs LayoutChoice) : Type 0 where
       pub image : P .layout-image ≡ none
       pub to : q .stop ≤ P .declarations
 
-    goes-on : (p q : LayoutArgs (Unit {0})) → LayoutAfter p q → laidOf P layoutFresh q ≡ thenLaid (laidOf P layoutFresh p) (λ s. laidOf P s q)
+    goes-on : (p q : LayoutArgs LayoutChoice) → LayoutAfter p q → laidOf P layoutFresh q ≡ thenLaid (laidOf P layoutFresh p) (λ s. laidOf P s q)
     goes-on p q a = ap laidAs (piece-on (p .stop) q (a .not-past)) ∙ ap parted (sym (stopped p (a .not-closed)))
       where
-        laidAs : Piece → Laid LayoutState
+        laidAs : Piece → LayoutResult LayoutState
         laidAs y = record {
           state = record { begun = true; closed = q .close; declaration = q .stop; cursor = y .cursor };
           rows = y .rows;
           left = P .comments - y .cursor .placed;
         }
 
-        parted : Piece → Laid LayoutState
-        parted x = laidAs (glue x (pieceOf P (record { begun = true; closed = p .close; declaration = p .stop; cursor = x .cursor }) q))
+        parted : Piece → LayoutResult LayoutState
+        parted x = laidAs (glue x (callPiece P (record { begun = true; closed = p .close; declaration = p .stop; cursor = x .cursor }) q))
 
     pub layout-laws : LayoutLaws (rules P)
     layout-laws = record {
       Fits = FitsParts;
-      accepted-fits = λ q s store e. record { image = layout-told P q s store e .image; to = layout-told P q s store e .to };
+      accepted-fits = λ q s store e. record { image = layout-told P q s store e .image; to = layout-told P q s store e .fits .stop .to };
       accepted-after = λ p q store k e. record {
-        not-closed = layout-told P q (laidOf P layoutFresh p .state) store e .not-closed;
-        not-past = layout-told P q (laidOf P layoutFresh p .state) store e .from;
+        not-closed = layout-told P q (laidOf P layoutFresh p .state) store e .fits .stop .not-closed;
+        not-past = layout-told P q (laidOf P layoutFresh p .state) store e .fits .stop .from;
         same = refl;
       };
       fresh-row = refl;
@@ -129,12 +130,12 @@ module _ (P : Parts) where
       goes-on = λ p q k l a. goes-on p q a;
     }
 
-    pub fitting : (q : LayoutArgs (Unit {0})) → layout-laws .Fits q → FitsParts q
+    pub fitting : (q : LayoutArgs LayoutChoice) → layout-laws .Fits q → FitsParts q
     unfolding layout-laws
     fitting q k = k
 
-    pub rows-fit : (q : LayoutArgs (Unit {0})) (s : LayoutState) (store : List ℕ) → first (layoutTable P q s store) ≡ none
-        → 9 * s .cursor .row + length (pieceOf P s q .rows) ≤ length store
+    pub rows-fit : (q : LayoutArgs LayoutChoice) (s : LayoutState) (store : List ℕ) → first (layoutTable P q s store) ≡ none
+        → PLACES * s .cursor .row + length (callPiece P s q .rows) ≤ length store
     rows-fit q s store e =
         let t = layout-told P q s store e in
-        omega (arith, t .room, counts-piece L (t .image) s q (t .from) (t .to) .row)
+        omega (arith, t .room, counts-piece L (t .image) s q (t .fits .stop .from) (t .fits .stop .to) .row)

@@ -9,3 +9,4 @@ pub mod RenderParts
 pub mod CommentParts
 pub mod Document
 pub mod Example
+pub mod Answers

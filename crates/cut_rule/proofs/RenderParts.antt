@@ -7,9 +7,10 @@ use mathlib.Core.List.{List, [], _++_}
 use Prim.Native.Nat.{ℕ, _+_, _-_, _≤_, max}
 use native.Mathlib.Omega.{arith}
 use lib.ListN.{length, take, replicate, length-append, length-take, length-replicate, replicate-append-replicate}
-use Rattle.cut_rule.specs.Rules.{Rendered}
+use Rattle.cut_rule.specs.Rules.{RenderResult}
 use Rattle.cut_rule.specs.Laws.{SameBefore, thenRendered, RenderLaws, RoomLaws}
-use Rattle.cut_rule.specs.Parts.{RenderState, renderFresh, Pen, Drawn, Parts, cleared, drawnOf, renderedOf, rules}
+use Rattle.cut_rule.specs.States.{RenderChoice, RenderState, renderFresh, Pen}
+use Rattle.cut_rule.specs.Parts.{Drawn, RuleParts, withCleared, drawnOf, renderedOf, rules}
 use Rattle.cut_rule.specs.PartLaws.{LayoutPartLaws, withPast, thenDrawn, RenderPartLaws}
 use Rattle.cut_rule.proofs.Table.{render-told}
 use Rattle.cut_rule.proofs.LayoutParts.{rows-fit}
@@ -17,31 +18,31 @@ use Rattle.cut_rule.proofs.LayoutParts.{rows-fit}
 replicate-split : (n a b : ℕ) → n ≡ a + b → replicate {A = ℕ} n 0 ≡ replicate a 0 ++ replicate b 0
 replicate-split n a b e = ap (λ (k : ℕ). replicate {A = ℕ} k 0) e ∙ sym (replicate-append-replicate a b 0)
 
-module _ (P : Parts) (D : RenderPartLaws P) where
-  length-cleared : (marks : List ℕ) (n : ℕ) → length (cleared P marks n) ≡ length marks + (n - length marks)
+module _ (P : RuleParts) (D : RenderPartLaws P) where
+  length-cleared : (marks : List ℕ) (n : ℕ) → length (withCleared P marks n) ≡ length marks + (n - length marks)
   length-cleared marks n = omega (arith, length-append marks (replicate (n - length marks) 0), length-replicate {A = ℕ} (n - length marks) 0)
 
   drawn-marks : (s : RenderState) (marks store : List ℕ) (stop : ℕ)
       → length (drawnOf P s marks store stop .marks) ≡ length marks + (P .needed store (s .row) stop - length marks)
   drawn-marks s marks store stop =
       let n = P .needed store (s .row) stop in
-      D .draw-marks (s .pen) (cleared P marks n) store (s .row) stop ∙ length-cleared marks n
+      D .draw-marks (s .pen) (withCleared P marks n) store (s .row) stop ∙ length-cleared marks n
 
-  rendering-local : (s : RenderState) (marks store other : List ℕ) (n : ℕ) → SameBefore n store other
-      → renderedOf P tt s marks store n ≡ renderedOf P tt s marks other n
-  rendering-local s marks store other n e =
+  rendering-local : (c : RenderChoice) (s : RenderState) (marks store other : List ℕ) (n : ℕ) → SameBefore n store other
+      → renderedOf P c s marks store n ≡ renderedOf P c s marks other n
+  rendering-local c s marks store other n e =
       let h = D .needed-local store other (s .row) n e in
       ap₂ (λ (y : Drawn) (k : ℕ). shape y (max (s .in-use) k)) (drawn-same h) h
     where
-      shape : Drawn → ℕ → Rendered RenderState
+      shape : Drawn → ℕ → RenderResult RenderState
       shape y u = record { state = record { pen = y .pen; in-use = u; row = n }; marks = y .marks; text = y .text }
 
       drawn-same : P .needed store (s .row) n ≡ P .needed other (s .row) n → drawnOf P s marks store n ≡ drawnOf P s marks other n
       drawn-same h =
-          ap (λ (k : ℕ). P .draw (s .pen) (cleared P marks k) store (s .row) n) h
-          ∙ D .draw-local (s .pen) (cleared P marks (P .needed other (s .row) n)) store other (s .row) n e
+          ap (λ (k : ℕ). P .draw (s .pen) (withCleared P marks k) store (s .row) n) h
+          ∙ D .draw-local (s .pen) (withCleared P marks (P .needed other (s .row) n)) store other (s .row) n e
 
-  module _ (store : List ℕ) (n m : ℕ) (le : n ≤ m) (right₁ : P .wrong-row store 0 n ≡ none) (right₂ : P .wrong-row store 0 m ≡ none) where
+  module _ (c : RenderChoice) (store : List ℕ) (n m : ℕ) (le : n ≤ m) (right₁ : P .wrong-row store 0 n ≡ none) (right₂ : P .wrong-row store 0 m ≡ none) where
     -- the pen from fresh; the marks that rows before n, before m, and between need
     abbrev z : Pen
     z = renderFresh .pen
@@ -56,7 +57,7 @@ module _ (P : Parts) (D : RenderPartLaws P) where
     all = P .needed store 0 m
 
     abbrev one : Drawn
-    one = P .draw z (cleared P [] before) store 0 n
+    one = P .draw z (withCleared P [] before) store 0 n
 
     abbrev zeros : List ℕ
     zeros = replicate (more - length (one .marks)) 0
@@ -65,39 +66,39 @@ module _ (P : Parts) (D : RenderPartLaws P) where
     both = D .needed-join store n m le
 
     one-marks : length (one .marks) ≡ before
-    one-marks = omega (arith, D .draw-marks z (cleared P [] before) store 0 n, length-cleared [] before)
+    one-marks = omega (arith, D .draw-marks z (withCleared P [] before) store 0 n, length-cleared [] before)
 
-    marks-split : cleared P [] all ≡ cleared P [] before ++ zeros
+    marks-split : withCleared P [] all ≡ withCleared P [] before ++ zeros
     marks-split = replicate-split (all - 0) (before - 0) (more - length (one .marks)) (omega (arith, one-marks, both))
 
     -- the rows before n, with the marks of all rows cleared
-    one-past : P .draw z (cleared P [] all) store 0 n ≡ withPast one zeros
+    one-past : P .draw z (withCleared P [] all) store 0 n ≡ withPast one zeros
     one-past =
         ap (λ (ms : List ℕ). P .draw z ms store 0 n) marks-split
-        ∙ D .draw-past z (cleared P [] before) zeros store n right₁ (omega (arith, length-cleared [] before))
+        ∙ D .draw-past z (withCleared P [] before) zeros store n right₁ (omega (arith, length-cleared [] before))
 
     abbrev onward : Drawn → Drawn
     onward y = thenDrawn y (λ p ms. P .draw p ms store n m)
 
-    all-drawn : P .draw z (cleared P [] all) store 0 m ≡ onward (withPast one zeros)
-    all-drawn = D .draw-join z (cleared P [] all) store n m le right₁ right₂ (omega (arith, length-cleared [] all)) ∙ ap onward one-past
+    all-drawn : P .draw z (withCleared P [] all) store 0 m ≡ onward (withPast one zeros)
+    all-drawn = D .draw-join z (withCleared P [] all) store n m le right₁ right₂ (omega (arith, length-cleared [] all)) ∙ ap onward one-past
 
-    joined : renderedOf P tt renderFresh [] store m
-        ≡ thenRendered (renderedOf P tt renderFresh [] store n) (λ s marks. renderedOf P tt s marks store m)
+    joined : renderedOf P c renderFresh [] store m
+        ≡ thenRendered (renderedOf P c renderFresh [] store n) (λ s marks. renderedOf P c s marks store m)
     joined =
         let u : max 0 all ≡ max (max 0 before) more = omega (arith, both) in
         ap₂ (λ (y : Drawn) (k : ℕ). shape y k) all-drawn u
       where
-        shape : Drawn → ℕ → Rendered RenderState
+        shape : Drawn → ℕ → RenderResult RenderState
         shape y k = record { state = record { pen = y .pen; in-use = k; row = m }; marks = y .marks; text = y .text }
 
   pub render-laws : RenderLaws (rules P)
   render-laws = record {
-    Whole = λ c rows n. P .wrong-row rows 0 n ≡ none;
+    WholeRows = λ c rows n. P .wrong-row rows 0 n ≡ none;
     accepted-none = λ q s store marks e. D .none-wrong store;
     accepted-whole = λ q s store marks e w.
-        D .right-join store (s .row) (q .stop) (render-told P q s store marks e .not-past) w (render-told P q s store marks e .right);
-    accepted-not-past = λ q s store marks e. render-told P q s store marks e .not-past;
+        D .right-join store (s .row) (q .stop) (render-told P q s store marks e .checked .fits .row .not-past) w (render-told P q s store marks e .checked .right);
+    accepted-not-past = λ q s store marks e. render-told P q s store marks e .checked .fits .row .not-past;
     accepted-same = λ c rows n q store marks w e. refl;
     fresh-row = refl;
     due-row = λ c rows n w. refl;
@@ -105,8 +106,8 @@ module _ (P : Parts) (D : RenderPartLaws P) where
     due-use = λ c rows n w. omega (arith, drawn-marks renderFresh [] rows n);
     grows = λ c s marks rows n. omega (arith, drawn-marks s marks rows n);
     whole-local = λ c rows others n e w. D .right-local rows others n e w;
-    render-local = λ c s marks rows others n e. rendering-local s marks rows others n e;
-    goes-on = λ c rows n m h w v. joined rows n m h w v;
+    render-local = λ c s marks rows others n e. rendering-local c s marks rows others n e;
+    goes-on = λ c rows n m h w v. joined c rows n m h w v;
   }
 
   pub room-laws : LayoutPartLaws P → RoomLaws (rules P)

@@ -7,15 +7,17 @@ use mathlib.Core.List.{List, [], _∷_}
 use Prim.Native.Nat.{ℕ, _*_}
 use native.Mathlib.Omega.{arith}
 use lib.ListN.{length, drop}
+use Rattle.rows.specs.Places.{PLACES}
 use Rattle.refusals.specs.Refusals.{Refusal, unless}
 use Rattle.cut_rule.specs.Rules.{LayoutArgs, Rules}
 use Rattle.cut_rule.specs.Run.{Call, layoutCall, renderCall, Carried, start, refusal, rendered, accepted, call, run}
 use Rattle.cut_rule.specs.Run.{Answer, answer, answers}
-use Rattle.cut_rule.specs.Plain.{RenderedTo, Progress, atFirst, layoutDue, leftDue, due, plainCall, plain, answersDue, Accepted, AllReadLaid}
+use Rattle.cut_rule.specs.Plain.{RenderedTo, Progress, atFirst, layoutDue, leftDue, due, plainCall, plain, answersDue, IsAccepted, AllReadLaid}
 use Rattle.cut_rule.specs.Plain.{AllReadDue}
-use Rattle.cut_rule.specs.CutRule.{Text, CommentsKept, SameRoom}
+use Rattle.rows.specs.Node.{Text}
+use Rattle.cut_rule.specs.CutRule.{CommentsKept, SameRoom}
 use Rattle.cut_rule.specs.Laws.{LayoutLaws, RenderLaws, CommentLaws, RoomLaws}
-use Rattle.cut_rule.proofs.Memory.{length-onto, length-over}
+use Rattle.cut_rule.proofs.Memory.{length-front, length-at}
 use Rattle.cut_rule.proofs.Comments.{comments-before}
 use Rattle.cut_rule.proofs.Steps.{LaidOk, ProgressOk, one-call}
 
@@ -94,7 +96,7 @@ module _ (R : Rules) (L : LayoutLaws R) (D : RenderLaws R) where
     kept-due s m none d k n e = let z : _≡_ {A = ℕ} 0 1 = cc in absurd (omega arith)
     kept-due s m (some q) d k n e =
         let rows = layoutDue R (some q) .rows in
-        let r : 9 * R .next-row (layoutDue R (some q) .state) ≡ length rows = L .due-row q k in
+        let r : PLACES * R .next-row (layoutDue R (some q) .state) ≡ length rows = L .due-row q k in
         record {
           first = comments-before (R .next-row (layoutDue R (some q) .state)) rows (drop (length rows) s) (omega arith) ∙ K .first-placed q k;
           others = (let h : layoutDue R (some q) .left ≡ n = cc in sym h ∙ K .rest-left q k);
@@ -111,13 +113,13 @@ module _ (R : Rules) (L : LayoutLaws R) (D : RenderLaws R) where
 
 -- ---- no memory grows or shrinks
 module _ (R : Rules) (M : RoomLaws R) where
-  room-accepted : (w : Carried R) (c : Call R) → Accepted R w c → SameRoom R (accepted R w c) w
+  room-accepted : (w : Carried R) (c : Call R) → IsAccepted R w c → SameRoom R (accepted R w c) w
   room-accepted w (layoutCall q) e =
       let fit = M .rows-fit q (w .layout-state) (w .store) e in
-      record { store-same = length-over _ (R .layout (w .layout-state) q .rows) (w .store) fit; marks-same = refl }
+      record { store-same = length-at _ (R .layout (w .layout-state) q .rows) (w .store) fit; marks-same = refl }
   room-accepted w (renderCall q) e =
       let fit = M .marks-fit q (w .render-state) (w .store) (w .marks) e in
-      record { store-same = refl; marks-same = length-onto (rendered R w q .marks) (w .marks) fit }
+      record { store-same = refl; marks-same = length-front (rendered R w q .marks) (w .marks) fit }
 
   room-call : (w : Carried R) (c : Call R) → SameRoom R (call R w c) w
   room-call w c = go (refusal R w c) refl

@@ -8,13 +8,14 @@ use Prim.Native.Nat.{ℕ, _-_, _*_, _≤_, _<_}
 use native.Mathlib.Omega.{arith}
 use native.Mathlib.Decide.{decLt}
 use lib.ListN.{length, take, drop, length-append}
+use Rattle.rows.specs.Places.{PLACES}
 use Rattle.refusals.specs.Refusals.{Refusal, unless}
-use Rattle.cut_rule.specs.Rules.{LayoutArgs, RenderArgs, Laid, Rendered, Rules}
-use Rattle.cut_rule.specs.Run.{onto, Call, layoutCall, renderCall, Carried, refusal, rendered, accepted, call}
-use Rattle.cut_rule.specs.Plain.{RenderedTo, Progress, layoutDue, renderDue, leftDue, laidDue, renderedDue, due, onward, plainCall, Accepted}
+use Rattle.cut_rule.specs.Rules.{LayoutArgs, RenderArgs, LayoutResult, RenderResult, Rules}
+use Rattle.cut_rule.specs.Run.{writeFront, Call, layoutCall, renderCall, Carried, refusal, rendered, accepted, call}
+use Rattle.cut_rule.specs.Plain.{RenderedTo, Progress, layoutDue, renderDue, leftDue, laidDue, renderedDue, due, onward, plainCall, IsAccepted}
 use Rattle.cut_rule.specs.Plain.{ReadsLaid}
 use Rattle.cut_rule.specs.Laws.{thenLaid, LayoutLaws, SameBefore, thenRendered, RenderLaws}
-use Rattle.cut_rule.proofs.Memory.{over-onto, onto-onto, take-onto, same-before}
+use Rattle.cut_rule.proofs.Memory.{write-behind, write-again, take-front, same-before}
 
 module _ (R : Rules) (L : LayoutLaws R) (D : RenderLaws R) where
   abbrev pub LaidTo : Type 0
@@ -31,15 +32,15 @@ module _ (R : Rules) (L : LayoutLaws R) (D : RenderLaws R) where
   -- the rows before the rendering stop are laid out and whole
   abbrev pub RenderedOk : List ℕ → ShownTo → Type 0
   RenderedOk rows none = Unit {0}
-  RenderedOk rows (some p) = (9 * p .stop ≤ length rows) × D .Whole (p .choice) rows (p .stop)
+  RenderedOk rows (some p) = (PLACES * p .stop ≤ length rows) × D .WholeRows (p .choice) rows (p .stop)
 
   pub record ProgressOk (f : Progress R) : Type 0 where
     pub laid-ok : LaidOk (f .laid-to)
     pub rendered-ok : RenderedOk (laidDue R f .rows) (f .rendered-to)
 
   -- ---- layout
-  laid-row : (o : LaidTo) → LaidOk o → 9 * R .next-row (layoutDue R o .state) ≡ length (layoutDue R o .rows)
-  laid-row none k = ap (λ (n : ℕ). 9 * n) (L .fresh-row)
+  laid-row : (o : LaidTo) → LaidOk o → PLACES * R .next-row (layoutDue R o .state) ≡ length (layoutDue R o .rows)
+  laid-row none k = ap (λ (n : ℕ). PLACES * n) (L .fresh-row)
   laid-row (some p) k = L .due-row p k
 
   laid-on : (o : LaidTo) (q : LayoutArgs (R .LayoutChoice)) (store : List ℕ) → LaidOk o
@@ -62,37 +63,37 @@ module _ (R : Rules) (L : LayoutLaws R) (D : RenderLaws R) where
     D .whole-local (p .choice) rows (rows ++ more) (p .stop) (sym (same-before (p .stop) rows more (k .0))) (k .1),
   )
 
-  layout-step : (s m : List ℕ) (f : Progress R) (q : LayoutArgs (R .LayoutChoice)) → ProgressOk f → Accepted R (due R s m f) (layoutCall q)
+  layout-step : (s m : List ℕ) (f : Progress R) (q : LayoutArgs (R .LayoutChoice)) → ProgressOk f → IsAccepted R (due R s m f) (layoutCall q)
       → accepted R (due R s m f) (layoutCall q) ≡ due R s m (onward R f (layoutCall q))
   layout-step s m f q k e =
-      ap (λ (st : List ℕ). filled st joined shown) (over-onto _ (one .rows) (two .rows) s (laid-row (f .laid-to) (k .laid-ok)))
-      ∙ ap (λ (d : Rendered (R .RenderState)). made joined d) (sym (rendered-more (f .rendered-to) (one .rows) (two .rows) (k .rendered-ok)))
-      ∙ ap (λ (l : Laid (R .LayoutState)). made l (renderDue R (l .rows) (f .rendered-to))) (sym (laid-on (f .laid-to) q _ (k .laid-ok) e))
+      ap (λ (st : List ℕ). filled st joined shown) (write-behind _ (one .rows) (two .rows) s (laid-row (f .laid-to) (k .laid-ok)))
+      ∙ ap (λ (d : RenderResult (R .RenderState)). made joined d) (sym (rendered-more (f .rendered-to) (one .rows) (two .rows) (k .rendered-ok)))
+      ∙ ap (λ (l : LayoutResult (R .LayoutState)). made l (renderDue R (l .rows) (f .rendered-to))) (sym (laid-on (f .laid-to) q _ (k .laid-ok) e))
     where
-      one : Laid (R .LayoutState)
+      one : LayoutResult (R .LayoutState)
       one = laidDue R f
 
-      two : Laid (R .LayoutState)
+      two : LayoutResult (R .LayoutState)
       two = R .layout (one .state) q
 
-      joined : Laid (R .LayoutState)
+      joined : LayoutResult (R .LayoutState)
       joined = thenLaid one (λ s. R .layout s q)
 
-      shown : Rendered (R .RenderState)
+      shown : RenderResult (R .RenderState)
       shown = renderDue R (one .rows) (f .rendered-to)
 
-      filled : List ℕ → Laid (R .LayoutState) → Rendered (R .RenderState) → Carried R
+      filled : List ℕ → LayoutResult (R .LayoutState) → RenderResult (R .RenderState) → Carried R
       filled st l d =
-          record { store = st; marks = onto (d .marks) m; layout-state = l .state; render-state = d .state; text = d .text; left = some (l .left) }
+          record { store = st; marks = writeFront (d .marks) m; layout-state = l .state; render-state = d .state; text = d .text; left = some (l .left) }
 
-      made : Laid (R .LayoutState) → Rendered (R .RenderState) → Carried R
-      made l d = filled (onto (l .rows) s) l d
+      made : LayoutResult (R .LayoutState) → RenderResult (R .RenderState) → Carried R
+      made l d = filled (writeFront (l .rows) s) l d
 
-  layout-ok : (s m : List ℕ) (f : Progress R) (q : LayoutArgs (R .LayoutChoice)) → ProgressOk f → Accepted R (due R s m f) (layoutCall q)
+  layout-ok : (s m : List ℕ) (f : Progress R) (q : LayoutArgs (R .LayoutChoice)) → ProgressOk f → IsAccepted R (due R s m f) (layoutCall q)
       → ProgressOk (onward R f (layoutCall q))
   layout-ok s m f q k e = record {
     laid-ok = L .accepted-fits q _ _ e;
-    rendered-ok = subst (λ (l : Laid (R .LayoutState)). RenderedOk (l .rows) (f .rendered-to)) (sym (laid-on (f .laid-to) q _ (k .laid-ok) e))
+    rendered-ok = subst (λ (l : LayoutResult (R .LayoutState)). RenderedOk (l .rows) (f .rendered-to)) (sym (laid-on (f .laid-to) q _ (k .laid-ok) e))
         (rendered-ok-more (f .rendered-to) (laidDue R f .rows) _ (k .rendered-ok));
   }
 
@@ -110,19 +111,19 @@ module _ (R : Rules) (L : LayoutLaws R) (D : RenderLaws R) where
   rendered-use rows none k = D .fresh-use
   rendered-use rows (some p) k = D .due-use (p .choice) rows (p .stop) (k .1)
 
-  rendered-laid : (rows : List ℕ) (o : ShownTo) → RenderedOk rows o → 9 * stopOf o ≤ length rows
+  rendered-laid : (rows : List ℕ) (o : ShownTo) → RenderedOk rows o → PLACES * stopOf o ≤ length rows
   rendered-laid rows none k = omega arith
   rendered-laid rows (some p) k = k .0
 
   -- the rows rendered so far are whole under the choice of the next accepted call
   rendered-whole : (rows : List ℕ) (o : ShownTo) (q : RenderArgs (R .RenderChoice)) (store marks : List ℕ) → RenderedOk rows o
-      → R .render-refusal q (renderDue R rows o .state) store marks ≡ none → D .Whole (q .choice) rows (stopOf o)
+      → R .render-refusal q (renderDue R rows o .state) store marks ≡ none → D .WholeRows (q .choice) rows (stopOf o)
   rendered-whole rows none q store marks k e = D .whole-local (q .choice) store rows 0 refl (D .accepted-none q _ store marks e)
   rendered-whole rows (some p) q store marks k e =
-      subst (λ (c : R .RenderChoice). D .Whole c rows (p .stop)) (D .accepted-same (p .choice) rows (p .stop) q store marks (k .1) e) (k .1)
+      subst (λ (c : R .RenderChoice). D .WholeRows c rows (p .stop)) (D .accepted-same (p .choice) rows (p .stop) q store marks (k .1) e) (k .1)
 
   rendered-on : (rows : List ℕ) (o : ShownTo) (q : RenderArgs (R .RenderChoice)) (store marks : List ℕ) → RenderedOk rows o
-      → R .render-refusal q (renderDue R rows o .state) store marks ≡ none → stopOf o ≤ q .stop → D .Whole (q .choice) rows (q .stop)
+      → R .render-refusal q (renderDue R rows o .state) store marks ≡ none → stopOf o ≤ q .stop → D .WholeRows (q .choice) rows (q .stop)
       → R .render (q .choice) (R .render-fresh) [] rows (q .stop)
       ≡ thenRendered (renderDue R rows o) (λ s ms. R .render (q .choice) s ms rows (q .stop))
   rendered-on rows none q store marks k e h w = refl
@@ -130,7 +131,7 @@ module _ (R : Rules) (L : LayoutLaws R) (D : RenderLaws R) where
       rw (D .accepted-same (p .choice) rows (p .stop) q store marks (k .1) e)
       (D .goes-on (q .choice) rows (p .stop) (q .stop) h (rendered-whole rows (some p) q store marks k e) w)
 
-  module _ (s m : List ℕ) (f : Progress R) (q : RenderArgs (R .RenderChoice)) (k : ProgressOk f) (e : Accepted R (due R s m f) (renderCall q))
+  module _ (s m : List ℕ) (f : Progress R) (q : RenderArgs (R .RenderChoice)) (k : ProgressOk f) (e : IsAccepted R (due R s m f) (renderCall q))
       (reads : ReadsLaid R (due R s m f) (renderCall q)) where
     abbrev rows : List ℕ
     rows = laidDue R f .rows
@@ -142,41 +143,41 @@ module _ (R : Rules) (L : LayoutLaws R) (D : RenderLaws R) where
     not-past = omega (arith, row-due, D .accepted-not-past q _ _ _ e)
 
     -- the stop is among the rows laid out
-    stop-laid : 9 * q .stop ≤ length rows
+    stop-laid : PLACES * q .stop ≤ length rows
     stop-laid = go (decLt (R .reads-from (due R s m f .render-state)) (q .stop))
       where
-        go : Dec (R .reads-from (due R s m f .render-state) < q .stop) → 9 * q .stop ≤ length rows
+        go : Dec (R .reads-from (due R s m f .render-state) < q .stop) → PLACES * q .stop ≤ length rows
         go (yes h) = omega (arith, reads (q .stop - 1) (omega arith) (omega arith), laid-row (f .laid-to) (k .laid-ok))
         go (no h) = omega (arith, row-due, D .accepted-not-past q _ _ _ e, rendered-laid _ (f .rendered-to) (k .rendered-ok))
 
     -- what the store holds before the stop are the rows due
-    same-rows : (n : ℕ) → 9 * n ≤ length rows → SameBefore n (due R s m f .store) rows
+    same-rows : (n : ℕ) → PLACES * n ≤ length rows → SameBefore n (due R s m f .store) rows
     same-rows n h = same-before n rows (drop (length rows) s) h
 
     marks-due : take (R .in-use (due R s m f .render-state)) (due R s m f .marks) ≡ renderedDue R f .marks
-    marks-due = take-onto _ (renderedDue R f .marks) m (rendered-use rows (f .rendered-to) (k .rendered-ok))
+    marks-due = take-front _ (renderedDue R f .marks) m (rendered-use rows (f .rendered-to) (k .rendered-ok))
 
-    whole : D .Whole (q .choice) rows (q .stop)
+    whole : D .WholeRows (q .choice) rows (q .stop)
     whole =
         D .whole-local (q .choice) (due R s m f .store) rows (q .stop) (same-rows (q .stop) stop-laid)
         (D .accepted-whole q _ (due R s m f .store) _ e
-        (subst (D .Whole (q .choice) (due R s m f .store)) (sym row-due)
+        (subst (D .WholeRows (q .choice) (due R s m f .store)) (sym row-due)
         (D .whole-local (q .choice) rows (due R s m f .store) (stopOf (f .rendered-to))
         (sym (same-rows _ (rendered-laid rows (f .rendered-to) (k .rendered-ok))))
         (rendered-whole rows (f .rendered-to) q _ _ (k .rendered-ok) e))))
 
     render-step : accepted R (due R s m f) (renderCall q) ≡ due R s m (onward R f (renderCall q))
     render-step =
-        ap (λ (d : Rendered (R .RenderState)). filled (onto (d .marks) (onto (one .marks) m)) (d .state) (one .text ++ d .text)) same-two
+        ap (λ (d : RenderResult (R .RenderState)). filled (writeFront (d .marks) (writeFront (one .marks) m)) (d .state) (one .text ++ d .text)) same-two
         ∙ ap (λ (ms : List ℕ). filled ms (two .state) (one .text ++ two .text))
-        (onto-onto (one .marks) (two .marks) m (D .grows (q .choice) (one .state) (one .marks) rows (q .stop)))
-        ∙ ap (λ (d : Rendered (R .RenderState)). filled (onto (d .marks) m) (d .state) (d .text))
+        (write-again (one .marks) (two .marks) m (D .grows (q .choice) (one .state) (one .marks) rows (q .stop)))
+        ∙ ap (λ (d : RenderResult (R .RenderState)). filled (writeFront (d .marks) m) (d .state) (d .text))
         (sym (rendered-on rows (f .rendered-to) q _ _ (k .rendered-ok) e not-past whole))
       where
-        one : Rendered (R .RenderState)
+        one : RenderResult (R .RenderState)
         one = renderedDue R f
 
-        two : Rendered (R .RenderState)
+        two : RenderResult (R .RenderState)
         two = R .render (q .choice) (one .state) (one .marks) rows (q .stop)
 
         same-two : rendered R (due R s m f) q ≡ two
@@ -186,19 +187,19 @@ module _ (R : Rules) (L : LayoutLaws R) (D : RenderLaws R) where
 
         filled : List ℕ → R .RenderState → List ℕ → Carried R
         filled ms st t =
-            record { store = onto rows s; marks = ms; layout-state = laidDue R f .state; render-state = st; text = t; left = leftDue R (f .laid-to) }
+            record { store = writeFront rows s; marks = ms; layout-state = laidDue R f .state; render-state = st; text = t; left = leftDue R (f .laid-to) }
 
     render-ok : ProgressOk (onward R f (renderCall q))
     render-ok = record { laid-ok = k .laid-ok; rendered-ok = (stop-laid, whole) }
 
   -- ---- both
-  step : (s m : List ℕ) (f : Progress R) (c : Call R) → ProgressOk f → Accepted R (due R s m f) c → ReadsLaid R (due R s m f) c
+  step : (s m : List ℕ) (f : Progress R) (c : Call R) → ProgressOk f → IsAccepted R (due R s m f) c → ReadsLaid R (due R s m f) c
       → (accepted R (due R s m f) c ≡ due R s m (onward R f c)) × ProgressOk (onward R f c)
   step s m f (layoutCall q) k e r = (layout-step s m f q k e, layout-ok s m f q k e)
   step s m f (renderCall q) k e r = (render-step s m f q k e r, render-ok s m f q k e r)
 
   -- one call, from what is due before it, leaves what is due after it; both runs ask the same table of the same, so they part ways nowhere
-  pub one-call : (s m : List ℕ) (f : Progress R) (c : Call R) → ProgressOk f → (Accepted R (due R s m f) c → ReadsLaid R (due R s m f) c)
+  pub one-call : (s m : List ℕ) (f : Progress R) (c : Call R) → ProgressOk f → (IsAccepted R (due R s m f) c → ReadsLaid R (due R s m f) c)
       → (call R (due R s m f) c ≡ due R s m (plainCall R s m f c)) × ProgressOk (plainCall R s m f c)
   one-call s m f c k r = go (refusal R (due R s m f) c) refl
     where

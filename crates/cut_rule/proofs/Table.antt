@@ -1,76 +1,204 @@
--- What an accepted call tells: each line of the table lets it pass, and so does each test of 12.
+-- What an accepted call tells: each line of the table lets it pass, and so does each group of tests of 12.
 -- Assumes nothing.
-use mathlib.Core.Path.{_≡_, refl}
-use mathlib.Core.Bool.{Bool, true, false}
-use mathlib.Core.Option.{Option, none, some}
-use mathlib.Core.List.{List, [], _∷_}
-use Prim.Native.Nat.{ℕ, zero, suc, _≤_}
-use native.Mathlib.Omega.{arith}
+use mathlib.Core.Path.{_≡_}
+use mathlib.Core.Bool.{Bool, false, _||_}
+use mathlib.Core.Option.{none}
+use mathlib.Core.List.{List, [], _∷_, _++_}
+use Prim.Native.Nat.{ℕ, _≤_}
 use borrow.Author.Tests.{ltb-false}
 use lib.Dec.{ltb}
-use lib.ListN.{length, getD}
-use Rattle.refusals.specs.Refusals.{Refusal, first, when, whenFound, any}
+use lib.ListN.{length, take}
+use Rattle.laws.proofs.Booleans.{or-first, or-rest}
+use Rattle.rows.specs.Limits.{MAX-ROWS, MAX-NUMBER}
+use Rattle.renderer_rules.specs.Limits.{MAX-INDENT, MAX-COLUMN}
+use Rattle.refusals.specs.Refusals.{first, refuseIf, refuseAt, any}
+use Rattle.refusals.proofs.Groups.{none-left, none-right, passes-left, passes-right, passes-line, passes-others, not-if, not-at}
 use Rattle.cut_rule.specs.Rules.{LayoutArgs, RenderArgs}
-use Rattle.cut_rule.specs.Parts.{LayoutState, RenderState, Parts, rowsIn}
-use Rattle.cut_rule.specs.Parts.{layoutTests, rowsNeeded, layoutTable, renderTests, marksNeeded, renderTable}
+use Rattle.cut_rule.specs.States.{LayoutChoice, RenderChoice, LayoutState, Pen, RenderState}
+use Rattle.cut_rule.specs.Tests.{rowsIn, oddMark, placesTests, limitTests, begunTests, stopTests, layoutTestsIn, rowTests, penTests, markTests, renderTests}
+use Rattle.cut_rule.specs.Parts.{RuleParts, layoutTests, rowsNeeded, beforeRows, rowsLine, layoutTable, marksFor, beforeMarks, marksLine, beforeText, textLine, renderTable}
 
--- line i of a table that refuses nothing
-first-at : (os : List (Option Refusal)) (i : ℕ) → first os ≡ none → getD os i none ≡ none
-first-at [] i e = refl
-first-at (none ∷ os) zero e = refl
-first-at (none ∷ os) (suc i) e = first-at os i e
-first-at (some r ∷ os) i e = let z : _≡_ {A = ℕ} 0 1 = cc in absurd (omega arith)
+-- no test of a list holds, and the first is one of two numbers
+first-within : (a b : ℕ) (rest : Bool) → (ltb a b || rest) ≡ false → b ≤ a
+first-within a b rest e = ltb-false a b (or-first (ltb a b) rest e)
 
--- test i of a list in which none holds
-any-at : (bs : List Bool) (i : ℕ) → any bs ≡ false → getD bs i false ≡ false
-any-at [] i e = refl
-any-at (false ∷ bs) zero e = refl
-any-at (false ∷ bs) (suc i) e = any-at bs i e
-any-at (true ∷ bs) i e = let z : _≡_ {A = ℕ} 0 1 = cc in absurd (omega arith)
+-- ---- 12 of layout, group by group
+pub record PlacesFit (declarations comments size rows : ℕ) (s : LayoutState) : Type 0 where
+  pub declaration : s .declaration ≤ declarations
+  pub placed : s .cursor .placed ≤ comments
+  pub position : s .cursor .position ≤ size
+  pub row : s .cursor .row ≤ rows
 
-not-when : (b : Bool) (n p : ℕ) → when b n p ≡ none → b ≡ false
-not-when false n p e = refl
-not-when true n p e = let z : _≡_ {A = ℕ} 0 1 = cc in absurd (omega arith)
+places-fit : (declarations comments size rows : ℕ) (s : LayoutState) → any (placesTests declarations comments size rows s) ≡ false
+    → PlacesFit declarations comments size rows s
+places-fit declarations comments size rows s e =
+    let e2 = or-rest (ltb declarations (s .declaration)) _ e in
+    let e3 = or-rest (ltb comments (s .cursor .placed)) _ e2 in
+    let e4 = or-rest (ltb size (s .cursor .position)) _ e3 in
+    record {
+      declaration = first-within declarations (s .declaration) _ e;
+      placed = first-within comments (s .cursor .placed) _ e2;
+      position = first-within size (s .cursor .position) _ e3;
+      row = first-within rows (s .cursor .row) _ e4;
+    }
 
-not-found : (o : Option ℕ) (n : ℕ) → whenFound o n ≡ none → o ≡ none
-not-found none n e = refl
-not-found (some p) n e = let z : _≡_ {A = ℕ} 0 1 = cc in absurd (omega arith)
+pub record LimitsFit (s : LayoutState) : Type 0 where
+  pub row : s .cursor .row ≤ MAX-ROWS
+  pub number : s .cursor .number ≤ MAX-NUMBER
 
-module _ (P : Parts) where
-  pub record LayoutTold (q : LayoutArgs (Unit {0})) (s : LayoutState) (store : List ℕ) : Type 0 where
+limits-fit : (s : LayoutState) → any (limitTests s) ≡ false → LimitsFit s
+limits-fit s e = record {
+  row = first-within MAX-ROWS (s .cursor .row) _ e;
+  number = first-within MAX-NUMBER (s .cursor .number) _ (or-rest (ltb MAX-ROWS (s .cursor .row)) _ e);
+}
+
+pub record StopFits (declarations : ℕ) (q : LayoutArgs LayoutChoice) (s : LayoutState) : Type 0 where
+  pub from : s .declaration ≤ q .stop
+  pub to : q .stop ≤ declarations
+  pub not-closed : s .closed ≡ false
+
+stop-fits : (declarations : ℕ) (q : LayoutArgs LayoutChoice) (s : LayoutState) → any (stopTests declarations q s) ≡ false
+    → StopFits declarations q s
+stop-fits declarations q s e =
+    let e2 = or-rest (ltb (q .stop) (s .declaration)) _ e in
+    let e3 = or-rest (ltb declarations (q .stop)) _ e2 in
+    record {
+      from = first-within (q .stop) (s .declaration) _ e;
+      to = first-within declarations (q .stop) _ e2;
+      not-closed = or-first (s .closed) _ e3;
+    }
+
+-- a state that 12 lets pass
+pub record LayoutFits (declarations comments size rows : ℕ) (q : LayoutArgs LayoutChoice) (s : LayoutState) : Type 0 where
+  pub places : PlacesFit declarations comments size rows s
+  pub limits : LimitsFit s
+  pub stop : StopFits declarations q s
+
+pub layout-fits : (declarations comments size rows : ℕ) (q : LayoutArgs LayoutChoice) (s : LayoutState)
+    → any (layoutTestsIn declarations comments size rows q s) ≡ false → LayoutFits declarations comments size rows q s
+layout-fits declarations comments size rows q s e =
+    let places = placesTests declarations comments size rows s in
+    let stop = stopTests declarations q s in
+    let e2 = none-right places (limitTests s ++ (begunTests s ++ stop)) e in
+    let e3 = none-right (limitTests s) (begunTests s ++ stop) e2 in
+    record {
+      places = places-fit declarations comments size rows s (none-left places (limitTests s ++ (begunTests s ++ stop)) e);
+      limits = limits-fit s (none-left (limitTests s) (begunTests s ++ stop) e2);
+      stop = stop-fits declarations q s (none-right (begunTests s) stop e3);
+    }
+
+-- ---- 12 of rendering, group by group
+pub record RowFits (rows stop row : ℕ) : Type 0 where
+  pub stored : row ≤ rows
+  pub not-past : row ≤ stop
+
+row-fits : (rows stop row : ℕ) → any (rowTests rows stop row) ≡ false → RowFits rows stop row
+row-fits rows stop row e = record {
+  stored = first-within rows row _ e;
+  not-past = first-within stop row _ (or-rest (ltb rows row) _ e);
+}
+
+pub record PenFits (z : Pen) : Type 0 where
+  pub indent : z .indent ≤ MAX-INDENT
+  pub next-indent : z .next-indent ≤ MAX-INDENT
+  pub column : z .column ≤ MAX-COLUMN
+
+pen-fits : (z : Pen) → any (penTests z) ≡ false → PenFits z
+pen-fits z e =
+    let e2 = or-rest (ltb MAX-INDENT (z .indent)) _ e in
+    let e3 = or-rest (ltb MAX-INDENT (z .next-indent)) _ e2 in
+    record {
+      indent = first-within MAX-INDENT (z .indent) _ e;
+      next-indent = first-within MAX-INDENT (z .next-indent) _ e2;
+      column = first-within MAX-COLUMN (z .column) _ e3;
+    }
+
+pub record MarksFit (marks : List ℕ) (used : ℕ) : Type 0 where
+  pub there : used ≤ length marks
+  pub even : oddMark (take used marks) ≡ false
+
+marks-fit : (marks : List ℕ) (used : ℕ) → any (markTests marks used) ≡ false → MarksFit marks used
+marks-fit marks used e = record {
+  there = first-within (length marks) used _ e;
+  even = or-first (oddMark (take used marks)) _ (or-rest (ltb (length marks) used) _ e);
+}
+
+pub record RenderFits (q : RenderArgs RenderChoice) (s : RenderState) (store marks : List ℕ) : Type 0 where
+  pub row : RowFits (rowsIn store) (q .stop) (s .row)
+  pub pen : PenFits (s .pen)
+  pub used : MarksFit marks (s .in-use)
+
+pub render-fits : (q : RenderArgs RenderChoice) (s : RenderState) (store marks : List ℕ) → any (renderTests q s store marks) ≡ false
+    → RenderFits q s store marks
+render-fits q s store marks e =
+    let row = rowTests (rowsIn store) (q .stop) (s .row) in
+    let pen = penTests (s .pen) in
+    let mark = markTests marks (s .in-use) in
+    let e2 = none-right row (pen ++ mark) e in
+    record {
+      row = row-fits (rowsIn store) (q .stop) (s .row) (none-left row (pen ++ mark) e);
+      pen = pen-fits (s .pen) (none-left pen mark e2);
+      used = marks-fit marks (s .in-use) (none-right pen mark e2);
+    }
+
+-- ---- the lines
+module _ (P : RuleParts) where
+  pub record LayoutTold (q : LayoutArgs LayoutChoice) (s : LayoutState) (store : List ℕ) : Type 0 where
     pub image : P .layout-image ≡ none
-    pub from : s .declaration ≤ q .stop
-    pub to : q .stop ≤ P .declarations
-    pub not-closed : s .closed ≡ false
+    pub fits : LayoutFits (P .declarations) (P .comments) (P .source-size) (rowsIn store) q s
     pub room : rowsNeeded P q s ≤ rowsIn store
 
-  pub layout-told : (q : LayoutArgs (Unit {0})) (s : LayoutState) (store : List ℕ) → first (layoutTable P q s store) ≡ none
+  pub layout-told : (q : LayoutArgs LayoutChoice) (s : LayoutState) (store : List ℕ) → first (layoutTable P q s store) ≡ none
       → LayoutTold q s store
   layout-told q s store e =
-      let line : (i : ℕ) → getD (layoutTable P q s store) i none ≡ none = λ i. first-at (layoutTable P q s store) i e in
-      let none-holds : any (layoutTests P q s store) ≡ false = not-when (any (layoutTests P q s store)) 12 0 (line 1) in
-      let test : (i : ℕ) → getD (layoutTests P q s store) i false ≡ false = λ i. any-at (layoutTests P q s store) i none-holds in
+      let needs = rowsNeeded P q s in
+      let tests = any (layoutTests P q s store) in
+      let line-12 = refuseIf tests 12 0 in
+      let line-8 = refuseIf (ltb (rowsIn store) needs) 8 needs in
+      let before = passes-left (beforeRows P q s store) (rowsLine P q s store) e in
+      let behind = passes-right (beforeRows P q s store) (rowsLine P q s store) e in
       record {
-        image = line 0;
-        from = ltb-false (q .stop) (s .declaration) (test 7);
-        to = ltb-false (P .declarations) (q .stop) (test 8);
-        not-closed = test 9;
-        room = ltb-false (rowsIn store) (rowsNeeded P q s) (not-when (ltb (rowsIn store) (rowsNeeded P q s)) 8 (rowsNeeded P q s) (line 2));
+        image = passes-line (P .layout-image) (line-12 ∷ []) before;
+        fits =
+            layout-fits (P .declarations) (P .comments) (P .source-size) (rowsIn store) q s
+            (not-if tests 12 0 (passes-line line-12 [] (passes-others (P .layout-image) (line-12 ∷ []) before)));
+        room = ltb-false (rowsIn store) needs (not-if (ltb (rowsIn store) needs) 8 needs (passes-line line-8 [] behind));
       }
 
-  pub record RenderTold (q : RenderArgs (Unit {0})) (s : RenderState) (store marks : List ℕ) : Type 0 where
+  -- what the lines before 9 tell
+  pub record RenderChecked (q : RenderArgs RenderChoice) (s : RenderState) (store marks : List ℕ) : Type 0 where
     pub right : P .wrong-row store (s .row) (q .stop) ≡ none
-    pub not-past : s .row ≤ q .stop
-    pub marks-enough : marksNeeded P q s store ≤ length marks
+    pub fits : RenderFits q s store marks
 
-  pub render-told : (q : RenderArgs (Unit {0})) (s : RenderState) (store marks : List ℕ) → first (renderTable P q s store marks) ≡ none
-      → RenderTold q s store marks
-  render-told q s store marks e =
-      let line : (i : ℕ) → getD (renderTable P q s store marks) i none ≡ none = λ i. first-at (renderTable P q s store marks) i e in
-      let none-holds : any (renderTests P q s store marks) ≡ false = not-when (any (renderTests P q s store marks)) 12 0 (line 2) in
-      let needs = marksNeeded P q s store in
+  pub render-checked : (q : RenderArgs RenderChoice) (s : RenderState) (store marks : List ℕ) → first (beforeMarks P q s store marks) ≡ none
+      → RenderChecked q s store marks
+  render-checked q s store marks e =
+      let found = P .wrong-row store (s .row) (q .stop) in
+      let tests = any (renderTests q s store marks) in
+      let line-11 = refuseAt found 11 in
+      let line-12 = refuseIf tests 12 0 in
+      let behind = passes-others (P .render-image) (line-11 ∷ line-12 ∷ []) e in
       record {
-        right = not-found (P .wrong-row store (s .row) (q .stop)) 11 (line 1);
-        not-past = ltb-false (q .stop) (s .row) (any-at (renderTests P q s store marks) 1 none-holds);
-        marks-enough = ltb-false (length marks) needs (not-when (ltb (length marks) needs) 9 needs (line 3));
+        right = not-at found 11 (passes-line line-11 (line-12 ∷ []) behind);
+        fits = render-fits q s store marks (not-if tests 12 0 (passes-line line-12 [] (passes-others line-11 (line-12 ∷ []) behind)));
       }
+
+  -- and 9
+  pub record RenderTold (q : RenderArgs RenderChoice) (s : RenderState) (store marks : List ℕ) : Type 0 where
+    pub checked : RenderChecked q s store marks
+    pub marks-enough : marksFor P q s store ≤ length marks
+
+  pub before-told : (q : RenderArgs RenderChoice) (s : RenderState) (store marks : List ℕ) → first (beforeText P q s store marks) ≡ none
+      → RenderTold q s store marks
+  before-told q s store marks e =
+      let needs = marksFor P q s store in
+      let line-9 = refuseIf (ltb (length marks) needs) 9 needs in
+      let behind = passes-right (beforeMarks P q s store marks) (marksLine P q s store marks) e in
+      record {
+        checked = render-checked q s store marks (passes-left (beforeMarks P q s store marks) (marksLine P q s store marks) e);
+        marks-enough = ltb-false (length marks) needs (not-if (ltb (length marks) needs) 9 needs (passes-line line-9 [] behind));
+      }
+
+  pub render-told : (q : RenderArgs RenderChoice) (s : RenderState) (store marks : List ℕ) → first (renderTable P q s store marks) ≡ none
+      → RenderTold q s store marks
+  render-told q s store marks e = before-told q s store marks (passes-left (beforeText P q s store marks) (textLine P q s store marks) e)

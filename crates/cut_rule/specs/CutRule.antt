@@ -8,27 +8,21 @@ use mathlib.Core.Path.{_≡_}
 use mathlib.Core.Bool.{cond}
 use mathlib.Core.Option.{some}
 use mathlib.Core.List.{List, [], _∷_, _++_}
-use Prim.Native.Nat.{ℕ, zero, suc, _+_, _*_}
+use Prim.Native.Nat.{ℕ, zero, suc}
 use lib.Dec.{eqb}
-use lib.ListN.{length, take, drop, getD}
+use lib.ListN.{length, take, drop}
+use Rattle.rows.specs.Kinds.{COMMENT}
+use Rattle.rows.specs.Places.{KIND, ORIGIN, START, SIZE}
+use Rattle.rows.specs.Node.{Text}
+use Rattle.rows.specs.View.{cell}
 use Rattle.cut_rule.specs.Rules.{Rules}
 use Rattle.cut_rule.specs.Run.{Call, Carried, start, run, answers}
 use Rattle.cut_rule.specs.Plain.{atFirst, due, plain, answersDue}
 
--- A text by its "text origin (0 source, 1 image, 2 fixed words), text start, text length".
-pub record Text : Type 0 where
-  pub origin : ℕ
-  pub start : ℕ
-  pub size : ℕ
-
--- place k of row i of a store
-abbrev pub cell : List ℕ → ℕ → ℕ → ℕ
-cell store i k = getD store (9 * i + k) 0
-
--- the comment that row i holds, if it is a `Comment`, kind 4
+-- the comment that row i holds, if it is a `Comment`
 abbrev pub commentAt : List ℕ → ℕ → List Text
 commentAt store i =
-    cond (eqb (cell store i 0) 4) (record { origin = cell store i 5; start = cell store i 6; size = cell store i 7 } ∷ []) []
+    cond (eqb (cell store i KIND) COMMENT) (record { origin = cell store i ORIGIN; start = cell store i START; size = cell store i SIZE } ∷ []) []
 
 -- the comments among the first n rows of a store, in order
 abbrev pub commentsIn : List ℕ → ℕ → List Text

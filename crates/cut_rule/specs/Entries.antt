@@ -4,9 +4,10 @@ use mathlib.Core.Option.{Option, some}
 use mathlib.Core.List.{List, [], _++_}
 use Prim.Native.Nat.{ℕ, _*_}
 use lib.ListN.{length, take}
-use Rattle.cut_rule.specs.Rules.{LayoutArgs, RenderArgs, Rendered, Rules}
+use Rattle.rows.specs.Places.{PLACES}
+use Rattle.cut_rule.specs.Rules.{LayoutArgs, RenderArgs, RenderResult, Rules}
 use Rattle.refusals.specs.Refusals.{unless}
-use Rattle.cut_rule.specs.Run.{onto, over, Call, layoutCall, renderCall, Carried, Answer, refused, laidOut, written, answerBy}
+use Rattle.cut_rule.specs.Run.{writeFront, writeAt, Call, layoutCall, renderCall, Carried, Answer, refused, laidOut, written, answerBy}
 
 module _ (R : Rules) where
   -- a layout call's answer, and the store at exit
@@ -14,10 +15,10 @@ module _ (R : Rules) where
   layoutAnswer q s store = answerBy R (R .layout-refusal q s store) (laidOut (R .layout s q .state) (R .layout s q .left))
 
   abbrev pub layoutStore : LayoutArgs (R .LayoutChoice) → R .LayoutState → List ℕ → List ℕ
-  layoutStore q s store = unless (R .layout-refusal q s store) store (over (9 * R .next-row s) (R .layout s q .rows) store)
+  layoutStore q s store = unless (R .layout-refusal q s store) store (writeAt (PLACES * R .next-row s) (R .layout s q .rows) store)
 
   -- a rendering call's answer, and marks and output at exit; the store stays
-  abbrev pub renderGives : RenderArgs (R .RenderChoice) → R .RenderState → List ℕ → List ℕ → Rendered (R .RenderState)
+  abbrev pub renderGives : RenderArgs (R .RenderChoice) → R .RenderState → List ℕ → List ℕ → RenderResult (R .RenderState)
   renderGives q s store marks = R .render (q .choice) s (take (R .in-use s) marks) store (q .stop)
 
   abbrev pub renderAnswer : RenderArgs (R .RenderChoice) → R .RenderState → List ℕ → List ℕ → Answer R
@@ -25,10 +26,10 @@ module _ (R : Rules) where
       answerBy R (R .render-refusal q s store marks) (written (renderGives q s store marks .state) (length (renderGives q s store marks .text)))
 
   abbrev pub renderMarks : RenderArgs (R .RenderChoice) → R .RenderState → List ℕ → List ℕ → List ℕ
-  renderMarks q s store marks = unless (R .render-refusal q s store marks) marks (onto (renderGives q s store marks .marks) marks)
+  renderMarks q s store marks = unless (R .render-refusal q s store marks) marks (writeFront (renderGives q s store marks .marks) marks)
 
   abbrev pub renderOutput : RenderArgs (R .RenderChoice) → R .RenderState → List ℕ → List ℕ → List ℕ → List ℕ
-  renderOutput q s store marks out = unless (R .render-refusal q s store marks) out (onto (renderGives q s store marks .text) out)
+  renderOutput q s store marks out = unless (R .render-refusal q s store marks) out (writeFront (renderGives q s store marks .text) out)
 
   -- The caller: the state that the next call of the kind gets, the comments left, the bytes of the output that were written.
   abbrev pub layoutNext : Answer R → R .LayoutState → R .LayoutState

@@ -4,5 +4,8 @@ pub mod Plain
 pub mod CutRule
 pub mod Entries
 pub mod Laws
+pub mod States
+pub mod Tests
 pub mod Parts
 pub mod PartLaws
+pub mod Callers

@@ -4,31 +4,34 @@ use mathlib.Core.Option.{none}
 use mathlib.Core.List.{List, _++_}
 use Prim.Native.Nat.{ℕ, _+_, _-_, _*_, _≤_, _<_, max}
 use lib.ListN.{length, take, drop}
-use Rattle.cut_rule.specs.CutRule.{Text, commentsIn}
+use Rattle.rows.specs.Places.{PLACES}
+use Rattle.rows.specs.Node.{Text}
+use Rattle.cut_rule.specs.CutRule.{commentsIn}
 use Rattle.cut_rule.specs.Laws.{SameBefore}
-use Rattle.cut_rule.specs.Parts.{Cursor, Piece, Pen, Drawn, Parts}
+use Rattle.cut_rule.specs.States.{Cursor, Pen}
+use Rattle.cut_rule.specs.Parts.{Piece, Drawn, RuleParts}
 
 -- a piece moves the next row by the rows that it adds
 pub record Counts (c : Cursor) (p : Piece) : Type 0 where
-  pub row : 9 * p .cursor .row ≡ 9 * c .row + length (p .rows)
+  pub row : PLACES * p .cursor .row ≡ PLACES * c .row + length (p .rows)
 
-pub record LayoutPartLaws (P : Parts) : Type 0 where
+pub record LayoutPartLaws (P : RuleParts) : Type 0 where
   pub shebang-counts : P .layout-image ≡ none → (c : Cursor) → Counts c (P .shebang c)
   pub declaration-counts : P .layout-image ≡ none → (n : ℕ) (c : Cursor) → n < P .declarations → Counts c (P .declaration n c)
   pub final-counts : P .layout-image ≡ none → (c : Cursor) → Counts c (P .final c)
 
 -- a piece places the next so many comments of the list, in order, each as one row
-pub record Places (listed : List Text) (c : Cursor) (p : Piece) : Type 0 where
+pub record PlacesNext (listed : List Text) (c : Cursor) (p : Piece) : Type 0 where
   pub more : c .placed ≤ p .cursor .placed
   pub within : p .cursor .placed ≤ length listed
   pub next : commentsIn (p .rows) (p .cursor .row - c .row) ≡ take (p .cursor .placed - c .placed) (drop (c .placed) listed)
 
-pub record CommentPartLaws (P : Parts) (listed : List Text) : Type 0 where
+pub record CommentPartLaws (P : RuleParts) (listed : List Text) : Type 0 where
   pub all-listed : P .comments ≡ length listed
-  pub shebang-places : P .layout-image ≡ none → (c : Cursor) → c .placed ≤ length listed → Places listed c (P .shebang c)
+  pub shebang-places : P .layout-image ≡ none → (c : Cursor) → c .placed ≤ length listed → PlacesNext listed c (P .shebang c)
   pub declaration-places : P .layout-image ≡ none → (n : ℕ) (c : Cursor) → n < P .declarations → c .placed ≤ length listed
-      → Places listed c (P .declaration n c)
-  pub final-places : P .layout-image ≡ none → (c : Cursor) → c .placed ≤ length listed → Places listed c (P .final c)
+      → PlacesNext listed c (P .declaration n c)
+  pub final-places : P .layout-image ≡ none → (c : Cursor) → c .placed ≤ length listed → PlacesNext listed c (P .final c)
 
 -- rendering, with more marks behind
 abbrev pub withPast : Drawn → List ℕ → Drawn
@@ -42,7 +45,7 @@ thenDrawn one go = record {
   text = one .text ++ go (one .pen) (one .marks) .text;
 }
 
-pub record RenderPartLaws (P : Parts) : Type 0 where
+pub record RenderPartLaws (P : RuleParts) : Type 0 where
   pub none-wrong : (store : List ℕ) → P .wrong-row store 0 0 ≡ none
   -- rows that pass the test, and then rows that pass it "as if none stood ahead", pass it together
   pub right-join : (store : List ℕ) (n m : ℕ) → n ≤ m → P .wrong-row store 0 n ≡ none → P .wrong-row store n m ≡ none

@@ -1,46 +1,15 @@
--- Document 01's states and table, over parts that are open here: the shebang, one declaration, the final `Line`, the tests of image and rows,
+-- Document 01's rules and table, over parts that are open here: the shebang, one declaration, the final `Line`, the tests of image and rows,
 -- the renderer. `rules` puts them together; what the parts owe is in PartLaws.antt.
-use mathlib.Core.Bool.{Bool, true, false, not, _&&_, _||_}
-use mathlib.Core.Option.{Option, none, some}
+use mathlib.Core.Bool.{Bool, true, false}
+use mathlib.Core.Option.{Option}
 use mathlib.Core.List.{List, [], _∷_, _++_}
-use Prim.Native.Nat.{ℕ, zero, suc, _+_, _-_, _/_, max}
-use lib.Dec.{ltb, eqb}
+use Prim.Native.Nat.{ℕ, zero, suc, _+_, _-_, max}
+use lib.Dec.{ltb}
 use lib.ListN.{length, take, replicate}
-use Rattle.refusals.specs.Refusals.{Refusal, when, whenFound, any, first}
-use Rattle.cut_rule.specs.Rules.{LayoutArgs, RenderArgs, Laid, Rendered, Rules}
-
--- the numbers that a step of layout changes
-pub record Cursor : Type 0 where
-  pub row : ℕ
-  pub number : ℕ
-  pub placed : ℕ
-  pub position : ℕ
-
--- "Layout state: begun, closed, next declaration, next row, next number, comments placed, position."
-pub record LayoutState : Type 0 where
-  pub begun : Bool
-  pub closed : Bool
-  pub declaration : ℕ
-  pub cursor : Cursor
-
--- the numbers that rendering a row changes
-pub record Pen : Type 0 where
-  pub indent : ℕ
-  pub next-indent : ℕ
-  pub column : ℕ
-
--- "Rendering state: `indent`, `next_indent`, `column`, marks in use, next row."
-pub record RenderState : Type 0 where
-  pub pen : Pen
-  pub in-use : ℕ
-  pub row : ℕ
-
--- "Fresh is all 0."
-abbrev pub layoutFresh : LayoutState
-layoutFresh = record { begun = false; closed = false; declaration = 0; cursor = record { row = 0; number = 0; placed = 0; position = 0 } }
-
-abbrev pub renderFresh : RenderState
-renderFresh = record { pen = record { indent = 0; next-indent = 0; column = 0 }; in-use = 0; row = 0 }
+use Rattle.refusals.specs.Refusals.{Refusal, refuseIf, refuseAt, any, first}
+use Rattle.cut_rule.specs.Rules.{LayoutArgs, RenderArgs, LayoutResult, RenderResult, Rules}
+use Rattle.cut_rule.specs.States.{LayoutChoice, RenderChoice, Cursor, LayoutState, Pen, RenderState, layoutFresh, renderFresh}
+use Rattle.cut_rule.specs.Tests.{rowsIn, layoutTestsIn, renderTests}
 
 -- what a piece of layout gives: the cursor behind it, and the rows that it adds, nine numbers a row
 pub record Piece : Type 0 where
@@ -54,7 +23,7 @@ pub record Drawn : Type 0 where
   pub text : List ℕ
 
 -- What is open here, for one source and one image.
-pub record Parts : Type 0 where
+pub record RuleParts : Type 0 where
   pub source-size : ℕ
   pub declarations : ℕ
   pub comments : ℕ
@@ -72,25 +41,6 @@ pub record Parts : Type 0 where
   -- `Renderer` with its three numbers and marks enough, over the rows of a store from one up to a stop
   pub draw : Pen → List ℕ → List ℕ → ℕ → ℕ → Drawn
 
--- "A store has length / 9 rows, rounded down."
-abbrev pub rowsIn : List ℕ → ℕ
-rowsIn store = length store / 9
-
--- all of a state that has not begun is 0
-abbrev pub allZero : LayoutState → Bool
-allZero s =
-    not (s .closed)
-    && eqb (s .declaration) 0
-    && eqb (s .cursor .row) 0
-    && eqb (s .cursor .number) 0
-    && eqb (s .cursor .placed) 0
-    && eqb (s .cursor .position) 0
-
--- marks "not 0 or 1"
-abbrev pub oddMark : List ℕ → Bool
-oddMark [] = false
-oddMark (x ∷ xs) = ltb 1 x || oddMark xs
-
 -- the piece that adds nothing
 abbrev pub still : Cursor → Piece
 still c = record { cursor = c; rows = [] }
@@ -99,7 +49,7 @@ still c = record { cursor = c; rows = [] }
 abbrev pub andThen : Piece → (Cursor → Piece) → Piece
 andThen p g = record { cursor = g (p .cursor) .cursor; rows = p .rows ++ g (p .cursor) .rows }
 
-module _ (P : Parts) where
+module _ (P : RuleParts) where
   -- "The first call lays the shebang"
   abbrev pub begin : Bool → Cursor → Piece
   begin true c = still c
@@ -116,92 +66,80 @@ module _ (P : Parts) where
   end false p = p
 
   -- what a layout call lays: "The rows and state due at a stop are those `fmt_parsed` has when its loop reaches that declaration."
-  abbrev pub pieceOf : LayoutState → LayoutArgs (Unit {0}) → Piece
-  pieceOf s q = end (q .close) (several (q .stop - s .declaration) (s .declaration) (begin (s .begun) (s .cursor)))
+  abbrev pub callPiece : LayoutState → LayoutArgs LayoutChoice → Piece
+  callPiece s q = end (q .close) (several (q .stop - s .declaration) (s .declaration) (begin (s .begun) (s .cursor)))
 
   -- "Its answer is the new state with the number of comments left."
-  abbrev pub laidOf : LayoutState → LayoutArgs (Unit {0}) → Laid LayoutState
+  abbrev pub laidOf : LayoutState → LayoutArgs LayoutChoice → LayoutResult LayoutState
   laidOf s q = record {
-    state = record { begun = true; closed = q .close; declaration = q .stop; cursor = pieceOf s q .cursor };
-    rows = pieceOf s q .rows;
-    left = P .comments - pieceOf s q .cursor .placed;
+    state = record { begun = true; closed = q .close; declaration = q .stop; cursor = callPiece s q .cursor };
+    rows = callPiece s q .rows;
+    left = P .comments - callPiece s q .cursor .placed;
   }
 
   -- 12, as far as it is of layout
-  abbrev pub layoutTests : LayoutArgs (Unit {0}) → LayoutState → List ℕ → List Bool
-  layoutTests q s store =
-      ltb (P .declarations) (s .declaration)
-      ∷ ltb (P .comments) (s .cursor .placed)
-      ∷ ltb (P .source-size) (s .cursor .position)
-      ∷ ltb (rowsIn store) (s .cursor .row)
-      ∷ ltb 2097152 (s .cursor .row)
-      ∷ ltb 1048576 (s .cursor .number)
-      ∷ (not (s .begun) && not (allZero s))
-      ∷ ltb (q .stop) (s .declaration)
-      ∷ ltb (P .declarations) (q .stop)
-      ∷ s .closed
-      ∷ (q .close && not (eqb (q .stop) (P .declarations)))
-      ∷ []
+  abbrev pub layoutTests : LayoutArgs LayoutChoice → LayoutState → List ℕ → List Bool
+  layoutTests q s store = layoutTestsIn (P .declarations) (P .comments) (P .source-size) (rowsIn store) q s
 
   -- "more rows needed than the store has": the next row behind what the call lays
-  abbrev pub rowsNeeded : LayoutArgs (Unit {0}) → LayoutState → ℕ
-  rowsNeeded q s = pieceOf s q .cursor .row
+  abbrev pub rowsNeeded : LayoutArgs LayoutChoice → LayoutState → ℕ
+  rowsNeeded q s = callPiece s q .cursor .row
 
-  -- "Layout uses 1 to 7, 12, 8"
-  abbrev pub layoutTable : LayoutArgs (Unit {0}) → LayoutState → List ℕ → List (Option Refusal)
-  layoutTable q s store =
-      P .layout-image ∷ when (any (layoutTests q s store)) 12 0 ∷ when (ltb (rowsIn store) (rowsNeeded q s)) 8 (rowsNeeded q s) ∷ []
+  -- "Layout uses 1 to 7, 12, 8", in two parts: the lines before it is counted how many rows there will be, and 8
+  abbrev pub beforeRows : LayoutArgs LayoutChoice → LayoutState → List ℕ → List (Option Refusal)
+  beforeRows q s store = P .layout-image ∷ refuseIf (any (layoutTests q s store)) 12 0 ∷ []
+
+  abbrev pub rowsLine : LayoutArgs LayoutChoice → LayoutState → List ℕ → List (Option Refusal)
+  rowsLine q s store = refuseIf (ltb (rowsIn store) (rowsNeeded q s)) 8 (rowsNeeded q s) ∷ []
+
+  abbrev pub layoutTable : LayoutArgs LayoutChoice → LayoutState → List ℕ → List (Option Refusal)
+  layoutTable q s store = beforeRows q s store ++ rowsLine q s store
 
   -- "Marks in use rise to the largest number read plus 1, if that is more, the new ones cleared first."
-  abbrev pub cleared : List ℕ → ℕ → List ℕ
-  cleared marks n = marks ++ replicate (n - length marks) 0
+  abbrev pub withCleared : List ℕ → ℕ → List ℕ
+  withCleared marks n = marks ++ replicate (n - length marks) 0
 
   -- what the rows from the state's next row up to a stop give
   abbrev pub drawnOf : RenderState → List ℕ → List ℕ → ℕ → Drawn
-  drawnOf s marks store stop = P .draw (s .pen) (cleared marks (P .needed store (s .row) stop)) store (s .row) stop
+  drawnOf s marks store stop = P .draw (s .pen) (withCleared marks (P .needed store (s .row) stop)) store (s .row) stop
 
-  abbrev pub renderedOf : Unit {0} → RenderState → List ℕ → List ℕ → ℕ → Rendered RenderState
+  abbrev pub renderedOf : RenderChoice → RenderState → List ℕ → List ℕ → ℕ → RenderResult RenderState
   renderedOf c s marks store stop = record {
     state = record { pen = drawnOf s marks store stop .pen; in-use = max (s .in-use) (P .needed store (s .row) stop); row = stop };
     marks = drawnOf s marks store stop .marks;
     text = drawnOf s marks store stop .text;
   }
 
-  -- 12, as far as it is of rendering
-  abbrev pub renderTests : RenderArgs (Unit {0}) → RenderState → List ℕ → List ℕ → List Bool
-  renderTests q s store marks =
-      ltb (rowsIn store) (s .row)
-      ∷ ltb (q .stop) (s .row)
-      ∷ ltb 2097152 (s .row)
-      ∷ ltb 64 (s .pen .indent)
-      ∷ ltb 64 (s .pen .next-indent)
-      ∷ ltb 72057594037927936 (s .pen .column)
-      ∷ ltb (length marks) (s .in-use)
-      ∷ oddMark (take (s .in-use) marks)
-      ∷ []
+  -- "largest number in the rows plus 1", and the bytes of the text, for the rows that a call reads
+  abbrev pub marksFor : RenderArgs RenderChoice → RenderState → List ℕ → ℕ
+  marksFor q s store = P .needed store (s .row) (q .stop)
 
-  abbrev pub marksNeeded : RenderArgs (Unit {0}) → RenderState → List ℕ → ℕ
-  marksNeeded q s store = P .needed store (s .row) (q .stop)
-
-  abbrev pub bytesNeeded : RenderArgs (Unit {0}) → RenderState → List ℕ → List ℕ → ℕ
+  abbrev pub bytesNeeded : RenderArgs RenderChoice → RenderState → List ℕ → List ℕ → ℕ
   bytesNeeded q s store marks = length (renderedOf (q .choice) s (take (s .in-use) marks) store (q .stop) .text)
 
-  -- "rendering 1, 3 by the same tests, then 11, 12, 9, 10"
-  abbrev pub renderTable : RenderArgs (Unit {0}) → RenderState → List ℕ → List ℕ → List (Option Refusal)
-  renderTable q s store marks =
-      P .render-image
-      ∷ whenFound (P .wrong-row store (s .row) (q .stop)) 11
-      ∷ when (any (renderTests q s store marks)) 12 0
-      ∷ when (ltb (length marks) (marksNeeded q s store)) 9 (marksNeeded q s store)
-      ∷ when (ltb (q .room) (bytesNeeded q s store marks)) 10 (bytesNeeded q s store marks)
-      ∷ []
+  -- "rendering 1, 3 by the same tests, then 11, 12, 9, 10", in parts: the lines before marks are counted, 9, and 10, which alone needs the text
+  abbrev pub beforeMarks : RenderArgs RenderChoice → RenderState → List ℕ → List ℕ → List (Option Refusal)
+  beforeMarks q s store marks =
+      P .render-image ∷ refuseAt (P .wrong-row store (s .row) (q .stop)) 11 ∷ refuseIf (any (renderTests q s store marks)) 12 0 ∷ []
+
+  abbrev pub marksLine : RenderArgs RenderChoice → RenderState → List ℕ → List ℕ → List (Option Refusal)
+  marksLine q s store marks = refuseIf (ltb (length marks) (marksFor q s store)) 9 (marksFor q s store) ∷ []
+
+  abbrev pub beforeText : RenderArgs RenderChoice → RenderState → List ℕ → List ℕ → List (Option Refusal)
+  beforeText q s store marks = beforeMarks q s store marks ++ marksLine q s store marks
+
+  abbrev pub textLine : RenderArgs RenderChoice → RenderState → List ℕ → List ℕ → List (Option Refusal)
+  textLine q s store marks = refuseIf (ltb (q .room) (bytesNeeded q s store marks)) 10 (bytesNeeded q s store marks) ∷ []
+
+  abbrev pub renderTable : RenderArgs RenderChoice → RenderState → List ℕ → List ℕ → List (Option Refusal)
+  renderTable q s store marks = beforeText q s store marks ++ textLine q s store marks
 
   abbrev pub rules : Rules
   rules = record {
     LayoutState = LayoutState;
     RenderState = RenderState;
-    LayoutChoice = Unit {0};
-    RenderChoice = Unit {0};
+    LayoutChoice = LayoutChoice;
+    RenderChoice = RenderChoice;
     layout-fresh = layoutFresh;
     render-fresh = renderFresh;
     next-row = λ s. s .cursor .row;

@@ -3,9 +3,9 @@ use mathlib.Core.Path.{_≡_}
 use mathlib.Core.Option.{Option, none, some}
 use mathlib.Core.List.{List, [], _∷_}
 use Prim.Native.Nat.{ℕ, _≤_, _<_}
-use Rattle.cut_rule.specs.Rules.{LayoutArgs, Laid, Rendered, Rules}
+use Rattle.cut_rule.specs.Rules.{LayoutArgs, LayoutResult, RenderResult, Rules}
 use Rattle.refusals.specs.Refusals.{unless}
-use Rattle.cut_rule.specs.Run.{onto, Call, layoutCall, renderCall, Carried, refusal, call, Answer, answer}
+use Rattle.cut_rule.specs.Run.{writeFront, Call, layoutCall, renderCall, Carried, refusal, call, Answer, answer}
 
 -- How far rendering came: its stop, and "what else the accepted calls of a kind chose".
 pub record RenderedTo (Choice : Type 0) : Type 0 where
@@ -23,12 +23,12 @@ module _ (R : Rules) where
   atFirst = record { laid-to = none; rendered-to = none }
 
   -- "Due are the rows and layout state there": layout from fresh in one go; "with no accepted call that state stays fresh"
-  abbrev pub layoutDue : Option (LayoutArgs (R .LayoutChoice)) → Laid (R .LayoutState)
+  abbrev pub layoutDue : Option (LayoutArgs (R .LayoutChoice)) → LayoutResult (R .LayoutState)
   layoutDue none = record { state = R .layout-fresh; rows = []; left = 0 }
   layoutDue (some q) = R .layout (R .layout-fresh) q
 
   -- "the marks in use, text and rendering state that the rows before the other stop give from fresh in one go"
-  abbrev pub renderDue : List ℕ → Option (RenderedTo (R .RenderChoice)) → Rendered (R .RenderState)
+  abbrev pub renderDue : List ℕ → Option (RenderedTo (R .RenderChoice)) → RenderResult (R .RenderState)
   renderDue rows none = record { state = R .render-fresh; marks = []; text = [] }
   renderDue rows (some p) = R .render (p .choice) (R .render-fresh) [] rows (p .stop)
 
@@ -38,17 +38,17 @@ module _ (R : Rules) where
   leftDue (some q) = some (layoutDue (some q) .left)
 
   -- both, by how far layout and rendering came
-  abbrev pub laidDue : Progress → Laid (R .LayoutState)
+  abbrev pub laidDue : Progress → LayoutResult (R .LayoutState)
   laidDue f = layoutDue (f .laid-to)
 
-  abbrev pub renderedDue : Progress → Rendered (R .RenderState)
+  abbrev pub renderedDue : Progress → RenderResult (R .RenderState)
   renderedDue f = renderDue (laidDue f .rows) (f .rendered-to)
 
   -- what is due there, in memories that held store₀ and marks₀ at first
   abbrev pub due : List ℕ → List ℕ → Progress → Carried R
   due store₀ marks₀ f = record {
-    store = onto (laidDue f .rows) store₀;
-    marks = onto (renderedDue f .marks) marks₀;
+    store = writeFront (laidDue f .rows) store₀;
+    marks = writeFront (renderedDue f .marks) marks₀;
     layout-state = laidDue f .state;
     render-state = renderedDue f .state;
     text = renderedDue f .text;
@@ -73,8 +73,8 @@ module _ (R : Rules) where
   answersDue store₀ marks₀ f [] = []
   answersDue store₀ marks₀ f (c ∷ cs) = answer R (due store₀ marks₀ f) c ∷ answersDue store₀ marks₀ (plainCall store₀ marks₀ f c) cs
 
-  abbrev pub Accepted : Carried R → Call R → Type 0
-  Accepted w c = refusal R w c ≡ none
+  abbrev pub IsAccepted : Carried R → Call R → Type 0
+  IsAccepted w c = refusal R w c ≡ none
 
   -- each row that a call reads, from its next row to its stop, is laid out
   abbrev pub ReadsLaid : Carried R → Call R → Type 0
@@ -85,10 +85,10 @@ module _ (R : Rules) where
   -- overwritten them, the text is not the one that the rows due give (proofs/Example.antt has such a list).
   abbrev pub AllReadLaid : Carried R → List (Call R) → Type 0
   AllReadLaid w [] = Unit {0}
-  AllReadLaid w (c ∷ cs) = (Accepted w c → ReadsLaid w c) × AllReadLaid (call R w c) cs
+  AllReadLaid w (c ∷ cs) = (IsAccepted w c → ReadsLaid w c) × AllReadLaid (call R w c) cs
 
   -- the same, told by the plain run alone
   abbrev pub AllReadDue : List ℕ → List ℕ → Progress → List (Call R) → Type 0
   AllReadDue store₀ marks₀ f [] = Unit {0}
   AllReadDue store₀ marks₀ f (c ∷ cs) =
-      (Accepted (due store₀ marks₀ f) c → ReadsLaid (due store₀ marks₀ f) c) × AllReadDue store₀ marks₀ (plainCall store₀ marks₀ f c) cs
+      (IsAccepted (due store₀ marks₀ f) c → ReadsLaid (due store₀ marks₀ f) c) × AllReadDue store₀ marks₀ (plainCall store₀ marks₀ f c) cs

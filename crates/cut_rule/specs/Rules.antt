@@ -19,13 +19,13 @@ pub record RenderArgs (Choice : Type 0) : Type 0 where
   pub choice : Choice
 
 -- What layout gives: the new state, the rows that it adds (nine numbers a row), "the number of comments left".
-pub record Laid (State : Type 0) : Type 0 where
+pub record LayoutResult (State : Type 0) : Type 0 where
   pub state : State
   pub rows : List ℕ
   pub left : ℕ
 
 -- What rendering gives: the new state, the marks then in use, the text.
-pub record Rendered (State : Type 0) : Type 0 where
+pub record RenderResult (State : Type 0) : Type 0 where
   pub state : State
   pub marks : List ℕ
   pub text : List ℕ
@@ -45,9 +45,9 @@ pub record Rules : Type 1 where
   pub reads-from : RenderState → ℕ
   pub in-use : RenderState → ℕ
   -- layout from a state to the stop
-  pub layout : LayoutState → LayoutArgs LayoutChoice → Laid LayoutState
+  pub layout : LayoutState → LayoutArgs LayoutChoice → LayoutResult LayoutState
   -- rendering from a state, with the marks in use: of a store, the rows from where the state reads up to the stop
-  pub render : RenderChoice → RenderState → List ℕ → List ℕ → ℕ → Rendered RenderState
+  pub render : RenderChoice → RenderState → List ℕ → List ℕ → ℕ → RenderResult RenderState
   -- the table: the refusal of a call that meets this state, store and marks, or none
   pub layout-refusal : LayoutArgs LayoutChoice → LayoutState → List ℕ → Option Refusal
   pub render-refusal : RenderArgs RenderChoice → RenderState → List ℕ → List ℕ → Option Refusal

@@ -3,16 +3,17 @@ use mathlib.Core.Option.{Option, none, some}
 use mathlib.Core.List.{List, [], _∷_, _++_}
 use Prim.Native.Nat.{ℕ, _*_}
 use lib.ListN.{length, take, drop}
+use Rattle.rows.specs.Places.{PLACES}
 use Rattle.refusals.specs.Refusals.{Refusal, unless}
-use Rattle.cut_rule.specs.Rules.{LayoutArgs, RenderArgs, Rendered, Rules}
+use Rattle.cut_rule.specs.Rules.{LayoutArgs, RenderArgs, RenderResult, Rules}
 
 -- xs written over the front of a memory: "Memory past what is written is untouched."
-abbrev pub onto : List ℕ → List ℕ → List ℕ
-onto xs memory = xs ++ drop (length xs) memory
+abbrev pub writeFront : List ℕ → List ℕ → List ℕ
+writeFront xs memory = xs ++ drop (length xs) memory
 
 -- xs written over a memory from place n on
-abbrev pub over : ℕ → List ℕ → List ℕ → List ℕ
-over n xs memory = take n memory ++ onto xs (drop n memory)
+abbrev pub writeAt : ℕ → List ℕ → List ℕ → List ℕ
+writeAt n xs memory = take n memory ++ writeFront xs (drop n memory)
 
 module _ (R : Rules) where
   pub data Call : Type 0 where
@@ -39,13 +40,13 @@ module _ (R : Rules) where
   refusal w (renderCall q) = R .render-refusal q (w .render-state) (w .store) (w .marks)
 
   -- what an accepted rendering call gives
-  abbrev pub rendered : Carried → RenderArgs (R .RenderChoice) → Rendered (R .RenderState)
+  abbrev pub rendered : Carried → RenderArgs (R .RenderChoice) → RenderResult (R .RenderState)
   rendered w q = R .render (q .choice) (w .render-state) (take (R .in-use (w .render-state)) (w .marks)) (w .store) (q .stop)
 
   -- what an accepted call leaves
   abbrev pub accepted : Carried → Call → Carried
   accepted w (layoutCall q) = record {
-    store = over (9 * R .next-row (w .layout-state)) (R .layout (w .layout-state) q .rows) (w .store);
+    store = writeAt (PLACES * R .next-row (w .layout-state)) (R .layout (w .layout-state) q .rows) (w .store);
     marks = w .marks;
     layout-state = R .layout (w .layout-state) q .state;
     render-state = w .render-state;
@@ -54,7 +55,7 @@ module _ (R : Rules) where
   }
   accepted w (renderCall q) = record {
     store = w .store;
-    marks = onto (rendered w q .marks) (w .marks);
+    marks = writeFront (rendered w q .marks) (w .marks);
     layout-state = w .layout-state;
     render-state = rendered w q .state;
     text = w .text ++ rendered w q .text;

@@ -8,19 +8,22 @@ use Prim.Native.Nat.{ℕ}
 use native.Mathlib.Omega.{arith}
 use lib.Dec.{eqb, ltb}
 use lib.ListN.{length}
-use Rattle.refusals.specs.Refusals.{Refusal, when, whenFound, any, first, isOneOf, unless}
+use Rattle.refusals.specs.Refusals.{Refusal, refuseIf, refuseAt, any, first, isOneOf, unless}
 use Rattle.image.specs.Read.{Read, got, bad, Image, readAll, readNumbers, outcome, header, sourceFits}
 use Rattle.image.proofs.Numbers.{read-numbers}
 use Rattle.cut_rule.specs.Run.{answerBy, laidOut, written}
+use Rattle.cut_rule.specs.Rules as rules
+use Rattle.cut_rule.specs.States as states
+use Rattle.cut_rule.specs.Tests as tests
 use Rattle.cut_rule.specs.Parts as cut
-use Rattle.plain_run.specs.Parts.{parts, refusalOf, renderImage}
+use Rattle.plain_run.specs.Parts.{partsOf, readRefusal, renderImage}
 use Rattle.plain_run.specs.Demands.{rulesOf}
 use Rattle.plain_run.specs.File.{fileRows, fileMarks, fileAnswerBy, formatted, laidRefusal, fileRefusal, drawnDue, rowsDue, marksDue}
 use Rattle.file.specs.Whole.{sourceOf, imageOf, frameFits, frameRefusal}
 use Rattle.layout_call.specs.Calls as layout
 use Rattle.render_call.specs.Calls as render
 use Rattle.reply.specs.Reply.{frameTable, programRoom}
-use Rattle.demands.specs.Demand1.{layoutNumbers, renderNumbers, fileNumbers, frameNumbers, readTold, callTold, fileTold, Answered, Check, Layout, Render, File, Frame, Program, Demand1}
+use Rattle.demands.specs.Demand1.{layoutNumbers, renderNumbers, fileNumbers, frameNumbers, readTold, callTold, fileTold, Answered, CheckAnswered, LayoutAnswered, RenderAnswered, FileAnswered, FrameAnswered, Demand1}
 
 -- ---- refusals under a list of numbers
 pub record Under (ns : List ℕ) (o : Option Refusal) : Type 0 where
@@ -32,13 +35,13 @@ never r e = let z : _≡_ {A = ℕ} 0 1 = cc in absurd (omega arith)
 same : (n p : ℕ) (r : Refusal) → some (record { number = n; place = p }) ≡ some r → n ≡ r .number
 same n p r e = let f : _≡_ {A = Refusal} (record { number = n; place = p }) r = cc in ap (λ (x : Refusal). x .number) f
 
-under-when : (ns : List ℕ) (t : Bool) (n p : ℕ) → isOneOf n ns ≡ true → Under ns (when t n p)
-under-when ns true n p h = record { of = λ r e. sym (ap (λ (k : ℕ). isOneOf k ns) (same n p r e)) ∙ h }
-under-when ns false n p h = record { of = λ r e. never r e }
+under-if : (ns : List ℕ) (t : Bool) (n p : ℕ) → isOneOf n ns ≡ true → Under ns (refuseIf t n p)
+under-if ns true n p h = record { of = λ r e. sym (ap (λ (k : ℕ). isOneOf k ns) (same n p r e)) ∙ h }
+under-if ns false n p h = record { of = λ r e. never r e }
 
-under-found : (ns : List ℕ) (o : Option ℕ) (n : ℕ) → isOneOf n ns ≡ true → Under ns (whenFound o n)
-under-found ns (some p) n h = under-when ns true n p h
-under-found ns none n h = record { of = λ r e. never r e }
+under-at : (ns : List ℕ) (o : Option ℕ) (n : ℕ) → isOneOf n ns ≡ true → Under ns (refuseAt o n)
+under-at ns (some p) n h = under-if ns true n p h
+under-at ns none n h = record { of = λ r e. never r e }
 
 under-none : (ns : List ℕ) → Under ns none
 under-none ns = record { of = λ r e. never r e }
@@ -73,48 +76,46 @@ under-before : (k : ℕ) (ns : List ℕ) (o : Option Refusal) → Under ns o →
 under-before k ns o u = record { of = λ r e. one-more (eqb (r .number) k) (isOneOf (r .number) ns) (u .of r e) }
 
 -- ---- the tables
-pub read-under : (s b : List ℕ) → Under readNumbers (refusalOf (readAll s b))
+pub read-under : (s b : List ℕ) → Under readNumbers (readRefusal (readAll s b))
 read-under s b = go (readAll s b) refl
   where
-    go : (x : Read Image) → readAll s b ≡ x → Under readNumbers (refusalOf x)
+    go : (x : Read Image) → readAll s b ≡ x → Under readNumbers (readRefusal x)
     go (got i end) e = under-none readNumbers
-    go (bad n p) e = under-when readNumbers true n p (read-numbers s b n p e)
+    go (bad n p) e = under-if readNumbers true n p (read-numbers s b n p e)
 
 module _ (s b : List ℕ) where
-  pub layout-under : (stop : ℕ) (close : Bool) (z : cut.LayoutState) (store : List ℕ)
-      → Under layoutNumbers (rulesOf s b .layout-refusal (layout.args stop close) z store)
-  layout-under stop close z store =
-      let q = layout.args stop close in
-      let needed = cut.rowsNeeded (parts s b) q z in
-      let read : Under layoutNumbers (refusalOf (readAll s b)) = under-more readNumbers (12 ∷ 8 ∷ []) (refusalOf (readAll s b)) (read-under s b) in
-      under-first layoutNumbers (cut.layoutTable (parts s b) q z store) (
+  pub layout-under : (q : rules.LayoutArgs states.LayoutChoice) (z : states.LayoutState) (store : List ℕ)
+      → Under layoutNumbers (rulesOf s b .layout-refusal q z store)
+  layout-under q z store =
+      let needed = cut.rowsNeeded (partsOf s b) q z in
+      let read : Under layoutNumbers (readRefusal (readAll s b)) = under-more readNumbers (12 ∷ 8 ∷ []) (readRefusal (readAll s b)) (read-under s b) in
+      under-first layoutNumbers (cut.layoutTable (partsOf s b) q z store) (
         read,
         (
-          under-when layoutNumbers (any (cut.layoutTests (parts s b) q z store)) 12 0 refl,
-          (under-when layoutNumbers (ltb (cut.rowsIn store) needed) 8 needed refl, tt),
+          under-if layoutNumbers (any (cut.layoutTests (partsOf s b) q z store)) 12 0 refl,
+          (under-if layoutNumbers (ltb (tests.rowsIn store) needed) 8 needed refl, tt),
         ),
       )
 
   image-under : Under renderNumbers (renderImage s b)
   image-under =
-      under-first renderNumbers (when (not (sourceFits s)) 1 0 ∷ when (not (header b)) 3 0 ∷ [])
-      (under-when renderNumbers (not (sourceFits s)) 1 0 refl, (under-when renderNumbers (not (header b)) 3 0 refl, tt))
+      under-first renderNumbers (refuseIf (not (sourceFits s)) 1 0 ∷ refuseIf (not (header b)) 3 0 ∷ [])
+      (under-if renderNumbers (not (sourceFits s)) 1 0 refl, (under-if renderNumbers (not (header b)) 3 0 refl, tt))
 
-  pub render-under : (stop room : ℕ) (z : cut.RenderState) (store marks : List ℕ)
-      → Under renderNumbers (rulesOf s b .render-refusal (render.args stop room) z store marks)
-  render-under stop room z store marks =
-      let q = render.args stop room in
-      let needed = cut.marksNeeded (parts s b) q z store in
-      let bytes = cut.bytesNeeded (parts s b) q z store marks in
-      under-first renderNumbers (cut.renderTable (parts s b) q z store marks) (
+  pub render-under : (q : rules.RenderArgs states.RenderChoice) (z : states.RenderState) (store marks : List ℕ)
+      → Under renderNumbers (rulesOf s b .render-refusal q z store marks)
+  render-under q z store marks =
+      let needed = cut.marksFor (partsOf s b) q z store in
+      let bytes = cut.bytesNeeded (partsOf s b) q z store marks in
+      under-first renderNumbers (cut.renderTable (partsOf s b) q z store marks) (
         image-under,
         (
-          under-found renderNumbers (parts s b .wrong-row store (z .row) stop) 11 refl,
+          under-at renderNumbers (partsOf s b .wrong-row store (z .row) (q .stop)) 11 refl,
           (
-            under-when renderNumbers (any (cut.renderTests (parts s b) q z store marks)) 12 0 refl,
+            under-if renderNumbers (any (tests.renderTests q z store marks)) 12 0 refl,
             (
-              under-when renderNumbers (ltb (length marks) needed) 9 needed refl,
-              (under-when renderNumbers (ltb room bytes) 10 bytes refl, tt),
+              under-if renderNumbers (ltb (length marks) needed) 9 needed refl,
+              (under-if renderNumbers (ltb (q .room) bytes) 10 bytes refl, tt),
             ),
           ),
         ),
@@ -123,20 +124,20 @@ module _ (s b : List ℕ) where
   pub file-under : (room : ℕ) → Under fileNumbers (fileRefusal s b room)
   file-under room =
       let text = length (drawnDue s b .text) in
-      let read : Under fileNumbers (refusalOf (readAll s b)) = under-more readNumbers (8 ∷ 9 ∷ 10 ∷ []) (refusalOf (readAll s b)) (read-under s b) in
+      let read : Under fileNumbers (readRefusal (readAll s b)) = under-more readNumbers (8 ∷ 9 ∷ 10 ∷ []) (readRefusal (readAll s b)) (read-under s b) in
       let laid : Under fileNumbers (laidRefusal s b fileRows) =
-      under-first fileNumbers (refusalOf (readAll s b) ∷ when (ltb fileRows (rowsDue s b)) 8 (rowsDue s b) ∷ [])
-      (read, (under-when fileNumbers (ltb fileRows (rowsDue s b)) 8 (rowsDue s b) refl, tt))
+      under-first fileNumbers (readRefusal (readAll s b) ∷ refuseIf (ltb fileRows (rowsDue s b)) 8 (rowsDue s b) ∷ [])
+      (read, (under-if fileNumbers (ltb fileRows (rowsDue s b)) 8 (rowsDue s b) refl, tt))
       in
       under-first fileNumbers
-      (laidRefusal s b fileRows ∷ when (ltb fileMarks (marksDue s b)) 9 (marksDue s b) ∷ when (ltb room text) 10 text ∷ [])
-      (laid, (under-when fileNumbers (ltb fileMarks (marksDue s b)) 9 (marksDue s b) refl, (under-when fileNumbers (ltb room text) 10 text refl, tt)))
+      (laidRefusal s b fileRows ∷ refuseIf (ltb fileMarks (marksDue s b)) 9 (marksDue s b) ∷ refuseIf (ltb room text) 10 text ∷ [])
+      (laid, (under-if fileNumbers (ltb fileMarks (marksDue s b)) 9 (marksDue s b) refl, (under-if fileNumbers (ltb room text) 10 text refl, tt)))
 
 frame-under : (frame : List ℕ) (room : ℕ) → Under frameNumbers (frameTable frame room)
 frame-under frame room =
     let whole = fileRefusal (sourceOf frame) (imageOf frame) room in
     under-first frameNumbers (frameRefusal frame ∷ whole ∷ []) (
-      under-when frameNumbers (not (frameFits frame)) 13 0 refl,
+      under-if frameNumbers (not (frameFits frame)) 13 0 refl,
       (under-before 13 fileNumbers whole (file-under (sourceOf frame) (imageOf frame) room), tt),
     )
 
@@ -145,11 +146,11 @@ answered : {ns : List ℕ} {table told : Option Refusal} {Kept : Type 0} → tol
     → Answered ns table told Kept
 answered e u k = record { as-table = e; listed = λ r f. u .of r (sym e ∙ f); kept = λ r f. k r (sym e ∙ f) }
 
-laid-told : (s b : List ℕ) (o : Option Refusal) (t : cut.LayoutState) (n : ℕ) → callTold s b (answerBy (rulesOf s b) o (laidOut t n)) ≡ o
+laid-told : (s b : List ℕ) (o : Option Refusal) (t : states.LayoutState) (n : ℕ) → callTold s b (answerBy (rulesOf s b) o (laidOut t n)) ≡ o
 laid-told s b (some r) t n = refl
 laid-told s b none t n = refl
 
-written-told : (s b : List ℕ) (o : Option Refusal) (t : cut.RenderState) (n : ℕ) → callTold s b (answerBy (rulesOf s b) o (written t n)) ≡ o
+written-told : (s b : List ℕ) (o : Option Refusal) (t : states.RenderState) (n : ℕ) → callTold s b (answerBy (rulesOf s b) o (written t n)) ≡ o
 written-told s b (some r) t n = refl
 written-told s b none t n = refl
 
@@ -174,32 +175,32 @@ frame-same none (some q) r old new e = refl
 frame-same none none r old new e = never r e
 
 -- ---- the entries
-read-told : (x : Read Image) → readTold (outcome x) ≡ refusalOf x
+read-told : (x : Read Image) → readTold (outcome x) ≡ readRefusal x
 read-told (got i end) = refl
 read-told (bad n p) = refl
 
-check : Check
+check : CheckAnswered
 check s b r e = answered (ap readTold e ∙ read-told (readAll s b)) (read-under s b) (λ r f. tt)
 
-layout-call : Layout
-layout-call s b state stop close store r store2 p =
-    answered (ap (callTold s b) (p .answer) ∙ laid-told s b (rulesOf s b .layout-refusal (layout.args stop close) (layout.toState state) store) _ _)
-    (layout-under s b stop close (layout.toState state) store)
+layout-call : LayoutAnswered
+layout-call s b state args store r store2 p =
+    answered (ap (callTold s b) (p .answer) ∙ laid-told s b (rulesOf s b .layout-refusal (layout.toArgs args) (layout.toState state) store) _ _)
+    (layout-under s b (layout.toArgs args) (layout.toState state) store)
     (λ r f. p .store-left ∙ left-same _ r store _ f)
 
-render-call : Render
-render-call s b state stop store marks out r store2 marks2 out2 p =
+render-call : RenderAnswered
+render-call s b state args store marks out r store2 marks2 out2 p =
     answered
-    (ap (callTold s b) (p .answer) ∙ written-told s b (rulesOf s b .render-refusal (render.args stop (length out)) (render.toState state) store marks) _ _)
-    (render-under s b stop (length out) (render.toState state) store marks)
+    (ap (callTold s b) (p .answer) ∙ written-told s b (rulesOf s b .render-refusal (render.toArgs args (length out)) (render.toState state) store marks) _ _)
+    (render-under s b (render.toArgs args (length out)) (render.toState state) store marks)
     (λ r f. (p .store-left, p .marks-left ∙ left-same _ r marks _ f, p .output-left ∙ left-same _ r out _ f))
 
-format-file : File
+format-file : FileAnswered
 format-file s b out r out2 p =
     answered (ap fileTold (p .answer) ∙ file-told (fileRefusal s b (length out)) _ _ _ _) (file-under s b (length out))
     (λ r f. p .output-left ∙ left-same _ r out _ f)
 
-format-frame : Frame
+format-frame : FrameAnswered
 format-frame frame out r out2 p =
     let s = sourceOf frame in
     let b = imageOf frame in

@@ -1,6 +1,6 @@
 -- The exported functions tell in numbers what the calls answer, so that their callers make the run of the cut rule.
 -- Assumes nothing.
-use mathlib.Core.Path.{_≡_, refl, sym, ap, ap₂, subst, _∙_}
+use mathlib.Core.Path.{_≡_, refl, sym, ap, ap₂, _∙_}
 use mathlib.Core.Bool.{Bool, true, false, cond}
 use mathlib.Core.Option.{Option, none, some}
 use mathlib.Core.List.{List, [], _∷_, _++_, map}
@@ -12,22 +12,23 @@ use lib.Seq.{sets, sets-eq}
 use borrow.Author.Tests.{eqb-true}
 use Rattle.refusals.specs.Refusals.{Refusal, isOneOf}
 use Rattle.image.specs.Read.{Read, got, bad, Image, readAll, readNumbers, outcome}
-use Rattle.cut_rule.specs.Run.{Carried, answerBy, laidOut, written, layoutCall, renderCall, start, call, run}
+use Rattle.cut_rule.specs.Run.{answerBy, laidOut, written, layoutCall, renderCall, call}
 use Rattle.cut_rule.specs.Entries.{renderAnswer, layoutNext, renderNext, leftNext, writtenOf, entryCall}
-use Rattle.cut_rule.specs.CutRule.{CommentsKept}
-use Rattle.cut_rule.specs.Parts as cut
+use Rattle.cut_rule.specs.States as states
 use Rattle.cut_rule.proofs.Entries.{entries-are-calls}
-use Rattle.plain_run.specs.Parts.{refusalOf, listed}
+use Rattle.cut_rule.proofs.Answers.{all-held}
+use Rattle.plain_run.specs.Parts.{readRefusal}
 use Rattle.plain_run.specs.Demands.{rulesOf}
 use Rattle.plain_run.specs.File.{fileRefusal, fileAnswerBy, formatted}
 use Rattle.plain_run.proofs.Demands.{rules-cut}
 use Rattle.layout_call.specs.Calls as layout
 use Rattle.render_call.specs.Calls as render
-use Rattle.exports.specs.Numbers.{flag, bit, layoutState, renderState, told, toldRead, toldFile}
+use Rattle.exports.specs.Numbers.{flag, bit, layoutState, layoutArgs, renderState, renderArgs, toldCall, toldRead, toldFile}
 use Rattle.exports.specs.Calls.{Lays, Renders}
 use Rattle.demands.specs.Demand1.{layoutNumbers, renderNumbers, fileNumbers}
-use Rattle.demands.specs.Exported.{ToldRefusal, Told, Linked1, Holder, fresh, Made, laid, rendered, Promised, ifAccepted, after, afterAll, AllPromised, callOf, held, Linked3}
+use Rattle.demands.specs.Exported.{Told, Linked1, Holder, freshHolder, LinkedCall, laid, rendered, LinkedPromised, ifAccepted, afterLinked, callLinked, heldLinked, Linked3}
 use Rattle.demands.proofs.Demand1.{Under, read-under, layout-under, render-under, file-under, left-same}
+use Rattle.demands.proofs.Demand3.{held-as-due}
 
 -- numbers stored from the start of an array that has room for them stand at its start
 stored : (vs out : List ℕ) → length vs ≤ length out → sets out 0 vs ≡ vs ++ drop (length vs) out
@@ -53,11 +54,11 @@ two ns table out out2 Kept h u zero-first tells kept = record {
       };
 }
 
-read-zero : (x : Read Image) (out : List ℕ) → 3 ≤ length out → refusalOf x ≡ none → getD (toldRead (outcome x) out) 0 0 ≡ 0
+read-zero : (x : Read Image) (out : List ℕ) → 3 ≤ length out → readRefusal x ≡ none → getD (toldRead (outcome x) out) 0 0 ≡ 0
 read-zero (got i end) out h e = ap (λ (l : List ℕ). getD l 0 0) (stored (0 ∷ i .comments ∷ i .at ∷ []) out h)
 read-zero (bad n p) out h e = let z : _≡_ {A = ℕ} 0 1 = cc in absurd (omega arith)
 
-read-tells : (x : Read Image) (out : List ℕ) (r : Refusal) → refusalOf x ≡ some r → toldRead (outcome x) out ≡ sets out 0 (r .number ∷ r .place ∷ [])
+read-tells : (x : Read Image) (out : List ℕ) (r : Refusal) → readRefusal x ≡ some r → toldRead (outcome x) out ≡ sets out 0 (r .number ∷ r .place ∷ [])
 read-tells (got i end) out r e = let z : _≡_ {A = ℕ} 0 1 = cc in absurd (omega arith)
 read-tells (bad n p) out r e =
     let same : _≡_ {A = Refusal} (record { number = n; place = p }) r = cc in
@@ -76,7 +77,7 @@ file-tells none n l k m out r e = let z : _≡_ {A = ℕ} 0 1 = cc in absurd (om
 
 module _ (s b : List ℕ) where
   -- the numbers of an accepted answer
-  abbrev laidNumbers : cut.LayoutState → ℕ → List ℕ
+  abbrev laidNumbers : states.LayoutState → ℕ → List ℕ
   laidNumbers t n =
       0
       ∷ n
@@ -89,28 +90,28 @@ module _ (s b : List ℕ) where
       ∷ t .cursor .position
       ∷ []
 
-  abbrev writtenNumbers : cut.RenderState → ℕ → List ℕ
+  abbrev writtenNumbers : states.RenderState → ℕ → List ℕ
   writtenNumbers t n = 0 ∷ n ∷ t .pen .indent ∷ t .pen .next-indent ∷ t .pen .column ∷ t .in-use ∷ t .row ∷ []
 
-  laid-zero : (o : Option Refusal) (t : cut.LayoutState) (n : ℕ) (out : List ℕ) → 9 ≤ length out → o ≡ none
-      → getD (told s b (answerBy (rulesOf s b) o (laidOut t n)) out) 0 0 ≡ 0
+  laid-zero : (o : Option Refusal) (t : states.LayoutState) (n : ℕ) (out : List ℕ) → 9 ≤ length out → o ≡ none
+      → getD (toldCall s b (answerBy (rulesOf s b) o (laidOut t n)) out) 0 0 ≡ 0
   laid-zero none t n out h e = ap (λ (x : List ℕ). getD x 0 0) (stored (laidNumbers t n) out h)
   laid-zero (some q) t n out h e = let z : _≡_ {A = ℕ} 0 1 = cc in absurd (omega arith)
 
-  laid-tells : (o : Option Refusal) (t : cut.LayoutState) (n : ℕ) (out : List ℕ) (r : Refusal) → o ≡ some r
-      → told s b (answerBy (rulesOf s b) o (laidOut t n)) out ≡ sets out 0 (r .number ∷ r .place ∷ [])
+  laid-tells : (o : Option Refusal) (t : states.LayoutState) (n : ℕ) (out : List ℕ) (r : Refusal) → o ≡ some r
+      → toldCall s b (answerBy (rulesOf s b) o (laidOut t n)) out ≡ sets out 0 (r .number ∷ r .place ∷ [])
   laid-tells (some q) t n out r e =
       let same : q ≡ r = cc in
       ap (λ (x : Refusal). sets out 0 (x .number ∷ x .place ∷ [])) same
   laid-tells none t n out r e = let z : _≡_ {A = ℕ} 0 1 = cc in absurd (omega arith)
 
-  written-zero : (o : Option Refusal) (t : cut.RenderState) (n : ℕ) (out : List ℕ) → 7 ≤ length out → o ≡ none
-      → getD (told s b (answerBy (rulesOf s b) o (written t n)) out) 0 0 ≡ 0
+  written-zero : (o : Option Refusal) (t : states.RenderState) (n : ℕ) (out : List ℕ) → 7 ≤ length out → o ≡ none
+      → getD (toldCall s b (answerBy (rulesOf s b) o (written t n)) out) 0 0 ≡ 0
   written-zero none t n out h e = ap (λ (x : List ℕ). getD x 0 0) (stored (writtenNumbers t n) out h)
   written-zero (some q) t n out h e = let z : _≡_ {A = ℕ} 0 1 = cc in absurd (omega arith)
 
-  written-tells : (o : Option Refusal) (t : cut.RenderState) (n : ℕ) (out : List ℕ) (r : Refusal) → o ≡ some r
-      → told s b (answerBy (rulesOf s b) o (written t n)) out ≡ sets out 0 (r .number ∷ r .place ∷ [])
+  written-tells : (o : Option Refusal) (t : states.RenderState) (n : ℕ) (out : List ℕ) (r : Refusal) → o ≡ some r
+      → toldCall s b (answerBy (rulesOf s b) o (written t n)) out ≡ sets out 0 (r .number ∷ r .place ∷ [])
   written-tells (some q) t n out r e =
       let same : q ≡ r = cc in
       ap (λ (x : Refusal). sets out 0 (x .number ∷ x .place ∷ [])) same
@@ -120,23 +121,23 @@ pub linked-1 : Linked1
 linked-1 = record {
   check =
       λ s b out out2 h e.
-      two readNumbers (refusalOf (readAll s b)) out out2 (Unit {0}) (omega arith) (read-under s b)
+      two readNumbers (readRefusal (readAll s b)) out out2 (Unit {0}) (omega arith) (read-under s b)
       (λ f. ap (λ (l : List ℕ). getD l 0 0) e ∙ read-zero (readAll s b) out (omega arith) f)
       (λ r f. e ∙ read-tells (readAll s b) out r f)
       (λ r f. tt);
   layout =
       λ s b store state stop close out store2 out2 h p.
-      let o = rulesOf s b .layout-refusal (layout.args stop (flag close)) (layout.toState (layoutState state)) store in
+      let o = rulesOf s b .layout-refusal (layout.toArgs (layoutArgs stop close)) (layout.toState (layoutState state)) store in
       two layoutNumbers o out out2 (store2 ≡ store) (omega arith)
-      (layout-under s b stop (flag close) (layout.toState (layoutState state)) store)
+      (layout-under s b (layout.toArgs (layoutArgs stop close)) (layout.toState (layoutState state)) store)
       (λ f. ap (λ (l : List ℕ). getD l 0 0) (p .told-as) ∙ laid-zero s b o _ _ out (omega arith) f)
       (λ r f. p .told-as ∙ laid-tells s b o _ _ out r f)
       (λ r f. p .store-left ∙ left-same o r store _ f);
   render =
       λ s b store marks output state stop out store2 marks2 output2 out2 h p.
-      let o = rulesOf s b .render-refusal (render.args stop (length output)) (render.toState (renderState state)) store marks in
+      let o = rulesOf s b .render-refusal (render.toArgs (renderArgs stop) (length output)) (render.toState (renderState state)) store marks in
       two renderNumbers o out out2 ((store2 ≡ store) × (marks2 ≡ marks) × (output2 ≡ output)) (omega arith)
-      (render-under s b stop (length output) (render.toState (renderState state)) store marks)
+      (render-under s b (render.toArgs (renderArgs stop) (length output)) (render.toState (renderState state)) store marks)
       (λ f. ap (λ (l : List ℕ). getD l 0 0) (p .told-as) ∙ written-zero s b o _ _ out (omega arith) f)
       (λ r f. p .told-as ∙ written-tells s b o _ _ out r f)
       (λ r f. (p .store-left, p .marks-left ∙ left-same o r marks _ f, p .output-left ∙ left-same o r output _ f));
@@ -167,8 +168,8 @@ not-zero ns r f e = go (eqb (r .number) 0) refl
 
 module _ (s b : List ℕ) where
   -- the layout state and the comments left that are kept of an answer
-  layout-kept : (o : Option Refusal) (t : cut.LayoutState) (n : ℕ) → Under layoutNumbers o → (out out2 : List ℕ) → 9 ≤ length out
-      → out2 ≡ told s b (answerBy (rulesOf s b) o (laidOut t n)) out
+  layout-kept : (o : Option Refusal) (t : states.LayoutState) (n : ℕ) → Under layoutNumbers o → (out out2 : List ℕ) → 9 ≤ length out
+      → out2 ≡ toldCall s b (answerBy (rulesOf s b) o (laidOut t n)) out
       → (old : List ℕ)
       → layout.toState (layoutState (ifAccepted out2 (take 7 (drop 2 out2)) old))
       ≡ layoutNext (rulesOf s b) (answerBy (rulesOf s b) o (laidOut t n)) (layout.toState (layoutState old))
@@ -182,8 +183,8 @@ module _ (s b : List ℕ) where
       ap (λ (l : List ℕ). layout.toState (layoutState (ifAccepted l (take 7 (drop 2 l)) old))) at
       ∙ ap₂ (λ (x y : Bool). record { begun = x; closed = y; declaration = t .declaration; cursor = t .cursor }) (flag-bit (t .begun)) (flag-bit (t .closed))
 
-  left-kept : (o : Option Refusal) (t : cut.LayoutState) (n : ℕ) → Under layoutNumbers o → (out out2 : List ℕ) → 9 ≤ length out
-      → out2 ≡ told s b (answerBy (rulesOf s b) o (laidOut t n)) out
+  left-kept : (o : Option Refusal) (t : states.LayoutState) (n : ℕ) → Under layoutNumbers o → (out out2 : List ℕ) → 9 ≤ length out
+      → out2 ≡ toldCall s b (answerBy (rulesOf s b) o (laidOut t n)) out
       → (old : Option ℕ)
       → ifAccepted out2 (some (getD out2 1 0)) old ≡ leftNext (rulesOf s b) (answerBy (rulesOf s b) o (laidOut t n)) old
   left-kept (some r) t n u out out2 h e old =
@@ -195,8 +196,8 @@ module _ (s b : List ℕ) where
       ap (λ (l : List ℕ). ifAccepted l (some (getD l 1 0)) old) at
 
   -- the rendering state and the text that are kept of an answer
-  render-kept : (o : Option Refusal) (t : cut.RenderState) (n : ℕ) → Under renderNumbers o → (out out2 : List ℕ) → 7 ≤ length out
-      → out2 ≡ told s b (answerBy (rulesOf s b) o (written t n)) out
+  render-kept : (o : Option Refusal) (t : states.RenderState) (n : ℕ) → Under renderNumbers o → (out out2 : List ℕ) → 7 ≤ length out
+      → out2 ≡ toldCall s b (answerBy (rulesOf s b) o (written t n)) out
       → (old : List ℕ)
       → render.toState (renderState (ifAccepted out2 (take 5 (drop 2 out2)) old))
       ≡ renderNext (rulesOf s b) (answerBy (rulesOf s b) o (written t n)) (render.toState (renderState old))
@@ -209,8 +210,8 @@ module _ (s b : List ℕ) where
       let at : out2 ≡ writtenNumbers s b t n ++ drop 7 out = e ∙ stored (writtenNumbers s b t n) out h in
       ap (λ (l : List ℕ). render.toState (renderState (ifAccepted l (take 5 (drop 2 l)) old))) at
 
-  text-kept : (o : Option Refusal) (t : cut.RenderState) (n : ℕ) → Under renderNumbers o → (out out2 output2 : List ℕ) → 7 ≤ length out
-      → out2 ≡ told s b (answerBy (rulesOf s b) o (written t n)) out
+  text-kept : (o : Option Refusal) (t : states.RenderState) (n : ℕ) → Under renderNumbers o → (out out2 output2 : List ℕ) → 7 ≤ length out
+      → out2 ≡ toldCall s b (answerBy (rulesOf s b) o (written t n)) out
       → ifAccepted out2 (take (getD out2 1 0) output2) [] ≡ writtenOf (rulesOf s b) (answerBy (rulesOf s b) o (written t n)) output2
   text-kept (some r) t n u out out2 output2 h e =
       let at : out2 ≡ (r .number ∷ r .place ∷ []) ++ drop 2 out = e ∙ stored (r .number ∷ r .place ∷ []) out (omega arith) in
@@ -222,12 +223,12 @@ module _ (s b : List ℕ) where
 
   -- one call
   layout-held : (w : Holder) (stop close : ℕ) (out store2 out2 : List ℕ) → length out ≡ 9 → Lays s b (w .store) (w .layout-state) stop close out store2 out2
-      → held s b (after w (laid stop close out store2 out2)) ≡ entryCall (rulesOf s b) (held s b w) [] (layoutCall (layout.args stop (flag close)))
+      → heldLinked s b (afterLinked w (laid stop close out store2 out2)) ≡ entryCall (rulesOf s b) (heldLinked s b w) [] (layoutCall (layout.toArgs (layoutArgs stop close)))
   layout-held w stop close out store2 out2 h p =
-      let q = layout.args stop (flag close) in
+      let q = layout.toArgs (layoutArgs stop close) in
       let z = layout.toState (layoutState (w .layout-state)) in
       let o = rulesOf s b .layout-refusal q z (w .store) in
-      let u = layout-under s b stop (flag close) z (w .store) in
+      let u = layout-under s b q z (w .store) in
       let state = layout-kept o _ _ u out out2 (omega arith) (p .told-as) (w .layout-state) in
       let left = left-kept o _ _ u out out2 (omega arith) (p .told-as) (w .left) in
       λ i.
@@ -242,13 +243,13 @@ module _ (s b : List ℕ) where
 
   render-held : (w : Holder) (stop : ℕ) (output out store2 marks2 output2 out2 : List ℕ) → length out ≡ 7
       → Renders s b (w .store) (w .marks) output (w .render-state) stop out store2 marks2 output2 out2
-      → held s b (after w (rendered stop output out store2 marks2 output2 out2))
-      ≡ entryCall (rulesOf s b) (held s b w) output (renderCall (render.args stop (length output)))
+      → heldLinked s b (afterLinked w (rendered stop output out store2 marks2 output2 out2))
+      ≡ entryCall (rulesOf s b) (heldLinked s b w) output (renderCall (render.toArgs (renderArgs stop) (length output)))
   render-held w stop output out store2 marks2 output2 out2 h p =
-      let q = render.args stop (length output) in
+      let q = render.toArgs (renderArgs stop) (length output) in
       let z = render.toState (renderState (w .render-state)) in
       let o = rulesOf s b .render-refusal q z (w .store) (w .marks) in
-      let u = render-under s b stop (length output) z (w .store) (w .marks) in
+      let u = render-under s b q z (w .store) (w .marks) in
       let state = render-kept o _ _ u out out2 (omega arith) (p .told-as) (w .render-state) in
       let text = text-kept o _ _ u out out2 output2 (omega arith) (p .told-as) in
       let whole =
@@ -264,29 +265,16 @@ module _ (s b : List ℕ) where
         left = w .left;
       }
 
-  one-held : (w : Holder) (m : Made) → Promised s b w m → held s b (after w m) ≡ call (rulesOf s b) (held s b w) (callOf s b m)
+  one-held : (w : Holder) (m : LinkedCall) → LinkedPromised s b w m → heldLinked s b (afterLinked w m) ≡ call (rulesOf s b) (heldLinked s b w) (callLinked s b m)
   one-held w (laid stop close out store2 out2) p =
       layout-held w stop close out store2 out2 (p .0) (p .1)
-      ∙ entries-are-calls (rulesOf s b) (held s b w) [] (layoutCall (layout.args stop (flag close)))
+      ∙ entries-are-calls (rulesOf s b) (heldLinked s b w) [] (layoutCall (layout.toArgs (layoutArgs stop close)))
   one-held w (rendered stop output out store2 marks2 output2 out2) p =
       render-held w stop output out store2 marks2 output2 out2 (p .0) (p .1)
-      ∙ entries-are-calls (rulesOf s b) (held s b w) output (renderCall (render.args stop (length output)))
-
-  -- the list
-  all-held : (w : Holder) (ms : List Made) → AllPromised s b w ms → held s b (afterAll w ms) ≡ run (rulesOf s b) (held s b w) (map (callOf s b) ms)
-  all-held w [] p = refl
-  all-held w (m ∷ ms) p =
-      all-held (after w m) ms (p .1) ∙ ap (λ (v : Carried (rulesOf s b)). run (rulesOf s b) v (map (callOf s b) ms)) (one-held w m (p .0))
+      ∙ entries-are-calls (rulesOf s b) (heldLinked s b w) output (renderCall (render.toArgs (renderArgs stop) (length output)))
 
 pub linked-3 : Linked3
 linked-3 s b store₀ marks₀ made p h =
-    let w = fresh store₀ marks₀ in
-    let rule = rules-cut s b store₀ marks₀ (map (callOf s b) made) h in
-    let e : held s b (afterAll w made) ≡ run (rulesOf s b) (start (rulesOf s b) store₀ marks₀) (map (callOf s b) made) = all-held s b w made p in
-    record {
-      same = e ∙ rule .same;
-      comments =
-          λ n f.
-          subst (λ (v : Carried (rulesOf s b)). CommentsKept (rulesOf s b) (listed s b) v n) (sym e)
-          (rule .comments n (ap (λ (v : Carried (rulesOf s b)). v .left) (sym e) ∙ f));
-    }
+    held-as-due s b store₀ marks₀ (map (callLinked s b) made) _
+    (all-held (rulesOf s b) afterLinked (LinkedPromised s b) (heldLinked s b) (callLinked s b) (one-held s b) (freshHolder store₀ marks₀) made p)
+    (rules-cut (readAll s b) s b store₀ marks₀ (map (callLinked s b) made) h)

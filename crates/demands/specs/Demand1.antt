@@ -4,7 +4,7 @@
 -- Of each entry, by what it promises and nothing else. None of the entries requires anything of its caller, and each of them is total: a function
 -- of Rattle is proved to end, and not to trap, whatever it is called with. The entries for other languages are in Exported.antt.
 use mathlib.Core.Path.{_≡_}
-use mathlib.Core.Bool.{Bool, true}
+use mathlib.Core.Bool.{true}
 use mathlib.Core.Option.{Option, none, some}
 use mathlib.Core.List.{List, [], _∷_, _++_}
 use Prim.Native.Nat.{ℕ}
@@ -15,20 +15,22 @@ use Rattle.image.specs.Read as image
 use Rattle.image.specs.declared.Answer as check
 use Rattle.cut_rule.specs.Run.{Answer, laidOut, written}
 use Rattle.cut_rule.specs.Run as cut
-use Rattle.plain_run.specs.Parts.{refusalOf}
+use Rattle.plain_run.specs.Parts.{readRefusal}
 use Rattle.plain_run.specs.Demands.{rulesOf}
 use Rattle.plain_run.specs.File.{FileAnswer, formatted, fileRefusal}
 use Rattle.plain_run.specs.File as file
 use Rattle.layout_call.specs.declared.LayoutState.{LayoutState}
+use Rattle.layout_call.specs.declared.LayoutArgs.{LayoutArgs}
 use Rattle.layout_call.specs.declared.Laying.{Laying}
 use Rattle.layout_call.specs.Calls as layout
-use Rattle.layout_call.specs.Whole as layoutPromise
+use Rattle.layout_call.specs.Whole.{LayoutCalled}
 use Rattle.render_call.specs.declared.RenderState.{RenderState}
+use Rattle.render_call.specs.declared.RenderArgs.{RenderArgs}
 use Rattle.render_call.specs.declared.Rendering.{Rendering}
 use Rattle.render_call.specs.Calls as render
-use Rattle.render_call.specs.Whole as renderPromise
+use Rattle.render_call.specs.Whole.{RenderCalled}
 use Rattle.file.specs.declared.Formatted.{Formatted}
-use Rattle.file.specs.Whole.{answerOf, Formats, FormatsFrame}
+use Rattle.file.specs.Whole.{formattedAnswer, Formats, FormatsFrame}
 use Rattle.reply.specs.Reply.{frameTable, programRefusal}
 
 -- ---- the numbers of each entry, in the table's order
@@ -72,43 +74,43 @@ pub record Answered (numbers : List ℕ) (table told : Option Refusal) (Kept : T
   pub kept : (r : Refusal) → told ≡ some r → Kept
 
 -- `image::check`, which is lent nothing to change
-abbrev pub Check : Type 0
-Check = (s b : List ℕ) (r : check.Answer) → outcomeOf r ≡ outcome (readAll s b)
-    → Answered readNumbers (refusalOf (readAll s b)) (readTold (outcomeOf r)) (Unit {0})
+abbrev pub CheckAnswered : Type 0
+CheckAnswered = (s b : List ℕ) (r : check.Answer) → outcomeOf r ≡ outcome (readAll s b)
+    → Answered readNumbers (readRefusal (readAll s b)) (readTold (outcomeOf r)) (Unit {0})
 
 -- `layout_call::layout_call`
-abbrev pub Layout : Type 0
-Layout = (s b : List ℕ) (state : LayoutState) (stop : ℕ) (close : Bool) (store : List ℕ) (r : Laying) (store2 : List ℕ)
-    → layoutPromise.Called s b state stop close store r store2
-    → Answered layoutNumbers (rulesOf s b .layout-refusal (layout.args stop close) (layout.toState state) store) (callTold s b (layout.answerOf s b r))
+abbrev pub LayoutAnswered : Type 0
+LayoutAnswered = (s b : List ℕ) (state : LayoutState) (args : LayoutArgs) (store : List ℕ) (r : Laying) (store2 : List ℕ)
+    → LayoutCalled s b state args store r store2
+    → Answered layoutNumbers (rulesOf s b .layout-refusal (layout.toArgs args) (layout.toState state) store) (callTold s b (layout.layingAnswer s b r))
     (store2 ≡ store)
 
 -- `render_call::render_call`
-abbrev pub Render : Type 0
-Render = (s b : List ℕ) (state : RenderState) (stop : ℕ) (store marks out : List ℕ) (r : Rendering) (store2 marks2 out2 : List ℕ)
-    → renderPromise.Called s b state stop store marks out r store2 marks2 out2
-    → Answered renderNumbers (rulesOf s b .render-refusal (render.args stop (length out)) (render.toState state) store marks)
-    (callTold s b (render.answerOf s b r))
+abbrev pub RenderAnswered : Type 0
+RenderAnswered = (s b : List ℕ) (state : RenderState) (args : RenderArgs) (store marks out : List ℕ) (r : Rendering) (store2 marks2 out2 : List ℕ)
+    → RenderCalled s b state args store marks out r store2 marks2 out2
+    → Answered renderNumbers (rulesOf s b .render-refusal (render.toArgs args (length out)) (render.toState state) store marks)
+    (callTold s b (render.renderingAnswer s b r))
     ((store2 ≡ store) × (marks2 ≡ marks) × (out2 ≡ out))
 
 -- `file::format_file`
-abbrev pub File : Type 0
-File = (s b out : List ℕ) (r : Formatted) (out2 : List ℕ) → Formats s b out r out2
-    → Answered fileNumbers (fileRefusal s b (length out)) (fileTold (answerOf r)) (out2 ≡ out)
+abbrev pub FileAnswered : Type 0
+FileAnswered = (s b out : List ℕ) (r : Formatted) (out2 : List ℕ) → Formats s b out r out2
+    → Answered fileNumbers (fileRefusal s b (length out)) (fileTold (formattedAnswer r)) (out2 ≡ out)
 
 -- `file::format_frame`
-abbrev pub Frame : Type 0
-Frame = (frame out : List ℕ) (r : Formatted) (out2 : List ℕ) → FormatsFrame frame out r out2
-    → Answered frameNumbers (frameTable frame (length out)) (fileTold (answerOf r)) (out2 ≡ out)
+abbrev pub FrameAnswered : Type 0
+FrameAnswered = (frame out : List ℕ) (r : Formatted) (out2 : List ℕ) → FormatsFrame frame out r out2
+    → Answered frameNumbers (frameTable frame (length out)) (fileTold (formattedAnswer r)) (out2 ≡ out)
 
 -- `reply::reply`: the number that the program prints
-abbrev pub Program : Type 0
-Program = (frame : List ℕ) (r : Refusal) → programRefusal frame ≡ some r → isOneOf (r .number) frameNumbers ≡ true
+abbrev pub ProgramAnswered : Type 0
+ProgramAnswered = (frame : List ℕ) (r : Refusal) → programRefusal frame ≡ some r → isOneOf (r .number) frameNumbers ≡ true
 
 pub record Demand1 : Type 0 where
-  pub check : Check
-  pub layout : Layout
-  pub render : Render
-  pub file : File
-  pub frame : Frame
-  pub program : Program
+  pub check : CheckAnswered
+  pub layout : LayoutAnswered
+  pub render : RenderAnswered
+  pub file : FileAnswered
+  pub frame : FrameAnswered
+  pub program : ProgramAnswered

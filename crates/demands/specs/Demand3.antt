@@ -3,26 +3,28 @@
 -- the plain run of document 01 has due. proofs/Demand3.antt proves it. (Without that condition it is false: crates/cut_rule/proofs/Example.antt.)
 -- What is due: crates/cut_rule/specs/Plain.antt; by which rules and which table: crates/plain_run/specs/Parts.antt.
 use mathlib.Core.Path.{_≡_}
-use mathlib.Core.Bool.{Bool}
 use mathlib.Core.Option.{Option, none, some}
-use mathlib.Core.List.{List, [], _∷_, _++_, map}
+use mathlib.Core.List.{List, [], _++_, map}
 use Prim.Native.Nat.{ℕ}
 use lib.ListN.{length, take}
 use Rattle.cut_rule.specs.Run.{Call, layoutCall, renderCall, Carried, Answer, start}
 use Rattle.cut_rule.specs.Plain.{AllReadLaid, atFirst, due, plain, answersDue}
 use Rattle.cut_rule.specs.CutRule.{CommentsKept}
+use Rattle.cut_rule.specs.Callers.{afterAll, AllKept}
 use Rattle.plain_run.specs.Parts.{listed}
 use Rattle.plain_run.specs.Demands.{rulesOf}
 use Rattle.layout_call.specs.declared.LayoutState.{LayoutState}
+use Rattle.layout_call.specs.declared.LayoutArgs.{LayoutArgs}
 use Rattle.layout_call.specs.declared.Laying.{Laying}
 use Rattle.layout_call.specs.declared.Laying.the-variants as laying
 use Rattle.layout_call.specs.Calls as layout
-use Rattle.layout_call.specs.Whole as layoutPromise
+use Rattle.layout_call.specs.Whole.{LayoutCalled}
 use Rattle.render_call.specs.declared.RenderState.{RenderState}
+use Rattle.render_call.specs.declared.RenderArgs.{RenderArgs}
 use Rattle.render_call.specs.declared.Rendering.{Rendering}
 use Rattle.render_call.specs.declared.Rendering.the-variants as rendering
 use Rattle.render_call.specs.Calls as render
-use Rattle.render_call.specs.Whole as renderPromise
+use Rattle.render_call.specs.Whole.{RenderCalled}
 use Rattle.demands.specs.Fresh.{freshLayout, freshRender}
 
 -- ---- a caller
@@ -36,8 +38,8 @@ pub record Caller : Type 0 where
   pub left : Option ℕ
 
 -- "Fresh is all 0", whatever store and marks hold
-abbrev pub fresh : List ℕ → List ℕ → Caller
-fresh store₀ marks₀ = record {
+abbrev pub freshCaller : List ℕ → List ℕ → Caller
+freshCaller store₀ marks₀ = record {
   store = store₀;
   marks = marks₀;
   layout-state = freshLayout;
@@ -48,14 +50,14 @@ fresh store₀ marks₀ = record {
 
 -- a call that was made: its arguments, its answer, and the buffers at exit
 pub data Made : Type 0 where
-  laid : (stop : ℕ) (close : Bool) → Laying → (store2 : List ℕ) → Made
-  rendered : (stop : ℕ) (out : List ℕ) → Rendering → (store2 marks2 out2 : List ℕ) → Made
+  laid : LayoutArgs → Laying → (store2 : List ℕ) → Made
+  rendered : RenderArgs → (out : List ℕ) → Rendering → (store2 marks2 out2 : List ℕ) → Made
 
 -- the function's own promise, for what the caller held
 abbrev pub Promised : (s b : List ℕ) → Caller → Made → Type 0
-Promised s b w (laid stop close r store2) = layoutPromise.Called s b (w .layout-state) stop close (w .store) r store2
-Promised s b w (rendered stop out r store2 marks2 out2) =
-    renderPromise.Called s b (w .render-state) stop (w .store) (w .marks) out r store2 marks2 out2
+Promised s b w (laid args r store2) = LayoutCalled s b (w .layout-state) args (w .store) r store2
+Promised s b w (rendered args out r store2 marks2 out2) =
+    RenderCalled s b (w .render-state) args (w .store) (w .marks) out r store2 marks2 out2
 
 -- what the caller keeps of an answer: a new state, the comments left, the bytes written
 abbrev pub keepLaying : Laying → Caller → Caller
@@ -81,30 +83,22 @@ keepRendering (rendering.Written t n) out w = record {
 keepRendering (rendering.Refused n p) out w = w
 
 -- what it holds after a call
-abbrev pub after : Caller → Made → Caller
-after w (laid stop close r store2) =
+abbrev pub afterMade : Caller → Made → Caller
+afterMade w (laid args r store2) =
     keepLaying r (record { store = store2; marks = w .marks; layout-state = w .layout-state; render-state = w .render-state; text = w .text; left = w .left })
-after w (rendered stop out r store2 marks2 out2) =
+afterMade w (rendered args out r store2 marks2 out2) =
     keepRendering r out2
     (record { store = store2; marks = marks2; layout-state = w .layout-state; render-state = w .render-state; text = w .text; left = w .left })
 
--- ---- a list of calls
-abbrev pub afterAll : Caller → List Made → Caller
-afterAll w [] = w
-afterAll w (m ∷ ms) = afterAll (after w m) ms
+-- ---- the same in the words of the cut rule
+-- arguments, answers, and what is held
+abbrev pub callMade : (s b : List ℕ) → Made → Call (rulesOf s b)
+callMade s b (laid args r store2) = layoutCall (layout.toArgs args)
+callMade s b (rendered args out r store2 marks2 out2) = renderCall (render.toArgs args (length out))
 
-abbrev pub AllPromised : (s b : List ℕ) → Caller → List Made → Type 0
-AllPromised s b w [] = Unit {0}
-AllPromised s b w (m ∷ ms) = Promised s b w m × AllPromised s b (after w m) ms
-
--- the same in the words of the cut rule: arguments, answers, and what is held
-abbrev pub callOf : (s b : List ℕ) → Made → Call (rulesOf s b)
-callOf s b (laid stop close r store2) = layoutCall (layout.args stop close)
-callOf s b (rendered stop out r store2 marks2 out2) = renderCall (render.args stop (length out))
-
-abbrev pub answerOf : (s b : List ℕ) → Made → Answer (rulesOf s b)
-answerOf s b (laid stop close r store2) = layout.answerOf s b r
-answerOf s b (rendered stop out r store2 marks2 out2) = render.answerOf s b r
+abbrev pub answerMade : (s b : List ℕ) → Made → Answer (rulesOf s b)
+answerMade s b (laid args r store2) = layout.layingAnswer s b r
+answerMade s b (rendered args out r store2 marks2 out2) = render.renderingAnswer s b r
 
 abbrev pub held : (s b : List ℕ) → Caller → Carried (rulesOf s b)
 held s b w = record {
@@ -117,20 +111,21 @@ held s b w = record {
 }
 
 -- ---- demand 3
--- store, marks, both states, joined text and comments left are those due; so is every answer; and the comments in the rows are the first of
--- the list, in order, each once, the others being left
+-- store, marks, both states, joined text and comments left are those due after these calls; and the comments in the rows are the first of the list,
+-- in order, each once, the others being left
+pub record HeldAsDue (s b store₀ marks₀ : List ℕ) (calls : List (Call (rulesOf s b))) (v : Carried (rulesOf s b)) : Type 0 where
+  pub same : v ≡ due (rulesOf s b) store₀ marks₀ (plain (rulesOf s b) store₀ marks₀ (atFirst (rulesOf s b)) calls)
+  pub comments : (n : ℕ) → v .left ≡ some n → CommentsKept (rulesOf s b) (listed s b) v n
+
+-- and so is every answer
 pub record CallsCut (s b store₀ marks₀ : List ℕ) (made : List Made) : Type 0 where
-  pub same :
-      held s b (afterAll (fresh store₀ marks₀) made)
-      ≡ due (rulesOf s b) store₀ marks₀ (plain (rulesOf s b) store₀ marks₀ (atFirst (rulesOf s b)) (map (callOf s b) made))
-  pub answered : map (answerOf s b) made ≡ answersDue (rulesOf s b) store₀ marks₀ (atFirst (rulesOf s b)) (map (callOf s b) made)
-  pub comments : (n : ℕ) → afterAll (fresh store₀ marks₀) made .left ≡ some n
-      → CommentsKept (rulesOf s b) (listed s b) (held s b (afterAll (fresh store₀ marks₀) made)) n
+  pub as-due : HeldAsDue s b store₀ marks₀ (map (callMade s b) made) (held s b (afterAll afterMade (freshCaller store₀ marks₀) made))
+  pub answered : map (answerMade s b) made ≡ answersDue (rulesOf s b) store₀ marks₀ (atFirst (rulesOf s b)) (map (callMade s b) made)
 
 -- for every source and image, whatever store and marks held, and every list of calls that keep their promise, in which no accepted call reads
 -- rows not yet laid out
 abbrev pub Demand3 : Type 0
 Demand3 =
-    (s b store₀ marks₀ : List ℕ) (made : List Made) → AllPromised s b (fresh store₀ marks₀) made
-    → AllReadLaid (rulesOf s b) (start (rulesOf s b) store₀ marks₀) (map (callOf s b) made)
+    (s b store₀ marks₀ : List ℕ) (made : List Made) → AllKept afterMade (Promised s b) (freshCaller store₀ marks₀) made
+    → AllReadLaid (rulesOf s b) (start (rulesOf s b) store₀ marks₀) (map (callMade s b) made)
     → CallsCut s b store₀ marks₀ made

@@ -3,23 +3,24 @@
 use mathlib.Core.Path.{_≡_}
 use mathlib.Core.Bool.{true, cond}
 use mathlib.Core.Option.{Option, none, some}
-use mathlib.Core.List.{List, [], _∷_, _++_, map}
+use mathlib.Core.List.{List, [], _++_, map}
 use Prim.Native.Nat.{ℕ}
 use lib.Dec.{eqb}
 use lib.ListN.{length, getD, take, drop, replicate}
 use Rattle.refusals.specs.Refusals.{Refusal, isOneOf}
 use Rattle.image.specs.Read.{readAll, readNumbers, outcome}
 use Rattle.cut_rule.specs.Run.{Call, layoutCall, renderCall, Carried, start}
-use Rattle.cut_rule.specs.Plain.{AllReadLaid, atFirst, due, plain}
-use Rattle.cut_rule.specs.CutRule.{CommentsKept}
-use Rattle.plain_run.specs.Parts.{refusalOf, listed}
+use Rattle.cut_rule.specs.Plain.{AllReadLaid}
+use Rattle.cut_rule.specs.Callers.{afterAll, AllKept}
+use Rattle.plain_run.specs.Parts.{readRefusal}
 use Rattle.plain_run.specs.Demands.{rulesOf}
 use Rattle.plain_run.specs.File.{fileRefusal}
 use Rattle.layout_call.specs.Calls as layout
 use Rattle.render_call.specs.Calls as render
-use Rattle.exports.specs.Numbers.{flag, layoutState, renderState, toldRead}
+use Rattle.exports.specs.Numbers.{layoutState, layoutArgs, renderState, renderArgs, toldRead}
 use Rattle.exports.specs.Calls.{Lays, Renders, FormatsFile}
 use Rattle.demands.specs.Demand1.{layoutNumbers, renderNumbers, fileNumbers}
+use Rattle.demands.specs.Demand3.{HeldAsDue}
 
 -- ---- demand 1
 -- a refusal in an answer's first two places; it is one of the entry's numbers, none of which is 0, and `Kept` says that its buffers are as they were
@@ -36,13 +37,13 @@ pub record Told (numbers : List ℕ) (table : Option Refusal) (out2 : List ℕ) 
 
 pub record Linked1 : Type 0 where
   pub check : (s b out out2 : List ℕ) → length out ≡ 3 → out2 ≡ toldRead (outcome (readAll s b)) out
-      → Told readNumbers (refusalOf (readAll s b)) out2 (Unit {0})
+      → Told readNumbers (readRefusal (readAll s b)) out2 (Unit {0})
   pub layout : (s b store state : List ℕ) (stop close : ℕ) (out store2 out2 : List ℕ) → length out ≡ 9
       → Lays s b store state stop close out store2 out2
-      → Told layoutNumbers (rulesOf s b .layout-refusal (layout.args stop (flag close)) (layout.toState (layoutState state)) store) out2 (store2 ≡ store)
+      → Told layoutNumbers (rulesOf s b .layout-refusal (layout.toArgs (layoutArgs stop close)) (layout.toState (layoutState state)) store) out2 (store2 ≡ store)
   pub render : (s b store marks output state : List ℕ) (stop : ℕ) (out store2 marks2 output2 out2 : List ℕ) → length out ≡ 7
       → Renders s b store marks output state stop out store2 marks2 output2 out2
-      → Told renderNumbers (rulesOf s b .render-refusal (render.args stop (length output)) (render.toState (renderState state)) store marks) out2
+      → Told renderNumbers (rulesOf s b .render-refusal (render.toArgs (renderArgs stop) (length output)) (render.toState (renderState state)) store marks) out2
       ((store2 ≡ store) × (marks2 ≡ marks) × (output2 ≡ output))
   pub format : (s b output out output2 out2 : List ℕ) → length out ≡ 5 → FormatsFile s b output out output2 out2
       → Told fileNumbers (fileRefusal s b (length output)) out2 (output2 ≡ output)
@@ -58,18 +59,18 @@ pub record Holder : Type 0 where
   pub left : Option ℕ
 
 -- "Fresh is all 0"
-abbrev pub fresh : List ℕ → List ℕ → Holder
-fresh store₀ marks₀ =
+abbrev pub freshHolder : List ℕ → List ℕ → Holder
+freshHolder store₀ marks₀ =
     record { store = store₀; marks = marks₀; layout-state = replicate 7 0; render-state = replicate 5 0; text = []; left = none }
 
 -- a call that was made: its arguments, and the buffers at exit, the answer's array last
-pub data Made : Type 0 where
-  laid : (stop close : ℕ) (out store2 out2 : List ℕ) → Made
-  rendered : (stop : ℕ) (output out store2 marks2 output2 out2 : List ℕ) → Made
+pub data LinkedCall : Type 0 where
+  laid : (stop close : ℕ) (out store2 out2 : List ℕ) → LinkedCall
+  rendered : (stop : ℕ) (output out store2 marks2 output2 out2 : List ℕ) → LinkedCall
 
-abbrev pub Promised : (s b : List ℕ) → Holder → Made → Type 0
-Promised s b w (laid stop close out store2 out2) = (length out ≡ 9) × Lays s b (w .store) (w .layout-state) stop close out store2 out2
-Promised s b w (rendered stop output out store2 marks2 output2 out2) =
+abbrev pub LinkedPromised : (s b : List ℕ) → Holder → LinkedCall → Type 0
+LinkedPromised s b w (laid stop close out store2 out2) = (length out ≡ 9) × Lays s b (w .store) (w .layout-state) stop close out store2 out2
+LinkedPromised s b w (rendered stop output out store2 marks2 output2 out2) =
     (length out ≡ 7) × Renders s b (w .store) (w .marks) output (w .render-state) stop out store2 marks2 output2 out2
 
 -- the first where the answer begins with 0, else the second
@@ -77,8 +78,8 @@ abbrev pub ifAccepted : {A : Type 0} → List ℕ → A → A → A
 ifAccepted out2 new old = cond (eqb (getD out2 0 0) 0) new old
 
 -- what the caller holds after a call: the new state is the answer from its third place on
-abbrev pub after : Holder → Made → Holder
-after w (laid stop close out store2 out2) = record {
+abbrev pub afterLinked : Holder → LinkedCall → Holder
+afterLinked w (laid stop close out store2 out2) = record {
   store = store2;
   marks = w .marks;
   layout-state = ifAccepted out2 (take 7 (drop 2 out2)) (w .layout-state);
@@ -86,7 +87,7 @@ after w (laid stop close out store2 out2) = record {
   text = w .text;
   left = ifAccepted out2 (some (getD out2 1 0)) (w .left);
 }
-after w (rendered stop output out store2 marks2 output2 out2) = record {
+afterLinked w (rendered stop output out store2 marks2 output2 out2) = record {
   store = store2;
   marks = marks2;
   layout-state = w .layout-state;
@@ -95,21 +96,13 @@ after w (rendered stop output out store2 marks2 output2 out2) = record {
   left = w .left;
 }
 
-abbrev pub afterAll : Holder → List Made → Holder
-afterAll w [] = w
-afterAll w (m ∷ ms) = afterAll (after w m) ms
-
-abbrev pub AllPromised : (s b : List ℕ) → Holder → List Made → Type 0
-AllPromised s b w [] = Unit {0}
-AllPromised s b w (m ∷ ms) = Promised s b w m × AllPromised s b (after w m) ms
-
 -- the same in the words of the cut rule
-abbrev pub callOf : (s b : List ℕ) → Made → Call (rulesOf s b)
-callOf s b (laid stop close out store2 out2) = layoutCall (layout.args stop (flag close))
-callOf s b (rendered stop output out store2 marks2 output2 out2) = renderCall (render.args stop (length output))
+abbrev pub callLinked : (s b : List ℕ) → LinkedCall → Call (rulesOf s b)
+callLinked s b (laid stop close out store2 out2) = layoutCall (layout.toArgs (layoutArgs stop close))
+callLinked s b (rendered stop output out store2 marks2 output2 out2) = renderCall (render.toArgs (renderArgs stop) (length output))
 
-abbrev pub held : (s b : List ℕ) → Holder → Carried (rulesOf s b)
-held s b w = record {
+abbrev pub heldLinked : (s b : List ℕ) → Holder → Carried (rulesOf s b)
+heldLinked s b w = record {
   store = w .store;
   marks = w .marks;
   layout-state = layout.toState (layoutState (w .layout-state));
@@ -118,17 +111,9 @@ held s b w = record {
   left = w .left;
 }
 
--- store, marks, both states, joined text and comments left are those due, and the comments in the rows are the first of the list
-pub record LinkedCut (s b store₀ marks₀ : List ℕ) (made : List Made) : Type 0 where
-  pub same :
-      held s b (afterAll (fresh store₀ marks₀) made)
-      ≡ due (rulesOf s b) store₀ marks₀ (plain (rulesOf s b) store₀ marks₀ (atFirst (rulesOf s b)) (map (callOf s b) made))
-  pub comments : (n : ℕ) → afterAll (fresh store₀ marks₀) made .left ≡ some n
-      → CommentsKept (rulesOf s b) (listed s b) (held s b (afterAll (fresh store₀ marks₀) made)) n
-
 -- for every list of calls that keep their promise, in which no accepted call reads rows not yet laid out
 abbrev pub Linked3 : Type 0
 Linked3 =
-    (s b store₀ marks₀ : List ℕ) (made : List Made) → AllPromised s b (fresh store₀ marks₀) made
-    → AllReadLaid (rulesOf s b) (start (rulesOf s b) store₀ marks₀) (map (callOf s b) made)
-    → LinkedCut s b store₀ marks₀ made
+    (s b store₀ marks₀ : List ℕ) (made : List LinkedCall) → AllKept afterLinked (LinkedPromised s b) (freshHolder store₀ marks₀) made
+    → AllReadLaid (rulesOf s b) (start (rulesOf s b) store₀ marks₀) (map (callLinked s b) made)
+    → HeldAsDue s b store₀ marks₀ (map (callLinked s b) made) (heldLinked s b (afterAll afterLinked (freshHolder store₀ marks₀) made))

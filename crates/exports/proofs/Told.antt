@@ -1,15 +1,14 @@
 -- From a call's promise and the numbers that are put out to what an exported function leaves.
 -- Assumes nothing.
 use mathlib.Core.Path.{_≡_, sym, ap, _∙_}
-use mathlib.Core.Bool.{Bool}
 use mathlib.Core.List.{List}
 use Prim.Native.Nat.{ℕ}
-use lib.ListN.{length}
 use Rattle.image.specs.declared.Answer.{Answer}
 use Rattle.image.specs.Read.{Outcome, outcome, outcomeOf, readAll}
 use Rattle.cut_rule.specs.Run as cut
 use Rattle.plain_run.specs.Demands.{rulesOf}
 use Rattle.layout_call.specs.declared.LayoutState.{LayoutState}
+use Rattle.layout_call.specs.declared.LayoutArgs.{LayoutArgs}
 use Rattle.layout_call.specs.declared.Laying.{Laying}
 use Rattle.layout_call.specs.Calls as laying
 use Rattle.layout_call.specs.Whole as layout
@@ -20,20 +19,20 @@ use Rattle.render_call.specs.Whole as render
 use Rattle.plain_run.specs.File.{FileAnswer}
 use Rattle.file.specs.declared.Formatted.{Formatted}
 use Rattle.file.specs.Whole as file
-use Rattle.exports.specs.Numbers.{flag, layoutState, renderState, told, toldFile, toldRead}
+use Rattle.exports.specs.Numbers.{layoutState, layoutArgs, renderState, renderArgs, toldCall, toldFile, toldRead}
 use Rattle.exports.specs.Calls.{Lays, Renders, FormatsFile}
 
-pub lays : (s b store state : List ℕ) (stop close : ℕ) (out store2 out2 : List ℕ) (z : LayoutState) (closing : Bool) (r q : Laying)
-    → z ≡ layoutState state → closing ≡ flag close → layout.Called s b z stop closing store r store2 → r ≡ q
-    → out2 ≡ told s b (laying.answerOf s b q) out
+pub lays : (s b store state : List ℕ) (stop close : ℕ) (out store2 out2 : List ℕ) (z : LayoutState) (a : LayoutArgs) (r q : Laying)
+    → z ≡ layoutState state → a ≡ layoutArgs stop close → layout.LayoutCalled s b z a store r store2 → r ≡ q
+    → out2 ≡ toldCall s b (laying.layingAnswer s b q) out
     → Lays s b store state stop close out store2 out2
-lays s b store state stop close out store2 out2 z closing r q e f p g h =
+lays s b store state stop close out store2 out2 z a r q e f p g h =
     let c = rw (e, f, g) at p in
-    record { store-left = c .store-left; told-as = h ∙ ap (λ (a : cut.Answer (rulesOf s b)). told s b a out) (c .answer) }
+    record { store-left = c .store-left; told-as = h ∙ ap (λ (a : cut.Answer (rulesOf s b)). toldCall s b a out) (c .answer) }
 
 pub renders : (s b store marks output state : List ℕ) (stop : ℕ) (out store2 marks2 output2 out2 : List ℕ) (z : RenderState) (r q : Rendering)
-    → z ≡ renderState state → render.Called s b z stop store marks output r store2 marks2 output2 → r ≡ q
-    → out2 ≡ told s b (rendering.answerOf s b q) out
+    → z ≡ renderState state → render.RenderCalled s b z (renderArgs stop) store marks output r store2 marks2 output2 → r ≡ q
+    → out2 ≡ toldCall s b (rendering.renderingAnswer s b q) out
     → Renders s b store marks output state stop out store2 marks2 output2 out2
 renders s b store marks output state stop out store2 marks2 output2 out2 z r q e p g h =
     let c = rw (e, g) at p in
@@ -41,11 +40,11 @@ renders s b store marks output state stop out store2 marks2 output2 out2 z r q e
       store-left = c .store-left;
       marks-left = c .marks-left;
       output-left = c .output-left;
-      told-as = h ∙ ap (λ (a : cut.Answer (rulesOf s b)). told s b a out) (c .answer);
+      told-as = h ∙ ap (λ (a : cut.Answer (rulesOf s b)). toldCall s b a out) (c .answer);
     }
 
 pub formats : (s b output out output2 out2 : List ℕ) (r q : Formatted) → file.Formats s b output r output2 → r ≡ q
-    → out2 ≡ toldFile (file.answerOf q) out
+    → out2 ≡ toldFile (file.formattedAnswer q) out
     → FormatsFile s b output out output2 out2
 formats s b output out output2 out2 r q p g h =
     let c = rw g at p in

@@ -8,19 +8,19 @@ use Rattle.plain_run.specs.Demands.{rulesOf}
 use Rattle.plain_run.specs.File.{fileOutput, fileAnswer}
 use Rattle.layout_call.specs.Calls as laying
 use Rattle.render_call.specs.Calls as rendering
-use Rattle.exports.specs.Numbers.{flag, layoutState, renderState, told, toldFile}
+use Rattle.exports.specs.Numbers.{layoutState, layoutArgs, renderState, renderArgs, toldCall, toldFile}
 
 -- a layout call: the store, and the answer's numbers
 pub record Lays (s b store state : List ℕ) (stop close : ℕ) (out store2 out2 : List ℕ) : Type 0 where
-  pub store-left : store2 ≡ layoutStore (rulesOf s b) (laying.args stop (flag close)) (laying.toState (layoutState state)) store
-  pub told-as : out2 ≡ told s b (layoutAnswer (rulesOf s b) (laying.args stop (flag close)) (laying.toState (layoutState state)) store) out
+  pub store-left : store2 ≡ layoutStore (rulesOf s b) (laying.toArgs (layoutArgs stop close)) (laying.toState (layoutState state)) store
+  pub told-as : out2 ≡ toldCall s b (layoutAnswer (rulesOf s b) (laying.toArgs (layoutArgs stop close)) (laying.toState (layoutState state)) store) out
 
 -- a rendering call: the store as it was, marks, output, and the answer's numbers
 pub record Renders (s b store marks output state : List ℕ) (stop : ℕ) (out store2 marks2 output2 out2 : List ℕ) : Type 0 where
   pub store-left : store2 ≡ store
-  pub marks-left : marks2 ≡ renderMarks (rulesOf s b) (rendering.args stop (length output)) (rendering.toState (renderState state)) store marks
-  pub output-left : output2 ≡ renderOutput (rulesOf s b) (rendering.args stop (length output)) (rendering.toState (renderState state)) store marks output
-  pub told-as : out2 ≡ told s b (renderAnswer (rulesOf s b) (rendering.args stop (length output)) (rendering.toState (renderState state)) store marks) out
+  pub marks-left : marks2 ≡ renderMarks (rulesOf s b) (rendering.toArgs (renderArgs stop) (length output)) (rendering.toState (renderState state)) store marks
+  pub output-left : output2 ≡ renderOutput (rulesOf s b) (rendering.toArgs (renderArgs stop) (length output)) (rendering.toState (renderState state)) store marks output
+  pub told-as : out2 ≡ toldCall s b (renderAnswer (rulesOf s b) (rendering.toArgs (renderArgs stop) (length output)) (rendering.toState (renderState state)) store marks) out
 
 -- the run of one file: the output, and the answer's numbers
 pub record FormatsFile (s b output out output2 out2 : List ℕ) : Type 0 where

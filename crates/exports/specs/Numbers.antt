@@ -4,15 +4,16 @@ use Prim.Native.Nat.{ℕ}
 use mathlib.Core.Bool.{Bool, cond, not}
 use mathlib.Core.List.{List, [], _∷_}
 use lib.Dec.{eqb}
-use lib.ListN.{set, getD}
+use lib.ListN.{getD}
 use lib.Seq.{sets}
 use Rattle.image.specs.Read as image
 use Rattle.cut_rule.specs.Run.{Answer, refused, laidOut, written}
-use Rattle.cut_rule.specs.Parts as cut
 use Rattle.plain_run.specs.Demands.{rulesOf}
 use Rattle.plain_run.specs.File as file
 use Rattle.layout_call.specs.declared.LayoutState.{LayoutState}
+use Rattle.layout_call.specs.declared.LayoutArgs.{LayoutArgs}
 use Rattle.render_call.specs.declared.RenderState.{RenderState}
+use Rattle.render_call.specs.declared.RenderArgs.{RenderArgs}
 
 -- a refusal's number and place; or 0, the number of comments and the tree's offset
 abbrev pub toldRead : image.Outcome → List ℕ → List ℕ
@@ -47,10 +48,18 @@ renderState l = record {
   row = getD l 4 0;
 }
 
+-- ---- arguments
+abbrev pub layoutArgs : ℕ → ℕ → LayoutArgs
+layoutArgs stop close = record { stop = stop; close = flag close }
+
+abbrev pub renderArgs : ℕ → RenderArgs
+renderArgs stop = record { stop = stop }
+
+-- ---- answers
 -- a call's answer: a refusal's number and place; or 0, the comments left or the bytes written, and the new state
-abbrev pub told : (s b : List ℕ) → Answer (rulesOf s b) → List ℕ → List ℕ
-told s b (refused r) out = sets out 0 (r .number ∷ r .place ∷ [])
-told s b (laidOut t n) out =
+abbrev pub toldCall : (s b : List ℕ) → Answer (rulesOf s b) → List ℕ → List ℕ
+toldCall s b (refused r) out = sets out 0 (r .number ∷ r .place ∷ [])
+toldCall s b (laidOut t n) out =
     sets out 0
     (0
     ∷ n
@@ -62,7 +71,7 @@ told s b (laidOut t n) out =
     ∷ t .cursor .placed
     ∷ t .cursor .position
     ∷ [])
-told s b (written t n) out =
+toldCall s b (written t n) out =
     sets out 0 (0 ∷ n ∷ t .pen .indent ∷ t .pen .next-indent ∷ t .pen .column ∷ t .in-use ∷ t .row ∷ [])
 
 -- a whole file's answer: a refusal's number and place; or 0, the bytes written, the comments left, the rows and the group numbers

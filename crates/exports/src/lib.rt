@@ -15,7 +15,9 @@ use file::Formatted;
 use file::format_file;
 use image::Answer;
 use layout_call::Laying;
+use layout_call::LayoutArgs;
 use layout_call::layout_call;
+use render_call::RenderArgs;
 use render_call::Rendering;
 use render_call::render_call;
 
@@ -53,7 +55,11 @@ pub extern "C" fn rrufthim_layout(
     ensures { λ r. ⌜ Lays (now (source .entry)) (now (image .entry)) (now (store .entry)) (now (state .entry)) stop close (now (out .entry)) (now (store .exit)) (now (out .exit)) ⌝ }
 {
     let from = layout_state(state);
-    match layout_call(source, image, store, from, stop as usize, flag(close)) {
+    let args = LayoutArgs {
+        stop: stop as usize,
+        close: flag(close),
+    };
+    match layout_call(source, image, store, from, args) {
         Laying::Refused(n, p) => {
             out[0] = n as u64;
             out[1] = p as u64;
@@ -78,7 +84,10 @@ pub extern "C" fn rrufthim_render(
     ensures { λ r. ⌜ Renders (now (source .entry)) (now (image .entry)) (now (store .entry)) (now (marks .entry)) (now (output .entry)) (now (state .entry)) stop (now (out .entry)) (now (store .exit)) (now (marks .exit)) (now (output .exit)) (now (out .exit)) ⌝ }
 {
     let from = render_state(state);
-    match render_call(source, image, store, marks, output, from, stop as usize) {
+    let args = RenderArgs {
+        stop: stop as usize,
+    };
+    match render_call(source, image, store, marks, output, from, args) {
         Rendering::Refused(n, p) => {
             out[0] = n as u64;
             out[1] = p as u64;

@@ -10,7 +10,7 @@ use lib.ListN.{length, take, drop, length-drop}
 use lib.Seq.{take-all}
 use borrow.Author.Tests.{le-leb, lt-leb}
 use Rattle.image.specs.Bytes.{be32}
-use Rattle.refusals.specs.Refusals.{Refusal, unless, when}
+use Rattle.refusals.specs.Refusals.{Refusal, unless, refuseIf}
 use Rattle.plain_run.specs.File.{fileOutput, fileAnswerBy, fileAnswer}
 use Rattle.file.specs.Whole.{Formats, sourceOf, imageOf, frameFits, frameRefusal, FormatsFrame}
 use Rattle.file.specs.declared.Formatted.{Formatted}
@@ -20,7 +20,7 @@ module _ (frame out : List ℕ) where
   -- ---- 13
   stopped : frameFits frame ≡ false → FormatsFrame frame out (answer.Refused 13 0) out
   stopped e =
-      let r : frameRefusal frame ≡ some (record { number = 13; place = 0 }) = ap (λ (x : Bool). when (not x) 13 0) e in
+      let r : frameRefusal frame ≡ some (record { number = 13; place = 0 }) = ap (λ (x : Bool). refuseIf (not x) 13 0) e in
       record {
         answer = sym (ap (λ (x : Option Refusal). fileAnswerBy x (fileAnswer (sourceOf frame) (imageOf frame) (length out))) r);
         output-left = sym (ap (λ (x : Option Refusal). unless x out (fileOutput (sourceOf frame) (imageOf frame) out)) r);
@@ -46,7 +46,7 @@ module _ (frame out : List ℕ) where
           let fits : frameFits frame ≡ true =
           rw (le-leb (length frame) 32768 h, le-leb 4 (length frame) k, le-leb (4 + be32 frame 0) (length frame) (omega (arith, e)))
           in
-          let p : frameRefusal frame ≡ none = ap (λ (x : Bool). when (not x) 13 0) fits in
+          let p : frameRefusal frame ≡ none = ap (λ (x : Bool). refuseIf (not x) 13 0) fits in
           record {
             answer =
                 f .answer ∙ sym (ap (λ (x : Option Refusal). fileAnswerBy x (fileAnswer (sourceOf frame) (imageOf frame) (length out))) p);

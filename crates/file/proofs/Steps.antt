@@ -1,36 +1,42 @@
 -- From what the calls ensure to what the file's run answers and leaves.
 -- Assumes nothing.
-use mathlib.Core.Path.{_≡_, refl, sym, ap, ap₂, _∙_}
-use mathlib.Core.Bool.{true}
-use mathlib.Core.Option.{Option, none, some}
+use mathlib.Core.Path.{_≡_, sym, ap, ap₂, _∙_}
+use mathlib.Core.Option.{Option, some}
 use mathlib.Core.List.{List, [], _∷_}
 use Prim.Native.Nat.{ℕ, _-_}
 use native.Mathlib.Omega.{arith}
 use lib.Dec.{ltb}
-use lib.ListN.{length, take}
-use Rattle.image.specs.Read.{Read, got, bad, Image, readAll, answerOf}
+use lib.ListN.{length}
+use Rattle.image.specs.Read.{readAll, answerOf}
 use Rattle.image.specs.declared.Answer.the-variants as checked
 use Rattle.rows.specs.Rows.{rows}
 use Rattle.rows.specs.declared.units.Bytes.{Bytes}
 use Rattle.comments.specs.Listed.{commentsOf}
-use Rattle.refusals.specs.Refusals.{Refusal, unless, first, when}
-use Rattle.cut_rule.specs.Run.{Answer, refused, laidOut, written, answerBy, onto}
-use Rattle.cut_rule.specs.Entries.{layoutAnswer, layoutStore, renderAnswer, renderMarks, renderOutput}
-use Rattle.cut_rule.specs.Parts as cut
-use Rattle.cut_rule.specs.Parts.{layoutFresh, renderFresh, renderTable}
-use Rattle.plain_run.specs.Parts.{parts, refusalOf}
-use Rattle.plain_run.specs.Demands.{rulesOf}
+use Rattle.refusals.specs.Refusals.{Refusal, unless, first, refuseIf}
+use Rattle.cut_rule.specs.Run.{Answer, refused, laidOut, written, answerBy, writeFront}
+use Rattle.cut_rule.specs.Entries.{layoutAnswer, layoutStore, renderAnswer, renderOutput}
+use Rattle.cut_rule.specs.States as states
+use Rattle.cut_rule.specs.Tests as tests
+use Rattle.cut_rule.specs.Rules as rules
+use Rattle.cut_rule.specs.States.{layoutFresh, renderFresh}
+use Rattle.cut_rule.specs.Parts.{beforeMarks}
+use Rattle.cut_rule.proofs.Answers.{refused-told, LaidTold, laid-told, written-told}
+use Rattle.plain_run.specs.Parts.{partsOf}
+use Rattle.plain_run.specs.Demands.{rulesOf, closingAt}
 use Rattle.plain_run.specs.File.{fileRows, fileMarks, built, rowsDue, marksDue, drawnDue, laidRefusal, refusalIn, fileRefusal, formatted, fileAnswerBy}
-use Rattle.plain_run.proofs.File.{storeLeft, marksLeft, outputLeft, stateDue, renderedDue, layout-answer-due, layout-store-due, render-early-due, render-answer-due, render-marks-due, render-output-due}
+use Rattle.plain_run.proofs.Refused.{read-refused}
+use Rattle.plain_run.proofs.File.{storeLeft, outputLeft, stateDue, renderedDue, layout-answer-due, layout-store-due, render-early-due, render-answer-due, render-output-due}
 use Rattle.layout_call.specs.Calls as layouts
 use Rattle.layout_call.specs.Steps.{declared}
-use Rattle.layout_call.specs.Whole.{Called as LayoutCalled}
+use Rattle.layout_call.specs.Whole.{LayoutCalled}
 use Rattle.layout_call.specs.declared.LayoutState.{LayoutState}
+use Rattle.layout_call.specs.declared.LayoutArgs.{LayoutArgs}
 use Rattle.layout_call.specs.declared.Laying.{Laying}
 use Rattle.layout_call.specs.declared.Laying.the-variants as laying
 use Rattle.render_call.specs.Calls as renders
-use Rattle.render_call.specs.Whole.{Checked, Called as RenderCalled}
+use Rattle.render_call.specs.Whole.{Checked, RenderCalled}
 use Rattle.render_call.specs.declared.RenderState.{RenderState}
+use Rattle.render_call.specs.declared.RenderArgs.{RenderArgs}
 use Rattle.render_call.specs.declared.Rendering.{Rendering}
 use Rattle.render_call.specs.declared.Rendering.the-variants as rendering
 use Rattle.file.specs.Whole.{Formats}
@@ -41,34 +47,6 @@ abbrev at : ℕ → ℕ → Refusal
 at n p = record { number = n; place = p }
 
 module _ (s b : List ℕ) where
-  -- ---- what an answer tells
-  -- a refusal is the table's
-  refused-told : (x : Option Refusal) (a : Answer (rulesOf s b)) (r : Refusal) → refused r ≡ answerBy (rulesOf s b) x a → (refused r ≡ a → ⊥)
-      → x ≡ some r
-  refused-told (some q) a r e n = ap some (cc)
-  refused-told none a r e n = absurd (n e)
-
-  -- rows laid out are those due
-  record LaidTold (x : Option Refusal) (t : cut.LayoutState) (l : ℕ) (u : cut.LayoutState) (m : ℕ) : Type 0 where
-    passes : x ≡ none
-    state : t ≡ u
-    left : l ≡ m
-
-  laid-told : (x : Option Refusal) (t : cut.LayoutState) (l : ℕ) (u : cut.LayoutState) (m : ℕ)
-      → laidOut t l ≡ answerBy (rulesOf s b) x (laidOut u m) → LaidTold x t l u m
-  laid-told none t l u m e = record { passes = refl; state = (cc); left = (cc) }
-  laid-told (some r) t l u m e = let z : _≡_ {A = ℕ} 0 1 = cc in absurd (omega arith)
-
-  -- text written is that due
-  record DrawnTold (x : Option Refusal) (l m : ℕ) : Type 0 where
-    passes : x ≡ none
-    bytes : l ≡ m
-
-  drawn-told : (x : Option Refusal) (t : cut.RenderState) (l : ℕ) (u : cut.RenderState) (m : ℕ)
-      → written t l ≡ answerBy (rulesOf s b) x (written u m) → DrawnTold x l m
-  drawn-told none t l u m e = record { passes = refl; bytes = (cc) }
-  drawn-told (some r) t l u m e = let z : _≡_ {A = ℕ} 0 1 = cc in absurd (omega arith)
-
   abbrev leftDue : ℕ
   leftDue = length (commentsOf b) - built s b .placed
 
@@ -76,138 +54,129 @@ module _ (s b : List ℕ) where
   textDue = length (drawnDue s b .text)
 
   -- ---- 1 to 7
-  read-refused : (x : Read Image) (n p : ℕ) → answerOf x ≡ checked.Refused n p → refusalOf x ≡ some (at n p)
-  read-refused (got i end) n p e = let z : _≡_ {A = ℕ} 0 1 = cc in absurd (omega arith)
-  read-refused (bad m q) n p e = λ t. some (at (number t) (place t))
-    where
-      number : m ≡ n
-      number = cc
-
-      place : q ≡ p
-      place = cc
-
   pub check-refused : (out : List ℕ) (n p : ℕ) → answerOf (readAll s b) ≡ checked.Refused n p → Formats s b out (answer.Refused n p) out
   check-refused out n p e =
       let r : fileRefusal s b (length out) ≡ some (at n p) =
       ap (λ (x : Option Refusal).
       first
-      (first (x ∷ when (ltb fileRows (rowsDue s b)) 8 (rowsDue s b) ∷ [])
-      ∷ when (ltb fileMarks (marksDue s b)) 9 (marksDue s b)
-      ∷ when (ltb (length out) textDue) 10 textDue
+      (first (x ∷ refuseIf (ltb fileRows (rowsDue s b)) 8 (rowsDue s b) ∷ [])
+      ∷ refuseIf (ltb fileMarks (marksDue s b)) 9 (marksDue s b)
+      ∷ refuseIf (ltb (length out) textDue) 10 textDue
       ∷ []))
       (read-refused (readAll s b) n p e)
       in
       record {
         answer = sym (ap (λ (x : Option Refusal). fileAnswerBy x (formatted textDue leftDue (rowsDue s b) (built s b .taken))) r);
-        output-left = sym (ap (λ (x : Option Refusal). unless x out (onto (drawnDue s b .text) out)) r);
+        output-left = sym (ap (λ (x : Option Refusal). unless x out (writeFront (drawnDue s b .text) out)) r);
       }
 
   -- ---- the two calls, with rows and marks as many as a whole file has
-  module _ (store marks out : List ℕ) (rowed : cut.rowsIn store ≡ fileRows) (marked : length marks ≡ fileMarks) where
+  module _ (store marks out : List ℕ) (rowed : tests.rowsIn store ≡ fileRows) (marked : length marks ≡ fileMarks) where
     -- a refusal of layout is one of the run
-    first-refused : (r : Refusal) → laidRefusal s b (cut.rowsIn store) ≡ some r → refusalIn s b (cut.rowsIn store) (length marks) (length out) ≡ some r
+    first-refused : (r : Refusal) → laidRefusal s b (tests.rowsIn store) ≡ some r → refusalIn s b (tests.rowsIn store) (length marks) (length out) ≡ some r
     first-refused r e =
         ap (λ (x : Option Refusal).
-        first (x ∷ when (ltb (length marks) (marksDue s b)) 9 (marksDue s b) ∷ when (ltb (length out) textDue) 10 textDue ∷ []))
+        first (x ∷ refuseIf (ltb (length marks) (marksDue s b)) 9 (marksDue s b) ∷ refuseIf (ltb (length out) textDue) 10 textDue ∷ []))
         e
 
     -- the table for these buffers is a whole file's
-    table-same : refusalIn s b (cut.rowsIn store) (length marks) (length out) ≡ fileRefusal s b (length out)
+    table-same : refusalIn s b (tests.rowsIn store) (length marks) (length out) ≡ fileRefusal s b (length out)
     table-same = ap₂ (λ (x y : ℕ). refusalIn s b x y (length out)) rowed marked
 
     -- refused
-    refused-formats : (n p : ℕ) (out2 : List ℕ) → refusalIn s b (cut.rowsIn store) (length marks) (length out) ≡ some (at n p)
+    refused-formats : (n p : ℕ) (out2 : List ℕ) → refusalIn s b (tests.rowsIn store) (length marks) (length out) ≡ some (at n p)
         → out2 ≡ outputLeft s b store marks out
         → Formats s b out (answer.Refused n p) out2
     refused-formats n p out2 e h = record {
       answer =
           sym (ap (λ (x : Option Refusal). fileAnswerBy x (formatted textDue leftDue (rowsDue s b) (built s b .taken))) (sym table-same ∙ e));
-      output-left = h ∙ ap (λ (x : Option Refusal). unless x out (onto (drawnDue s b .text) out)) table-same;
+      output-left = h ∙ ap (λ (x : Option Refusal). unless x out (writeFront (drawnDue s b .text) out)) table-same;
     }
 
     -- refused by the layout call, or before it
-    laid-refused : (n p : ℕ) → laidRefusal s b (cut.rowsIn store) ≡ some (at n p) → Formats s b out (answer.Refused n p) out
+    laid-refused : (n p : ℕ) → laidRefusal s b (tests.rowsIn store) ≡ some (at n p) → Formats s b out (answer.Refused n p) out
     laid-refused n p e =
         let r = first-refused (at n p) e in
-        refused-formats n p out r (sym (ap (λ (x : Option Refusal). unless x out (onto (drawnDue s b .text) out)) r))
+        refused-formats n p out r (sym (ap (λ (x : Option Refusal). unless x out (writeFront (drawnDue s b .text) out)) r))
 
     -- ---- the layout call
-    module _ (state : LayoutState) (stop : ℕ) (r : Laying) (store2 : List ℕ) (fresh : layouts.toState state ≡ layoutFresh)
-        (all : stop ≡ length (declared s b)) (call : LayoutCalled s b state stop true store r store2) where
-      layout-answer : layouts.answerOf s b r ≡ answerBy (rulesOf s b) (laidRefusal s b (cut.rowsIn store)) (laidOut (stateDue s b) leftDue)
+    module _ (state : LayoutState) (q : LayoutArgs) (r : Laying) (store2 : List ℕ) (fresh : layouts.toState state ≡ layoutFresh)
+        (all : layouts.toArgs q ≡ closingAt (length (declared s b))) (call : LayoutCalled s b state q store r store2) where
+      layout-answer : layouts.layingAnswer s b r ≡ answerBy (rulesOf s b) (laidRefusal s b (tests.rowsIn store)) (laidOut (stateDue s b) leftDue)
       layout-answer =
           call .answer
-          ∙ ap₂ (λ (t : cut.LayoutState) (n : ℕ). layoutAnswer (rulesOf s b) (layouts.args n true) t store) fresh all
+          ∙ ap₂ (λ (t : states.LayoutState) (x : rules.LayoutArgs states.LayoutChoice). layoutAnswer (rulesOf s b) x t store) fresh all
           ∙ layout-answer-due s b store
 
       layout-left : store2 ≡ storeLeft s b store
       layout-left =
           call .store-left
-          ∙ ap₂ (λ (t : cut.LayoutState) (n : ℕ). layoutStore (rulesOf s b) (layouts.args n true) t store) fresh all
+          ∙ ap₂ (λ (t : states.LayoutState) (x : rules.LayoutArgs states.LayoutChoice). layoutStore (rulesOf s b) x t store) fresh all
           ∙ layout-store-due s b store
 
-      never-laid : (x : Refusal) (t : cut.LayoutState) (l : ℕ) → _≡_ {A = Answer (rulesOf s b)} (refused x) (laidOut t l) → ⊥
+      never-laid : (x : Refusal) (t : states.LayoutState) (l : ℕ) → _≡_ {A = Answer (rulesOf s b)} (refused x) (laidOut t l) → ⊥
       never-laid x t l e = let z : _≡_ {A = ℕ} 0 1 = cc in omega arith
 
       pub layout-refused : (n p : ℕ) → r ≡ laying.Refused n p → Formats s b out (answer.Refused n p) out
       layout-refused n p e =
           laid-refused n p
-          (refused-told (laidRefusal s b (cut.rowsIn store)) (laidOut (stateDue s b) leftDue) (at n p) (ap (layouts.answerOf s b) (sym e) ∙ layout-answer)
+          (refused-told (rulesOf s b) (laidRefusal s b (tests.rowsIn store)) (laidOut (stateDue s b) leftDue) (at n p) (ap (layouts.layingAnswer s b) (sym e) ∙ layout-answer)
           (never-laid (at n p) (stateDue s b) leftDue))
 
       -- ---- the rendering call
       module _ (t : LayoutState) (left : ℕ) (is : r ≡ laying.Laid t left) (pen : RenderState) (blank : renders.toState pen ≡ renderFresh) where
-        told : LaidTold (laidRefusal s b (cut.rowsIn store)) (layouts.toState t) left (stateDue s b) leftDue
-        told = laid-told (laidRefusal s b (cut.rowsIn store)) (layouts.toState t) left (stateDue s b) leftDue (ap (layouts.answerOf s b) (sym is) ∙ layout-answer)
+        told : LaidTold (rulesOf s b) (laidRefusal s b (tests.rowsIn store)) (layouts.toState t) left (stateDue s b) leftDue
+        told = laid-told (rulesOf s b) (laidRefusal s b (tests.rowsIn store)) (layouts.toState t) left (stateDue s b) leftDue (ap (layouts.layingAnswer s b) (sym is) ∙ layout-answer)
 
         to-row : t .row ≡ rowsDue s b
-        to-row = ap (λ (x : cut.LayoutState). x .cursor .row) (told .state)
+        to-row = ap (λ (x : states.LayoutState). x .cursor .row) (told .state)
 
         -- what the call had is what is due
-        same : {A : Type 0} (f : cut.RenderState → ℕ → List ℕ → A) → f (renders.toState pen) (t .row) store2 ≡ f renderFresh (rowsDue s b) (storeLeft s b store)
-        same f = λ i. f (blank i) (to-row i) (layout-left i)
+        same : {A : Type 0} (f : states.RenderState → RenderArgs → List ℕ → A)
+            → f (renders.toState pen) (record { stop = t .row }) store2 ≡ f renderFresh (record { stop = rowsDue s b }) (storeLeft s b store)
+        same f = λ i. f (blank i) (record { stop = to-row i }) (layout-left i)
 
         -- the rows that the layout call leaves are right
-        pub drawn-starts : Checked s b pen (t .row) store2 marks
+        pub drawn-starts : Checked s b pen (record { stop = t .row }) store2 marks
         drawn-starts = record {
           passes =
-              same (λ x n rows. first (take 3 (renderTable (parts s b) (renders.args n 0) x rows marks)))
+              same (λ x q rows. first (beforeMarks (partsOf s b) (renders.toArgs q 0) x rows marks))
               ∙ render-early-due s b store marks [] (told .passes);
         }
 
-        module _ (o : Rendering) (store3 marks2 out2 : List ℕ) (drew : RenderCalled s b pen (t .row) store2 marks out o store3 marks2 out2) where
-          drawn-answer : renders.answerOf s b o ≡ answerBy (rulesOf s b) (refusalIn s b (cut.rowsIn store) (length marks) (length out)) (written (renderedDue s b) textDue)
+        module _ (o : Rendering) (store3 marks2 out2 : List ℕ) (drew : RenderCalled s b pen (record { stop = t .row }) store2 marks out o store3 marks2 out2) where
+          drawn-answer : renders.renderingAnswer s b o ≡ answerBy (rulesOf s b) (refusalIn s b (tests.rowsIn store) (length marks) (length out)) (written (renderedDue s b) textDue)
           drawn-answer =
               drew .answer
-              ∙ same (λ x n rows. renderAnswer (rulesOf s b) (renders.args n (length out)) x rows marks)
+              ∙ same (λ x q rows. renderAnswer (rulesOf s b) (renders.toArgs q (length out)) x rows marks)
               ∙ render-answer-due s b store marks out (told .passes)
 
           output-same : out2 ≡ outputLeft s b store marks out
           output-same =
               drew .output-left
-              ∙ same (λ x n rows. renderOutput (rulesOf s b) (renders.args n (length out)) x rows marks out)
+              ∙ same (λ x q rows. renderOutput (rulesOf s b) (renders.toArgs q (length out)) x rows marks out)
               ∙ render-output-due s b store marks out (told .passes)
 
-          never-written : (x : Refusal) (u : cut.RenderState) (l : ℕ) → _≡_ {A = Answer (rulesOf s b)} (refused x) (written u l) → ⊥
+          never-written : (x : Refusal) (u : states.RenderState) (l : ℕ) → _≡_ {A = Answer (rulesOf s b)} (refused x) (written u l) → ⊥
           never-written x u l e = let z : _≡_ {A = ℕ} 0 1 = cc in omega arith
 
           pub drawn-refused : (n p : ℕ) → o ≡ rendering.Refused n p → Formats s b out (answer.Refused n p) out2
           drawn-refused n p e =
               refused-formats n p out2
-              (refused-told (refusalIn s b (cut.rowsIn store) (length marks) (length out)) (written (renderedDue s b) textDue) (at n p) (ap (renders.answerOf s b) (sym e) ∙ drawn-answer)
+              (refused-told (rulesOf s b) (refusalIn s b (tests.rowsIn store) (length marks) (length out)) (written (renderedDue s b) textDue) (at n p) (ap (renders.renderingAnswer s b) (sym e) ∙ drawn-answer)
               (never-written (at n p) (renderedDue s b) textDue))
               output-same
 
           pub drawn-formats : (u : RenderState) (bytes : Bytes) → o ≡ rendering.Written u bytes
               → Formats s b out (answer.Text bytes left (t .row) (t .number)) out2
           drawn-formats u bytes e =
-              let w = drawn-told (refusalIn s b (cut.rowsIn store) (length marks) (length out)) (renders.toState u) (bytes .0) (renderedDue s b) textDue
-              (ap (renders.answerOf s b) (sym e) ∙ drawn-answer)
+              let w = written-told (rulesOf s b) (refusalIn s b (tests.rowsIn store) (length marks) (length out)) (renders.toState u) (bytes .0) (renderedDue s b) textDue
+              (ap (renders.renderingAnswer s b) (sym e) ∙ drawn-answer)
               in
-              let number : t .number ≡ built s b .taken = ap (λ (x : cut.LayoutState). x .cursor .number) (told .state) in
+              let number : t .number ≡ built s b .taken = ap (λ (x : states.LayoutState). x .cursor .number) (told .state) in
               record {
                 answer =
                     (λ i. formatted (w .bytes i) (told .left i) (to-row i) (number i))
                     ∙ sym (ap (λ (x : Option Refusal). fileAnswerBy x (formatted textDue leftDue (rowsDue s b) (built s b .taken))) (sym table-same ∙ w .passes));
-                output-left = output-same ∙ ap (λ (x : Option Refusal). unless x out (onto (drawnDue s b .text) out)) table-same;
+                output-left = output-same ∙ ap (λ (x : Option Refusal). unless x out (writeFront (drawnDue s b .text) out)) table-same;
               }

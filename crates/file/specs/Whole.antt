@@ -7,19 +7,19 @@ use Prim.Native.Nat.{ℕ, _+_}
 use lib.Dec.{leb}
 use lib.ListN.{length, take, drop}
 use Rattle.image.specs.Bytes.{be32}
-use Rattle.refusals.specs.Refusals.{Refusal, unless, when}
+use Rattle.refusals.specs.Refusals.{Refusal, unless, refuseIf}
 use Rattle.plain_run.specs.File.{FileAnswer, refused, formatted, fileAnswerBy, fileAnswer, fileOutput}
 use Rattle.file.specs.declared.Formatted.{Formatted}
 use Rattle.file.specs.declared.Formatted.the-variants as answer
 
 -- An answer, case by case: the bytes written, the comments left, the rows and the group numbers; "Number and place are all that comes back."
-abbrev pub answerOf : Formatted → FileAnswer
-answerOf (answer.Text bytes left rows numbers) = formatted (bytes .0) left rows numbers
-answerOf (answer.Refused n p) = refused (record { number = n; place = p })
+abbrev pub formattedAnswer : Formatted → FileAnswer
+formattedAnswer (answer.Text bytes left rows numbers) = formatted (bytes .0) left rows numbers
+formattedAnswer (answer.Refused n p) = refused (record { number = n; place = p })
 
 -- the answer, and the output at exit, for one source and image
 pub record Formats (source image out : List ℕ) (r : Formatted) (out2 : List ℕ) : Type 0 where
-  pub answer : answerOf r ≡ fileAnswer source image (length out)
+  pub answer : formattedAnswer r ≡ fileAnswer source image (length out)
   pub output-left : out2 ≡ fileOutput source image out
 
 -- a frame: "four bytes source length, source, image"
@@ -35,7 +35,7 @@ frameFits frame = leb (length frame) 32768 && leb 4 (length frame) && leb (4 + b
 
 -- "tested before all else"
 abbrev pub frameRefusal : List ℕ → Option Refusal
-frameRefusal frame = when (not (frameFits frame)) 13 0
+frameRefusal frame = refuseIf (not (frameFits frame)) 13 0
 
 -- the answer, and the output at exit, for one frame
 abbrev pub frameAnswer : List ℕ → ℕ → FileAnswer
@@ -45,5 +45,5 @@ abbrev pub frameOutput : List ℕ → List ℕ → List ℕ
 frameOutput frame out = unless (frameRefusal frame) out (fileOutput (sourceOf frame) (imageOf frame) out)
 
 pub record FormatsFrame (frame out : List ℕ) (r : Formatted) (out2 : List ℕ) : Type 0 where
-  pub answer : answerOf r ≡ frameAnswer frame (length out)
+  pub answer : formattedAnswer r ≡ frameAnswer frame (length out)
   pub output-left : out2 ≡ frameOutput frame out

@@ -1,7 +1,10 @@
 // Module 8: the whole run of one file, and of a frame that the program reads.
 ghost use mathlib.Core.Path.{_≡_};
+ghost use Prim.Native.Nat.{_*_};
 ghost use lib.ListN.{length};
-ghost use Rattle.cut_rule.specs.Parts.{layoutFresh, renderFresh};
+ghost use Rattle.rows.specs.Places.{PLACES};
+ghost use Rattle.cut_rule.specs.States.{layoutFresh, renderFresh};
+ghost use Rattle.plain_run.specs.File.{fileRows, fileMarks};
 ghost use Rattle.layout_call.specs.Calls.{toState as laidState};
 ghost use Rattle.layout_call.specs.Steps.{Accepts};
 ghost use Rattle.render_call.specs.Calls.{toState as renderedState};
@@ -9,18 +12,29 @@ ghost use Rattle.file.specs.Whole.{Formats, FormatsFrame};
 use image::Answer;
 use image::bytes::num32;
 use image::check;
+use layout_call::Document;
 use layout_call::Laying;
+use layout_call::LayoutArgs;
 use layout_call::LayoutState;
-use layout_call::accepted;
+use layout_call::layout_accepted;
 use layout_call::steps::count_declarations;
+use render_call::RenderArgs;
 use render_call::RenderState;
 use render_call::Rendering;
 use render_call::render_checked;
+use rows::places::PLACES;
 use rows::units::Bytes;
 use rows::units::Columns;
 
 // The longest frame that the program takes.
 const MAX_FRAME: usize = 32768;
+
+// What a run has of its own: 1,800 rows and 1,800 marks.
+const ROWS: usize = 1800;
+
+const CELLS: usize = ROWS * PLACES;
+
+const MARKS: usize = 1800;
 
 pub enum Formatted {
     // the bytes written, the comments left, the rows and the group numbers
@@ -62,41 +76,36 @@ fn render_fresh() -> RenderState
     }
 }
 
-// 1,800 rows.
-fn rows() -> [u32; 16200]
-    ensures { λ r. ⌜ 16200 ≡ length r ⌝ }
+// The places of its rows.
+fn rows() -> [u32; CELLS]
+    ensures { λ r. ⌜ fileRows * PLACES ≡ length r ⌝ }
 {
-    [0; 16200]
+    [0; CELLS]
 }
 
-// 1,800 marks.
-fn marks() -> [u8; 1800]
-    ensures { λ r. ⌜ 1800 ≡ length r ⌝ }
+// Its marks.
+fn marks() -> [u8; MARKS]
+    ensures { λ r. ⌜ fileMarks ≡ length r ⌝ }
 {
-    [0; 1800]
+    [0; MARKS]
 }
 
-// A file that is accepted, with n comments and the tree at `at`: all declarations in one layout call, all rows in one rendering call. The rows
+// A file that is accepted: all declarations in one layout call, all rows in one rendering call. The rows
 // of a file that 9 or 10 refuses can't be taken back out of a lent store, so that rows and marks are of its own.
-fn format_accepted(source: &[u8], image: &[u8], out: &mut [u8], n: usize, at: usize) -> Formatted
-    requires { ⌜ Accepts (now source) (now image) n at ⌝ }
+fn format_accepted(source: &[u8], image: &[u8], out: &mut [u8], doc: Document) -> Formatted
+    requires { ⌜ Accepts (now source) (now image) doc ⌝ }
     ensures { λ r. ⌜ Formats (now (source .entry)) (now (image .entry)) (now (out .entry)) r (now (out .exit)) ⌝ }
 {
     let mut store = rows();
     let mut used = marks();
-    let declarations = count_declarations(source, image, n, at);
-    match accepted(
-        source,
-        image,
-        &mut store,
-        n,
-        at,
-        layout_fresh(),
-        declarations,
-        true,
-    ) {
+    let all = LayoutArgs {
+        stop: count_declarations(source, image, doc),
+        close: true,
+    };
+    match layout_accepted(source, image, &mut store, doc, layout_fresh(), all) {
         Laying::Refused(number, place) => Formatted::Refused(number, place),
         Laying::Laid(state, left) => {
+            let to = RenderArgs { stop: state.row };
             match render_checked(
                 source,
                 image,
@@ -104,7 +113,7 @@ fn format_accepted(source: &[u8], image: &[u8], out: &mut [u8], n: usize, at: us
                 &mut used,
                 out,
                 render_fresh(),
-                state.row,
+                to,
             ) {
                 Rendering::Refused(number, place) => Formatted::Refused(number, place),
                 Rendering::Written(end, bytes) => Formatted::Text {
@@ -124,7 +133,13 @@ pub fn format_file(source: &[u8], image: &[u8], out: &mut [u8]) -> Formatted
 {
     match check(source, image) {
         Answer::Refused(number, place) => Formatted::Refused(number, place),
-        Answer::Accepted { comments, tree } => format_accepted(source, image, out, comments, tree),
+        Answer::Accepted { comments, tree } => {
+            let doc = Document {
+                comments: comments,
+                tree: tree,
+            };
+            format_accepted(source, image, out, doc)
+        }
     }
 }
 

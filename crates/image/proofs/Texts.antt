@@ -5,7 +5,7 @@ use mathlib.Core.List.{List}
 use mathlib.Core.Bool.{Bool, true, false, not}
 use Prim.Native.Nat.{ℕ}
 use native.Mathlib.Omega.{arith}
-use Rattle.refusals.specs.Refusals.{Refusal, when}
+use Rattle.refusals.specs.Refusals.{Refusal, refuseIf}
 use Rattle.text.specs.Utf8.{prefix, wellFormed, illFormed, refusalOf}
 use Rattle.text.specs.declared.utf8.Checked.the-variants.{WellFormed, Bad}
 
@@ -13,7 +13,7 @@ pub checked-well : (s : List ℕ) → illFormed s ≡ refusalOf WellFormed → w
 unfolding illFormed
 checked-well s e = go (wellFormed s) e
   where
-    go : (t : Bool) → when (not t) 2 (prefix s) ≡ refusalOf WellFormed → t ≡ true
+    go : (t : Bool) → refuseIf (not t) 2 (prefix s) ≡ refusalOf WellFormed → t ≡ true
     go true e = refl
     go false e = let z : _≡_ {A = ℕ} 0 1 = cc in absurd (omega arith)
 
@@ -21,7 +21,7 @@ pub checked-bad : (s : List ℕ) (at : ℕ) → illFormed s ≡ refusalOf (Bad a
 unfolding illFormed
 checked-bad s at e = go (wellFormed s) e
   where
-    go : (t : Bool) → when (not t) 2 (prefix s) ≡ refusalOf (Bad at) → t ≡ false
+    go : (t : Bool) → refuseIf (not t) 2 (prefix s) ≡ refusalOf (Bad at) → t ≡ false
     go true e = let z : _≡_ {A = ℕ} 0 1 = cc in absurd (omega arith)
     go false e = refl
 
@@ -30,7 +30,7 @@ pub checked-place : (s : List ℕ) (at : ℕ) → illFormed s ≡ refusalOf (Bad
 unfolding illFormed
 checked-place s at e = go (wellFormed s) e
   where
-    go : (t : Bool) → when (not t) 2 (prefix s) ≡ refusalOf (Bad at) → at ≡ prefix s
+    go : (t : Bool) → refuseIf (not t) 2 (prefix s) ≡ refusalOf (Bad at) → at ≡ prefix s
     go true e = let z : _≡_ {A = ℕ} 0 1 = cc in absurd (omega arith)
     go false e =
         let same : _≡_ {A = Refusal} (record { number = 2; place = prefix s }) (record { number = 2; place = at }) = cc in

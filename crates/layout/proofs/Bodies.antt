@@ -21,7 +21,7 @@ use Rattle.state.proofs.Laws.{Lays, lays-then, lays-skip, room-first, room-next
 use Rattle.state.proofs.Nested.{lays-group, lays-indent}
 use Rattle.comments.specs.Listed.{given}
 use Rattle.layout.specs.Layout.{importPath, isBraced, noneOf, isEmpty, gap, stmtsRule, stmtRule, stmtForm, beforeStmt, afterStmt, blockStart, blockRule, partsRule, placeholder}
-use Rattle.layout.specs.Contracts.{Has, HasAll, Within, Whole, Accepted}
+use Rattle.layout.specs.Contracts.{Has, HasAll, InImage, Whole, Readable}
 use Rattle.layout.specs.Forms.{exprWith, stmtsFrom, lastFrom, bodyRule, LetAt, letRule, SpanAt, contentRule, Part, text, PartAt, partRule}
 use Rattle.layout.specs.Forms as forms
 use Rattle.layout.proofs.Places.{head-whole, expr-whole, stmt-whole, maybe-expr}
@@ -151,7 +151,7 @@ module _ {s b : List ℕ} {at : ℕ} where
 
 -- ---- statements one after the other
 pub record MoreStmts (first : Bool) (s b : List ℕ) (p to : ℕ) (c : Cursor) : Type 0 where
-  pub accepted : Accepted s b
+  pub accepted : Readable s b
   pub stmt : Stmt
   pub held : StmtAt s b stmt p
   pub whole : Whole b p
@@ -337,7 +337,7 @@ module _ {s b : List ℕ} {at : ℕ} where
 
 -- ---- the parts of an f-string one after the other
 pub record MoreParts (s b : List ℕ) (p to : ℕ) (c : Cursor) : Type 0 where
-  pub accepted : Accepted s b
+  pub accepted : Readable s b
   pub part : Part
   pub held : PartAt s b part p
   pub whole : Whole b p

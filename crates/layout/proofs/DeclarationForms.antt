@@ -19,15 +19,12 @@ use Rattle.state.specs.Laid.{text, Room}
 use Rattle.state.specs.declared.Cursor.{Cursor}
 use Rattle.state.proofs.Laws.{Lays, lays-then, lays-skip, room-first, room-next}
 use Rattle.comments.specs.Listed.{given}
-use Rattle.layout.specs.declared.kinds.Element.the-variants as element
-use Rattle.layout.specs.declared.kinds.WrapStyle.the-variants.{Tight}
-use Rattle.layout.specs.Layout.{typeExpr, identElems, typeParams, unlessEmpty, someTypeParams, returnType, declaration, shebangRule, declarationsRule}
-use Rattle.layout.specs.Contracts.{Has, HasAll, Whole, Accepted}
-use Rattle.layout.specs.Elems.{ListOf, HasList}
+use Rattle.layout.specs.Layout.{typeExpr, unlessEmpty, someTypeParams, returnType, declaration, shebangRule, declarationsRule}
+use Rattle.layout.specs.Contracts.{Has, HasAll, Whole, Readable}
+use Rattle.layout.specs.Elems.{typeParamsRule}
 use Rattle.layout.specs.Forms.{two, three, four, five, OfDeclaration, declarationRule, anyDeclaration, MaybeListAt, MaybeTypeAt, MaybeIdentAt, declarationsFrom}
 use Rattle.layout.proofs.Places.{head-whole, type-whole, import-whole}
-use Rattle.layout.proofs.Runs.{list-of, ident-elems}
-use Rattle.layout.proofs.Lays.{LaysAll, LaysAs, LaysList}
+use Rattle.layout.proofs.Lays.{LaysAll, LaysAs}
 
 -- d is of the form mk
 abbrev pub IsDeclaration : {X : Type 0} → (X → Declaration) → Declaration → Type 0
@@ -114,27 +111,19 @@ params-whole s b at f none a = absurd (f (a .zero))
 params-whole s b at f (some is) a = head-whole (a .head)
 
 module _ {s b : List ℕ} {at : ℕ} where
-  pub params-list : {c : Cursor} → (be32 b at ≡ 0 → ⊥) → (at + 13 ≡ stopAt b at → ⊥) → Has MaybeListAt someTypeParams s b at c
-      → HasList element.Ident 37 38 true Tight (be32 b (at + 9)) s b at c
-  unfolding Maybe IdentsAt typeParams
-  params-list {c} f g h = go (h .tree) (h .held) (h .room)
+  pub params-has : {c : Cursor} → (be32 b at ≡ 0 → ⊥) → (at + 13 ≡ stopAt b at → ⊥) → Has MaybeListAt someTypeParams s b at c
+      → Has ListAt typeParamsRule s b at c
+  unfolding Maybe IdentsAt
+  params-has {c} f g h = go (h .tree) (h .held) (h .room)
     where
       inner : (is : List Ident) (w : Act) → IdentsAt s b is (at + 13) (stopAt b at) → Room (unlessEmpty is w) c → Room w c
       inner [] w a room = absurd (g (a .same))
       inner (i ∷ is) w a room = room
 
-      go : (m : Option Idents) → MaybeListAt s b m at → Room (someTypeParams (given s b) m) c
-          → HasList element.Ident 37 38 true Tight (be32 b (at + 9)) s b at c
+      go : (m : Option Idents) → MaybeListAt s b m at → Room (someTypeParams (given s b) m) c → Has ListAt typeParamsRule s b at c
       go none a room = absurd (f (a .zero))
       go (some is) a room =
-          record {
-            accepted = h .accepted;
-            tree = identElems (given s b) (is .elems);
-            held = list-of (a .head) (ident-elems s b (stopAt b at) (at + 13) (is .elems) (a .elems));
-            span = is .span;
-            ended = a .head .end;
-            room = inner (is .elems) (typeParams (given s b) is) (a .elems) room;
-          }
+          record { accepted = h .accepted; tree = is; held = a; room = inner (is .elems) (typeParamsRule (given s b) is) (a .elems) room }
 
   pub no-params : {x : List ℕ} {c : Cursor} → be32 b at ≡ 0 → LaysAs MaybeListAt someTypeParams s b at x c x c
   unfolding Maybe
@@ -154,11 +143,11 @@ module _ {s b : List ℕ} {at : ℕ} where
 
       go : (m : Option Idents) → MaybeListAt s b m at → Lays (someTypeParams (given s b) m) x c x c
       go none a = lays-skip
-      go (some is) a = inner (is .elems) (typeParams (given s b) is) (a .elems)
+      go (some is) a = inner (is .elems) (typeParamsRule (given s b) is) (a .elems)
 
   pub some-params : {x y : List ℕ} {c d : Cursor} → (be32 b at ≡ 0 → ⊥) → (at + 13 ≡ stopAt b at → ⊥)
-      → LaysList element.Ident 37 38 true Tight (be32 b (at + 9)) s b at x c y d → LaysAs MaybeListAt someTypeParams s b at x c y d
-  unfolding Maybe IdentsAt typeParams
+      → LaysAs ListAt typeParamsRule s b at x c y d → LaysAs MaybeListAt someTypeParams s b at x c y d
+  unfolding Maybe IdentsAt
   some-params {x} {y} {c} {d} f g l = record { of = go }
     where
       inner : (is : List Ident) (w : Act) → IdentsAt s b is (at + 13) (stopAt b at) → Lays w x c y d → Lays (unlessEmpty is w) x c y d
@@ -167,10 +156,7 @@ module _ {s b : List ℕ} {at : ℕ} where
 
       go : (m : Option Idents) → MaybeListAt s b m at → Lays (someTypeParams (given s b) m) x c y d
       go none a = absurd (f (a .zero))
-      go (some is) a =
-          inner (is .elems) (typeParams (given s b) is) (a .elems)
-          (l .of (identElems (given s b) (is .elems)) (list-of (a .head) (ident-elems s b (stopAt b at) (at + 13) (is .elems) (a .elems)))
-          (is .span) (a .head .end))
+      go (some is) a = inner (is .elems) (typeParamsRule (given s b) is) (a .elems) (l .of is a)
 
   pub return-has : {c : Cursor} → (be32 b at ≡ 0 → ⊥) → Has MaybeTypeAt returnType s b at c
       → Has TypeAt (λ g t. says "-> " ⨟ typeExpr g t ⨟ says " ") s b at c
@@ -237,7 +223,7 @@ module _ {s b : List ℕ} {at : ℕ} where
 
 -- ---- declarations one after the other
 pub record MoreDeclarations (first : Bool) (s b : List ℕ) (p to : ℕ) (c : Cursor) : Type 0 where
-  pub accepted : Accepted s b
+  pub accepted : Readable s b
   pub tree : Declaration
   pub held : DeclarationAt s b tree p
   pub whole : Whole b p

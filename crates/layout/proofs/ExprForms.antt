@@ -10,14 +10,15 @@ use Rattle.image.specs.Bytes.{be32}
 use Rattle.image.specs.Read.{stopAt, kindAt}
 use Rattle.tree.specs.Syntax.{Span, Expr, expr, Form, return′, literal, block, match′, functionCall, access, path, record′, typedRecord, list, not′, assign, compoundAssign, binOp, negate, ifElse, while, for, questionMark, fString, parentheses}
 use Rattle.tree.specs.At.{Head, formKind, ExprAt}
-use Rattle.state.specs.Act.{Given, Act, when}
+use Rattle.state.specs.Act.{Given, Act, _⨟_, when}
 use Rattle.state.specs.Laid.{Room}
 use Rattle.state.specs.declared.Cursor.{Cursor}
+use Rattle.comments.specs.Comments.{popTrailingComment}
 use Rattle.comments.specs.Listed.{given}
-use Rattle.layout.specs.Layout.{look, lookForm, isBlock, isBraced}
+use Rattle.layout.specs.Layout.{exprWithPrecedence, isBlock, isBraced}
 use Rattle.layout.specs.Contracts.{Has}
-use Rattle.layout.specs.Forms.{two, three, four, Of, formRule, formWith}
-use Rattle.state.proofs.Laws.{Lays}
+use Rattle.layout.specs.Forms.{two, three, four, Of, formRule, formWith, exprWith}
+use Rattle.state.proofs.Laws.{Lays, lays-then}
 use Rattle.layout.proofs.Lays.{LaysAs}
 
 -- e is of the form mk
@@ -118,7 +119,7 @@ module _ (s b : List ℕ) (at : ℕ) where
 -- an expression whose form is known
 module _ {s b : List ℕ} {at : ℕ} {X : Type 0} (mk : X → Form) (f : (e : Expr) → ExprAt s b e at → IsForm mk e) where
   pub expr-has : (outer : ℕ) {c : Cursor} → Has ExprAt (formWith outer) s b at c → Has (Of mk) (formRule mk outer) s b at c
-  unfolding look
+  unfolding exprWithPrecedence
   expr-has outer {c} h =
       let x = f (h .tree) (h .held) in
       record {
@@ -130,7 +131,7 @@ module _ {s b : List ℕ} {at : ℕ} {X : Type 0} (mk : X → Form) (f : (e : Ex
 
   pub expr-laid : (outer : ℕ) {x y : List ℕ} {c d : Cursor} → LaysAs (Of mk) (formRule mk outer) s b at x c y d
       → LaysAs ExprAt (formWith outer) s b at x c y d
-  unfolding look
+  unfolding exprWithPrecedence
   expr-laid outer {x} {y} {c} {d} l =
       record {
         of =
@@ -139,6 +140,24 @@ module _ {s b : List ℕ} {at : ℕ} {X : Type 0} (mk : X → Form) (f : (e : Ex
             subst (λ (u : Expr). Lays (formWith outer (given s b) u) x c y d) (z .1)
             (l .of (z .0) (subst (λ (u : Expr). ExprAt s b u at) (sym (z .1)) a));
       }
+
+-- an expression, and the comment after it
+module _ (outer : ℕ) {s b : List ℕ} {at : ℕ} where
+  pub whole-has : {c : Cursor} → Has ExprAt (exprWith outer) s b at c → Has ExprAt (λ g e. formWith outer g e ⨟ popTrailingComment g) s b at c
+  unfolding exprWithPrecedence
+  whole-has {c} h = go (h .tree) (h .held) (h .room)
+    where
+      go : (e : Expr) → ExprAt s b e at → Room (exprWith outer (given s b) e) c
+          → Has ExprAt (λ g e. formWith outer g e ⨟ popTrailingComment g) s b at c
+      go (expr p f) a room = record { accepted = h .accepted; tree = expr p f; held = a; room = room }
+
+  pub whole-laid : {x y z : List ℕ} {c d e : Cursor} → LaysAs ExprAt (formWith outer) s b at x c y d → Lays (popTrailingComment (given s b)) y d z e
+      → LaysAs ExprAt (exprWith outer) s b at x c z e
+  unfolding exprWithPrecedence
+  whole-laid {x} {y} {z} {c} {d} {e} l m = record { of = go }
+    where
+      go : (i : Expr) → ExprAt s b i at → Lays (exprWith outer (given s b) i) x c z e
+      go (expr p f) a = lays-then (l .of (expr p f) a) m
 
 -- the comma after an arm
 pub comma-laid : (s b : List ℕ) (at : ℕ) (e : Expr) (a : Act) {x y : List ℕ} {c d : Cursor} → ExprAt s b e at

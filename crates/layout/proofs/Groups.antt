@@ -19,13 +19,12 @@ use Rattle.state.specs.declared.Cursor.{Cursor}
 use Rattle.state.proofs.Laws.{Lays, lays-then, lays-skip}
 use Rattle.comments.specs.Listed.{given}
 use Rattle.layout.specs.Layout.{pathRule, isSome, isGroup, importFirst, importPath, importGroup, importItems, importElems, separated}
-use Rattle.layout.specs.Contracts.{Has, Within, Whole}
+use Rattle.layout.specs.Contracts.{Has, InImage, Whole}
 use Rattle.layout.specs.Forms.{MaybePathAt}
 use Rattle.layout.proofs.Places.{within, head-whole, import-whole}
-use Rattle.layout.proofs.Runs.{list-of, import-elems}
-use Rattle.layout.specs.Elems.{HasList}
-use Rattle.layout.specs.declared.kinds.Element.the-variants as element
-use Rattle.layout.specs.declared.kinds.WrapStyle.the-variants.{Tight}
+use Rattle.layout.proofs.Runs.{list-of, import-elems, braces}
+use Rattle.layout.specs.Elems.{ImportElem, HasList}
+use Rattle.layout.specs.declared.forms.WrapStyle.the-variants.{Tight}
 use Rattle.layout.proofs.Lays.{LaysAs, LaysList}
 
 module _ (s b : List ℕ) (at : ℕ) where
@@ -142,7 +141,7 @@ module _ (s b : List ℕ) (at : ℕ) (f : be32 b at ≡ 0 → ⊥) where
   group-whole noGroup a = absurd (f (a .zero))
   group-whole (group p is) a = head-whole (a .0)
 
-  pub group-next : (q : ImportGroup) → ImportGroupAt s b q at → (stopAt b at ≡ at + 13 → ⊥) → Within b (at + 13)
+  pub group-next : (q : ImportGroup) → ImportGroupAt s b q at → (stopAt b at ≡ at + 13 → ⊥) → InImage b (at + 13)
   unfolding ImportGroupAt ImportsAt
   group-next noGroup a g = absurd (f (a .zero))
   group-next (group p noImports) a g = absurd (g (sym (a .1 .same)))
@@ -151,13 +150,13 @@ module _ (s b : List ℕ) (at : ℕ) (f : be32 b at ≡ 0 → ⊥) where
 module _ {s b : List ℕ} {at : ℕ} where
   -- the list of a group
   pub group-list : {c : Cursor} → (be32 b at ≡ 0 → ⊥) → ((stopAt b at ≡ at + 13 → ⊥) → stopAt b (at + 13) ≡ stopAt b at → ⊥)
-      → Has ImportGroupAt importGroup s b at c → HasList element.Import 39 40 true Tight (be32 b (at + 9)) s b at c
+      → Has ImportGroupAt importGroup s b at c → HasList ImportElem braces (be32 b (at + 9)) s b at c
   unfolding ImportGroupAt ImportsAt importGroup
   group-list {c} f g h = go (h .tree) (h .held) (h .room)
     where
       list : (p : Span) (is : Imports) → ImportGroupAt s b (group p is) at
           → Room (separated (given s b) "{" "}" "," (importElems (given s b) is) p Tight) c
-          → HasList element.Import 39 40 true Tight (be32 b (at + 9)) s b at c
+          → HasList ImportElem braces (be32 b (at + 9)) s b at c
       list p is a room =
           record {
             accepted = h .accepted;
@@ -169,7 +168,7 @@ module _ {s b : List ℕ} {at : ℕ} where
           }
 
       go : (q : ImportGroup) → ImportGroupAt s b q at → Room (importGroup (given s b) q) c
-          → HasList element.Import 39 40 true Tight (be32 b (at + 9)) s b at c
+          → HasList ImportElem braces (be32 b (at + 9)) s b at c
       go noGroup a room = absurd (f (a .zero))
       go (group p noImports) a room = list p noImports a room
       go (group p (i ∷ⁱ noImports)) a room =
@@ -201,7 +200,7 @@ module _ {s b : List ℕ} {at : ℕ} where
       go (group p (i ∷ⁱ j ∷ⁱ is)) a = absurd (omega (arith, e, a .1 .2 .1 .least, import-whole s b (stopAt b (at + 13)) j (a .1 .2 .0) .long))
 
   pub more-imports : {x y : List ℕ} {c d : Cursor} → (be32 b at ≡ 0 → ⊥) → ((stopAt b at ≡ at + 13 → ⊥) → stopAt b (at + 13) ≡ stopAt b at → ⊥)
-      → LaysList element.Import 39 40 true Tight (be32 b (at + 9)) s b at x c y d → LaysAs ImportGroupAt importGroup s b at x c y d
+      → LaysList ImportElem braces (be32 b (at + 9)) s b at x c y d → LaysAs ImportGroupAt importGroup s b at x c y d
   unfolding ImportGroupAt ImportsAt importGroup
   more-imports {x} {y} {c} {d} f g l = record { of = go }
     where

@@ -1,4 +1,4 @@
-pub mod Idents
+pub mod IdentLaws
 pub mod Lays
 pub mod Places
 pub mod Groups
@@ -7,7 +7,7 @@ pub mod Runs
 pub mod TypeForms
 pub mod Symbols
 pub mod ExprForms
-pub mod Spines
+pub mod Operands
 pub mod Optionals
 pub mod Bodies
 pub mod DeclarationForms

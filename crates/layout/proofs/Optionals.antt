@@ -14,15 +14,14 @@ use Rattle.state.specs.Act.{Act, _⨟_, says}
 use Rattle.state.specs.Laid.{Room}
 use Rattle.state.specs.declared.Cursor.{Cursor}
 use Rattle.state.proofs.Laws.{Lays, lays-then, lays-skip, room-first, room-next}
+use Rattle.comments.specs.Comments.{popTrailingComment}
 use Rattle.comments.specs.Listed.{given}
-use Rattle.layout.specs.declared.kinds.Element.the-variants as element
-use Rattle.layout.specs.declared.kinds.WrapStyle.the-variants.{Tight}
-use Rattle.layout.specs.Layout.{ident, typeExpr, identElems, letType, maybeExpr, otherwise, lastRule, beforeStmt, trailing, blockRule, pattern}
-use Rattle.layout.specs.Contracts.{Has, Whole, Within}
-use Rattle.layout.specs.Elems.{ListOf, HasList}
+use Rattle.layout.specs.Layout.{ident, typeExpr, identElems, letType, maybeExpr, otherwise, lastRule, beforeStmt, blockRule, pattern}
+use Rattle.layout.specs.Contracts.{Has, Whole, InImage}
+use Rattle.layout.specs.Elems.{IdentElem, ListOf, HasList}
 use Rattle.layout.specs.Forms.{exprWith, afterWord, maybeAfter, lastFrom, MaybeTypeAt, MaybeListAt}
 use Rattle.layout.proofs.Places.{head-whole, type-whole, expr-whole, block-whole, maybe-list}
-use Rattle.layout.proofs.Runs.{list-of, ident-elems}
+use Rattle.layout.proofs.Runs.{list-of, ident-elems, parens}
 use Rattle.layout.proofs.Lays.{LaysAs, LaysList}
 
 module _ {s b : List ℕ} {at : ℕ} where
@@ -54,12 +53,12 @@ module _ {s b : List ℕ} {at : ℕ} where
 
   -- ---- the last expression of a block
   pub has-last : (first : Bool) {n : ℕ} {c : Cursor} → (be32 b at ≡ 0 → ⊥) → n ≡ be32 b (at + 5) → Has MaybeExprAt (lastFrom first) s b at c
-      → Has ExprAt (λ g e. beforeStmt g first n ⨟ exprWith 0 g e ⨟ trailing g) s b at c
+      → Has ExprAt (λ g e. beforeStmt g first n ⨟ exprWith 0 g e ⨟ popTrailingComment g) s b at c
   unfolding MaybeExprAt ExprAt lastRule
   has-last first {n} {c} f q h = go (h .tree) (h .held) (h .room)
     where
       go : (m : MaybeExpr) → MaybeExprAt s b m at → Room (lastFrom first (given s b) m) c
-          → Has ExprAt (λ g e. beforeStmt g first n ⨟ exprWith 0 g e ⨟ trailing g) s b at c
+          → Has ExprAt (λ g e. beforeStmt g first n ⨟ exprWith 0 g e ⨟ popTrailingComment g) s b at c
       go noExpr a room = absurd (f (a .zero))
       go (someExpr (expr p i)) a room =
           record {
@@ -68,7 +67,7 @@ module _ {s b : List ℕ} {at : ℕ} where
             held = a;
             room =
                 subst
-                (λ (j : ℕ). Room (beforeStmt (given s b) first j ⨟ exprWith 0 (given s b) (expr p i) ⨟ trailing (given s b)) c)
+                (λ (j : ℕ). Room (beforeStmt (given s b) first j ⨟ exprWith 0 (given s b) (expr p i) ⨟ popTrailingComment (given s b)) c)
                 (sym (q ∙ a .0 .start)) room;
           }
 
@@ -81,7 +80,7 @@ module _ {s b : List ℕ} {at : ℕ} where
       go (someExpr i) a = absurd (omega (arith, e, expr-whole s b at i a .long))
 
   pub some-last : (first : Bool) {n : ℕ} {x y z w : List ℕ} {c d e f : Cursor} → (be32 b at ≡ 0 → ⊥) → n ≡ be32 b (at + 5)
-      → Lays (beforeStmt (given s b) first n) x c y d → LaysAs ExprAt (exprWith 0) s b at y d z e → Lays (trailing (given s b)) z e w f
+      → Lays (beforeStmt (given s b) first n) x c y d → LaysAs ExprAt (exprWith 0) s b at y d z e → Lays (popTrailingComment (given s b)) z e w f
       → LaysAs MaybeExprAt (lastFrom first) s b at x c w f
   unfolding MaybeExprAt ExprAt lastRule
   some-last first {n} {x} {y} {z} {w} {c} {d} {e} {f} g q l m t = record { of = go }
@@ -147,7 +146,7 @@ module _ {s b : List ℕ} {at : ℕ} where
 pub record PatternParts (s b : List ℕ) (at : ℕ) (c : Cursor) : Type 0 where
   pub whole : Whole b at
   pub name : Has IdentAt ident s b (at + 13) c
-  pub fields : Within b (stopAt b (at + 13))
+  pub fields : InImage b (stopAt b (at + 13))
   pub ends : Ends s b (stopAt b (at + 13)) at
 
 module _ {s b : List ℕ} {at : ℕ} where
@@ -178,14 +177,24 @@ module _ {s b : List ℕ} {at : ℕ} where
       go (enumVariant i none) a room = parts i none a room
       go (enumVariant i (some is)) a room = parts i (some is) a (room-first _ room)
 
+  pub fields-whole : {c : Cursor} → (kindAt b at ≡ 82 → ⊥) → (be32 b (stopAt b (at + 13)) ≡ 0 → ⊥) → Has PatternAt pattern s b at c
+      → Whole b (stopAt b (at + 13))
+  unfolding PatternAt Maybe
+  fields-whole f g h = go (h .tree) (h .held)
+    where
+      go : (p : Pattern) → PatternAt s b p at → Whole b (stopAt b (at + 13))
+      go underscore a = absurd (f (a .0 .head .kinds))
+      go (enumVariant i none) a = absurd (g (a .2 .zero))
+      go (enumVariant i (some is)) a = head-whole (a .2 .head)
+
   pub fields-list : {x y : List ℕ} {c d : Cursor} → (kindAt b at ≡ 82 → ⊥) → (be32 b (stopAt b (at + 13)) ≡ 0 → ⊥)
       → LaysAs IdentAt ident s b (at + 13) x c y d → Has PatternAt pattern s b at c
-      → HasList element.Ident 35 36 true Tight (be32 b (stopAt b (at + 13) + 9)) s b (stopAt b (at + 13)) d
+      → HasList IdentElem parens (be32 b (stopAt b (at + 13) + 9)) s b (stopAt b (at + 13)) d
   unfolding PatternAt Maybe pattern
   fields-list {c = c} {d = d} f g l h = go (h .tree) (h .held) (h .room)
     where
       go : (p : Pattern) → PatternAt s b p at → Room (pattern (given s b) p) c
-          → HasList element.Ident 35 36 true Tight (be32 b (stopAt b (at + 13) + 9)) s b (stopAt b (at + 13)) d
+          → HasList IdentElem parens (be32 b (stopAt b (at + 13) + 9)) s b (stopAt b (at + 13)) d
       go underscore a room = absurd (f (a .0 .head .kinds))
       go (enumVariant i none) a room = absurd (g (a .2 .zero))
       go (enumVariant i (some is)) a room =
@@ -221,7 +230,7 @@ module _ {s b : List ℕ} {at : ℕ} where
 
   pub full-pattern : {x y z : List ℕ} {c d e : Cursor} → (kindAt b at ≡ 82 → ⊥) → (be32 b (stopAt b (at + 13)) ≡ 0 → ⊥)
       → LaysAs IdentAt ident s b (at + 13) x c y d
-      → LaysList element.Ident 35 36 true Tight (be32 b (stopAt b (at + 13) + 9)) s b (stopAt b (at + 13)) y d z e
+      → LaysList IdentElem parens (be32 b (stopAt b (at + 13) + 9)) s b (stopAt b (at + 13)) y d z e
       → LaysAs PatternAt pattern s b at x c z e
   unfolding PatternAt Maybe pattern
   full-pattern {x} {y} {z} {c} {d} {e} f g l m = record { of = go }

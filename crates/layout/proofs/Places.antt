@@ -14,7 +14,7 @@ use Rattle.image.specs.Read.{stopAt}
 use Rattle.tree.specs.Syntax.{Span, Ident, Path, TypeExpr, type, TypeArgs, noArgs, args, Import, import, ImportGroup, noGroup, group, Idents, Expr, expr, Block, braces, Stmt, stmt, Pattern, underscore, enumVariant, MaybeExpr, noExpr, someExpr, MaybeBlock, noBlock, someBlock}
 use Rattle.tree.specs.At.{Head, Absent, IdentAt, PathAt, Maybe, TypeAt, TypeArgsAt, ImportAt, ImportGroupAt, ListAt, ExprAt, BlockAt, StmtAt, PatternAt, MaybeExprAt, MaybeBlockAt}
 use Rattle.layout.specs.Layout.{importSpan}
-use Rattle.layout.specs.Contracts.{Within, Whole}
+use Rattle.layout.specs.Contracts.{InImage, Whole}
 
 -- what the test for absence says of the length
 pub absent : {r : Bool} {n : ℕ} → r ≡ eqb n 0 → r ≡ true → n ≡ 0
@@ -23,10 +23,10 @@ absent {n = n} p q = eqb-true n 0 (sym p ∙ q)
 pub present : {r : Bool} {n : ℕ} → r ≡ eqb n 0 → r ≡ false → n ≡ 0 → ⊥
 present {n = n} p q = eqb-false n 0 (sym p ∙ q)
 
-pub within : {b : List ℕ} {at : ℕ} → Whole b at → Within b at
+pub within : {b : List ℕ} {at : ℕ} → Whole b at → InImage b at
 within w = record { fits = w .fits }
 
-absent-within : {b : List ℕ} {at : ℕ} → Absent b at → Within b at
+absent-within : {b : List ℕ} {at : ℕ} → Absent b at → InImage b at
 absent-within a = record { fits = omega (arith, a .zero, a .fits) }
 
 module _ {s b : List ℕ} {at : ℕ} where
@@ -66,42 +66,42 @@ module _ (s b : List ℕ) (at : ℕ) where
   pattern-whole (enumVariant i is) a = head-whole (a .0 .head)
 
   -- optional parts
-  pub maybe-expr : (m : MaybeExpr) → MaybeExprAt s b m at → Within b at
+  pub maybe-expr : (m : MaybeExpr) → MaybeExprAt s b m at → InImage b at
   unfolding MaybeExprAt
   maybe-expr noExpr a = absent-within a
   maybe-expr (someExpr e) a = within (expr-whole e a)
 
-  pub maybe-block : (m : MaybeBlock) → MaybeBlockAt s b m at → Within b at
+  pub maybe-block : (m : MaybeBlock) → MaybeBlockAt s b m at → InImage b at
   unfolding MaybeBlockAt
   maybe-block noBlock a = absent-within a
   maybe-block (someBlock k) a = within (block-whole k a)
 
-  pub maybe-type : (m : Option TypeExpr) → Maybe s b (TypeAt s b) m at → Within b at
+  pub maybe-type : (m : Option TypeExpr) → Maybe s b (TypeAt s b) m at → InImage b at
   unfolding Maybe
   maybe-type none a = absent-within a
   maybe-type (some t) a = within (type-whole t a)
 
-  pub maybe-list : (m : Option Idents) → Maybe s b (ListAt s b) m at → Within b at
+  pub maybe-list : (m : Option Idents) → Maybe s b (ListAt s b) m at → InImage b at
   unfolding Maybe
   maybe-list none a = absent-within a
   maybe-list (some is) a = within (head-whole (a .head))
 
-  pub maybe-path : (q : Option Path) → Maybe s b (PathAt s b) q at → Within b at
+  pub maybe-path : (q : Option Path) → Maybe s b (PathAt s b) q at → InImage b at
   unfolding Maybe
   maybe-path none a = absent-within a
   maybe-path (some p) a = within (path-whole a)
 
-  pub args-within : (a : TypeArgs) → TypeArgsAt s b a at → Within b at
+  pub args-within : (a : TypeArgs) → TypeArgsAt s b a at → InImage b at
   unfolding TypeArgsAt
   args-within noArgs a = absent-within a
   args-within (args p ts) a = within (head-whole (a .0))
 
-  pub group-within : (g : ImportGroup) → ImportGroupAt s b g at → Within b at
+  pub group-within : (g : ImportGroup) → ImportGroupAt s b g at → InImage b at
   unfolding ImportGroupAt
   group-within noGroup a = absent-within a
   group-within (group p is) a = within (head-whole (a .0))
 
-  pub maybe-ident : (m : Option Ident) → Maybe s b (IdentAt s b) m at → Within b at
+  pub maybe-ident : (m : Option Ident) → Maybe s b (IdentAt s b) m at → InImage b at
   unfolding Maybe
   maybe-ident none a = absent-within a
   maybe-ident (some i) a = within (ident-whole a)

@@ -16,13 +16,12 @@ use Rattle.state.specs.Laid.{Room}
 use Rattle.state.specs.declared.Cursor.{Cursor}
 use Rattle.state.proofs.Laws.{Lays, lays-skip}
 use Rattle.comments.specs.Listed.{given}
-use Rattle.layout.specs.declared.kinds.Element.the-variants as element
-use Rattle.layout.specs.declared.kinds.WrapStyle.the-variants.{Tight}
-use Rattle.layout.proofs.Places.{type-whole}
-use Rattle.layout.proofs.Runs.{list-of, type-elems}
+use Rattle.layout.proofs.Places.{head-whole, type-whole}
+use Rattle.layout.proofs.Runs.{list-of, type-elems, parens, brackets}
 use Rattle.layout.specs.Layout.{typeExpr, typeForm, typeArgs, typeElems, variantTypes, lastSpan}
-use Rattle.layout.specs.Contracts.{Has, Whole, Accepted}
-use Rattle.layout.specs.Elems.{ElemsAt, ListOf, HasList}
+use Rattle.layout.specs.Contracts.{Has, Whole, Readable}
+use Rattle.layout.specs.Elems.{TypeElem, ElemsAt, ListOf, HasList}
+use Rattle.layout.specs.declared.forms.TypeElement.the-variants as types
 use Rattle.layout.specs.Forms.{OfType, typeRule, two, SomeTypesAt, LastEnd}
 use Rattle.layout.proofs.Lays.{LaysAs, LaysList}
 
@@ -90,12 +89,17 @@ module _ {s b : List ℕ} {at : ℕ} {X : Type 0} (mk : X → TypeForm) (f : (t 
       }
 
 -- ---- the arguments of a path, and the types of a variant
+pub args-whole : (s b : List ℕ) (at : ℕ) → (be32 b at ≡ 0 → ⊥) → (q : TypeArgs) → TypeArgsAt s b q at → Whole b at
+unfolding TypeArgsAt
+args-whole s b at f noArgs a = absurd (f (a .zero))
+args-whole s b at f (args p ts) a = head-whole (a .0)
+
 module _ {s b : List ℕ} {at : ℕ} where
-  pub args-list : {c : Cursor} → (be32 b at ≡ 0 → ⊥) → Has TypeArgsAt typeArgs s b at c → HasList element.Type 37 38 true Tight (be32 b (at + 9)) s b at c
+  pub args-list : {c : Cursor} → (be32 b at ≡ 0 → ⊥) → Has TypeArgsAt typeArgs s b at c → HasList (TypeElem types.Type) brackets (be32 b (at + 9)) s b at c
   unfolding TypeArgsAt typeArgs
   args-list {c} f h = go (h .tree) (h .held) (h .room)
     where
-      go : (q : TypeArgs) → TypeArgsAt s b q at → Room (typeArgs (given s b) q) c → HasList element.Type 37 38 true Tight (be32 b (at + 9)) s b at c
+      go : (q : TypeArgs) → TypeArgsAt s b q at → Room (typeArgs (given s b) q) c → HasList (TypeElem types.Type) brackets (be32 b (at + 9)) s b at c
       go noArgs a room = absurd (f (a .zero))
       go (args p ts) a room =
           record {
@@ -115,7 +119,7 @@ module _ {s b : List ℕ} {at : ℕ} where
       go noArgs a = lays-skip
       go (args p ts) a = absurd (omega (arith, e, a .0 .long))
 
-  pub some-args : {x y : List ℕ} {c d : Cursor} → (be32 b at ≡ 0 → ⊥) → LaysList element.Type 37 38 true Tight (be32 b (at + 9)) s b at x c y d
+  pub some-args : {x y : List ℕ} {c d : Cursor} → (be32 b at ≡ 0 → ⊥) → LaysList (TypeElem types.Type) brackets (be32 b (at + 9)) s b at x c y d
       → LaysAs TypeArgsAt typeArgs s b at x c y d
   unfolding TypeArgsAt typeArgs
   some-args {x} {y} {c} {d} f l = record { of = go }
@@ -136,16 +140,16 @@ module _ (s b : List ℕ) (from to : ℕ) where
   no-types e (t ∷ᵗ ts) a = absurd (omega (arith, e, a .1 .least, type-whole s b from t (a .0) .long))
 
 pub types-laid : {s b : List ℕ} {at r : ℕ} {x y : List ℕ} {c d : Cursor} {n : ℕ} {q : Span} → (at + 13 ≡ stopAt b at → ⊥) → Head s b n q at
-    → LastEnd b (at + 13) (stopAt b at) r → LaysList element.Type 35 36 true Tight r s b at x c y d
+    → LastEnd b (at + 13) (stopAt b at) r → LaysList (TypeElem types.Type) parens r s b at x c y d
     → (ts : Types) → TypesAt s b ts (at + 13) (stopAt b at) → Lays (variantTypes (given s b) ts) x c y d
 unfolding TypesAt
 types-laid f h e l noTypes a = absurd (f (a .same))
 types-laid {s} {b} {at} f h e l (t ∷ᵗ ts) a =
     l .of (typeElems (given s b) (t ∷ᵗ ts)) (list-of h (type-elems s b (stopAt b at) (at + 13) (t ∷ᵗ ts) a)) (lastSpan t ts) (e .of s t ts a)
 
-pub types-list : {s b : List ℕ} {at r : ℕ} {c : Cursor} {n : ℕ} {q : Span} → Accepted s b → (at + 13 ≡ stopAt b at → ⊥) → Head s b n q at
+pub types-list : {s b : List ℕ} {at r : ℕ} {c : Cursor} {n : ℕ} {q : Span} → Readable s b → (at + 13 ≡ stopAt b at → ⊥) → Head s b n q at
     → LastEnd b (at + 13) (stopAt b at) r → (ts : Types) → TypesAt s b ts (at + 13) (stopAt b at) → Room (variantTypes (given s b) ts) c
-    → HasList element.Type 35 36 true Tight r s b at c
+    → HasList (TypeElem types.Type) parens r s b at c
 unfolding TypesAt
 types-list k f h e noTypes a room = absurd (f (a .same))
 types-list {s} {b} {at} k f h e (t ∷ᵗ ts) a room =

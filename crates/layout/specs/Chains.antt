@@ -9,8 +9,8 @@ use Rattle.state.specs.Act.{Act}
 use Rattle.state.specs.Laid.{Room, Laid}
 use Rattle.state.specs.declared.Cursor.{Cursor}
 use Rattle.comments.specs.Listed.{given}
-use Rattle.layout.specs.Layout.{Spine, lone, extend, binopPrecedence, look, whole}
-use Rattle.layout.specs.Contracts.{Accepted}
+use Rattle.layout.specs.Layout.{Operands, leftmost, popped, binopPrecedence, operands}
+use Rattle.layout.specs.Contracts.{Readable}
 use Rattle.layout.specs.Forms.{four, Of, exprWith}
 
 -- x at p stands below the top e at `at`, by left operands of operators of precedence q
@@ -20,16 +20,16 @@ pub data Above (q : ℕ) (s b : List ℕ) (e : Expr) (at : ℕ) : ℕ → Expr �
       → Above q s b e at p (expr m (binOp x t o r)) → Above q s b e at p′ x
 
 -- a chain, with the operators above x put to it
-unfoldable pub grown : {q : ℕ} {s b : List ℕ} {e : Expr} {at p : ℕ} {x : Expr} → Above q s b e at p x → Spine → Spine
+unfoldable pub grown : {q : ℕ} {s b : List ℕ} {e : Expr} {at p : ℕ} {x : Expr} → Above q s b e at p x → Operands → Operands
 grown top c = c
-grown {s = s} {b = b} (up {o = o} {r = r} {t = t} i j k a) c = grown a (extend (given s b) c t o (exprWith 0 (given s b) r))
+grown {s = s} {b = b} (up {o = o} {r = r} {t = t} i j k a) c = grown a (popped (given s b) c t o (exprWith 0 (given s b) r))
 
 -- the operand at `left` starts the chain of e
 pub record Starts (q : ℕ) (s b : List ℕ) (e : Expr) (at left : ℕ) : Type 0 where
   pub tree : Expr
   pub above : Above q s b e at left tree
   pub held : ExprAt s b tree left
-  pub stop : look (given s b) tree .under q ≡ lone (exprWith q (given s b) tree)
+  pub stop : operands (given s b) q tree ≡ leftmost (exprWith q (given s b) tree)
 
 -- the operators' offsets, the top first
 pub record Filled (ops : List ℕ) (at left : ℕ) : Type 0 where
@@ -53,7 +53,7 @@ pub record Leftmost (b : List ℕ) (at q : ℕ) (ops : List ℕ) (left : ℕ) : 
 
 -- the operators above the operand at `left`, and room for what follows that operand, which `head` lays
 pub record HasTail (s b : List ℕ) (at left : ℕ) (ops : List ℕ) (c : Cursor) : Type 0 where
-  pub accepted : Accepted s b
+  pub accepted : Readable s b
   pub tree : Expr
   pub held : ExprAt s b tree at
   pub precedence : ℕ
@@ -61,7 +61,7 @@ pub record HasTail (s b : List ℕ) (at left : ℕ) (ops : List ℕ) (c : Cursor
   pub above : Above precedence s b tree at left low
   pub filled : Filled ops at left
   pub head : Act
-  pub room : Room (grown above (lone head) .tail) c
+  pub room : Room (grown above (leftmost head) .ops) c
 
 pub record LaidTail (s b : List ℕ) (at left : ℕ) (ops : List ℕ) (store : List ℕ) (c : Cursor) (store′ : List ℕ) (c′ : Cursor) : Type 0 where
-  pub of : (h : HasTail s b at left ops c) → Laid (grown (h .above) (lone (h .head)) .tail) store c store′ c′
+  pub of : (h : HasTail s b at left ops c) → Laid (grown (h .above) (leftmost (h .head)) .ops) store c store′ c′

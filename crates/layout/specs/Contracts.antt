@@ -14,13 +14,13 @@ use Rattle.state.specs.declared.Cursor.{Cursor}
 use Rattle.comments.specs.Listed.{given, Listed}
 
 -- what layout needs of an accepted image besides its tree: the comment list, and the size, which a place in a row can hold
-pub record Accepted (s b : List ℕ) : Type 0 where
+pub record Readable (s b : List ℕ) : Type 0 where
   pub listed : Listed s b
   pub small : length b ≤ 1048581
 
 -- a part of the syntax tree stands at `at`, and there is room for what its rule lays
 pub record Has {T : Type 0} (R : List ℕ → List ℕ → T → ℕ → Type 0) (rule : Given → T → Act) (s b : List ℕ) (at : ℕ) (c : Cursor) : Type 0 where
-  pub accepted : Accepted s b
+  pub accepted : Readable s b
   pub tree : T
   pub held : R s b tree at
   pub room : Room (rule (given s b) tree) c
@@ -33,7 +33,7 @@ pub record LaidAs {T : Type 0} (R : List ℕ → List ℕ → T → ℕ → Type
 -- the same of parts one after the other, from `from` up to `to`
 pub record HasAll {T : Type 0} (R : List ℕ → List ℕ → T → ℕ → ℕ → Type 0) (rule : Given → T → Act)
     (s b : List ℕ) (from to : ℕ) (c : Cursor) : Type 0 where
-  pub accepted : Accepted s b
+  pub accepted : Readable s b
   pub tree : T
   pub held : R s b tree from to
   pub inside : to ≤ length b
@@ -44,7 +44,7 @@ pub record LaidAll {T : Type 0} (R : List ℕ → List ℕ → T → ℕ → ℕ
   pub of : (h : HasAll R rule s b from to c) → Laid (rule (given s b) (h .tree)) store c store′ c′
 
 -- a record, or the absence of one, within the image
-pub record Within (b : List ℕ) (at : ℕ) : Type 0 where
+pub record InImage (b : List ℕ) (at : ℕ) : Type 0 where
   pub fits : stopAt b at ≤ length b
 
 -- a record within the image

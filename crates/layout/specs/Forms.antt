@@ -5,6 +5,7 @@ use mathlib.Core.Bool.{Bool, true, false, not}
 use mathlib.Core.List.{List}
 use mathlib.Core.Option.{Option}
 use lib.ListN.{length, getD}
+use Rattle.image.specs.Kinds.{TEXT-PART, EXPR-PART, OPERATOR, LITERAL}
 use Rattle.image.specs.Read.{stopAt}
 use Rattle.tree.specs.Syntax.{Span, Ident, Path, TypeExpr, type, TypeForm, Types, _∷ᵗ_, Expr, expr, Form, MaybeExpr, Block, braces, Stmts, stmt, let′, Idents, Declaration}
 use Rattle.tree.specs.At.{Head, Record, Done, Ends, ByteAt, PathAt, Maybe, TypeAt, TypesAt, ExprAt, BlockAt, StmtAt, IdentAt, ListAt, DeclarationAt}
@@ -38,9 +39,6 @@ typeRule mk g x = layout.typeForm g (mk (x .1))
 abbrev pub MaybePathAt : List ℕ → List ℕ → Option Path → ℕ → Type 0
 MaybePathAt s b = Maybe s b (PathAt s b)
 
-abbrev pub importFirst : Given → Option Path → Act
-importFirst = layout.importFirst
-
 -- at least one type from `from` up to `to`
 pub record SomeTypesAt (b : List ℕ) (from to : ℕ) : Type 0 where
   pub source : List ℕ
@@ -56,17 +54,17 @@ pub record LastEnd (b : List ℕ) (from to r : ℕ) : Type 0 where
 -- ---- expressions
 -- an expression by the precedence around it, with the comment after it and without
 abbrev pub exprWith : ℕ → Given → Expr → Act
-exprWith outer g e = layout.whole g (layout.look g e) outer
+exprWith outer g e = layout.exprWithPrecedence g e outer
 
 abbrev pub formWith : ℕ → Given → Expr → Act
-formWith outer g e = layout.look g e .form outer
+formWith outer g (expr s f) = layout.exprForm g s f outer
 
 -- an expression of one form, and its rule
 abbrev pub Of : {X : Type 0} → (X → Form) → List ℕ → List ℕ → Span × X → ℕ → Type 0
 Of mk s b x at = ExprAt s b (expr (x .0) (mk (x .1))) at
 
 abbrev pub formRule : {X : Type 0} → (X → Form) → ℕ → Given → Span × X → Act
-formRule mk outer g x = layout.lookForm g (x .0) (mk (x .1)) .form outer
+formRule mk outer g x = layout.exprForm g (x .0) (mk (x .1)) outer
 
 -- the fixed word at a place, and an expression
 abbrev pub afterWord : ℕ → ℕ → Given → Expr → Act
@@ -89,28 +87,26 @@ SpanAt s b p at = (k : ℕ) × Head s b k p at
 abbrev pub contentRule : Given → Span → Act
 contentRule g p = push (ascii (content p))
 
--- 87
 abbrev pub LiteralAt : List ℕ → List ℕ → Span × ℕ → ℕ → Type 0
-LiteralAt s b x at = ByteAt s b 87 (x .0) (x .1) at × (x .1 < 4)
+LiteralAt s b x at = ByteAt s b LITERAL (x .0) (x .1) at × (x .1 < 4)
 
-abbrev pub literalRule : Given → Span × ℕ → Act
-literalRule g x = layout.literalRule g (x .0) (x .1)
+abbrev pub literalOf : Given → Span × ℕ → Act
+literalOf g x = layout.literalRule g (x .0) (x .1)
 
--- 86
 abbrev pub OperatorAt : List ℕ → List ℕ → Span × ℕ → ℕ → Type 0
-OperatorAt s b x at = ByteAt s b 86 (x .0) (x .1) at × (x .1 < 14)
+OperatorAt s b x at = ByteAt s b OPERATOR (x .0) (x .1) at × (x .1 < 14)
 
 abbrev pub operatorRule : Bool → Given → Span × ℕ → Act
 operatorRule first g x = layout.operator g first (x .0) (x .1)
 
--- 84 and 85: a part of an f-string
+-- a part of an f-string
 pub data Part : Type 0 where
   text : Span → Part
   value : Expr → Part
 
 abbrev pub PartAt : List ℕ → List ℕ → Part → ℕ → Type 0
-PartAt s b (text p) at = Head s b 84 p at × Done (at + 13) (stopAt b at)
-PartAt s b (value e) at = Record s b 85 at × ExprAt s b e (at + 13) × Ends s b (at + 13) at
+PartAt s b (text p) at = Head s b TEXT-PART p at × Done (at + 13) (stopAt b at)
+PartAt s b (value e) at = Record s b EXPR-PART at × ExprAt s b e (at + 13) × Ends s b (at + 13) at
 
 abbrev pub partRule : Given → Part → Act
 partRule g (text p) = push (ascii (content p))
@@ -128,7 +124,6 @@ stmtsFrom first g ss = layout.stmtsRule g ss first
 abbrev pub lastFrom : Bool → Given → MaybeExpr → Act
 lastFrom first g m = layout.lastRule g m first
 
--- 30
 abbrev pub MaybeTypeAt : List ℕ → List ℕ → Option TypeExpr → ℕ → Type 0
 MaybeTypeAt s b = Maybe s b (TypeAt s b)
 

@@ -8,6 +8,7 @@ use lib.ListN.{getD}
 use lib.Dec.{ltb, leb, eqb}
 use lib.Text.{eqt}
 use Rattle.text.specs.Space.{trimEnd}
+use Rattle.image.specs.Kinds.{BLOCK-EXPR, MATCH, IF-ELSE, FOR}
 use Rattle.tree.specs.Syntax.{Span, Ident, Path, Idents, TypeExpr, type, TypeForm, option, typePath, never, unit, recordType, TypeArgs, noArgs, args}
 use Rattle.tree.specs.Syntax.{Types, noTypes, _∷ᵗ_, Fields, noFields, field, Import, import, ImportGroup, noGroup, group, Imports, noImports, _∷ⁱ_}
 use Rattle.tree.specs.Syntax.{Pattern, underscore, enumVariant, Expr, expr, Form, return′, literal, block, match′, functionCall, access, path, record′}
@@ -21,8 +22,8 @@ use Rattle.rows.specs.Node.{Text, str, ascii, line, emptyLine, lineOrSpace, wra
 use Rattle.rows.specs.Words.{word}
 use Rattle.state.specs.Act.{Given, St, Out, Act, Asking, _⨟_, _⨟?_, skip, when, push, told, grouped, indented, indentedNext, called, says, content}
 use Rattle.comments.specs.Comments.{popWhitespace, popTrailingComment}
-use Rattle.layout.specs.declared.kinds.WrapStyle.{WrapStyle}
-use Rattle.layout.specs.declared.kinds.WrapStyle.the-variants.{Tight, Spaced, Wrap}
+use Rattle.layout.specs.declared.forms.WrapStyle.{WrapStyle}
+use Rattle.layout.specs.declared.forms.WrapStyle.the-variants.{Tight, Spaced, Wrap}
 
 -- an element of `separated`: where its span starts, and what the closure does with it
 pub record Elem : Type 0 where
@@ -32,6 +33,9 @@ pub record Elem : Type 0 where
 -- `Precedence`, in the order of its variants
 abbrev pub Bottom : ℕ
 Bottom = 0
+
+abbrev pub Not′ : ℕ
+Not′ = 7
 
 abbrev pub Chain : ℕ
 Chain = 8
@@ -53,17 +57,39 @@ assignSymbol op = getD (" += " ∷ " -= " ∷ " *= " ∷ " /= " ∷ " %= " ∷ [
 abbrev pub returnWord : ℕ → String
 returnWord kind = getD ("return" ∷ "accept" ∷ "reject" ∷ []) kind ""
 
--- A chain of operators of one precedence: the leftmost operand, what follows it, and whether nothing does.
-pub record Spine : Type 0 where
-  pub head : Act
-  pub tail : Act
-  pub alone : Bool
+-- `expr_precedence`
+abbrev pub formPrecedence : Form → ℕ
+formPrecedence (return′ k e) = Unit′
+formPrecedence (literal s w) = Unit′
+formPrecedence (block b) = Unit′
+formPrecedence (match′ e s a) = Unit′
+formPrecedence (functionCall e s es) = Chain
+formPrecedence (access e i) = Chain
+formPrecedence (path p) = Chain
+formPrecedence (record′ s es) = Unit′
+formPrecedence (typedRecord p s es) = Unit′
+formPrecedence (list es) = Unit′
+formPrecedence (not′ e) = Unit′
+formPrecedence (assign p e) = Unit′
+formPrecedence (compoundAssign p o e) = Unit′
+formPrecedence (binOp l s o r) = binopPrecedence o
+formPrecedence (negate e) = Not′
+formPrecedence (ifElse c b e) = Unit′
+formPrecedence (while c b) = Unit′
+formPrecedence (for i e b) = Unit′
+formPrecedence (questionMark e) = Chain
+formPrecedence (fString ps) = Unit′
+formPrecedence (parentheses e) = Unit′
 
--- An expression by itself, by the precedence around it and without the comment after it; and as the left operand of an operator of some
--- precedence.
-pub record Look : Type 0 where
-  pub form : ℕ → Act
-  pub under : ℕ → Spine
+abbrev pub exprPrecedence : Expr → ℕ
+exprPrecedence (expr s f) = formPrecedence f
+
+-- What the first loop of `binop` leaves: the leftmost operand, what is laid for the operators on the stack, and whether the next operator is
+-- the first.
+pub record Operands : Type 0 where
+  pub left : Act
+  pub ops : Act
+  pub first : Bool
 
 -- ---- tests on the tree
 abbrev pub isSome : {A : Type 0} → Option A → Bool
@@ -102,10 +128,11 @@ isEmpty ss (someExpr e) = false
 
 -- a block, which needs no `,` in an arm; and the expressions that need no `;` as a statement: block, match, if, while and for
 abbrev pub isBlock : Expr → Bool
-isBlock (expr s f) = eqb (formKind f) 52
+isBlock (expr s f) = eqb (formKind f) BLOCK-EXPR
 
 abbrev pub isBraced : Expr → Bool
-isBraced (expr s f) = eqb (formKind f) 52 || eqb (formKind f) 53 || (leb 65 (formKind f) && leb (formKind f) 67)
+isBraced (expr s f) =
+    eqb (formKind f) BLOCK-EXPR || eqb (formKind f) MATCH || (leb IF-ELSE (formKind f) && leb (formKind f) FOR)
 
 abbrev pub unlessEmpty : List Ident → Act → Act
 unlessEmpty [] a = skip
@@ -126,16 +153,16 @@ isWrap Wrap = true
 unfoldable pub opens : String → WrapStyle → Act
 opens start style = when (isWrap style) (push wrapParent) ⨟ says start ⨟ edge style
 
--- a chain of one operand; the group of a chain; one of two chains
-abbrev pub lone : Act → Spine
-lone a = record { head = a; tail = skip; alone = true }
+-- `binop`: no operator is on the stack; one of two; and what it lays after its first loop
+abbrev pub leftmost : Act → Operands
+leftmost a = record { left = a; ops = skip; first = true }
 
-unfoldable pub chained : Spine → Act
-chained c = grouped (λ id. c .head ⨟ push lineOrSpace ⨟ indented (c .tail))
+abbrev pub pickOperands : Bool → Operands → Operands → Operands
+pickOperands true a b = a
+pickOperands false a b = b
 
-abbrev pub pickSpine : Bool → Spine → Spine → Spine
-pickSpine true a b = a
-pickSpine false a b = b
+unfoldable pub binop : Operands → Act
+binop c = grouped (λ id. c .left ⨟ push lineOrSpace ⨟ indented (c .ops))
 
 -- a value in an f-string
 unfoldable pub placeholder : Act → Act
@@ -150,9 +177,6 @@ unfoldable pub blockStart : Bool → Act
 blockStart empty = says "{" ⨟ push line ⨟ when (not empty) (push wrapParent)
 
 module _ (g : Given) where
-  abbrev pub trailing : Act
-  trailing = popTrailingComment g
-
   -- `pop_whitespace` where its answer isn't looked at
   abbrev pub gap : ℕ → Bool → Bool → Bool → Act
   gap position a b c = told (popWhitespace g position a b c)
@@ -188,16 +212,32 @@ module _ (g : Given) where
   -- in the group with the number id
   unfoldable pub inside : String → String → String → List Elem → Span → WrapStyle → ℕ → Act
   inside start end separator [] span style id =
-      says start ⨟ push line ⨟ indented (gap (span .end) false false false) ⨟ push line ⨟ says end ⨟ trailing
+      says start ⨟ push line ⨟ indented (gap (span .end) false false false) ⨟ push line ⨟ says end ⨟ popTrailingComment g
   inside start end separator (e ∷ es) span style id =
       opens start style
       ⨟ indented (elements separator true (e ∷ es) ⨟ ends separator id span)
       ⨟ edge style
       ⨟ says end
-      ⨟ trailing
+      ⨟ popTrailingComment g
 
   unfoldable pub separated : String → String → String → List Elem → Span → WrapStyle → Act
   separated start end separator es span style = grouped (λ id. inside start end separator es span style id)
+
+  -- `params`, `type_params`, `record_type`, `function_args` and `record`, over what the closure of each makes of the elements
+  abbrev pub params : List Elem → Span → Act
+  params es span = separated "(" ")" "," es span Tight
+
+  abbrev pub typeParams : List Elem → Span → Act
+  typeParams es span = separated "[" "]" "," es span Tight
+
+  abbrev pub recordTypeRule : List Elem → Span → WrapStyle → Act
+  recordTypeRule es span style = separated "{" "}" "," es span style
+
+  abbrev pub functionArgs : List Elem → Span → Act
+  functionArgs es span = separated "(" ")" "," es span Tight
+
+  abbrev pub recordRule : List Elem → Span → Act
+  recordRule es span = separated "{" "}" "," es span Spaced
 
   -- ---- `path`
   -- an identifier after the first, and all of them
@@ -210,8 +250,8 @@ module _ (g : Given) where
 
   unfoldable pub pathRule : Path → Bool → Bool → Act
   pathRule p true allowLineBreaks =
-      grouped (λ id. ident (p .first) ⨟ indented (pathMore allowLineBreaks (p .more))) ⨟ trailing
-  pathRule p false allowLineBreaks = ident (p .first) ⨟ pathMore allowLineBreaks (p .more) ⨟ trailing
+      grouped (λ id. ident (p .first) ⨟ indented (pathMore allowLineBreaks (p .more))) ⨟ popTrailingComment g
+  pathRule p false allowLineBreaks = ident (p .first) ⨟ pathMore allowLineBreaks (p .more) ⨟ popTrailingComment g
 
   -- identifiers as elements: `type_params`, and the fields of a pattern
   abbrev pub identElems : List Ident → List Elem
@@ -222,7 +262,7 @@ module _ (g : Given) where
   abbrev pub named : Ident → Act → Act
   named i a = ident i ⨟ says ": " ⨟ a
 
-  -- ---- `type_expr`, `record_type`, `params`
+  -- ---- `type_expr`
   unfoldable mutual
     pub typeExpr : TypeExpr → Act
     typeExpr (type s f) = typeForm f
@@ -232,7 +272,7 @@ module _ (g : Given) where
     typeForm (typePath p a) = pathRule p true true ⨟ typeArgs a
     typeForm never = says "!"
     typeForm unit = says "()"
-    typeForm (recordType s fs) = separated "{" "}" "," (fieldElems fs) s Tight
+    typeForm (recordType s fs) = recordTypeRule (fieldElems fs) s Tight
 
     pub typeArgs : TypeArgs → Act
     typeArgs noArgs = skip
@@ -245,15 +285,6 @@ module _ (g : Given) where
     pub fieldElems : Fields → List Elem
     fieldElems noFields = []
     fieldElems (field s i t fs) = record { start = s .start; act = named i (typeExpr t) } ∷ fieldElems fs
-
-  unfoldable pub params : Fields → Span → Act
-  params fs s = separated "(" ")" "," (fieldElems fs) s Tight
-
-  unfoldable pub recordTypeRule : Fields → Span → WrapStyle → Act
-  recordTypeRule fs s style = separated "{" "}" "," (fieldElems fs) s style
-
-  unfoldable pub typeParams : Idents → Act
-  typeParams is = separated "[" "]" "," (identElems (is .elems)) (is .span) Tight
 
   -- ---- `import_path`
   abbrev pub importFirst : Option Path → Act
@@ -296,26 +327,8 @@ module _ (g : Given) where
       ⨟ says " "
 
   -- one more operator and its right operand
-  abbrev pub extend : Spine → Span → ℕ → Act → Spine
-  extend c s op right = record { head = c .head; tail = c .tail ⨟ operator (c .alone) s op ⨟ right; alone = false }
-
-  -- `expr_with_precedence`: each expression ends with `pop_trailing_comment`
-  abbrev pub whole : Look → ℕ → Act
-  whole l outer = l .form outer ⨟ trailing
-
-  -- an expression that is no binary operator
-  abbrev pub plain : (ℕ → Act) → Look
-  plain a = record { form = a; under = λ p. lone (a p ⨟ trailing) }
-
-  -- `binop`: an operator of the precedence around it goes on with the chain of its left operand
-  abbrev pub joined : Look → Span → ℕ → Look → Look
-  joined l s op r =
-      let q = binopPrecedence op in
-      let own : Act = chained (extend (l .under q) s op (whole r Bottom)) in
-      record {
-        form = λ outer. own;
-        under = λ p. pickSpine (eqb q p) (extend (l .under p) s op (whole r Bottom)) (lone (own ⨟ trailing));
-      }
+  abbrev pub popped : Operands → Span → ℕ → Act → Operands
+  popped c s op right = record { left = c .left; ops = c .ops ⨟ operator (c .first) s op ⨟ right; first = false }
 
   -- `literal`
   unfoldable pub literalRule : Span → ℕ → Act
@@ -323,12 +336,19 @@ module _ (g : Given) where
       gap (s .end) true true false
       ⨟ getD (push (ascii (content s)) ∷ says "true" ∷ says "false" ∷ says "()" ∷ []) which skip
 
+  -- `access`, after its expression, and `r#match`, with its expression and the elements of its closure
+  abbrev pub accessRule : Act → Ident → Act
+  accessRule e i = e ⨟ push line ⨟ says "." ⨟ ident i
+
+  abbrev pub matchRule : Act → List Elem → Span → Act
+  matchRule e arms span = says "match " ⨟ e ⨟ says " " ⨟ separated "{" "}" "" arms span Wrap
+
   -- what comes before a statement or the last expression of a block, and after a statement
   unfoldable pub beforeStmt : Bool → ℕ → Act
   beforeStmt first position = cond first (gap position false true false) (gap position true true true) ⨟ push line
 
   unfoldable pub afterStmt : ℕ → Act
-  afterStmt position = gap position false false false ⨟ trailing
+  afterStmt position = gap position false false false ⨟ popTrailingComment g
 
   abbrev pub letType : Option TypeExpr → Act
   letType none = skip
@@ -336,70 +356,96 @@ module _ (g : Given) where
 
   -- ---- `expr_with_precedence`, `block` and `stmt`
   unfoldable mutual
-    pub look : Expr → Look
-    look (expr s f) = lookForm s f
+    pub exprWithPrecedence : Expr → ℕ → Act
+    exprWithPrecedence (expr s f) outer = exprForm s f outer ⨟ popTrailingComment g
 
-    pub lookForm : Span → Form → Look
-    lookForm s (return′ kind e) = plain (λ outer. says (returnWord kind) ⨟ maybeExpr " " e)
-    lookForm s (literal t which) = plain (λ outer. literalRule t which)
-    lookForm s (block b) = plain (λ outer. blockRule b)
-    lookForm s (match′ e t arms) =
-        plain (λ outer. says "match " ⨟ whole (look e) Bottom ⨟ says " " ⨟ separated "{" "}" "" (armElems arms) t Wrap)
-    lookForm s (functionCall e t es) =
-        plain (λ outer.
-        cond (ltb outer Chain) (called (whole (look e) Chain) (separated "(" ")" "," (exprElems es) t Tight))
-        (whole (look e) Chain ⨟ separated "(" ")" "," (exprElems es) t Tight))
-    lookForm s (access e i) =
-        plain (λ outer.
-        cond (ltb outer Chain) (grouped (λ id. indentedNext (whole (look e) Chain ⨟ push line ⨟ says "." ⨟ ident i)))
-        (whole (look e) Chain ⨟ push line ⨟ says "." ⨟ ident i))
-    lookForm s (path p) = plain (λ outer. pathRule p (ltb outer Chain) true)
-    lookForm s (record′ t es) = plain (λ outer. separated "{" "}" "," (entryElems es) t Spaced)
-    lookForm s (typedRecord p t es) = plain (λ outer. pathRule p true true ⨟ says " " ⨟ separated "{" "}" "," (entryElems es) t Spaced)
-    lookForm s (list es) = plain (λ outer. separated "[" "]" "," (groupedElems es) s Tight)
-    lookForm s (not′ e) = plain (λ outer. says "!" ⨟ whole (look e) Unit′)
-    lookForm s (assign p e) = plain (λ outer. pathRule p true true ⨟ says " = " ⨟ whole (look e) Bottom)
-    lookForm s (compoundAssign p op e) = plain (λ outer. pathRule p true true ⨟ says (assignSymbol op) ⨟ whole (look e) Bottom)
-    lookForm s (binOp l t op r) = joined (look l) t op (look r)
-    lookForm s (negate e) = plain (λ outer. says "-" ⨟ whole (look e) Bottom)
-    lookForm s (ifElse c b e) =
-        plain (λ outer. clause "if " (whole (look c) Bottom) (blockRule b) ⨟ otherwise e)
-    lookForm s (while c b) = plain (λ outer. clause "while " (whole (look c) Bottom) (blockRule b))
-    lookForm s (for i e b) =
-        plain (λ outer. says "for " ⨟ ident i ⨟ clause " in " (whole (look e) Bottom) (blockRule b))
-    lookForm s (questionMark e) = plain (λ outer. whole (look e) outer ⨟ says "?")
-    lookForm s (fString ps) = plain (λ outer. gap (s .start) true true false ⨟ says "f\"" ⨟ partsRule ps ⨟ says "\"")
-    lookForm s (parentheses e) = plain (λ outer. gap (s .start) true true false ⨟ says "(" ⨟ whole (look e) Bottom ⨟ says ")")
+    -- its `match`; where the Rust asks for `precedence > outer`, the form's own precedence is asked for
+    pub exprForm : Span → Form → ℕ → Act
+    exprForm s (return′ kind e) outer = says (returnWord kind) ⨟ maybeExpr " " e
+    exprForm s (literal t which) outer = literalRule t which
+    exprForm s (block b) outer = blockRule b
+    exprForm s (match′ e t arms) outer = matchRule (exprWithPrecedence e Bottom) (armElems arms) t
+    exprForm s (functionCall e t es) outer =
+        cond (ltb outer (formPrecedence (functionCall e t es))) (called (exprWithPrecedence e Chain) (functionArgs (exprElems es) t))
+        (exprWithPrecedence e Chain ⨟ functionArgs (exprElems es) t)
+    exprForm s (access e i) outer =
+        cond (ltb outer (formPrecedence (access e i))) (grouped (λ id. indentedNext (accessRule (exprWithPrecedence e Chain) i)))
+        (accessRule (exprWithPrecedence e Chain) i)
+    exprForm s (path p) outer = pathRule p (ltb outer (formPrecedence (path p))) true
+    exprForm s (record′ t es) outer = recordRule (entryElems es) t
+    exprForm s (typedRecord p t es) outer = pathRule p true true ⨟ says " " ⨟ recordRule (entryElems es) t
+    exprForm s (list es) outer = separated "[" "]" "," (groupedElems es) s Tight
+    exprForm s (not′ e) outer = says "!" ⨟ exprWithPrecedence e (formPrecedence (not′ e))
+    exprForm s (assign p e) outer = pathRule p true true ⨟ says " = " ⨟ exprWithPrecedence e Bottom
+    exprForm s (compoundAssign p op e) outer = pathRule p true true ⨟ says (assignSymbol op) ⨟ exprWithPrecedence e Bottom
+    exprForm s (binOp l t op r) outer = binop (popped (operands (binopPrecedence op) l) t op (exprWithPrecedence r Bottom))
+    exprForm s (negate e) outer = says "-" ⨟ exprWithPrecedence e Bottom
+    exprForm s (ifElse c b e) outer = clause "if " (exprWithPrecedence c Bottom) (blockRule b) ⨟ otherwise e
+    exprForm s (while c b) outer = clause "while " (exprWithPrecedence c Bottom) (blockRule b)
+    exprForm s (for i e b) outer = says "for " ⨟ ident i ⨟ clause " in " (exprWithPrecedence e Bottom) (blockRule b)
+    exprForm s (questionMark e) outer = exprWithPrecedence e outer ⨟ says "?"
+    exprForm s (fString ps) outer = gap (s .start) true true false ⨟ says "f\"" ⨟ partsRule ps ⨟ says "\""
+    exprForm s (parentheses e) outer = gap (s .start) true true false ⨟ says "(" ⨟ exprWithPrecedence e Bottom ⨟ says ")"
+
+    -- the first loop of `binop`, down the left operands: an operator of the same precedence goes onto the stack, and is popped after those
+    -- to its left; anything else is the leftmost operand, and is laid as a whole
+    pub operands : ℕ → Expr → Operands
+    operands precedence (expr s f) = operandsForm precedence f (exprForm s f precedence ⨟ popTrailingComment g)
+
+    pub operandsForm : ℕ → Form → Act → Operands
+    operandsForm precedence (binOp l t op r) whole =
+        let longer = popped (operands precedence l) t op (exprWithPrecedence r Bottom) in
+        pickOperands (eqb (formPrecedence (binOp l t op r)) precedence) longer (leftmost whole)
+    operandsForm precedence (return′ kind e) whole = leftmost whole
+    operandsForm precedence (literal t which) whole = leftmost whole
+    operandsForm precedence (block b) whole = leftmost whole
+    operandsForm precedence (match′ e t arms) whole = leftmost whole
+    operandsForm precedence (functionCall e t es) whole = leftmost whole
+    operandsForm precedence (access e i) whole = leftmost whole
+    operandsForm precedence (path p) whole = leftmost whole
+    operandsForm precedence (record′ t es) whole = leftmost whole
+    operandsForm precedence (typedRecord p t es) whole = leftmost whole
+    operandsForm precedence (list es) whole = leftmost whole
+    operandsForm precedence (not′ e) whole = leftmost whole
+    operandsForm precedence (assign p e) whole = leftmost whole
+    operandsForm precedence (compoundAssign p op e) whole = leftmost whole
+    operandsForm precedence (negate e) whole = leftmost whole
+    operandsForm precedence (ifElse c b e) whole = leftmost whole
+    operandsForm precedence (while c b) whole = leftmost whole
+    operandsForm precedence (for i e b) whole = leftmost whole
+    operandsForm precedence (questionMark e) whole = leftmost whole
+    operandsForm precedence (fString ps) whole = leftmost whole
+    operandsForm precedence (parentheses e) whole = leftmost whole
 
     -- the value of a `return`, the guard of an arm
     pub maybeExpr : String → MaybeExpr → Act
     maybeExpr w noExpr = skip
-    maybeExpr w (someExpr e) = says w ⨟ whole (look e) Bottom
+    maybeExpr w (someExpr e) = says w ⨟ exprWithPrecedence e Bottom
 
     -- the `else` of an `if`
     pub otherwise : MaybeBlock → Act
     otherwise noBlock = skip
     otherwise (someBlock b) = says " else " ⨟ blockRule b
 
-    -- the closures of `function_args`, of a list, of `record` and of `match`
+    -- the closures of `function_args`, of a list, of `record` and of `r#match`
     pub exprElems : Exprs → List Elem
     exprElems noExprs = []
-    exprElems (e ∷ᵉ es) = record { start = exprSpan e .start; act = whole (look e) Bottom } ∷ exprElems es
+    exprElems (e ∷ᵉ es) = record { start = exprSpan e .start; act = exprWithPrecedence e Bottom } ∷ exprElems es
 
     pub groupedElems : Exprs → List Elem
     groupedElems noExprs = []
-    groupedElems (e ∷ᵉ es) = record { start = exprSpan e .start; act = grouped (λ id. whole (look e) Bottom) } ∷ groupedElems es
+    groupedElems (e ∷ᵉ es) = record { start = exprSpan e .start; act = grouped (λ id. exprWithPrecedence e Bottom) } ∷ groupedElems es
 
     pub entryElems : Entries → List Elem
     entryElems noEntries = []
-    entryElems (entry s i e es) = record { start = s .start; act = named i (whole (look e) Bottom) } ∷ entryElems es
+    entryElems (entry s i e es) = record { start = s .start; act = named i (exprWithPrecedence e Bottom) } ∷ entryElems es
 
     pub armElems : Arms → List Elem
     armElems noArms = []
     armElems (arm s p guard body arms) =
         record {
           start = s .start;
-          act = pattern p ⨟ maybeExpr " if " guard ⨟ says " => " ⨟ whole (look body) Bottom ⨟ when (not (isBlock body)) (says ",");
+          act = pattern p ⨟ maybeExpr " if " guard ⨟ says " => " ⨟ exprWithPrecedence body Bottom ⨟ when (not (isBlock body)) (says ",");
         }
         ∷ armElems arms
 
@@ -407,7 +453,7 @@ module _ (g : Given) where
     pub partsRule : Parts → Act
     partsRule noParts = skip
     partsRule (string s ps) = push (ascii (content s)) ⨟ partsRule ps
-    partsRule (value e ps) = placeholder (whole (look e) Bottom) ⨟ partsRule ps
+    partsRule (value e ps) = placeholder (exprWithPrecedence e Bottom) ⨟ partsRule ps
 
     -- `block`
     pub blockRule : Block → Act
@@ -425,20 +471,20 @@ module _ (g : Given) where
 
     pub lastRule : MaybeExpr → Bool → Act
     lastRule noExpr first = skip
-    lastRule (someExpr e) first = beforeStmt first (exprSpan e .start) ⨟ whole (look e) Bottom ⨟ trailing
+    lastRule (someExpr e) first = beforeStmt first (exprSpan e .start) ⨟ exprWithPrecedence e Bottom ⨟ popTrailingComment g
 
     -- `stmt`
     pub stmtRule : Stmt → Act
     stmtRule (stmt s f) = stmtForm f
 
     pub stmtForm : StmtForm → Act
-    stmtForm (let′ i t e) = says "let " ⨟ ident i ⨟ letType t ⨟ says " = " ⨟ whole (look e) Bottom ⨟ says ";"
+    stmtForm (let′ i t e) = says "let " ⨟ ident i ⨟ letType t ⨟ says " = " ⨟ exprWithPrecedence e Bottom ⨟ says ";"
     stmtForm (importStmt p) = says "import " ⨟ importPath p ⨟ says ";"
-    stmtForm (does e) = grouped (λ id. whole (look e) Bottom ⨟ when (not (isBraced e)) (says ";"))
+    stmtForm (does e) = grouped (λ id. exprWithPrecedence e Bottom ⨟ when (not (isBraced e)) (says ";"))
 
   -- `expr`
   abbrev pub exprRule : Expr → Act
-  exprRule e = whole (look e) Bottom
+  exprRule e = exprWithPrecedence e Bottom
 
   -- ---- `declaration`
   -- how each declaration begins: `first` is true of the file's first
@@ -448,7 +494,7 @@ module _ (g : Given) where
 
   abbrev pub someTypeParams : Option Idents → Act
   someTypeParams none = skip
-  someTypeParams (some is) = unlessEmpty (is .elems) (typeParams is)
+  someTypeParams (some is) = unlessEmpty (is .elems) (typeParams (identElems (is .elems)) (is .span))
 
   abbrev pub returnType : Option TypeExpr → Act
   returnType none = skip
@@ -468,12 +514,12 @@ module _ (g : Given) where
   declares w first i = opening (i .span .start) first ⨟ says w ⨟ ident i
 
   unfoldable pub declaration : Declaration → Bool → Act
-  declaration (filterMap i s fs b) first = declares "filtermap " first i ⨟ params fs s ⨟ says " " ⨟ blockRule b
+  declaration (filterMap i s fs b) first = declares "filtermap " first i ⨟ params (fieldElems fs) s ⨟ says " " ⨟ blockRule b
   declaration (const i t e) first = declares "const " first i ⨟ says ": " ⨟ typeExpr t ⨟ says " = " ⨟ exprRule e ⨟ says ";"
-  declaration (recordDecl i ps s fs) first = declares "record " first i ⨟ someTypeParams ps ⨟ says " " ⨟ recordTypeRule fs s Wrap
+  declaration (recordDecl i ps s fs) first = declares "record " first i ⨟ someTypeParams ps ⨟ says " " ⨟ recordTypeRule (fieldElems fs) s Wrap
   declaration (enumDecl i ps s vs) first =
       declares "enum " first i ⨟ someTypeParams ps ⨟ says " " ⨟ separated "{" "}" "," (variantElems vs) s Wrap
-  declaration (function i s fs t b) first = declares "fn " first i ⨟ params fs s ⨟ says " " ⨟ returnType t ⨟ blockRule b
+  declaration (function i s fs t b) first = declares "fn " first i ⨟ params (fieldElems fs) s ⨟ says " " ⨟ returnType t ⨟ blockRule b
   declaration (test i b) first = declares "test " first i ⨟ says " " ⨟ blockRule b
   declaration (importDecl p) first = opening (importSpan p .start) first ⨟ says "import " ⨟ importPath p ⨟ says ";"
 

@@ -10,7 +10,7 @@ ghost use Rattle.tree.specs.Syntax.{binOp};
 ghost use Rattle.state.specs.Act.{when, push};
 ghost use Rattle.state.specs.Laid.{Room, Laid};
 ghost use Rattle.layout.specs.Layout.{symbol, binopPrecedence};
-ghost use Rattle.layout.specs.Contracts.{Has, LaidAs, Within};
+ghost use Rattle.layout.specs.Contracts.{Has, LaidAs, InImage};
 ghost use Rattle.layout.specs.Forms.{OperatorAt, operatorRule};
 ghost use Rattle.layout.specs.Chains.{HasChain, Leftmost};
 use crate::numbers::HEAD;
@@ -19,6 +19,7 @@ use crate::numbers::payload;
 use crate::numbers::second;
 use crate::numbers::start;
 use comments::pop_whitespace;
+use image::kinds;
 use state::Cursor;
 use state::leaves::line_or_space;
 use state::words::AND;
@@ -51,7 +52,7 @@ fn symbol(op: usize) -> usize
 
 // The precedence of the operator at `at`.
 pub(crate) fn precedence(b: &[u8], at: usize) -> usize
-    requires { ⌜ Within (now b) (at + 13) ⌝ }
+    requires { ⌜ InImage (now b) (at + 13) ⌝ }
     requires { ⌜ stopAt (now b) (at + 13) + 14 ≤ length (now b) ⌝ }
     ensures { λ r. ⌜ r ≡ binopPrecedence (getD (now (b .entry)) (stopAt (now (b .entry)) (at + 13) + 13) 0) ⌝ }
 {
@@ -101,7 +102,7 @@ pub(crate) fn leftmost(b: &[u8], at: usize, q: usize, ops: &mut [usize; 64]) -> 
     let mut n = 1usize;
     let mut p = at + HEAD;
     let left = loop {
-        if kind(b, p) != 63 {
+        if kind(b, p) != kinds::BIN_OP {
             break p;
         }
         if precedence(b, p) != q {

@@ -1,28 +1,30 @@
-// The layout functions: `State` of fmt.rs from `separated` on. They call each other, and the record's length falls at each call. Their
-// names are short because the check joins the names of all of them to one (docs/PROOF-NOTES.md).
+// The layout functions: `State` of fmt.rs from `separated` on. Here are those of expressions, blocks and statements. They call each other,
+// and the record's length falls at each call. Some names are short because the check joins the names of all of them to one
+// (docs/PROOF-NOTES.md).
 mod blocks;
 mod chains;
 pub mod declarations;
+pub mod forms;
+mod idents;
 mod imports;
-pub mod kinds;
 mod literals;
 pub mod numbers;
 mod paths;
 mod pieces;
 mod types;
+mod variants;
 
 ghost use mathlib.Core.Path.{_≡_};
 ghost use mathlib.Core.Bool.{true};
 ghost use Prim.Native.Nat.{_+_};
-ghost use Rattle.image.specs.Bytes.{be32};
-ghost use Rattle.tree.specs.Syntax.{typePath, return′, match′, functionCall, access, typedRecord, binOp, ifElse, for, fString, parentheses};
-ghost use Rattle.tree.specs.At.{TypeAt, ImportAt, ImportGroupAt, PatternAt, ExprAt, MaybeExprAt, PartsAt, BlockAt, StmtsAt, StmtAt};
-ghost use Rattle.layout.specs.Layout.{typeExpr, importPath, importGroup, pattern, partsRule, blockRule, stmtRule, letType};
+ghost use Rattle.image.specs.Kinds.{LIST, RECORD-FIELDS};
+ghost use Rattle.tree.specs.Syntax.{return′, match′, functionCall, access, binOp, ifElse, for, fString, parentheses};
+ghost use Rattle.tree.specs.At.{ExprAt, ExprsAt, EntriesAt, MaybeExprAt, PartsAt, BlockAt, StmtsAt, StmtAt};
+ghost use Rattle.layout.specs.Layout.{exprRule, partsRule, blockRule, stmtRule};
 ghost use Rattle.layout.specs.Contracts.{Has, LaidAs, HasAll, LaidAll};
-ghost use Rattle.layout.specs.Elems.{FieldAt, fieldRule, VariantAt, variantRule, EntryAt, entryRule, ArmAt, armRule, ItemAt, itemRule, ElemsAt};
-ghost use Rattle.layout.specs.Elems.{elementsRule, HasList, LaidList, HasInside, LaidInside};
-ghost use Rattle.layout.specs.Forms.{two, three, four, OfType, typeRule, exprWith, formWith, Of, formRule, afterWord, maybeAfter, ClauseAt};
-ghost use Rattle.layout.specs.Forms.{clauseRule, PartAt, partRule, bodyRule, stmtsFrom, lastFrom, LetAt, letRule, MaybeTypeAt};
+ghost use Rattle.layout.specs.Elems.{EntryAt, entryRule, ArmAt, armRule, ExprElem, elemRule, HasList, LaidList, ListWith, argsRule, entriesRule};
+ghost use Rattle.layout.specs.Forms.{two, three, four, exprWith, formWith, Of, formRule, afterWord, maybeAfter, ClauseAt};
+ghost use Rattle.layout.specs.Forms.{clauseRule, PartAt, partRule, bodyRule, stmtsFrom, lastFrom, LetAt, letRule};
 ghost use Rattle.layout.specs.Chains.{HasTail, LaidTail};
 use crate::blocks::after_stmt;
 use crate::blocks::arm_comma;
@@ -30,19 +32,23 @@ use crate::blocks::assign_word;
 use crate::blocks::before_stmt;
 use crate::blocks::block_start;
 use crate::blocks::is_empty;
+use crate::blocks::let_type;
 use crate::blocks::no_stmts;
 use crate::blocks::semicolon;
 use crate::chains::leftmost;
 use crate::chains::operator;
 use crate::chains::precedence;
-use crate::imports::import_dot;
-use crate::imports::import_first;
-use crate::imports::is_single;
-use crate::kinds::BOTTOM;
-use crate::kinds::CHAIN;
-use crate::kinds::Element;
-use crate::kinds::UNIT_PRECEDENCE;
-use crate::kinds::WrapStyle;
+use crate::forms::BOTTOM;
+use crate::forms::BRACKETS;
+use crate::forms::CHAIN;
+use crate::forms::ExprElement;
+use crate::forms::GROUPED;
+use crate::forms::ListForm;
+use crate::forms::PARENS;
+use crate::forms::UNIT_PRECEDENCE;
+use crate::forms::WrapStyle;
+use crate::idents::pattern;
+use crate::imports::import_path;
 use crate::literals::content;
 use crate::literals::literal;
 use crate::numbers::HEAD;
@@ -58,13 +64,12 @@ use crate::paths::field_name;
 use crate::paths::ident;
 use crate::paths::path;
 use crate::pieces::before_elem;
-use crate::pieces::close_list;
-use crate::pieces::end_elems;
+use crate::pieces::begin_list;
+use crate::pieces::empty_list;
+use crate::pieces::finish_list;
 use crate::pieces::gap;
-use crate::pieces::hollow;
-use crate::pieces::open_list;
-use crate::types::last_end;
 use comments::pop_trailing_comment;
+use image::kinds;
 use state::Cursor;
 use state::leaves::line;
 use state::leaves::line_or_space;
@@ -77,8 +82,6 @@ use state::parts::set_second;
 use state::words::ASSIGN;
 use state::words::BRACE_CLOSE;
 use state::words::BRACE_OPEN;
-use state::words::BRACKET_CLOSE;
-use state::words::BRACKET_OPEN;
 use state::words::COLON;
 use state::words::ELSE;
 use state::words::F_QUOTE;
@@ -99,326 +102,74 @@ use state::words::QUOTE;
 use state::words::RETURN;
 use state::words::SEMICOLON;
 use state::words::SPACE;
-use state::words::UNDERSCORE;
-use state::words::UNIT;
 use state::words::WHILE;
 use state::words::word;
 
-// `separated`: the list at `at`, whose span ends at `end`, between the words `left` and `right`.
+// `separated` over expressions, fields of records or arms: the list at `at`, whose span ends at `to`.
 fn separated(
     store: &mut [u32],
     c: Cursor,
     s: &[u8],
     b: &[u8],
     at: usize,
-    end: u32,
-    k: Element,
-    left: usize,
-    right: usize,
-    commas: bool,
-    style: WrapStyle,
+    to: u32,
+    form: ListForm,
+    k: ExprElement,
 ) -> Cursor
-    requires { ⌜ HasList k left right commas style end (now s) (now b) at c ⌝ }
-    ensures { λ r. ⌜ LaidList k left right commas style end (now (s .entry)) (now (b .entry)) at (now (store .entry)) c (now (store .exit)) r ⌝ }
+    requires { ⌜ HasList (ExprElem k) form to (now s) (now b) at c ⌝ }
+    ensures { λ r. ⌜ LaidList (ExprElem k) form to (now (s .entry)) (now (b .entry)) at (now (store .entry)) c (now (store .exit)) r ⌝ }
 {
-    let g = open_group(store, c);
-    let d = core(
-        store,
-        g,
-        s,
-        b,
-        at,
-        end,
-        k,
-        left,
-        right,
-        commas,
-        style,
-        c.number,
-    );
-    close(store, c.row, d);
-    d
-}
-
-// `separated` inside its group, which has the number id.
-fn core(
-    store: &mut [u32],
-    c: Cursor,
-    s: &[u8],
-    b: &[u8],
-    at: usize,
-    end: u32,
-    k: Element,
-    left: usize,
-    right: usize,
-    commas: bool,
-    style: WrapStyle,
-    id: u32,
-) -> Cursor
-    requires { ⌜ HasInside k left right commas style end id (now s) (now b) at c ⌝ }
-    ensures { λ r. ⌜ LaidInside k left right commas style end id (now (s .entry)) (now (b .entry)) at (now (store .entry)) c (now (store .exit)) r ⌝ }
-{
-    let from = at + HEAD;
-    let to = past(b, at);
-    if from == to {
-        return hollow(store, c, s, b, end, left, right);
+    let last = past(b, at);
+    if at + HEAD == last {
+        return empty_list(store, c, s, b, to, form);
     }
-    let d = open_list(store, c, left, style);
-    let i = open_indent(store, d);
-    let e = elems(store, i, s, b, from, to, k, commas);
-    let f = end_elems(store, e, s, b, end, id, commas);
-    close(store, d.row, f);
-    close_list(store, f, s, b, right, style)
-}
-
-// `separated` over the span of the list itself.
-fn seq(
-    store: &mut [u32],
-    c: Cursor,
-    s: &[u8],
-    b: &[u8],
-    at: usize,
-    k: Element,
-    left: usize,
-    right: usize,
-    commas: bool,
-    style: WrapStyle,
-) -> Cursor
-    requires { ⌜ HasList k left right commas style (be32 (now b) (at + 9)) (now s) (now b) at c ⌝ }
-    ensures { λ r. ⌜ LaidList k left right commas style (be32 (now (b .entry)) (at + 9)) (now (s .entry)) (now (b .entry)) at (now (store .entry)) c (now (store .exit)) r ⌝ }
-{
-    let to = end(b, at);
-    separated(store, c, s, b, at, to, k, left, right, commas, style)
-}
-
-// The elements from `from` up to `to`.
-fn elems(
-    store: &mut [u32],
-    c: Cursor,
-    s: &[u8],
-    b: &[u8],
-    from: usize,
-    to: usize,
-    k: Element,
-    commas: bool,
-) -> Cursor
-    requires { ⌜ HasAll (ElemsAt k) (elementsRule commas true) (now s) (now b) from to c ⌝ }
-    ensures { λ r. ⌜ LaidAll (ElemsAt k) (elementsRule commas true) (now (s .entry)) (now (b .entry)) from to (now (store .entry)) c (now (store .exit)) r ⌝ }
-{
-    let mut p = from;
-    let mut d = c;
+    let i = begin_list(store, c, form);
+    let mut p = at + HEAD;
+    let mut d = i;
     let mut first = true;
-    while p < to {
-        d = before_elem(store, d, s, b, start(b, p), first, commas);
+    while p < last {
+        d = before_elem(store, d, s, b, start(b, p), first, form.commas);
         d = elem(store, d, s, b, p, k);
         p = past(b, p);
         first = false;
     }
-    d
+    finish_list(store, d, s, b, c, i, to, form)
 }
 
 // An element by its kind: the closures given to `separated`.
-fn elem(store: &mut [u32], c: Cursor, s: &[u8], b: &[u8], at: usize, k: Element) -> Cursor
-    requires { ⌜ Has (ItemAt k) itemRule (now s) (now b) at c ⌝ }
-    ensures { λ r. ⌜ LaidAs (ItemAt k) itemRule (now (s .entry)) (now (b .entry)) at (now (store .entry)) c (now (store .exit)) r ⌝ }
+fn elem(store: &mut [u32], c: Cursor, s: &[u8], b: &[u8], at: usize, k: ExprElement) -> Cursor
+    requires { ⌜ Has (ExprElem k) elemRule (now s) (now b) at c ⌝ }
+    ensures { λ r. ⌜ LaidAs (ExprElem k) elemRule (now (s .entry)) (now (b .entry)) at (now (store .entry)) c (now (store .exit)) r ⌝ }
 {
     match k {
-        Element::Ident => ident(store, c, s, b, at),
-        Element::Type => type_expr(store, c, s, b, at),
-        Element::Field => param(store, c, s, b, at),
-        Element::Import => item(store, c, s, b, at),
-        Element::Expr => expr(store, c, s, b, at, BOTTOM),
-        Element::Grouped => {
+        ExprElement::Expr => expr(store, c, s, b, at),
+        ExprElement::Grouped => {
             let g = open_group(store, c);
-            let d = expr(store, g, s, b, at, BOTTOM);
+            let d = expr(store, g, s, b, at);
             close(store, c.row, d);
             d
         }
-        Element::Entry => pair(store, c, s, b, at),
-        Element::Arm => arm(store, c, s, b, at),
-        Element::Variant => ctor(store, c, s, b, at),
+        ExprElement::Entry => entry(store, c, s, b, at),
+        ExprElement::Arm => arm(store, c, s, b, at),
     }
 }
 
-fn type_expr(store: &mut [u32], c: Cursor, s: &[u8], b: &[u8], at: usize) -> Cursor
-    requires { ⌜ Has TypeAt typeExpr (now s) (now b) at c ⌝ }
-    ensures { λ r. ⌜ LaidAs TypeAt typeExpr (now (s .entry)) (now (b .entry)) at (now (store .entry)) c (now (store .exit)) r ⌝ }
+pub(crate) fn expr(store: &mut [u32], c: Cursor, s: &[u8], b: &[u8], at: usize) -> Cursor
+    requires { ⌜ Has ExprAt exprRule (now s) (now b) at c ⌝ }
+    ensures { λ r. ⌜ LaidAs ExprAt exprRule (now (s .entry)) (now (b .entry)) at (now (store .entry)) c (now (store .exit)) r ⌝ }
 {
-    match kind(b, at) {
-        40 => {
-            let d = type_expr(store, c, s, b, at + HEAD);
-            word(store, d, QUESTION)
-        }
-        41 => ty(store, c, s, b, at),
-        42 => word(store, c, NOT),
-        43 => word(store, c, UNIT),
-        _ => seq(
-            store,
-            c,
-            s,
-            b,
-            at + HEAD,
-            Element::Field,
-            BRACE_OPEN,
-            BRACE_CLOSE,
-            true,
-            WrapStyle::Tight,
-        ),
-    }
+    expr_with_precedence(store, c, s, b, at, BOTTOM)
 }
 
-// A path as a type, with its arguments.
-fn ty(store: &mut [u32], c: Cursor, s: &[u8], b: &[u8], at: usize) -> Cursor
-    requires { ⌜ Has (OfType (two typePath)) (typeRule (two typePath)) (now s) (now b) at c ⌝ }
-    ensures { λ r. ⌜ LaidAs (OfType (two typePath)) (typeRule (two typePath)) (now (s .entry)) (now (b .entry)) at (now (store .entry)) c (now (store .exit)) r ⌝ }
-{
-    let p = second(b, at);
-    let d = path(store, c, s, b, at + HEAD, true, true);
-    if is_absent(b, p) {
-        return d;
-    }
-    seq(
-        store,
-        d,
-        s,
-        b,
-        p,
-        Element::Type,
-        BRACKET_OPEN,
-        BRACKET_CLOSE,
-        true,
-        WrapStyle::Tight,
-    )
-}
-
-// A parameter, or a field of a record type.
-fn param(store: &mut [u32], c: Cursor, s: &[u8], b: &[u8], at: usize) -> Cursor
-    requires { ⌜ Has FieldAt fieldRule (now s) (now b) at c ⌝ }
-    ensures { λ r. ⌜ LaidAs FieldAt fieldRule (now (s .entry)) (now (b .entry)) at (now (store .entry)) c (now (store .exit)) r ⌝ }
-{
-    let p = second(b, at);
-    let d = ident(store, c, s, b, at + HEAD);
-    let e = word(store, d, COLON);
-    type_expr(store, e, s, b, p)
-}
-
-// A variant of an enum. The span of its types ends with the last of them.
-fn ctor(store: &mut [u32], c: Cursor, s: &[u8], b: &[u8], at: usize) -> Cursor
-    requires { ⌜ Has VariantAt variantRule (now s) (now b) at c ⌝ }
-    ensures { λ r. ⌜ LaidAs VariantAt variantRule (now (s .entry)) (now (b .entry)) at (now (store .entry)) c (now (store .exit)) r ⌝ }
-{
-    let p = second(b, at);
-    let to = past(b, p);
-    let d = ident(store, c, s, b, at + HEAD);
-    if p + HEAD == to {
-        return d;
-    }
-    let last = last_end(b, p + HEAD, to);
-    separated(
-        store,
-        d,
-        s,
-        b,
-        p,
-        last,
-        Element::Type,
-        PAREN_OPEN,
-        PAREN_CLOSE,
-        true,
-        WrapStyle::Tight,
-    )
-}
-
-// `import_path`: a path, a group of imports, or both.
-fn item(store: &mut [u32], c: Cursor, s: &[u8], b: &[u8], at: usize) -> Cursor
-    requires { ⌜ Has ImportAt importPath (now s) (now b) at c ⌝ }
-    ensures { λ r. ⌜ LaidAs ImportAt importPath (now (s .entry)) (now (b .entry)) at (now (store .entry)) c (now (store .exit)) r ⌝ }
-{
-    let p = second(b, at);
-    let d = import_first(store, c, s, b, at + HEAD);
-    let e = import_dot(store, d, b, at + HEAD, p);
-    items(store, e, s, b, p)
-}
-
-// The group of an import: one item loses its braces.
-fn items(store: &mut [u32], c: Cursor, s: &[u8], b: &[u8], at: usize) -> Cursor
-    requires { ⌜ Has ImportGroupAt importGroup (now s) (now b) at c ⌝ }
-    ensures { λ r. ⌜ LaidAs ImportGroupAt importGroup (now (s .entry)) (now (b .entry)) at (now (store .entry)) c (now (store .exit)) r ⌝ }
-{
-    if is_absent(b, at) {
-        return c;
-    }
-    if is_single(b, at) {
-        return item(store, c, s, b, at + HEAD);
-    }
-    seq(
-        store,
-        c,
-        s,
-        b,
-        at,
-        Element::Import,
-        BRACE_OPEN,
-        BRACE_CLOSE,
-        true,
-        WrapStyle::Tight,
-    )
-}
-
-// A field of a record.
-fn pair(store: &mut [u32], c: Cursor, s: &[u8], b: &[u8], at: usize) -> Cursor
-    requires { ⌜ Has EntryAt entryRule (now s) (now b) at c ⌝ }
-    ensures { λ r. ⌜ LaidAs EntryAt entryRule (now (s .entry)) (now (b .entry)) at (now (store .entry)) c (now (store .exit)) r ⌝ }
-{
-    let p = second(b, at);
-    let d = ident(store, c, s, b, at + HEAD);
-    let e = word(store, d, COLON);
-    expr(store, e, s, b, p, BOTTOM)
-}
-
-// An arm of a match.
-fn arm(store: &mut [u32], c: Cursor, s: &[u8], b: &[u8], at: usize) -> Cursor
-    requires { ⌜ Has ArmAt armRule (now s) (now b) at c ⌝ }
-    ensures { λ r. ⌜ LaidAs ArmAt armRule (now (s .entry)) (now (b .entry)) at (now (store .entry)) c (now (store .exit)) r ⌝ }
-{
-    let p = second(b, at);
-    let q = third(b, at);
-    let d = pat(store, c, s, b, at + HEAD);
-    let e = opt(store, d, s, b, p, GUARD);
-    let f = word(store, e, FAT_ARROW);
-    let g = expr(store, f, s, b, q, BOTTOM);
-    arm_comma(store, g, b, q)
-}
-
-// A pattern of a match.
-fn pat(store: &mut [u32], c: Cursor, s: &[u8], b: &[u8], at: usize) -> Cursor
-    requires { ⌜ Has PatternAt pattern (now s) (now b) at c ⌝ }
-    ensures { λ r. ⌜ LaidAs PatternAt pattern (now (s .entry)) (now (b .entry)) at (now (store .entry)) c (now (store .exit)) r ⌝ }
-{
-    if kind(b, at) == 82 {
-        return word(store, c, UNDERSCORE);
-    }
-    let p = second(b, at);
-    let d = ident(store, c, s, b, at + HEAD);
-    if is_absent(b, p) {
-        return d;
-    }
-    seq(
-        store,
-        d,
-        s,
-        b,
-        p,
-        Element::Ident,
-        PAREN_OPEN,
-        PAREN_CLOSE,
-        true,
-        WrapStyle::Tight,
-    )
-}
-
-// `expr_with_precedence`: each expression ends with `pop_trailing_comment`.
-fn expr(store: &mut [u32], c: Cursor, s: &[u8], b: &[u8], at: usize, outer: usize) -> Cursor
+// Each expression ends with `pop_trailing_comment`.
+fn expr_with_precedence(
+    store: &mut [u32],
+    c: Cursor,
+    s: &[u8],
+    b: &[u8],
+    at: usize,
+    outer: usize,
+) -> Cursor
     requires { ⌜ Has ExprAt (exprWith outer) (now s) (now b) at c ⌝ }
     ensures { λ r. ⌜ LaidAs ExprAt (exprWith outer) (now (s .entry)) (now (b .entry)) at (now (store .entry)) c (now (store .exit)) r ⌝ }
 {
@@ -426,70 +177,51 @@ fn expr(store: &mut [u32], c: Cursor, s: &[u8], b: &[u8], at: usize, outer: usiz
     pop_trailing_comment(store, d, s, b)
 }
 
-// An expression by its form.
+// `expr_with_precedence`, its `match`: an expression by its form.
 fn form(store: &mut [u32], c: Cursor, s: &[u8], b: &[u8], at: usize, outer: usize) -> Cursor
     requires { ⌜ Has ExprAt (formWith outer) (now s) (now b) at c ⌝ }
     ensures { λ r. ⌜ LaidAs ExprAt (formWith outer) (now (s .entry)) (now (b .entry)) at (now (store .entry)) c (now (store .exit)) r ⌝ }
 {
     match kind(b, at) {
-        50 => ret(store, c, s, b, at),
-        51 => literal(store, c, s, b, at + HEAD),
-        52 => block(store, c, s, b, at + HEAD),
-        53 => arms(store, c, s, b, at),
-        54 => call(store, c, s, b, at, outer),
-        55 => access(store, c, s, b, at, outer),
-        56 => path(store, c, s, b, at + HEAD, outer < CHAIN, true),
-        57 => seq(
-            store,
-            c,
-            s,
-            b,
-            at + HEAD,
-            Element::Entry,
-            BRACE_OPEN,
-            BRACE_CLOSE,
-            true,
-            WrapStyle::Spaced,
-        ),
-        58 => rec(store, c, s, b, at),
-        59 => separated(
-            store,
-            c,
-            s,
-            b,
-            at + HEAD,
-            end(b, at),
-            Element::Grouped,
-            BRACKET_OPEN,
-            BRACKET_CLOSE,
-            true,
-            WrapStyle::Tight,
-        ),
-        60 => then(store, c, s, b, at + HEAD, NOT, UNIT_PRECEDENCE),
-        61 => {
+        kinds::RETURN => ret(store, c, s, b, at),
+        kinds::LITERAL_EXPR => literal(store, c, s, b, at + HEAD),
+        kinds::BLOCK_EXPR => block(store, c, s, b, at + HEAD),
+        kinds::MATCH => match_expr(store, c, s, b, at),
+        kinds::FUNCTION_CALL => call(store, c, s, b, at, outer),
+        kinds::ACCESS => access(store, c, s, b, at, outer),
+        kinds::PATH_EXPR => path(store, c, s, b, at + HEAD, outer < CHAIN, true),
+        kinds::RECORD_EXPR => record(store, c, s, b, at + HEAD),
+        kinds::TYPED_RECORD => {
             let d = path(store, c, s, b, at + HEAD, true, true);
-            then(store, d, s, b, second(b, at), ASSIGN, BOTTOM)
+            let e = word(store, d, SPACE);
+            record(store, e, s, b, second(b, at))
         }
-        62 => {
+        kinds::LIST_EXPR => separated(store, c, s, b, at + HEAD, end(b, at), BRACKETS, GROUPED),
+        kinds::NOT => after(store, c, s, b, at + HEAD, NOT, UNIT_PRECEDENCE),
+        kinds::ASSIGN => {
             let d = path(store, c, s, b, at + HEAD, true, true);
-            then(store, d, s, b, third(b, at), assign_word(b, at), BOTTOM)
+            after(store, d, s, b, second(b, at), ASSIGN, BOTTOM)
         }
-        63 => binop(store, c, s, b, at),
-        64 => then(store, c, s, b, at + HEAD, MINUS, BOTTOM),
-        65 => alt(store, c, s, b, at),
-        66 => cond(store, c, s, b, at + HEAD, WHILE),
-        67 => each(store, c, s, b, at),
-        68 => {
-            let d = expr(store, c, s, b, at + HEAD, outer);
+        kinds::COMPOUND_ASSIGN => {
+            let d = path(store, c, s, b, at + HEAD, true, true);
+            after(store, d, s, b, third(b, at), assign_word(b, at), BOTTOM)
+        }
+        kinds::BIN_OP => binop(store, c, s, b, at),
+        kinds::NEGATE => after(store, c, s, b, at + HEAD, MINUS, BOTTOM),
+        kinds::IF_ELSE => alt(store, c, s, b, at),
+        kinds::WHILE => cond(store, c, s, b, at + HEAD, WHILE),
+        kinds::FOR => each(store, c, s, b, at),
+        kinds::QUESTION_MARK => {
+            let d = expr_with_precedence(store, c, s, b, at + HEAD, outer);
             word(store, d, QUESTION)
         }
-        69 => fstr(store, c, s, b, at),
+        kinds::F_STRING => fstr(store, c, s, b, at),
         _ => par(store, c, s, b, at),
     }
 }
 
 // A word, and then the expression at `at`.
-fn then(
+fn after(
     store: &mut [u32],
     c: Cursor,
     s: &[u8],
@@ -502,21 +234,21 @@ fn then(
     ensures { λ r. ⌜ LaidAs ExprAt (afterWord k outer) (now (s .entry)) (now (b .entry)) at (now (store .entry)) c (now (store .exit)) r ⌝ }
 {
     let d = word(store, c, k);
-    expr(store, d, s, b, at, outer)
+    expr_with_precedence(store, d, s, b, at, outer)
 }
 
-// The same, where the expression is there.
-fn opt(store: &mut [u32], c: Cursor, s: &[u8], b: &[u8], at: usize, k: usize) -> Cursor
+// The same, where the expression is there: the value of a `return`, the guard of an arm.
+fn maybe(store: &mut [u32], c: Cursor, s: &[u8], b: &[u8], at: usize, k: usize) -> Cursor
     requires { ⌜ Has MaybeExprAt (maybeAfter k) (now s) (now b) at c ⌝ }
     ensures { λ r. ⌜ LaidAs MaybeExprAt (maybeAfter k) (now (s .entry)) (now (b .entry)) at (now (store .entry)) c (now (store .exit)) r ⌝ }
 {
     if is_absent(b, at) {
         return c;
     }
-    then(store, c, s, b, at, k, BOTTOM)
+    after(store, c, s, b, at, k, BOTTOM)
 }
 
-// The condition of `if`, `while` and `for`, after its word, and the block after it.
+// `expr_with_precedence`: the condition of `if`, `while` and `for`, after its word, and the block after it.
 fn cond(store: &mut [u32], c: Cursor, s: &[u8], b: &[u8], at: usize, k: usize) -> Cursor
     requires { ⌜ Has ClauseAt (clauseRule k) (now s) (now b) at c ⌝ }
     ensures { λ r. ⌜ LaidAs ClauseAt (clauseRule k) (now (s .entry)) (now (b .entry)) at (now (store .entry)) c (now (store .exit)) r ⌝ }
@@ -524,47 +256,56 @@ fn cond(store: &mut [u32], c: Cursor, s: &[u8], b: &[u8], at: usize, k: usize) -
     let d = word(store, c, k);
     let g = open_group(store, d);
     let i = open_indent(store, g);
-    let e = expr(store, i, s, b, at, BOTTOM);
+    let e = expr(store, i, s, b, at);
     close(store, g.row, e);
     close(store, d.row, e);
     let f = word(store, e, SPACE);
     block(store, f, s, b, past(b, at))
 }
 
-// `return`, `accept` and `reject`.
+// `expr_with_precedence`, the arm of `Return`: `return`, `accept` and `reject`.
 fn ret(store: &mut [u32], c: Cursor, s: &[u8], b: &[u8], at: usize) -> Cursor
     requires { ⌜ Has (Of (two return′)) (formRule (two return′) 0) (now s) (now b) at c ⌝ }
     ensures { λ r. ⌜ LaidAs (Of (two return′)) (formRule (two return′) 0) (now (s .entry)) (now (b .entry)) at (now (store .entry)) c (now (store .exit)) r ⌝ }
 {
     let k = payload(b, at);
     let d = word(store, c, RETURN + k);
-    opt(store, d, s, b, at + 14, SPACE)
+    maybe(store, d, s, b, at + 14, SPACE)
 }
 
-// `match`: the expression and its arms.
-fn arms(store: &mut [u32], c: Cursor, s: &[u8], b: &[u8], at: usize) -> Cursor
+// `r#match`
+fn match_expr(store: &mut [u32], c: Cursor, s: &[u8], b: &[u8], at: usize) -> Cursor
     requires { ⌜ Has (Of (three match′)) (formRule (three match′) 0) (now s) (now b) at c ⌝ }
     ensures { λ r. ⌜ LaidAs (Of (three match′)) (formRule (three match′) 0) (now (s .entry)) (now (b .entry)) at (now (store .entry)) c (now (store .exit)) r ⌝ }
 {
     let p = second(b, at);
     let d = word(store, c, MATCH);
-    let e = expr(store, d, s, b, at + HEAD, BOTTOM);
+    let e = expr(store, d, s, b, at + HEAD);
     let f = word(store, e, SPACE);
-    seq(
-        store,
-        f,
-        s,
-        b,
-        p,
-        Element::Arm,
-        BRACE_OPEN,
-        BRACE_CLOSE,
-        false,
-        WrapStyle::Wrap,
-    )
+    let form = ListForm {
+        left: BRACE_OPEN,
+        right: BRACE_CLOSE,
+        commas: false,
+        style: WrapStyle::Wrap,
+    };
+    separated(store, f, s, b, p, end(b, p), form, ExprElement::Arm)
 }
 
-// A function call. The numbers of its `Call` row are taken before its parts.
+// The closure of `r#match`: an arm.
+fn arm(store: &mut [u32], c: Cursor, s: &[u8], b: &[u8], at: usize) -> Cursor
+    requires { ⌜ Has ArmAt armRule (now s) (now b) at c ⌝ }
+    ensures { λ r. ⌜ LaidAs ArmAt armRule (now (s .entry)) (now (b .entry)) at (now (store .entry)) c (now (store .exit)) r ⌝ }
+{
+    let p = second(b, at);
+    let q = third(b, at);
+    let d = pattern(store, c, s, b, at + HEAD);
+    let e = maybe(store, d, s, b, p, GUARD);
+    let f = word(store, e, FAT_ARROW);
+    let g = expr(store, f, s, b, q);
+    arm_comma(store, g, b, q)
+}
+
+// `expr_with_precedence`, the arm of `FunctionCall`, whose precedence is `Chain`. The numbers of its `Call` row are taken before its parts.
 fn call(store: &mut [u32], c: Cursor, s: &[u8], b: &[u8], at: usize, outer: usize) -> Cursor
     requires { ⌜ Has (Of (three functionCall)) (formRule (three functionCall) outer) (now s) (now b) at c ⌝ }
     ensures { λ r. ⌜ LaidAs (Of (three functionCall)) (formRule (three functionCall) outer) (now (s .entry)) (now (b .entry)) at (now (store .entry)) c (now (store .exit)) r ⌝ }
@@ -572,39 +313,24 @@ fn call(store: &mut [u32], c: Cursor, s: &[u8], b: &[u8], at: usize, outer: usiz
     let p = second(b, at);
     if outer < CHAIN {
         let i = open_call(store, c);
-        let d = expr(store, i, s, b, at + HEAD, CHAIN);
-        let e = seq(
-            store,
-            d,
-            s,
-            b,
-            p,
-            Element::Expr,
-            PAREN_OPEN,
-            PAREN_CLOSE,
-            true,
-            WrapStyle::Tight,
-        );
+        let d = expr_with_precedence(store, i, s, b, at + HEAD, CHAIN);
+        let e = function_args(store, d, s, b, p);
         set_second(store, c.row, d);
         close(store, c.row, e);
         return e;
     }
-    let d = expr(store, c, s, b, at + HEAD, CHAIN);
-    seq(
-        store,
-        d,
-        s,
-        b,
-        p,
-        Element::Expr,
-        PAREN_OPEN,
-        PAREN_CLOSE,
-        true,
-        WrapStyle::Tight,
-    )
+    let d = expr_with_precedence(store, c, s, b, at + HEAD, CHAIN);
+    function_args(store, d, s, b, p)
 }
 
-// `access`: a field of an expression.
+fn function_args(store: &mut [u32], c: Cursor, s: &[u8], b: &[u8], at: usize) -> Cursor
+    requires { ⌜ Has (ListWith LIST ExprsAt) argsRule (now s) (now b) at c ⌝ }
+    ensures { λ r. ⌜ LaidAs (ListWith LIST ExprsAt) argsRule (now (s .entry)) (now (b .entry)) at (now (store .entry)) c (now (store .exit)) r ⌝ }
+{
+    separated(store, c, s, b, at, end(b, at), PARENS, ExprElement::Expr)
+}
+
+// `access`, and the arm of `Access`, whose precedence is `Chain`.
 fn access(store: &mut [u32], c: Cursor, s: &[u8], b: &[u8], at: usize, outer: usize) -> Cursor
     requires { ⌜ Has (Of (two access)) (formRule (two access) outer) (now s) (now b) at c ⌝ }
     ensures { λ r. ⌜ LaidAs (Of (two access)) (formRule (two access) outer) (now (s .entry)) (now (b .entry)) at (now (store .entry)) c (now (store .exit)) r ⌝ }
@@ -613,39 +339,41 @@ fn access(store: &mut [u32], c: Cursor, s: &[u8], b: &[u8], at: usize, outer: us
     if outer < CHAIN {
         let g = open_group(store, c);
         let i = open_indent_next(store, g);
-        let d = expr(store, i, s, b, at + HEAD, CHAIN);
+        let d = expr_with_precedence(store, i, s, b, at + HEAD, CHAIN);
         let e = field_name(store, d, s, b, p);
         close(store, g.row, e);
         close(store, c.row, e);
         return e;
     }
-    let d = expr(store, c, s, b, at + HEAD, CHAIN);
+    let d = expr_with_precedence(store, c, s, b, at + HEAD, CHAIN);
     field_name(store, d, s, b, p)
 }
 
-// A record after its type's path.
-fn rec(store: &mut [u32], c: Cursor, s: &[u8], b: &[u8], at: usize) -> Cursor
-    requires { ⌜ Has (Of (three typedRecord)) (formRule (three typedRecord) 0) (now s) (now b) at c ⌝ }
-    ensures { λ r. ⌜ LaidAs (Of (three typedRecord)) (formRule (three typedRecord) 0) (now (s .entry)) (now (b .entry)) at (now (store .entry)) c (now (store .exit)) r ⌝ }
+fn record(store: &mut [u32], c: Cursor, s: &[u8], b: &[u8], at: usize) -> Cursor
+    requires { ⌜ Has (ListWith RECORD-FIELDS EntriesAt) entriesRule (now s) (now b) at c ⌝ }
+    ensures { λ r. ⌜ LaidAs (ListWith RECORD-FIELDS EntriesAt) entriesRule (now (s .entry)) (now (b .entry)) at (now (store .entry)) c (now (store .exit)) r ⌝ }
 {
-    let p = second(b, at);
-    let d = path(store, c, s, b, at + HEAD, true, true);
-    let e = word(store, d, SPACE);
-    seq(
-        store,
-        e,
-        s,
-        b,
-        p,
-        Element::Entry,
-        BRACE_OPEN,
-        BRACE_CLOSE,
-        true,
-        WrapStyle::Spaced,
-    )
+    let form = ListForm {
+        left: BRACE_OPEN,
+        right: BRACE_CLOSE,
+        commas: true,
+        style: WrapStyle::Spaced,
+    };
+    separated(store, c, s, b, at, end(b, at), form, ExprElement::Entry)
 }
 
-// The chain of operators at `at`.
+// The closure of `record`: a name and its value.
+fn entry(store: &mut [u32], c: Cursor, s: &[u8], b: &[u8], at: usize) -> Cursor
+    requires { ⌜ Has EntryAt entryRule (now s) (now b) at c ⌝ }
+    ensures { λ r. ⌜ LaidAs EntryAt entryRule (now (s .entry)) (now (b .entry)) at (now (store .entry)) c (now (store .exit)) r ⌝ }
+{
+    let p = second(b, at);
+    let d = ident(store, c, s, b, at + HEAD);
+    let e = word(store, d, COLON);
+    expr(store, e, s, b, p)
+}
+
+// `binop`: the chain of operators at `at`.
 fn binop(store: &mut [u32], c: Cursor, s: &[u8], b: &[u8], at: usize) -> Cursor
     requires { ⌜ Has (Of (four binOp)) (formRule (four binOp) 0) (now s) (now b) at c ⌝ }
     ensures { λ r. ⌜ LaidAs (Of (four binOp)) (formRule (four binOp) 0) (now (s .entry)) (now (b .entry)) at (now (store .entry)) c (now (store .exit)) r ⌝ }
@@ -654,7 +382,7 @@ fn binop(store: &mut [u32], c: Cursor, s: &[u8], b: &[u8], at: usize) -> Cursor
     let mut ops = [0usize; 64];
     let left = leftmost(b, at, q, &mut ops);
     let g = open_group(store, c);
-    let d = expr(store, g, s, b, left, q);
+    let d = expr_with_precedence(store, g, s, b, left, q);
     let e = line_or_space(store, d);
     let i = open_indent(store, e);
     let f = tail(store, i, s, b, at, left, &ops);
@@ -663,7 +391,7 @@ fn binop(store: &mut [u32], c: Cursor, s: &[u8], b: &[u8], at: usize) -> Cursor
     f
 }
 
-// The operators from the one above `left` up to the one at `at`, each with its right operand.
+// `binop`, its second loop: the operators from the one above `left` up to the one at `at`, each with its right operand.
 fn tail(
     store: &mut [u32],
     c: Cursor,
@@ -683,13 +411,13 @@ fn tail(
         n = n - 1;
         let p = ops[n];
         d = operator(store, d, s, b, second(b, p), first);
-        d = expr(store, d, s, b, third(b, p), BOTTOM);
+        d = expr(store, d, s, b, third(b, p));
         first = false;
     }
     d
 }
 
-// `if`, with `else` where it is there.
+// `expr_with_precedence`, the arm of `IfElse`.
 fn alt(store: &mut [u32], c: Cursor, s: &[u8], b: &[u8], at: usize) -> Cursor
     requires { ⌜ Has (Of (three ifElse)) (formRule (three ifElse) 0) (now s) (now b) at c ⌝ }
     ensures { λ r. ⌜ LaidAs (Of (three ifElse)) (formRule (three ifElse) 0) (now (s .entry)) (now (b .entry)) at (now (store .entry)) c (now (store .exit)) r ⌝ }
@@ -703,7 +431,7 @@ fn alt(store: &mut [u32], c: Cursor, s: &[u8], b: &[u8], at: usize) -> Cursor
     block(store, e, s, b, p)
 }
 
-// `for`
+// `expr_with_precedence`, the arm of `For`.
 fn each(store: &mut [u32], c: Cursor, s: &[u8], b: &[u8], at: usize) -> Cursor
     requires { ⌜ Has (Of (three for)) (formRule (three for) 0) (now s) (now b) at c ⌝ }
     ensures { λ r. ⌜ LaidAs (Of (three for)) (formRule (three for) 0) (now (s .entry)) (now (b .entry)) at (now (store .entry)) c (now (store .exit)) r ⌝ }
@@ -714,7 +442,7 @@ fn each(store: &mut [u32], c: Cursor, s: &[u8], b: &[u8], at: usize) -> Cursor
     cond(store, e, s, b, p, IN)
 }
 
-// An f-string.
+// `expr_with_precedence`, the arm of `FString`.
 fn fstr(store: &mut [u32], c: Cursor, s: &[u8], b: &[u8], at: usize) -> Cursor
     requires { ⌜ Has (Of fString) (formRule fString 0) (now s) (now b) at c ⌝ }
     ensures { λ r. ⌜ LaidAs (Of fString) (formRule fString 0) (now (s .entry)) (now (b .entry)) at (now (store .entry)) c (now (store .exit)) r ⌝ }
@@ -725,7 +453,7 @@ fn fstr(store: &mut [u32], c: Cursor, s: &[u8], b: &[u8], at: usize) -> Cursor
     word(store, f, QUOTE)
 }
 
-// The parts of an f-string, from `from` up to `to`.
+// The arm of `FString`, its loop: the parts, from `from` up to `to`.
 fn parts(store: &mut [u32], c: Cursor, s: &[u8], b: &[u8], from: usize, to: usize) -> Cursor
     requires { ⌜ HasAll PartsAt partsRule (now s) (now b) from to c ⌝ }
     ensures { λ r. ⌜ LaidAll PartsAt partsRule (now (s .entry)) (now (b .entry)) from to (now (store .entry)) c (now (store .exit)) r ⌝ }
@@ -739,27 +467,27 @@ fn parts(store: &mut [u32], c: Cursor, s: &[u8], b: &[u8], from: usize, to: usiz
     d
 }
 
-// A part of an f-string: text, or an expression in braces.
+// The arm of `FString`: a part, text, or an expression in braces.
 fn part(store: &mut [u32], c: Cursor, s: &[u8], b: &[u8], at: usize) -> Cursor
     requires { ⌜ Has PartAt partRule (now s) (now b) at c ⌝ }
     ensures { λ r. ⌜ LaidAs PartAt partRule (now (s .entry)) (now (b .entry)) at (now (store .entry)) c (now (store .exit)) r ⌝ }
 {
-    if kind(b, at) == 84 {
+    if kind(b, at) == kinds::TEXT_PART {
         return content(store, c, s, b, at);
     }
     let d = word(store, c, BRACE_OPEN);
-    let e = expr(store, d, s, b, at + HEAD, BOTTOM);
+    let e = expr(store, d, s, b, at + HEAD);
     word(store, e, BRACE_CLOSE)
 }
 
-// An expression in parentheses.
+// `expr_with_precedence`, the arm of `Parentheses`.
 fn par(store: &mut [u32], c: Cursor, s: &[u8], b: &[u8], at: usize) -> Cursor
     requires { ⌜ Has (Of parentheses) (formRule parentheses 0) (now s) (now b) at c ⌝ }
     ensures { λ r. ⌜ LaidAs (Of parentheses) (formRule parentheses 0) (now (s .entry)) (now (b .entry)) at (now (store .entry)) c (now (store .exit)) r ⌝ }
 {
     let d = gap(store, c, s, b, start(b, at), true, true, false);
     let e = word(store, d, PAREN_OPEN);
-    let f = expr(store, e, s, b, at + HEAD, BOTTOM);
+    let f = expr(store, e, s, b, at + HEAD);
     word(store, f, PAREN_CLOSE)
 }
 
@@ -777,7 +505,7 @@ fn block(store: &mut [u32], c: Cursor, s: &[u8], b: &[u8], at: usize) -> Cursor
     h
 }
 
-// What stands between the braces of a block.
+// `block`: what stands between the braces of a block.
 fn body(store: &mut [u32], c: Cursor, s: &[u8], b: &[u8], at: usize) -> Cursor
     requires { ⌜ Has BlockAt bodyRule (now s) (now b) at c ⌝ }
     ensures { λ r. ⌜ LaidAs BlockAt bodyRule (now (s .entry)) (now (b .entry)) at (now (store .entry)) c (now (store .exit)) r ⌝ }
@@ -793,7 +521,7 @@ fn body(store: &mut [u32], c: Cursor, s: &[u8], b: &[u8], at: usize) -> Cursor
     f
 }
 
-// The statements from `from` up to `to`.
+// `block`, its loop: the statements from `from` up to `to`.
 fn stmts(store: &mut [u32], c: Cursor, s: &[u8], b: &[u8], from: usize, to: usize) -> Cursor
     requires { ⌜ HasAll StmtsAt (stmtsFrom true) (now s) (now b) from to c ⌝ }
     ensures { λ r. ⌜ LaidAll StmtsAt (stmtsFrom true) (now (s .entry)) (now (b .entry)) from to (now (store .entry)) c (now (store .exit)) r ⌝ }
@@ -811,7 +539,7 @@ fn stmts(store: &mut [u32], c: Cursor, s: &[u8], b: &[u8], from: usize, to: usiz
     d
 }
 
-// The last expression of a block, where it is there.
+// `block`: the last expression of a block, where it is there.
 fn last(store: &mut [u32], c: Cursor, s: &[u8], b: &[u8], at: usize, first: bool) -> Cursor
     requires { ⌜ Has MaybeExprAt (lastFrom first) (now s) (now b) at c ⌝ }
     ensures { λ r. ⌜ LaidAs MaybeExprAt (lastFrom first) (now (s .entry)) (now (b .entry)) at (now (store .entry)) c (now (store .exit)) r ⌝ }
@@ -820,7 +548,7 @@ fn last(store: &mut [u32], c: Cursor, s: &[u8], b: &[u8], at: usize, first: bool
         return c;
     }
     let d = before_stmt(store, c, s, b, start(b, at), first);
-    let e = expr(store, d, s, b, at, BOTTOM);
+    let e = expr(store, d, s, b, at);
     pop_trailing_comment(store, e, s, b)
 }
 
@@ -829,15 +557,15 @@ fn stmt(store: &mut [u32], c: Cursor, s: &[u8], b: &[u8], at: usize) -> Cursor
     ensures { λ r. ⌜ LaidAs StmtAt stmtRule (now (s .entry)) (now (b .entry)) at (now (store .entry)) c (now (store .exit)) r ⌝ }
 {
     match kind(b, at) {
-        30 => bind(store, c, s, b, at),
-        31 => {
+        kinds::LET => bind(store, c, s, b, at),
+        kinds::IMPORT_STMT => {
             let d = word(store, c, IMPORT);
-            let e = item(store, d, s, b, at + HEAD);
+            let e = import_path(store, d, s, b, at + HEAD);
             word(store, e, SEMICOLON)
         }
         _ => {
             let g = open_group(store, c);
-            let d = expr(store, g, s, b, at + HEAD, BOTTOM);
+            let d = expr(store, g, s, b, at + HEAD);
             let e = semicolon(store, d, b, at + HEAD);
             close(store, c.row, e);
             e
@@ -845,7 +573,7 @@ fn stmt(store: &mut [u32], c: Cursor, s: &[u8], b: &[u8], at: usize) -> Cursor
     }
 }
 
-// `let`
+// `stmt`, the arm of `Let`.
 fn bind(store: &mut [u32], c: Cursor, s: &[u8], b: &[u8], at: usize) -> Cursor
     requires { ⌜ Has LetAt letRule (now s) (now b) at c ⌝ }
     ensures { λ r. ⌜ LaidAs LetAt letRule (now (s .entry)) (now (b .entry)) at (now (store .entry)) c (now (store .exit)) r ⌝ }
@@ -854,20 +582,8 @@ fn bind(store: &mut [u32], c: Cursor, s: &[u8], b: &[u8], at: usize) -> Cursor
     let q = third(b, at);
     let d = word(store, c, LET);
     let e = ident(store, d, s, b, at + HEAD);
-    let f = ann(store, e, s, b, p);
+    let f = let_type(store, e, s, b, p);
     let g = word(store, f, ASSIGN);
-    let h = expr(store, g, s, b, q, BOTTOM);
+    let h = expr(store, g, s, b, q);
     word(store, h, SEMICOLON)
-}
-
-// The type of a `let`, where it is there.
-fn ann(store: &mut [u32], c: Cursor, s: &[u8], b: &[u8], at: usize) -> Cursor
-    requires { ⌜ Has MaybeTypeAt letType (now s) (now b) at c ⌝ }
-    ensures { λ r. ⌜ LaidAs MaybeTypeAt letType (now (s .entry)) (now (b .entry)) at (now (store .entry)) c (now (store .exit)) r ⌝ }
-{
-    if is_absent(b, at) {
-        return c;
-    }
-    let d = word(store, c, COLON);
-    type_expr(store, d, s, b, at)
 }

@@ -1,7 +1,7 @@
 // Texts of the source, and literals.
 ghost use mathlib.Core.Path.{_≡_};
 ghost use Rattle.layout.specs.Contracts.{Has, LaidAs};
-ghost use Rattle.layout.specs.Forms.{SpanAt, contentRule, LiteralAt, literalRule};
+ghost use Rattle.layout.specs.Forms.{SpanAt, contentRule, LiteralAt, literalOf};
 use crate::numbers::end;
 use crate::numbers::payload;
 use crate::numbers::start;
@@ -26,8 +26,8 @@ pub(crate) fn content(store: &mut [u32], c: Cursor, s: &[u8], b: &[u8], at: usiz
 }
 
 pub(crate) fn literal(store: &mut [u32], c: Cursor, s: &[u8], b: &[u8], at: usize) -> Cursor
-    requires { ⌜ Has LiteralAt literalRule (now s) (now b) at c ⌝ }
-    ensures { λ r. ⌜ LaidAs LiteralAt literalRule (now (s .entry)) (now (b .entry)) at (now (store .entry)) c (now (store .exit)) r ⌝ }
+    requires { ⌜ Has LiteralAt literalOf (now s) (now b) at c ⌝ }
+    ensures { λ r. ⌜ LaidAs LiteralAt literalOf (now (s .entry)) (now (b .entry)) at (now (store .entry)) c (now (store .exit)) r ⌝ }
 {
     let position = end(b, at);
     let d = gap(store, c, s, b, position, true, true, false);

@@ -5,7 +5,7 @@ ghost use lib.ListN.{length, getD};
 ghost use lib.Dec.{eqb};
 ghost use Rattle.image.specs.Bytes.{be32};
 ghost use Rattle.image.specs.Read.{stopAt, kindAt};
-ghost use Rattle.layout.specs.Contracts.{Within, Whole};
+ghost use Rattle.layout.specs.Contracts.{InImage, Whole};
 use image::bytes::num32;
 
 // How many bytes a record has before its payload: its length, its kind and its span.
@@ -13,7 +13,7 @@ pub const HEAD: usize = 13;
 
 // Where the record at `at` ends.
 pub fn past(b: &[u8], at: usize) -> usize
-    requires { ⌜ Within (now b) at ⌝ }
+    requires { ⌜ InImage (now b) at ⌝ }
     ensures { λ r. ⌜ r ≡ stopAt (now (b .entry)) at ⌝ }
 {
     at + 4 + num32(b, at)
@@ -21,7 +21,7 @@ pub fn past(b: &[u8], at: usize) -> usize
 
 // Where the second child of the record at `at` starts.
 pub fn second(b: &[u8], at: usize) -> usize
-    requires { ⌜ Within (now b) (at + 13) ⌝ }
+    requires { ⌜ InImage (now b) (at + 13) ⌝ }
     ensures { λ r. ⌜ r ≡ stopAt (now (b .entry)) (at + 13) ⌝ }
 {
     past(b, at + HEAD)
@@ -29,8 +29,8 @@ pub fn second(b: &[u8], at: usize) -> usize
 
 // Where the third child of the record at `at` starts.
 pub(crate) fn third(b: &[u8], at: usize) -> usize
-    requires { ⌜ Within (now b) (at + 13) ⌝ }
-    requires { ⌜ Within (now b) (stopAt (now b) (at + 13)) ⌝ }
+    requires { ⌜ InImage (now b) (at + 13) ⌝ }
+    requires { ⌜ InImage (now b) (stopAt (now b) (at + 13)) ⌝ }
     ensures { λ r. ⌜ r ≡ stopAt (now (b .entry)) (stopAt (now (b .entry)) (at + 13)) ⌝ }
 {
     past(b, second(b, at))
@@ -38,17 +38,17 @@ pub(crate) fn third(b: &[u8], at: usize) -> usize
 
 // Whether an optional child is absent.
 pub(crate) fn is_absent(b: &[u8], at: usize) -> bool
-    requires { ⌜ Within (now b) at ⌝ }
+    requires { ⌜ InImage (now b) at ⌝ }
     ensures { λ r. ⌜ r ≡ eqb (be32 (now (b .entry)) at) 0 ⌝ }
 {
     num32(b, at) == 0
 }
 
-pub(crate) fn kind(b: &[u8], at: usize) -> u8
+pub(crate) fn kind(b: &[u8], at: usize) -> usize
     requires { ⌜ Whole (now b) at ⌝ }
     ensures { λ r. ⌜ r ≡ kindAt (now (b .entry)) at ⌝ }
 {
-    b[at + 4]
+    b[at + 4] as usize
 }
 
 // The start of the record's span.

@@ -5,11 +5,13 @@ ghost use Rattle.rows.specs.Words.{table};
 ghost use Rattle.rows.specs.Node.{wrapParent};
 ghost use Rattle.state.specs.Act.{_⨟_, says, when, push};
 ghost use Rattle.state.specs.Laid.{Room, Laid};
+ghost use Rattle.comments.specs.Comments.{popTrailingComment};
 ghost use Rattle.comments.specs.Listed.{span, given};
-ghost use Rattle.layout.specs.Layout.{gap, trailing, edge, isWrap, opens, beforeElem, ends};
-ghost use Rattle.layout.specs.Contracts.{Accepted};
-ghost use Rattle.layout.specs.Elems.{mark, HasHollow, LaidHollow};
-use crate::kinds::WrapStyle;
+ghost use Rattle.layout.specs.Layout.{gap, edge, isWrap, beforeElem, ends};
+ghost use Rattle.layout.specs.Contracts.{Readable};
+ghost use Rattle.layout.specs.Elems.{mark, starts, Begins, Begun, HasElems, LaidElems, HasEmpty, LaidEmpty};
+use crate::forms::ListForm;
+use crate::forms::WrapStyle;
 use comments::pop_trailing_comment;
 use comments::pop_whitespace;
 use state::Cursor;
@@ -17,6 +19,7 @@ use state::leaves::line;
 use state::leaves::line_or_space;
 use state::leaves::wrap_parent;
 use state::parts::close;
+use state::parts::open_group;
 use state::parts::open_indent;
 use state::words::COMMA;
 use state::words::if_wrap;
@@ -33,7 +36,7 @@ pub(crate) fn gap(
     trailing: bool,
     only: bool,
 ) -> Cursor
-    requires { ⌜ Accepted (now s) (now b) ⌝ }
+    requires { ⌜ Readable (now s) (now b) ⌝ }
     requires { ⌜ Room (gap (given (now s) (now b)) position leading trailing only) c ⌝ }
     ensures { λ r. ⌜ Laid (gap (given (now (s .entry)) (now (b .entry))) position leading trailing only) (now (store .entry)) c (now (store .exit)) r ⌝ }
 {
@@ -54,7 +57,7 @@ pub(crate) fn edge(store: &mut [u32], c: Cursor, style: WrapStyle) -> Cursor
 }
 
 // `WrapParent`, where the list always wraps.
-fn must_wrap(store: &mut [u32], c: Cursor, style: WrapStyle) -> Cursor
+fn wrap_always(store: &mut [u32], c: Cursor, style: WrapStyle) -> Cursor
     requires { ⌜ Room (when (isWrap style) (push wrapParent)) c ⌝ }
     ensures { λ r. ⌜ Laid (when (isWrap style) (push wrapParent)) (now (store .entry)) c (now (store .exit)) r ⌝ }
 {
@@ -65,14 +68,25 @@ fn must_wrap(store: &mut [u32], c: Cursor, style: WrapStyle) -> Cursor
     }
 }
 
-// What comes before the elements.
-pub(crate) fn open_list(store: &mut [u32], c: Cursor, left: usize, style: WrapStyle) -> Cursor
-    requires { ⌜ Room (opens (getD table left "") style) c ⌝ }
-    ensures { λ r. ⌜ Laid (opens (getD table left "") style) (now (store .entry)) c (now (store .exit)) r ⌝ }
+// What comes before the elements, inside the list's group.
+fn open_list(store: &mut [u32], c: Cursor, form: ListForm) -> Cursor
+    requires { ⌜ Room (starts form) c ⌝ }
+    ensures { λ r. ⌜ Laid (starts form) (now (store .entry)) c (now (store .exit)) r ⌝ }
 {
-    let d = must_wrap(store, c, style);
-    let e = word(store, d, left);
+    let style = form.style;
+    let d = wrap_always(store, c, style);
+    let e = word(store, d, form.left);
     edge(store, e, style)
+}
+
+// `separated` up to its elements: its group and its indent stay open.
+pub(crate) fn begin_list(store: &mut [u32], c: Cursor, form: ListForm) -> Cursor
+    requires { ⌜ Begins form c ⌝ }
+    ensures { λ r. ⌜ Begun form (now (store .entry)) c (now (store .exit)) r ⌝ }
+{
+    let g = open_group(store, c);
+    let d = open_list(store, g, form);
+    open_indent(store, d)
 }
 
 // What comes before an element.
@@ -85,7 +99,7 @@ pub(crate) fn before_elem(
     first: bool,
     commas: bool,
 ) -> Cursor
-    requires { ⌜ Accepted (now s) (now b) ⌝ }
+    requires { ⌜ Readable (now s) (now b) ⌝ }
     requires { ⌜ Room (beforeElem (given (now s) (now b)) (mark commas) first position) c ⌝ }
     ensures { λ r. ⌜ Laid (beforeElem (given (now (s .entry)) (now (b .entry))) (mark commas) first position) (now (store .entry)) c (now (store .exit)) r ⌝ }
 {
@@ -102,7 +116,7 @@ pub(crate) fn before_elem(
 }
 
 // What comes after the elements of a list whose group has the number id.
-pub(crate) fn end_elems(
+fn end_elems(
     store: &mut [u32],
     c: Cursor,
     s: &[u8],
@@ -111,7 +125,7 @@ pub(crate) fn end_elems(
     id: u32,
     commas: bool,
 ) -> Cursor
-    requires { ⌜ Accepted (now s) (now b) ⌝ }
+    requires { ⌜ Readable (now s) (now b) ⌝ }
     requires { ⌜ Room (ends (given (now s) (now b)) (mark commas) id (span 0 end)) c ⌝ }
     ensures { λ r. ⌜ Laid (ends (given (now (s .entry)) (now (b .entry))) (mark commas) id (span 0 end)) (now (store .entry)) c (now (store .exit)) r ⌝ }
 {
@@ -123,42 +137,59 @@ pub(crate) fn end_elems(
 }
 
 // The end of a list: its line or space, its word and the comment after it.
-pub(crate) fn close_list(
-    store: &mut [u32],
-    c: Cursor,
-    s: &[u8],
-    b: &[u8],
-    right: usize,
-    style: WrapStyle,
-) -> Cursor
-    requires { ⌜ Accepted (now s) (now b) ⌝ }
-    requires { ⌜ Room (edge style ⨟ says (getD table right "") ⨟ trailing (given (now s) (now b))) c ⌝ }
-    ensures { λ r. ⌜ Laid (edge style ⨟ says (getD table right "") ⨟ trailing (given (now (s .entry)) (now (b .entry)))) (now (store .entry)) c (now (store .exit)) r ⌝ }
+fn close_list(store: &mut [u32], c: Cursor, s: &[u8], b: &[u8], form: ListForm) -> Cursor
+    requires { ⌜ Readable (now s) (now b) ⌝ }
+    requires { ⌜ Room (edge (form .style) ⨟ says (getD table (form .right) "") ⨟ popTrailingComment (given (now s) (now b))) c ⌝ }
+    ensures { λ r. ⌜ Laid (edge (form .style) ⨟ says (getD table (form .right) "") ⨟ popTrailingComment (given (now (s .entry)) (now (b .entry)))) (now (store .entry)) c (now (store .exit)) r ⌝ }
 {
+    let style = form.style;
     let d = edge(store, c, style);
-    let e = word(store, d, right);
+    let e = word(store, d, form.right);
     pop_trailing_comment(store, e, s, b)
 }
 
-// A list without elements, inside its group.
-pub(crate) fn hollow(
+// `separated` after its elements: the list was begun at c, its indent at i, and its elements end at d.
+pub(crate) fn finish_list(
+    store: &mut [u32],
+    d: Cursor,
+    s: &[u8],
+    b: &[u8],
+    c: Cursor,
+    i: Cursor,
+    end: u32,
+    form: ListForm,
+) -> Cursor
+    requires { ⌜ HasElems form end (now s) (now b) c i (now store) d ⌝ }
+    ensures { λ r. ⌜ LaidElems form end (now (s .entry)) (now (b .entry)) c i (now (store .entry)) d (now (store .exit)) r ⌝ }
+{
+    let e = end_elems(store, d, s, b, end, c.number, form.commas);
+    close(store, i.row - 1, e);
+    let f = close_list(store, e, s, b, form);
+    close(store, c.row, f);
+    f
+}
+
+// `separated` without elements.
+pub(crate) fn empty_list(
     store: &mut [u32],
     c: Cursor,
     s: &[u8],
     b: &[u8],
     end: u32,
-    left: usize,
-    right: usize,
+    form: ListForm,
 ) -> Cursor
-    requires { ⌜ HasHollow left right end (now s) (now b) c ⌝ }
-    ensures { λ r. ⌜ LaidHollow left right end (now (s .entry)) (now (b .entry)) (now (store .entry)) c (now (store .exit)) r ⌝ }
+    requires { ⌜ HasEmpty form end (now s) (now b) c ⌝ }
+    ensures { λ r. ⌜ LaidEmpty form end (now (s .entry)) (now (b .entry)) (now (store .entry)) c (now (store .exit)) r ⌝ }
 {
-    let d = word(store, c, left);
+    let g = open_group(store, c);
+    let d = word(store, g, form.left);
     let e = line(store, d);
     let i = open_indent(store, e);
     let f = gap(store, i, s, b, end, false, false, false);
     close(store, e.row, f);
     let h = line(store, f);
-    let w = word(store, h, right);
-    pop_trailing_comment(store, w, s, b)
+    let w = word(store, h, form.right);
+    let t = pop_trailing_comment(store, w, s, b);
+    close(store, c.row, t);
+    t
 }

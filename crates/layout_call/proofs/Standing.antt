@@ -10,7 +10,7 @@ use lib.Dec.{eqb}
 use Rattle.image.specs.Read.{stopAt}
 use Rattle.image.proofs.Accepted.{accepted}
 use Rattle.tree.specs.Syntax.{Declaration}
-use Rattle.tree.specs.At.{TreeAt, DeclarationsAt}
+use Rattle.tree.specs.At.{DeclarationsAt}
 use Rattle.tree.specs.Walk.{walked}
 use Rattle.tree.proofs.Walk.{declarations-from, walked-within, walked-on, declarations-between}
 use Rattle.state.specs.Laid.{st, Room, Laid}
@@ -18,16 +18,25 @@ use Rattle.state.specs.declared.Cursor.{Cursor}
 use Rattle.comments.specs.Listed.{given, commentsOf}
 use Rattle.comments.proofs.Accepted.{accepted-listed}
 use Rattle.comments.proofs.Fronts.{count-of}
-use Rattle.layout.specs.Contracts.{Accepted, Has, LaidAs, HasAll, LaidAll, Within}
+use Rattle.layout.specs.Contracts.{Readable, Has, LaidAs, HasAll, LaidAll, InImage}
 use Rattle.layout.specs.Forms.{MaybeIdentAt, declarationsFrom}
 use Rattle.layout.specs.Layout.{shebangRule, declarationsRule}
 use Rattle.layout_facts.specs.Accepted.{Stands}
 use Rattle.rows.specs.Rows.{sizes}
 use Rattle.layout_facts.proofs.Limits.{call-room, call-few}
 use Rattle.plain_run.proofs.Limits.{standing}
-use Rattle.layout_call.specs.Steps.{Accepts, Small, tree, declared, startOf, callAct}
+use Rattle.layout_call.specs.Steps.{Accepts, SmallCursor, tree, declared, startOf, callAct}
+use Rattle.layout_call.specs.declared.LayoutState.{LayoutState}
+use Rattle.layout_call.specs.declared.LayoutArgs.{LayoutArgs}
+use Rattle.layout_call.specs.declared.Document.{Document}
 
-module _ {s b : List ℕ} {n at : ℕ} (a : Accepts s b n at) where
+module _ {s b : List ℕ} {d : Document} (a : Accepts s b d) where
+  abbrev n : ℕ
+  n = d .comments
+
+  abbrev at : ℕ
+  at = d .tree
+
   pub stands : Stands (given s b) (tree s b) at
   stands = standing s b n at (a .answer)
 
@@ -40,14 +49,14 @@ module _ {s b : List ℕ} {n at : ℕ} (a : Accepts s b n at) where
   pub few-comments : n ≤ 8192
   few-comments = omega (arith, comments-count, stands .count)
 
-  ready : Accepted s b
+  ready : Readable s b
   ready = record { listed = accepted-listed s b n at (a .answer); small = stands .small }
 
   pub has-shebang : {c : Cursor} → Room (shebangRule (given s b) (tree s b .shebang)) c → Has MaybeIdentAt shebangRule s b (at + 13) c
   has-shebang room = record { accepted = ready; tree = tree s b .shebang; held = stands .tree .shebang; room = room }
 
-  pub shebang-laid : {x y : List ℕ} {c d : Cursor} → LaidAs MaybeIdentAt shebangRule s b (at + 13) x c y d
-      → Room (shebangRule (given s b) (tree s b .shebang)) c → Laid (shebangRule (given s b) (tree s b .shebang)) x c y d
+  pub shebang-laid : {x y : List ℕ} {c e : Cursor} → LaidAs MaybeIdentAt shebangRule s b (at + 13) x c y e
+      → Room (shebangRule (given s b) (tree s b .shebang)) c → Laid (shebangRule (given s b) (tree s b .shebang)) x c y e
   unfolding has-shebang
   shebang-laid l room = l .of (has-shebang room)
 
@@ -58,10 +67,10 @@ module _ {s b : List ℕ} {n at : ℕ} (a : Accepts s b n at) where
   all : DeclarationsAt s b ds (stopAt b (at + 13)) (stopAt b at)
   all = stands .tree .declarations
 
-  pub first-in : Within b (at + 13)
+  pub first-in : InImage b (at + 13)
   first-in = record { fits = omega (arith, stands .tree .inside .least, stands .tree .end) }
 
-  pub tree-in : Within b at
+  pub tree-in : InImage b at
   tree-in = record { fits = omega (arith, stands .tree .end) }
 
   rest : (k : ℕ) → DeclarationsAt s b (drop k ds) (startOf s b at k) (stopAt b at)
@@ -111,7 +120,7 @@ module _ {s b : List ℕ} {n at : ℕ} (a : Accepts s b n at) where
       here : More (drop k ds) (startOf s b at k) (stopAt b at)
       here = more-at (drop k ds) _ _ (rest k) (omega (arith, length-drop k ds))
 
-      pub record-in : Within b (startOf s b at k)
+      pub record-in : InImage b (startOf s b at k)
       record-in = record { fits = omega (arith, here .inside, stands .tree .end) }
 
       pub goes-on : stopAt b (startOf s b at k) ≡ startOf s b at (k + 1)
@@ -137,9 +146,9 @@ module _ {s b : List ℕ} {n at : ℕ} (a : Accepts s b n at) where
       room = room;
     }
 
-    pub part-laid : (first : Bool) {x y : List ℕ} {c d : Cursor}
-        → LaidAll DeclarationsAt (declarationsFrom first) s b (startOf s b at from) (startOf s b at to) x c y d
-        → Room (declarationsRule (given s b) ys first) c → Laid (declarationsRule (given s b) ys first) x c y d
+    pub part-laid : (first : Bool) {x y : List ℕ} {c e : Cursor}
+        → LaidAll DeclarationsAt (declarationsFrom first) s b (startOf s b at from) (startOf s b at to) x c y e
+        → Room (declarationsRule (given s b) ys first) c → Laid (declarationsRule (given s b) ys first) x c y e
     unfolding has-part
     part-laid first l room = l .of (has-part first room)
 
@@ -147,15 +156,25 @@ module _ {s b : List ℕ} {n at : ℕ} (a : Accepts s b n at) where
     parted =
         ap (λ (l : List Declaration). take from ds ++ l) (take-append-drop (to - from) (drop from ds)) ∙ take-append-drop from ds
 
-    pub room : (c : Cursor) (begun close : Bool) → Small c n → Room (callAct s b begun from to close) c
-    room c begun close k =
-        call-room stands (take from ds) ys (drop (to - from) (drop from ds)) (not begun) (eqb from 0) close parted c (k .row) (k .number)
+  -- ---- what a call lays
+  module _ (state : LayoutState) (q : LayoutArgs) (h : state .declaration ≤ q .stop) (c : Cursor) (k : SmallCursor c d) where
+    abbrev from : ℕ
+    from = state .declaration
+
+    abbrev behind : List Declaration
+    behind = drop (q .stop - from) (drop from ds)
+
+    pub room : Room (callAct s b state q) c
+    room =
+        call-room stands (take from ds) (ys from (q .stop) h) behind (not (state .begun)) (eqb from 0) (q .close) (parted from (q .stop) h) c
+        (k .row)
+        (k .number)
         (omega (arith, comments-count, k .placed))
 
-    pub few-rows : (c : Cursor) (begun close : Bool) → Small c n → sizes (callAct s b begun from to close (st c) .nodes) ≤ length b + 2 * n
-    few-rows c begun close k =
+    pub few-rows : sizes (callAct s b state q (st c) .nodes) ≤ length b + 2 * n
+    few-rows =
         let l =
-        call-few stands (take from ds) ys (drop (to - from) (drop from ds)) (not begun) (eqb from 0) close parted (st c)
+        call-few stands (take from ds) (ys from (q .stop) h) behind (not (state .begun)) (eqb from 0) (q .close) (parted from (q .stop) h) (st c)
         (omega (arith, comments-count, k .placed))
         in
         omega (arith, l, comments-count, stands .tree .end)

@@ -1,17 +1,17 @@
--- A layout call's state and answer as document 01's.
-use mathlib.Core.Bool.{Bool}
+-- A layout call's state, arguments and answer as document 01's.
 use mathlib.Core.List.{List}
 use Prim.Native.Nat.{ℕ}
-use Rattle.cut_rule.specs.Rules.{LayoutArgs}
+use Rattle.cut_rule.specs.Rules as cut
 use Rattle.cut_rule.specs.Run.{Answer, refused, laidOut}
-use Rattle.cut_rule.specs.Parts as cut
+use Rattle.cut_rule.specs.States as states
 use Rattle.plain_run.specs.Demands.{rulesOf}
 use Rattle.layout_call.specs.declared.LayoutState.{LayoutState}
+use Rattle.layout_call.specs.declared.LayoutArgs.{LayoutArgs}
 use Rattle.layout_call.specs.declared.Laying.{Laying}
 use Rattle.layout_call.specs.declared.Laying.the-variants as laying
 
 -- "Layout state: begun, closed, next declaration, next row, next number, comments placed, position."
-abbrev pub toState : LayoutState → cut.LayoutState
+abbrev pub toState : LayoutState → states.LayoutState
 toState s = record {
   begun = s .begun;
   closed = s .closed;
@@ -20,10 +20,10 @@ toState s = record {
 }
 
 -- "A layout call names the declaration to stop before and whether to close."
-abbrev pub args : ℕ → Bool → LayoutArgs (Unit {0})
-args stop close = record { stop = stop; close = close; choice = tt }
+abbrev pub toArgs : LayoutArgs → cut.LayoutArgs states.LayoutChoice
+toArgs q = record { stop = q .stop; close = q .close; choice = states.onlyLayoutChoice }
 
 -- A call's answer, case by case: "the new state with the number of comments left"; "Number and place are all that comes back."
-abbrev pub answerOf : (s b : List ℕ) → Laying → Answer (rulesOf s b)
-answerOf s b (laying.Laid t n) = laidOut (toState t) n
-answerOf s b (laying.Refused n p) = refused (record { number = n; place = p })
+abbrev pub layingAnswer : (s b : List ℕ) → Laying → Answer (rulesOf s b)
+layingAnswer s b (laying.Laid t n) = laidOut (toState t) n
+layingAnswer s b (laying.Refused n p) = refused (record { number = n; place = p })

@@ -1,14 +1,13 @@
-// Refusal 12, as far as it is of layout.
+// Refusal 12, as far as it is of layout: a function for each group of tests.
 ghost use mathlib.Core.Path.{_≡_};
-ghost use mathlib.Core.Bool.{Bool, not, _&&_};
-ghost use mathlib.Core.List.{List, [], _∷_};
-ghost use Prim.Native.Nat.{ℕ};
-ghost use lib.Dec.{ltb, eqb};
-ghost use lib.ListN.{take, drop};
+ghost use mathlib.Core.Bool.{not};
 ghost use Rattle.refusals.specs.Refusals.{any};
-ghost use Rattle.cut_rule.specs.Parts.{Parts, allZero, rowsIn, layoutTests};
-ghost use Rattle.layout_call.specs.Calls.{toState, args};
+ghost use Rattle.cut_rule.specs.Tests.{numbersZero, placesTests, limitTests, begunTests, stopTests, layoutTestsIn};
+ghost use Rattle.layout_call.specs.Calls.{toState, toArgs};
+use crate::LayoutArgs;
 use crate::LayoutState;
+use rows::limits::MAX_NUMBER;
+use rows::limits::MAX_ROWS;
 
 // Whether the state's places are within declarations, comments, source and store.
 fn places_fit(
@@ -18,7 +17,7 @@ fn places_fit(
     size: usize,
     rows: usize,
 ) -> bool
-    ensures { λ r. ⌜ r ≡ not (any (ltb declarations (state .declaration) ∷ ltb comments (state .placed) ∷ ltb size (state .position) ∷ ltb rows (state .row) ∷ [])) ⌝ }
+    ensures { λ r. ⌜ r ≡ not (any (placesTests declarations comments size rows (toState state))) ⌝ }
 {
     if declarations < state.declaration {
         return false;
@@ -33,18 +32,18 @@ fn places_fit(
 }
 
 // Whether next row and next number are within their limits.
-fn numbers_fit(state: LayoutState) -> bool
-    ensures { λ r. ⌜ r ≡ not (any (ltb 2097152 (state .row) ∷ ltb 1048576 (state .number) ∷ [])) ⌝ }
+fn limits_fit(state: LayoutState) -> bool
+    ensures { λ r. ⌜ r ≡ not (any (limitTests (toState state))) ⌝ }
 {
-    if 2097152 < state.row {
+    if MAX_ROWS < state.row {
         return false;
     }
-    state.number <= 1048576
+    state.number <= MAX_NUMBER
 }
 
 // Whether the numbers are all 0.
 fn is_zero(state: LayoutState) -> bool
-    ensures { λ r. ⌜ r ≡ (eqb (state .declaration) 0 && (eqb (state .row) 0 && (eqb (state .number) 0 && (eqb (state .placed) 0 && eqb (state .position) 0)))) ⌝ }
+    ensures { λ r. ⌜ r ≡ numbersZero (toState state) ⌝ }
 {
     if state.declaration != 0 {
         return false;
@@ -63,7 +62,7 @@ fn is_zero(state: LayoutState) -> bool
 
 // Whether the state has begun, or is all 0.
 fn begins_fresh(state: LayoutState) -> bool
-    ensures { λ r. ⌜ r ≡ not (not (state .begun) && not (allZero (toState state))) ⌝ }
+    ensures { λ r. ⌜ r ≡ not (any (begunTests (toState state))) ⌝ }
 {
     if state.begun {
         return true;
@@ -75,44 +74,43 @@ fn begins_fresh(state: LayoutState) -> bool
 }
 
 // Whether the stop is one that this state can go to, closing there or not.
-fn stop_fits(state: LayoutState, stop: usize, close: bool, declarations: usize) -> bool
-    ensures { λ r. ⌜ r ≡ not (any (ltb stop (state .declaration) ∷ ltb declarations stop ∷ state .closed ∷ (close && not (eqb stop declarations)) ∷ [])) ⌝ }
+fn stop_fits(state: LayoutState, args: LayoutArgs, declarations: usize) -> bool
+    ensures { λ r. ⌜ r ≡ not (any (stopTests declarations (toArgs args) (toState state))) ⌝ }
 {
-    if stop < state.declaration {
+    if args.stop < state.declaration {
         return false;
     }
-    if declarations < stop {
+    if declarations < args.stop {
         return false;
     }
     if state.closed {
         return false;
     }
-    if close {
-        return stop == declarations;
+    if args.close {
+        return args.stop == declarations;
     }
     true
 }
 
-// Whether the state is one that a call to this stop may have, for a source of `size` bytes and a store of `rows` rows.
+// Whether the state is one that this call may have, for a source of `size` bytes and a store of `rows` rows.
 pub(crate) fn state_fits(
     state: LayoutState,
-    stop: usize,
-    close: bool,
+    args: LayoutArgs,
     declarations: usize,
     comments: usize,
     size: usize,
     rows: usize,
 ) -> bool
-    ensures { λ r. ⌜ ((P : Parts) (store : List ℕ) → P .declarations ≡ declarations → P .comments ≡ comments → P .source-size ≡ size → rowsIn store ≡ rows → r ≡ not (any (layoutTests P (args stop close) (toState state) store))) ⌝ }
+    ensures { λ r. ⌜ r ≡ not (any (layoutTestsIn declarations comments size rows (toArgs args) (toState state))) ⌝ }
 {
     if !places_fit(state, declarations, comments, size, rows) {
         return false;
     }
-    if !numbers_fit(state) {
+    if !limits_fit(state) {
         return false;
     }
     if !begins_fresh(state) {
         return false;
     }
-    stop_fits(state, stop, close, declarations)
+    stop_fits(state, args, declarations)
 }

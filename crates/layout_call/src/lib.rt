@@ -1,21 +1,19 @@
-// Layout calls: state, answer, refusals, and the call.
+// Layout calls: state, arguments, answer, and the call.
+mod answer;
 mod fits;
+mod room;
 pub mod steps;
 
-ghost use mathlib.Core.Path.{_≡_};
-ghost use Prim.Native.Nat.{ℕ, _+_, _≤_};
-ghost use lib.ListN.{length};
-ghost use Rattle.rows.specs.Rows.{sizes};
-ghost use Rattle.state.specs.Laid.{cursor, st};
-ghost use Rattle.layout_call.specs.Whole.{Called};
-ghost use Rattle.layout_call.specs.Steps.{Accepts, Small, Fits, Roomy, Wanted, declared, callAct};
+ghost use Rattle.layout_call.specs.Steps.{Accepts};
+ghost use Rattle.layout_call.specs.Whole.{LayoutCalled};
+use crate::answer::cursor_of;
+use crate::answer::laid;
 use crate::fits::state_fits;
+use crate::room::rows_wanted;
 use crate::steps::count_declarations;
-use crate::steps::lay;
 use image::Answer;
 use image::check;
-use rows::store::wide;
-use state::Cursor;
+use rows::places::PLACES;
 
 // Begun, closed, next declaration, next row, next number, comments placed, position.
 pub struct LayoutState {
@@ -28,6 +26,18 @@ pub struct LayoutState {
     pub position: usize,
 }
 
+// The declaration to stop before, and whether to close.
+pub struct LayoutArgs {
+    pub stop: usize,
+    pub close: bool,
+}
+
+// A source and an image that are accepted: how many comments there are, and where the tree stands.
+pub struct Document {
+    pub comments: usize,
+    pub tree: usize,
+}
+
 pub enum Laying {
     // the new state, and the comments left
     Laid(LayoutState, usize),
@@ -35,163 +45,49 @@ pub enum Laying {
     Refused(u8, usize),
 }
 
-// The cursor of a state whose numbers are within their limits.
-fn cursor_of(state: LayoutState) -> Cursor
-    requires { ⌜ (state .row ≤ 2097152) × ((state .number ≤ 1048576) × ((state .placed ≤ 8192) × (state .position ≤ 65536))) ⌝ }
-    ensures { λ r. ⌜ r ≡ cursor (state .row) (state .number) (state .position) (state .placed) ⌝ }
-{
-    Cursor {
-        row: state.row as u32,
-        number: state.number as u32,
-        pos: state.position as u32,
-        placed: state.placed as u32,
-    }
-}
-
-// The row behind what a call lays, counted over a store that has no room for it.
-fn rows_needed(
-    c: Cursor,
-    s: &[u8],
-    b: &[u8],
-    n: usize,
-    at: usize,
-    begun: bool,
-    from: usize,
-    to: usize,
-    close: bool,
-) -> usize
-    requires { ⌜ Accepts (now s) (now b) n at × ((from ≤ to) × ((to ≤ length (declared (now s) (now b))) × Small c n)) ⌝ }
-    ensures { λ r. ⌜ r ≡ c .row + sizes (callAct (now (s .entry)) (now (b .entry)) begun from to close (st c) .nodes) ⌝ }
-{
-    let mut none = [0u32; 1];
-    let d = lay(&mut none, c, s, b, n, at, begun, from, to, close);
-    wide(d.row)
-}
-
-// The same if it is past `rows`, and else a row that is not. A tree has no more rows than its image has bytes, and two more for each comment:
-// where the store has that many, nothing is counted.
-fn rows_wanted(
-    c: Cursor,
-    s: &[u8],
-    b: &[u8],
-    n: usize,
-    at: usize,
-    begun: bool,
-    from: usize,
-    to: usize,
-    close: bool,
-    rows: usize,
-) -> usize
-    requires { ⌜ Accepts (now s) (now b) n at × ((from ≤ to) × ((to ≤ length (declared (now s) (now b))) × Small c n)) ⌝ }
-    ensures { λ r. ⌜ Wanted rows (c .row + sizes (callAct (now (s .entry)) (now (b .entry)) begun from to close (st c) .nodes)) r ⌝ }
-{
-    let most = wide(c.row) + b.len() + 2 * n;
-    if most <= rows {
-        return rows;
-    }
-    rows_needed(c, s, b, n, at, begun, from, to, close)
-}
-
-// Lays what is due, in a store that has room for it.
-fn laid(
-    store: &mut [u32],
-    source: &[u8],
-    image: &[u8],
-    n: usize,
-    at: usize,
-    state: LayoutState,
-    stop: usize,
-    close: bool,
-) -> Laying
-    requires { ⌜ Accepts (now source) (now image) n at × (Fits (now source) (now image) state stop close (now store) × Roomy (now source) (now image) state stop close (now store)) ⌝ }
-    ensures { λ r. ⌜ Called (now (source .entry)) (now (image .entry)) state stop close (now (store .entry)) r (now (store .exit)) ⌝ }
-{
-    let c = cursor_of(state);
-    let e = lay(
-        store,
-        c,
-        source,
-        image,
-        n,
-        at,
-        state.begun,
-        state.declaration,
-        stop,
-        close,
-    );
-    let placed = wide(e.placed);
-    let t = LayoutState {
-        begun: true,
-        closed: close,
-        declaration: stop,
-        row: wide(e.row),
-        number: wide(e.number),
-        placed: placed,
-        position: wide(e.pos),
-    };
-    Laying::Laid(t, n - placed)
-}
-
-// A call on a source and an image that are accepted, with n comments and the tree at `at`.
-pub fn accepted(
+// A call on a source and an image that are accepted.
+pub fn layout_accepted(
     source: &[u8],
     image: &[u8],
     store: &mut [u32],
-    n: usize,
-    at: usize,
+    doc: Document,
     state: LayoutState,
-    stop: usize,
-    close: bool,
+    args: LayoutArgs,
 ) -> Laying
-    requires { ⌜ Accepts (now source) (now image) n at ⌝ }
-    ensures { λ r. ⌜ Called (now (source .entry)) (now (image .entry)) state stop close (now (store .entry)) r (now (store .exit)) ⌝ }
+    requires { ⌜ Accepts (now source) (now image) doc ⌝ }
+    ensures { λ r. ⌜ LayoutCalled (now (source .entry)) (now (image .entry)) state args (now (store .entry)) r (now (store .exit)) ⌝ }
 {
-    let rows = store.len() / 9;
-    let declarations = count_declarations(source, image, n, at);
-    if !state_fits(state, stop, close, declarations, n, source.len(), rows) {
+    let rows = store.len() / PLACES;
+    let declarations = count_declarations(source, image, doc);
+    if !state_fits(state, args, declarations, doc.comments, source.len(), rows) {
         return Laying::Refused(12, 0);
     }
     let c = cursor_of(state);
-    let needed = rows_wanted(
-        c,
-        source,
-        image,
-        n,
-        at,
-        state.begun,
-        state.declaration,
-        stop,
-        close,
-        rows,
-    );
+    let needed = rows_wanted(c, source, image, doc, state, args, rows);
     if rows < needed {
         return Laying::Refused(8, needed);
     }
-    laid(store, source, image, n, at, state, stop, close)
+    laid(store, source, image, doc, state, args)
 }
 
-// Lays a document out from its next declaration up to `stop`, and closes it or not; or refuses to, and leaves the store as it was.
+// Lays a document out from its next declaration up to a stop, and closes it or not; or refuses to, and leaves the store as it was.
 pub fn layout_call(
     source: &[u8],
     image: &[u8],
     store: &mut [u32],
     state: LayoutState,
-    stop: usize,
-    close: bool,
+    args: LayoutArgs,
 ) -> Laying
-    ensures { λ r. ⌜ Called (now (source .entry)) (now (image .entry)) state stop close (now (store .entry)) r (now (store .exit)) ⌝ }
+    ensures { λ r. ⌜ LayoutCalled (now (source .entry)) (now (image .entry)) state args (now (store .entry)) r (now (store .exit)) ⌝ }
 {
     match check(source, image) {
         Answer::Refused(number, place) => Laying::Refused(number, place),
-        Answer::Accepted { comments, tree } => accepted(
-            source,
-            image,
-            store,
-            comments,
-            tree,
-            state,
-            stop,
-            close,
-        ),
+        Answer::Accepted { comments, tree } => {
+            let doc = Document {
+                comments: comments,
+                tree: tree,
+            };
+            layout_accepted(source, image, store, doc, state, args)
+        }
     }
 }

@@ -1,8 +1,7 @@
 // What a layout call lays, from one declaration up to another.
 ghost use mathlib.Core.Path.{_≡_};
 ghost use mathlib.Core.Bool.{not};
-ghost use Prim.Native.Nat.{ℕ, _+_, _≤_};
-ghost use mathlib.Core.List.{List};
+ghost use Prim.Native.Nat.{_+_, _≤_};
 ghost use lib.ListN.{length};
 ghost use Rattle.rows.specs.Node.{line as lineNode};
 ghost use Rattle.state.specs.Act.{when, push};
@@ -10,6 +9,9 @@ ghost use Rattle.state.specs.Laid.{Room, Laid};
 ghost use Rattle.comments.specs.Listed.{given};
 ghost use Rattle.layout.specs.Layout.{shebangRule};
 ghost use Rattle.layout_call.specs.Steps.{Accepts, tree, declared, startOf, callAct};
+use crate::Document;
+use crate::LayoutArgs;
+use crate::LayoutState;
 use layout::declarations::declarations;
 use layout::declarations::shebang;
 use layout::numbers::HEAD;
@@ -19,10 +21,11 @@ use state::Cursor;
 use state::leaves::line;
 
 // How many declarations there are.
-pub fn count_declarations(s: &[u8], b: &[u8], n: usize, at: usize) -> usize
-    requires { ⌜ Accepts (now s) (now b) n at ⌝ }
+pub fn count_declarations(s: &[u8], b: &[u8], doc: Document) -> usize
+    requires { ⌜ Accepts (now s) (now b) doc ⌝ }
     ensures { λ r. ⌜ r ≡ length (declared (now (s .entry)) (now (b .entry))) ⌝ }
 {
+    let at = doc.tree;
     let end = past(b, at);
     let mut p = second(b, at);
     let mut count: usize = 0;
@@ -34,10 +37,11 @@ pub fn count_declarations(s: &[u8], b: &[u8], n: usize, at: usize) -> usize
 }
 
 // Where declaration `k` starts, or, of the last one more, where they end.
-fn declaration_at(s: &[u8], b: &[u8], n: usize, at: usize, k: usize) -> usize
-    requires { ⌜ Accepts (now s) (now b) n at × (k ≤ length (declared (now s) (now b))) ⌝ }
-    ensures { λ r. ⌜ r ≡ startOf (now (s .entry)) (now (b .entry)) at k ⌝ }
+fn declaration_at(s: &[u8], b: &[u8], doc: Document, k: usize) -> usize
+    requires { ⌜ Accepts (now s) (now b) doc × (k ≤ length (declared (now s) (now b))) ⌝ }
+    ensures { λ r. ⌜ r ≡ startOf (now (s .entry)) (now (b .entry)) (doc .tree) k ⌝ }
 {
+    let at = doc.tree;
     let mut p = second(b, at);
     let mut i: usize = 0;
     while i < k {
@@ -48,23 +52,15 @@ fn declaration_at(s: &[u8], b: &[u8], n: usize, at: usize, k: usize) -> usize
 }
 
 // "The first call lays the shebang"
-fn begin(
-    store: &mut [u32],
-    c: Cursor,
-    s: &[u8],
-    b: &[u8],
-    n: usize,
-    at: usize,
-    begun: bool,
-) -> Cursor
-    requires { ⌜ Accepts (now s) (now b) n at ⌝ }
+fn begin(store: &mut [u32], c: Cursor, s: &[u8], b: &[u8], doc: Document, begun: bool) -> Cursor
+    requires { ⌜ Accepts (now s) (now b) doc ⌝ }
     requires { ⌜ Room (when (not begun) (shebangRule (given (now s) (now b)) (tree (now s) (now b) .shebang))) c ⌝ }
     ensures { λ r. ⌜ Laid (when (not begun) (shebangRule (given (now (s .entry)) (now (b .entry))) (tree (now (s .entry)) (now (b .entry)) .shebang))) (now (store .entry)) c (now (store .exit)) r ⌝ }
 {
     if begun {
         return c;
     }
-    shebang(store, c, s, b, at + HEAD)
+    shebang(store, c, s, b, doc.tree + HEAD)
 }
 
 // "closing .. adds the final `Line`"
@@ -84,20 +80,18 @@ pub(crate) fn lay(
     c: Cursor,
     s: &[u8],
     b: &[u8],
-    n: usize,
-    at: usize,
-    begun: bool,
-    from: usize,
-    to: usize,
-    close: bool,
+    doc: Document,
+    state: LayoutState,
+    args: LayoutArgs,
 ) -> Cursor
-    requires { ⌜ Accepts (now s) (now b) n at × ((from ≤ to) × (to ≤ length (declared (now s) (now b)))) ⌝ }
-    requires { ⌜ Room (callAct (now s) (now b) begun from to close) c ⌝ }
-    ensures { λ r. ⌜ Laid (callAct (now (s .entry)) (now (b .entry)) begun from to close) (now (store .entry)) c (now (store .exit)) r ⌝ }
+    requires { ⌜ Accepts (now s) (now b) doc × ((state .declaration ≤ args .stop) × (args .stop ≤ length (declared (now s) (now b)))) ⌝ }
+    requires { ⌜ Room (callAct (now s) (now b) state args) c ⌝ }
+    ensures { λ r. ⌜ Laid (callAct (now (s .entry)) (now (b .entry)) state args) (now (store .entry)) c (now (store .exit)) r ⌝ }
 {
-    let d = begin(store, c, s, b, n, at, begun);
-    let p = declaration_at(s, b, n, at, from);
-    let q = declaration_at(s, b, n, at, to);
+    let from = state.declaration;
+    let d = begin(store, c, s, b, doc, state.begun);
+    let p = declaration_at(s, b, doc, from);
+    let q = declaration_at(s, b, doc, args.stop);
     let e = declarations(store, d, s, b, p, q, from == 0);
-    end(store, e, close)
+    end(store, e, args.close)
 }

@@ -8,19 +8,20 @@ use mathlib.Core.Option.{Option, none as nothing, some}
 use native.Mathlib.Omega.{arith}
 use lib.ListN.{length}
 use Rattle.image.specs.Bytes.{be32}
+use Rattle.text.proofs.Trims.{trim-before}
 use Rattle.tree.specs.Syntax.{Span, Ident, Idents, noTypes, _∷ᵗ_, Fields, Variants, noVariants, variant, Declaration, filterMap, const, recordDecl}
 use Rattle.tree.specs.Syntax.{enumDecl, function, test, importDecl, SyntaxTree}
 use Rattle.tree.specs.At.{Head, past, IdentAt, ListAt, Maybe, TypesAt, FieldsAt, VariantsAt, DeclarationAt, DeclarationsAt, TreeAt}
 use Rattle.rows.specs.Words.{among}
 use Rattle.state.specs.Act.{Given, Act}
 use Rattle.comments.specs.Comments.{popWhitespace}
-use Rattle.layout.specs.declared.kinds.WrapStyle.the-variants.{Tight, Wrap}
-use Rattle.layout.specs.Layout.{someTypeParams, Bottom, params, recordTypeRule, typeParams, opening, variantElems, declaration, declares, shebangRule}
+use Rattle.layout.specs.declared.forms.WrapStyle.the-variants.{Tight, Wrap}
+use Rattle.layout.specs.Layout.{someTypeParams, Bottom, params, typeParams, identElems, fieldElems, opening, variantElems, declaration, declares, shebangRule}
 use Rattle.layout.specs.Layout.{declarationsRule, fmtParsed, importSpan, unlessEmpty}
 use Rattle.layout_facts.specs.Sound.{Ranged, Commented, Sounds}
 use Rattle.layout_facts.specs.Height.{fieldsHeight, variantsHeight, declarationHeight, declarationsHeight, treeHeight}
 use Rattle.layout_facts.proofs.Steps.{_⨾_, fewer, sound-skip, sound-line, sound-emptyLine, sound-str, sound-when, sound-asks}
-use Rattle.layout_facts.proofs.Gaps.{trimEnd-le, sound-gap}
+use Rattle.layout_facts.proofs.Gaps.{sound-gap}
 use Rattle.layout_facts.proofs.Parts.{no-word, sound-says, ranged, from-start, sound-ident, All, none, also, sound-separated, sound-idents, sound-type}
 use Rattle.layout_facts.proofs.Parts.{all-types, all-fields, last-ranged, import-ranged, import-long, sound-import}
 use Rattle.layout_facts.proofs.Exprs.{sound-expr, sound-block}
@@ -34,8 +35,8 @@ module _ {g : Given} (commented : Commented g) where
 
   sound-params : (fs : Fields) (s : Span) (at : ℕ) {d : ℕ} → Head (g .source) (g .image) 3 s at
       → FieldsAt (g .source) (g .image) fs (at + 13) (past (g .source) (g .image) at) → 2 * (2 + fieldsHeight fs) ≤ d
-      → Sounds g (4 + be32 (g .image) at) d (params g fs s)
-  unfolding params among
+      → Sounds g (4 + be32 (g .image) at) d (params g (fieldElems g fs) s)
+  unfolding among
   sound-params fs s at {d} l a h =
       fewer
       (sound-separated commented "(" ")" "," refl refl refl
@@ -48,8 +49,8 @@ module _ {g : Given} (commented : Commented g) where
   sound-unlessEmpty (i ∷ is) p = p
 
   sound-typeParams : (is : Idents) (at : ℕ) {d : ℕ} → 3 ≤ d → ListAt (g .source) (g .image) is at
-      → Sounds g (4 + be32 (g .image) at) d (typeParams g is)
-  unfolding typeParams among
+      → Sounds g (4 + be32 (g .image) at) d (typeParams g (identElems g (is .elems)) (is .span))
+  unfolding among
   sound-typeParams is at h a = sound-idents commented "[" "]" refl refl is at h a
 
   some-params : (ps : Option Idents) (at : ℕ) {d : ℕ} → 3 ≤ d → Maybe (g .source) (g .image) (ListAt (g .source) (g .image)) ps at
@@ -82,7 +83,7 @@ module _ {g : Given} (commented : Commented g) where
   -- ---- each declaration
   pub sound-declaration : (x : Declaration) (at : ℕ) {d : ℕ} (first : Bool) → DeclarationAt (g .source) (g .image) x at
       → 2 * declarationHeight x ≤ d → Sounds g (be32 (g .image) at) d (declaration g x first)
-  unfolding declaration declares recordTypeRule DeclarationAt declarationHeight Maybe among
+  unfolding declaration declares DeclarationAt declarationHeight Maybe among
   sound-declaration (filterMap i s fs b) at first a h =
       let v : ℕ = past (g .source) (g .image) (at + 13) in
       fewer
@@ -178,7 +179,7 @@ module _ {g : Given} (commented : Commented g) where
       sound-str
       (record {
         origin = omega arith;
-        fits = omega (arith, trimEnd-le (g .image) (i .start) (i .start + i .size), a .ends, a .head .fits);
+        fits = omega (arith, trim-before (g .image) (i .start) (i .start + i .size), a .ends, a .head .fits);
         due = no-word (omega arith);
       })
       ⨾ sound-emptyLine

@@ -1,14 +1,14 @@
 -- Expressions, blocks and statements are laid soundly: a record of n bytes takes n rows at most, and goes two rows deeper with each record.
 -- Assumes nothing.
 use Prim.Native.Nat.{ℕ, zero, suc, _+_, _*_, _-_, _≤_, max, _<_}
-use Prim.Native.String.{String, len}
+use Prim.Native.String.{String}
 use mathlib.Core.Path.{_≡_, refl}
 use mathlib.Core.Bool.{Bool, true, false, cond, not, _&&_}
 use mathlib.Core.List.{List, [], _∷_}
 use mathlib.Core.Option.{none as nothing, some}
 use native.Mathlib.Omega.{arith}
 use lib.ListN.{length, getD}
-use lib.Dec.{ltb, leb, eqb}
+use lib.Dec.{ltb, eqb}
 use Rattle.laws.proofs.Booleans.{and-left, and-right}
 use Rattle.image.specs.Bytes.{be32}
 use Rattle.tree.specs.Syntax.{Span, Expr, expr, Form, return′, literal, block, match′, functionCall, access, path, record′, typedRecord, list, not′}
@@ -21,10 +21,10 @@ use Rattle.rows.specs.Node.{ascii}
 use Rattle.rows.specs.Words.{among, isWord}
 use Rattle.state.specs.Act.{Given, Act, _⨟_, push, grouped, content, indentedNext, called}
 use Rattle.comments.specs.Comments.{popWhitespace, popTrailingComment}
-use Rattle.layout.specs.declared.kinds.WrapStyle.the-variants.{Tight, Spaced, Wrap}
-use Rattle.layout.specs.Layout.{operator, whole, maybeExpr, placeholder, clause, blockStart, beforeStmt, afterStmt, lone, pickSpine, plain, extend}
-use Rattle.layout.specs.Layout.{Spine, Look, Bottom, Chain, Unit′, binopPrecedence, symbol, assignSymbol, returnWord, chained, literalRule, look}
-use Rattle.layout.specs.Layout.{lookForm, otherwise, exprElems, groupedElems, entryElems, armElems, partsRule, blockRule, stmtsRule, lastRule}
+use Rattle.layout.specs.declared.forms.WrapStyle.the-variants.{Tight, Spaced, Wrap}
+use Rattle.layout.specs.Layout.{operator, maybeExpr, placeholder, clause, blockStart, beforeStmt, afterStmt, leftmost, pickOperands, popped}
+use Rattle.layout.specs.Layout.{Operands, Bottom, Chain, Unit′, binopPrecedence, symbol, assignSymbol, returnWord, binop, literalRule, exprWithPrecedence}
+use Rattle.layout.specs.Layout.{exprForm, operands, operandsForm, otherwise, exprElems, groupedElems, entryElems, armElems, partsRule, blockRule, stmtsRule, lastRule}
 use Rattle.layout.specs.Layout.{stmtRule, stmtForm, exprSpan, stmtSpan, noneOf, isEmpty, isBlock, isBraced}
 use Rattle.layout_facts.specs.Sound.{Ranged, Commented, Sounds}
 use Rattle.layout_facts.specs.Height.{exprHeight, formHeight, exprsHeight, maybeHeight, entriesHeight, armsHeight, partsHeight, blockHeight}
@@ -60,16 +60,17 @@ return-fits kind = chosen-fits ("return" ∷ "accept" ∷ "reject" ∷ []) kind 
 
 module _ {g : Given} (commented : Commented g) where
   -- ---- operators
-  record SoundSpine (n d : ℕ) (c : Spine) : Type 0 where
+  record SoundOperands (n d : ℕ) (c : Operands) : Type 0 where
     first : ℕ
     rest : ℕ
-    head : Sounds g first d (c .head)
-    tail : Sounds g rest d (c .tail)
+    left : Sounds g first d (c .left)
+    ops : Sounds g rest d (c .ops)
     both : first + rest ≤ n
 
-  record SoundLook (n d : ℕ) (l : Look) : Type 0 where
-    form : (p : ℕ) → Sounds g n d (l .form p)
-    under : (p : ℕ) → SoundSpine n d (l .under p)
+  -- an expression by itself, and as the left operand of an operator, by the precedence around it
+  record SoundForm (n d : ℕ) (whole : ℕ → Act) (operand : ℕ → Operands) : Type 0 where
+    form : (p : ℕ) → Sounds g n d (whole p)
+    under : (p : ℕ) → SoundOperands n d (operand p)
 
   sound-content : {d : ℕ} {p : Span} → Ranged (g .source) p → Sounds g 1 d (push (ascii (content p)))
   sound-content r = sound-ascii (record { origin = omega arith; fits = omega (arith, r .ordered, r .fits); due = no-word (omega arith) })
@@ -86,34 +87,35 @@ module _ {g : Given} (commented : Commented g) where
   sound-whole : {a : Act} {n d : ℕ} → Sounds g n d a → Sounds g n d (a ⨟ popTrailingComment g)
   sound-whole p = fewer (p ⨾ sound-trailing commented) (omega arith)
 
-  sound-lone : {a : Act} {n d : ℕ} → Sounds g n d a → SoundSpine n d (lone a)
-  sound-lone {n = n} p = record { first = n; rest = 0; head = p; tail = sound-skip; both = omega arith }
+  sound-leftmost : {a : Act} {n d : ℕ} → Sounds g n d a → SoundOperands n d (leftmost a)
+  sound-leftmost {n = n} p = record { first = n; rest = 0; left = p; ops = sound-skip; both = omega arith }
 
-  sound-plain : {a : ℕ → Act} {n d : ℕ} → ((p : ℕ) → Sounds g n d (a p)) → SoundLook n d (plain g a)
-  sound-plain p = record { form = p; under = λ q. sound-lone (sound-whole (p q)) }
+  -- an expression that is no binary operator
+  sound-no-op : {a : ℕ → Act} {n d : ℕ} → ((p : ℕ) → Sounds g n d (a p)) → SoundForm n d a (λ p. leftmost (a p ⨟ popTrailingComment g))
+  sound-no-op p = record { form = p; under = λ q. sound-leftmost (sound-whole (p q)) }
 
-  sound-extend : (c : Spine) (s : Span) (op : ℕ) {a : Act} {m n d : ℕ} → s .start ≤ length (g .source) → SoundSpine m d c → Sounds g n d a
-      → SoundSpine (m + (4 + n)) d (extend g c s op a)
-  sound-extend c s op {n = n} h p q =
+  sound-popped : (c : Operands) (s : Span) (op : ℕ) {a : Act} {m n d : ℕ} → s .start ≤ length (g .source) → SoundOperands m d c → Sounds g n d a
+      → SoundOperands (m + (4 + n)) d (popped g c s op a)
+  sound-popped c s op {n = n} h p q =
       record {
         first = p .first;
         rest = p .rest + (4 + n);
-        head = p .head;
-        tail = p .tail ⨾ sound-operator (c .alone) s op h ⨾ q;
+        left = p .left;
+        ops = p .ops ⨾ sound-operator (c .first) s op h ⨾ q;
         both = omega (arith, p .both);
       }
 
-  sound-chained : (c : Spine) {n e d : ℕ} → e + 2 ≤ d → SoundSpine n e c → Sounds g (3 + n) d (chained c)
-  unfolding chained
-  sound-chained c {n} {e} {d} h p =
+  sound-binop : (c : Operands) {n e d : ℕ} → e + 2 ≤ d → SoundOperands n e c → Sounds g (3 + n) d (binop c)
+  unfolding binop
+  sound-binop c {n} {e} {d} h p =
       fewer
       (sound-grouped {c = e + 1} (omega arith)
-      (λ id. deeper (p .head) (omega arith) ⨾ sound-lineOrSpace ⨾ sound-indented {c = e} (omega arith) (p .tail)))
+      (λ id. deeper (p .left) (omega arith) ⨾ sound-lineOrSpace ⨾ sound-indented {c = e} (omega arith) (p .ops)))
       (omega (arith, p .both))
 
-  sound-pick : (t : Bool) {a b : Spine} {m n d : ℕ} → SoundSpine m d a → SoundSpine n d b → m ≤ n → SoundSpine n d (pickSpine t a b)
+  sound-pick : (t : Bool) {a b : Operands} {m n d : ℕ} → SoundOperands m d a → SoundOperands n d b → m ≤ n → SoundOperands n d (pickOperands t a b)
   sound-pick true p q h =
-      record { first = p .first; rest = p .rest; head = p .head; tail = p .tail; both = omega (arith, p .both) }
+      record { first = p .first; rest = p .rest; left = p .left; ops = p .ops; both = omega (arith, p .both) }
   sound-pick false p q h = q
 
   -- ---- literals
@@ -173,27 +175,27 @@ module _ {g : Given} (commented : Commented g) where
   height-least (expr s f) = omega arith
 
   mutual
-    unfolding look placeholder blockStart ExprAt Maybe exprHeight among
+    unfolding exprWithPrecedence placeholder blockStart ExprAt Maybe exprHeight among
 
-    sound-look : (e : Expr) (at d : ℕ) → ExprAt (g .source) (g .image) e at → 2 * exprHeight e ≤ d
-        → SoundLook (be32 (g .image) at) d (look g e)
-    sound-look (expr s f) at d a h = sound-form f s at d (ranged (a .0)) (a .0 .long) (a .1) h
+    sound-operands : (e : Expr) (at d p : ℕ) → ExprAt (g .source) (g .image) e at → 2 * exprHeight e ≤ d
+        → SoundOperands (be32 (g .image) at) d (operands g p e)
+    sound-operands (expr s f) at d p a h = sound-form f s at d (ranged (a .0)) (a .0 .long) (a .1) h .under p
 
     pub sound-expr : (e : Expr) (at : ℕ) {d : ℕ} (p : ℕ) → ExprAt (g .source) (g .image) e at → 2 * exprHeight e ≤ d
-        → Sounds g (be32 (g .image) at) d (whole g (look g e) p)
+        → Sounds g (be32 (g .image) at) d (exprWithPrecedence g e p)
     sound-expr (expr s f) at {d} p a h = sound-whole (sound-form f s at d (ranged (a .0)) (a .0 .long) (a .1) h .form p)
 
     sound-form : (f : Form) (s : Span) (at d : ℕ) → Ranged (g .source) s → 9 ≤ be32 (g .image) at → FormAt (g .source) (g .image) f at
-        → 2 * (1 + formHeight f) ≤ d → SoundLook (be32 (g .image) at) d (lookForm g s f)
+        → 2 * (1 + formHeight f) ≤ d → SoundForm (be32 (g .image) at) d (exprForm g s f) (λ p. operandsForm g p f (exprForm g s f p ⨟ popTrailingComment g))
     sound-form (return′ k e) s at d r l a h =
-        sound-plain (λ p. fewer (sound-says (returnWord k) (return-fits k) ⨾ sound-maybe e " " refl (at + 14) (a .2) (omega arith)) (omega (arith, a .3 .same)))
+        sound-no-op (λ p. fewer (sound-says (returnWord k) (return-fits k) ⨾ sound-maybe e " " refl (at + 14) (a .2) (omega arith)) (omega (arith, a .3 .same)))
     sound-form (literal t n) s at d r l a h =
-        sound-plain (λ p. fewer (sound-literal n t (ranged (a .0 .head))) (omega arith))
+        sound-no-op (λ p. fewer (sound-literal n t (ranged (a .0 .head))) (omega arith))
     sound-form (block b) s at d r l a h =
-        sound-plain (λ p. fewer (sound-block b (at + 13) (a .0) (omega arith)) (omega (arith, a .1 .same)))
+        sound-no-op (λ p. fewer (sound-block b (at + 13) (a .0) (omega arith)) (omega (arith, a .1 .same)))
     sound-form (match′ e t arms) s at d r l a h =
         let q : ℕ = past (g .source) (g .image) (at + 13) in
-        sound-plain (λ p.
+        sound-no-op (λ p.
         fewer
         (sound-says "match " refl
         ⨾ sound-expr e (at + 13) Bottom (a .0) (omega arith)
@@ -203,22 +205,22 @@ module _ {g : Given} (commented : Commented g) where
         (omega (arith, a .1 .long, a .3 .same)))
     sound-form (functionCall e t es) s at d r l a h =
         let q : ℕ = past (g .source) (g .image) (at + 13) in
-        sound-plain (λ p.
+        sound-no-op (λ p.
         fewer
         (sound-call p {c = d - 1} (omega arith) (sound-expr e (at + 13) Chain (a .0) (omega arith))
         (sound-separated commented "(" ")" "," refl refl refl
         (all-exprs es (q + 13) (past (g .source) (g .image) q) {d = d - 3} (a .2) (omega arith)) t (ranged (a .1) .fits) Tight (omega arith) (omega arith)))
         (omega (arith, a .1 .long, a .3 .same)))
     sound-form (access e i) s at d r l a h =
-        sound-plain (λ p.
+        sound-no-op (λ p.
         fewer
         (sound-access p {c = d - 2} (omega arith)
         (sound-expr e (at + 13) Chain (a .0) (omega arith) ⨾ sound-line ⨾ sound-says "." refl ⨾ sound-ident (a .1)))
         (omega (arith, a .2 .same, a .1 .head .long)))
     sound-form (path q) s at d r l a h =
-        sound-plain (λ p. fewer (sound-path commented q (at + 13) (ltb p Chain) true (omega arith) (a .0)) (omega (arith, a .1 .same)))
+        sound-no-op (λ p. fewer (sound-path commented q (at + 13) (ltb p Chain) true (omega arith) (a .0)) (omega (arith, a .1 .same)))
     sound-form (record′ t es) s at d r l a h =
-        sound-plain (λ p.
+        sound-no-op (λ p.
         fewer
         (sound-separated commented "{" "}" "," refl refl refl
         (all-entries es (at + 13 + 13) (past (g .source) (g .image) (at + 13)) {d = d - 2} (a .1) (omega arith)) t (ranged (a .0) .fits) Spaced
@@ -226,7 +228,7 @@ module _ {g : Given} (commented : Commented g) where
         (omega (arith, a .0 .long, a .2 .same)))
     sound-form (typedRecord q t es) s at d r l a h =
         let v : ℕ = past (g .source) (g .image) (at + 13) in
-        sound-plain (λ p.
+        sound-no-op (λ p.
         fewer
         (sound-path commented q (at + 13) true true (omega arith) (a .0)
         ⨾ sound-says " " refl
@@ -235,17 +237,17 @@ module _ {g : Given} (commented : Commented g) where
         (omega arith) (omega arith))
         (omega (arith, a .1 .long, a .3 .same)))
     sound-form (list es) s at d r l a h =
-        sound-plain (λ p.
+        sound-no-op (λ p.
         fewer
         (sound-separated commented "[" "]" "," refl refl refl
         (all-grouped es (at + 13 + 13) (past (g .source) (g .image) (at + 13)) {d = d - 2} (a .1) (omega arith)) s (r .fits) Tight
         (omega arith) (omega arith))
         (omega (arith, a .0 .head .long, a .2 .same)))
     sound-form (not′ e) s at d r l a h =
-        sound-plain (λ p. fewer (sound-says "!" refl ⨾ sound-expr e (at + 13) Unit′ (a .0) (omega arith)) (omega (arith, a .1 .same)))
+        sound-no-op (λ p. fewer (sound-says "!" refl ⨾ sound-expr e (at + 13) Unit′ (a .0) (omega arith)) (omega (arith, a .1 .same)))
     sound-form (assign q e) s at d r l a h =
         let v : ℕ = past (g .source) (g .image) (at + 13) in
-        sound-plain (λ p.
+        sound-no-op (λ p.
         fewer
         (sound-path commented q (at + 13) true true (omega arith) (a .0)
         ⨾ sound-says " = " refl
@@ -253,7 +255,7 @@ module _ {g : Given} (commented : Commented g) where
         (omega (arith, a .2 .same)))
     sound-form (compoundAssign q op e) s at d r l a h =
         let v : ℕ = past (g .source) (g .image) (past (g .source) (g .image) (at + 13)) in
-        sound-plain (λ p.
+        sound-no-op (λ p.
         fewer
         (sound-path commented q (at + 13) true true (omega arith) (a .0)
         ⨾ sound-says (assignSymbol op) (assign-fits op)
@@ -267,24 +269,24 @@ module _ {g : Given} (commented : Commented g) where
         let n : ℕ = be32 (g .image) w in
         let starts : t .start ≤ length (g .source) = from-start (ranged (a .1 .head)) in
         let chain : (c p : ℕ) → 2 * max (exprHeight x) (exprHeight y) ≤ c
-        → SoundSpine (m + (4 + n)) c (extend g (look g x .under p) t op (whole g (look g y) Bottom)) =
+        → SoundOperands (m + (4 + n)) c (popped g (operands g p x) t op (exprWithPrecedence g y Bottom)) =
         λ c p i.
-        sound-extend (look g x .under p) t op starts (sound-look x (at + 13) c (a .0) (omega arith) .under p)
+        sound-popped (operands g p x) t op starts (sound-operands x (at + 13) c p (a .0) (omega arith))
         (sound-expr y w Bottom (a .3) (omega arith))
         in
-        let own : Sounds g (be32 (g .image) at) d (chained (extend g (look g x .under q) t op (whole g (look g y) Bottom))) =
-        fewer (sound-chained _ {d = d} (omega arith) (chain (d - 2) q (omega arith))) (omega (arith, a .4 .same, a .1 .head .long))
+        let own : Sounds g (be32 (g .image) at) d (binop (popped g (operands g q x) t op (exprWithPrecedence g y Bottom))) =
+        fewer (sound-binop _ {d = d} (omega arith) (chain (d - 2) q (omega arith))) (omega (arith, a .4 .same, a .1 .head .long))
         in
         record {
           form = λ p. own;
           under =
-              λ p. sound-pick (eqb q p) (chain d p (omega arith)) (sound-lone (sound-whole own)) (omega (arith, a .4 .same, a .1 .head .long));
+              λ p. sound-pick (eqb q p) (chain d p (omega arith)) (sound-leftmost (sound-whole own)) (omega (arith, a .4 .same, a .1 .head .long));
         }
     sound-form (negate e) s at d r l a h =
-        sound-plain (λ p. fewer (sound-says "-" refl ⨾ sound-expr e (at + 13) Bottom (a .0) (omega arith)) (omega (arith, a .1 .same)))
+        sound-no-op (λ p. fewer (sound-says "-" refl ⨾ sound-expr e (at + 13) Bottom (a .0) (omega arith)) (omega (arith, a .1 .same)))
     sound-form (ifElse c b e) s at d r l a h =
         let v : ℕ = past (g .source) (g .image) (at + 13) in
-        sound-plain
+        sound-no-op
         (λ p.
         fewer
         (sound-clause "if " refl (omega arith) (sound-expr c (at + 13) {d = d - 2} Bottom (a .0) (omega arith)) (sound-block b v (a .1) (omega arith))
@@ -292,14 +294,14 @@ module _ {g : Given} (commented : Commented g) where
         (omega (arith, a .3 .same)))
     sound-form (while c b) s at d r l a h =
         let v : ℕ = past (g .source) (g .image) (at + 13) in
-        sound-plain
+        sound-no-op
         (λ p.
         fewer
         (sound-clause "while " refl (omega arith) (sound-expr c (at + 13) {d = d - 2} Bottom (a .0) (omega arith)) (sound-block b v (a .1) (omega arith)))
         (omega (arith, a .2 .same)))
     sound-form (for i e b) s at d r l a h =
         let v : ℕ = past (g .source) (g .image) (at + 13) in
-        sound-plain
+        sound-no-op
         (λ p.
         fewer
         (sound-says "for " refl
@@ -308,9 +310,9 @@ module _ {g : Given} (commented : Commented g) where
         (sound-block b (past (g .source) (g .image) v) (a .2) (omega arith)))
         (omega (arith, a .3 .same, a .0 .head .long)))
     sound-form (questionMark e) s at d r l a h =
-        sound-plain (λ p. fewer (sound-expr e (at + 13) p (a .0) (omega arith) ⨾ sound-says "?" refl) (omega (arith, a .1 .same)))
+        sound-no-op (λ p. fewer (sound-expr e (at + 13) p (a .0) (omega arith) ⨾ sound-says "?" refl) (omega (arith, a .1 .same)))
     sound-form (fString ps) s at d r l a h =
-        sound-plain (λ p.
+        sound-no-op (λ p.
         fewer
         (sound-gap commented (s .start) true true false (from-start r)
         ⨾ sound-says "f\"" refl
@@ -318,7 +320,7 @@ module _ {g : Given} (commented : Commented g) where
         ⨾ sound-says "\"" refl)
         (omega (arith, a .0 .head .long, a .2 .same)))
     sound-form (parentheses e) s at d r l a h =
-        sound-plain (λ p.
+        sound-no-op (λ p.
         fewer
         (sound-gap commented (s .start) true true false (from-start r)
         ⨾ sound-says "(" refl

@@ -3,16 +3,13 @@
 use Prim.Native.Nat.{ℕ, zero, suc, _+_, _-_, _≤_, min}
 use mathlib.Core.Path.{_≡_, refl}
 use mathlib.Core.Bool.{Bool, true, false, cond, _&&_}
-use mathlib.Core.List.{List}
 use mathlib.Core.Option.{Option, none as nothing, some}
 use native.Mathlib.Omega.{arith}
 use lib.ListN.{length}
 use lib.Dec.{ltb, eqb}
-use Rattle.text.specs.Utf8.{charBefore}
+use Rattle.text.proofs.Trims.{trim-before}
 use Rattle.text.specs.Newlines.{countNewlines}
-use Rattle.text.specs.Space.{trim, trimEnd, isWhite, something}
-use Rattle.text.specs.declared.utf8.Decoded.{Decoded}
-use Rattle.text.specs.declared.utf8.Decoded.the-variants.{Char, Nothing}
+use Rattle.text.specs.Space.{something}
 use Rattle.text.specs.declared.space.Found.{Found}
 use Rattle.text.specs.declared.space.Found.the-variants.{At, Nowhere}
 use Rattle.tree.specs.Syntax.{Span}
@@ -23,30 +20,12 @@ use Rattle.layout_facts.specs.Placing.{trimmed}
 use Rattle.layout_facts.specs.Sound.{Inside, Ranged, Commented, Sound, Sounds}
 use Rattle.layout_facts.proofs.Steps.{sound-then, _⨾_, fewer, sound-skip, sound-moveTo, sound-line, sound-emptyLine, sound-comment, sound-cond}
 
--- trimming doesn't move the end forward
-trim-le : (n : ℕ) (s : List ℕ) (from to : ℕ) → trim n s from to ≤ to
-unfolding trim
-trim-le zero s from to = omega arith
-trim-le (suc n) s from to = last (λ k. trim-le n s from (to - k)) (charBefore s from to)
-  where
-    shorter : (k : ℕ) (t : Bool) → trim n s from (to - k) ≤ to - k → cond t (trim n s from (to - k)) to ≤ to
-    shorter k true h = omega arith
-    shorter k false h = omega arith
-
-    last : ((k : ℕ) → trim n s from (to - k) ≤ to - k) → (d : Decoded) → elim d [ Nothing ↦ to | Char c k ↦ cond (isWhite c) (trim n s from (to - k)) to ] ≤ to
-    last more Nothing = omega arith
-    last more (Char c k) = shorter k (isWhite c) (more k)
-
-pub trimEnd-le : (s : List ℕ) (from to : ℕ) → trimEnd s from to ≤ to
-unfolding trimEnd
-trimEnd-le s from to = trim-le (to - from) s from to
-
 module _ {g : Given} (commented : Commented g) where
   inside-comment : {c : Span} → Ranged (g .source) c → Inside g (trimmed g c)
   inside-comment {c} r =
       record {
         origin = omega arith;
-        fits = omega (arith, trimEnd-le (g .source) (c .start) (c .end), r .ordered, r .fits);
+        fits = omega (arith, trim-before (g .source) (c .start) (c .end), r .ordered, r .fits);
         due = λ e. absurd (omega arith);
       }
 

@@ -19,39 +19,39 @@ use Rattle.tree.specs.Syntax.{value, Block, braces, MaybeBlock, noBlock, someBl
 use Rattle.tree.specs.Syntax.{Variants, noVariants, variant, Declaration, filterMap, const, recordDecl, enumDecl, function, test, importDecl}
 use Rattle.tree.specs.Syntax.{SyntaxTree}
 use Rattle.rows.specs.Node.{Text, ascii, str, line, lineOrSpace, wrapParent, ifWrap}
-use Rattle.state.specs.Act.{Given, Act, push}
-use Rattle.layout.specs.declared.kinds.WrapStyle.{WrapStyle}
-use Rattle.layout.specs.declared.kinds.WrapStyle.the-variants.{Tight, Spaced, Wrap}
-use Rattle.layout.specs.Layout.{edge, isWrap, opens, ends, inside, beforeElem, pathNext, operator, whole, maybeExpr, placeholder, clause, blockStart, beforeStmt, afterStmt, lone, pickSpine, plain, extend, someTypeParams, Elem, Spine, Look, Bottom, Chain, Unit′, binopPrecedence, elements, separated, pathMore, pathRule, identElems, typeExpr, typeForm, typeArgs, typeElems, fieldElems, params, recordTypeRule, typeParams, importPath, importGroup, importItems, importElems, pattern, chained, literalRule, look, lookForm, otherwise, exprElems, groupedElems, entryElems, armElems, partsRule, blockRule, stmtsRule, lastRule, stmtRule, stmtForm, opening, variantElems, declaration, declares, shebangRule, declarationsRule, fmtParsed, importSpan, noneOf, isEmpty, isBlock, isBraced, unlessEmpty, oneOr}
-use Rattle.comments.specs.Comments.{popWhitespace}
-use Rattle.layout_facts.specs.Placing.{commentsOf, commentsIn, trimmed, Places}
+use Rattle.state.specs.Act.{Given, Act, _⨟_, push}
+use Rattle.layout.specs.declared.forms.WrapStyle.{WrapStyle}
+use Rattle.layout.specs.declared.forms.WrapStyle.the-variants.{Tight, Spaced, Wrap}
+use Rattle.layout.specs.Layout.{edge, isWrap, opens, ends, inside, beforeElem, pathNext, operator, maybeExpr, placeholder, clause, blockStart, beforeStmt, afterStmt, leftmost, pickOperands, popped, someTypeParams, Elem, Operands, Bottom, Chain, Unit′, binopPrecedence, elements, separated, pathMore, pathRule, identElems, typeExpr, typeForm, typeArgs, typeElems, fieldElems, params, typeParams, importPath, importGroup, importItems, importElems, pattern, binop, literalRule, exprWithPrecedence, exprForm, operands, operandsForm, otherwise, exprElems, groupedElems, entryElems, armElems, partsRule, blockRule, stmtsRule, lastRule, stmtRule, stmtForm, opening, variantElems, declaration, declares, shebangRule, declarationsRule, fmtParsed, importSpan, noneOf, isEmpty, isBlock, isBraced, unlessEmpty, oneOr}
+use Rattle.comments.specs.Comments.{popWhitespace, popTrailingComment}
+use Rattle.layout_facts.specs.Placing.{commentsOfNode, commentsInNodes, trimmed, Places}
 use Rattle.layout_facts.specs.Accepted.{fresh, callRule}
 use Rattle.layout_facts.proofs.Placing.{_⨾_, places-skip, places-push, places-when, places-cond, places-grouped, places-indented, places-indentedNext}
 use Rattle.layout_facts.proofs.Placing.{places-called, places-asks, places-gap, places-trailing}
 
 module _ {g : Given} where
   said : {t : Text} → Places g (push (ascii t))
-  unfolding commentsOf
+  unfolding commentsOfNode
   said = places-push refl
 
   named : {w : ℕ} {t : Text} → Places g (push (str w t))
-  unfolding commentsOf
+  unfolding commentsOfNode
   named = places-push refl
 
   lined : Places g (push line)
-  unfolding commentsOf
+  unfolding commentsOfNode
   lined = places-push refl
 
   spaced : Places g (push lineOrSpace)
-  unfolding commentsOf
+  unfolding commentsOfNode
   spaced = places-push refl
 
   wrapped : Places g (push wrapParent)
-  unfolding commentsOf
+  unfolding commentsOfNode
   wrapped = places-push refl
 
   chosen : {n : ℕ} {t u : Text} → Places g (push (ifWrap n (ascii t) (ascii u)))
-  unfolding commentsOf
+  unfolding commentsOfNode
   chosen = places-push refl
 
 module _ (g : Given) where
@@ -160,13 +160,13 @@ module _ (g : Given) where
   places-pattern (enumVariant i (some fs)) = named ⨾ places-separated "(" ")" "," (all-idents (fs .elems)) (fs .span) Tight
 
   -- a chain of operators, and an expression
-  record PlacesSpine (c : Spine) : Type 0 where
-    head : Places g (c .head)
-    tail : Places g (c .tail)
+  record PlacesOperands (c : Operands) : Type 0 where
+    left : Places g (c .left)
+    ops : Places g (c .ops)
 
-  record PlacesLook (l : Look) : Type 0 where
-    form : (p : ℕ) → Places g (l .form p)
-    under : (p : ℕ) → PlacesSpine (l .under p)
+  record PlacesForm (whole : ℕ → Act) (operand : ℕ → Operands) : Type 0 where
+    form : (p : ℕ) → Places g (whole p)
+    under : (p : ℕ) → PlacesOperands (operand p)
 
   places-operator : (first : Bool) (s : Span) (op : ℕ) → Places g (operator g first s op)
   unfolding operator
@@ -176,9 +176,9 @@ module _ (g : Given) where
       ⨾ said
       ⨾ said
 
-  places-chained : (c : Spine) → PlacesSpine c → Places g (chained c)
-  unfolding chained
-  places-chained c p = places-grouped (λ id. p .head ⨾ spaced ⨾ places-indented (p .tail))
+  places-binop : (c : Operands) → PlacesOperands c → Places g (binop c)
+  unfolding binop
+  places-binop c p = places-grouped (λ id. p .left ⨾ spaced ⨾ places-indented (p .ops))
 
   places-literal : (n : ℕ) (s : Span) → Places g (literalRule g s n)
   unfolding literalRule
@@ -189,17 +189,17 @@ module _ (g : Given) where
   places-literal (suc (suc (suc (suc n)))) s = places-gap (s .end) true true false ⨾ places-skip
 
   -- an expression that is no binary operator, and one that is
-  places-plain : {a : ℕ → Act} → ((p : ℕ) → Places g (a p)) → PlacesLook (plain g a)
-  places-plain p = record { form = p; under = λ outer. record { head = p outer ⨾ places-trailing; tail = places-skip } }
+  places-no-op : {a : ℕ → Act} → ((p : ℕ) → Places g (a p)) → PlacesForm a (λ p. leftmost (a p ⨟ popTrailingComment g))
+  places-no-op p = record { form = p; under = λ outer. record { left = p outer ⨾ places-trailing; ops = places-skip } }
 
-  places-lone : {a : Act} → Places g a → PlacesSpine (lone a)
-  places-lone p = record { head = p; tail = places-skip }
+  places-leftmost : {a : Act} → Places g a → PlacesOperands (leftmost a)
+  places-leftmost p = record { left = p; ops = places-skip }
 
-  places-extend : (c : Spine) (s : Span) (op : ℕ) {a : Act} → PlacesSpine c → Places g a → PlacesSpine (extend g c s op a)
-  places-extend c s op p q = record { head = p .head; tail = p .tail ⨾ places-operator (c .alone) s op ⨾ q }
+  places-popped : (c : Operands) (s : Span) (op : ℕ) {a : Act} → PlacesOperands c → Places g a → PlacesOperands (popped g c s op a)
+  places-popped c s op p q = record { left = p .left; ops = p .ops ⨾ places-operator (c .first) s op ⨾ q }
 
-  places-pick : (t : Bool) {a b : Spine} → PlacesSpine a → PlacesSpine b
-      → PlacesSpine (pickSpine t a b)
+  places-pick : (t : Bool) {a b : Operands} → PlacesOperands a → PlacesOperands b
+      → PlacesOperands (pickOperands t a b)
   places-pick true p q = p
   places-pick false p q = q
 
@@ -212,52 +212,52 @@ module _ (g : Given) where
   places-before first p = places-cond first (places-gap p false true false) (places-gap p true true true) ⨾ lined
 
   mutual
-    unfolding look placeholder blockStart afterStmt
+    unfolding exprWithPrecedence placeholder blockStart afterStmt
 
-    places-look : (e : Expr) → PlacesLook (look g e)
-    places-look (expr s f) = places-form f s
+    places-operands : (e : Expr) (p : ℕ) → PlacesOperands (operands g p e)
+    places-operands (expr s f) p = places-form f s .under p
 
-    places-expr : (e : Expr) (p : ℕ) → Places g (whole g (look g e) p)
+    places-expr : (e : Expr) (p : ℕ) → Places g (exprWithPrecedence g e p)
     places-expr (expr s f) p = places-form f s .form p ⨾ places-trailing
 
-    places-form : (f : Form) (s : Span) → PlacesLook (lookForm g s f)
-    places-form (return′ k e) s = places-plain (λ p. said ⨾ places-maybe e " ")
-    places-form (literal t n) s = places-plain (λ p. places-literal n t)
-    places-form (block b) s = places-plain (λ p. places-block b)
+    places-form : (f : Form) (s : Span) → PlacesForm (exprForm g s f) (λ p. operandsForm g p f (exprForm g s f p ⨟ popTrailingComment g))
+    places-form (return′ k e) s = places-no-op (λ p. said ⨾ places-maybe e " ")
+    places-form (literal t n) s = places-no-op (λ p. places-literal n t)
+    places-form (block b) s = places-no-op (λ p. places-block b)
     places-form (match′ e t arms) s =
-        places-plain (λ p. said ⨾ places-expr e Bottom ⨾ said ⨾ places-separated "{" "}" "" (all-arms arms) t Wrap)
+        places-no-op (λ p. said ⨾ places-expr e Bottom ⨾ said ⨾ places-separated "{" "}" "" (all-arms arms) t Wrap)
     places-form (functionCall e t es) s =
         let call : Places g (separated g "(" ")" "," (exprElems g es) t Tight) = places-separated "(" ")" "," (all-exprs es) t Tight in
-        places-plain (λ p. places-cond (ltb p Chain) (places-called (places-expr e Chain) call) (places-expr e Chain ⨾ call))
+        places-no-op (λ p. places-cond (ltb p Chain) (places-called (places-expr e Chain) call) (places-expr e Chain ⨾ call))
     places-form (access e i) s =
-        places-plain (λ p.
+        places-no-op (λ p.
         places-cond (ltb p Chain) (places-grouped (λ id. places-indentedNext (places-expr e Chain ⨾ lined ⨾ said ⨾ named)))
         (places-expr e Chain ⨾ lined ⨾ said ⨾ named))
-    places-form (path q) s = places-plain (λ p. places-path q (ltb p Chain) true)
-    places-form (record′ t es) s = places-plain (λ p. places-separated "{" "}" "," (all-entries es) t Spaced)
+    places-form (path q) s = places-no-op (λ p. places-path q (ltb p Chain) true)
+    places-form (record′ t es) s = places-no-op (λ p. places-separated "{" "}" "," (all-entries es) t Spaced)
     places-form (typedRecord q t es) s =
-        places-plain (λ p. places-path q true true ⨾ said ⨾ places-separated "{" "}" "," (all-entries es) t Spaced)
-    places-form (list es) s = places-plain (λ p. places-separated "[" "]" "," (all-grouped es) s Tight)
-    places-form (not′ e) s = places-plain (λ p. said ⨾ places-expr e Unit′)
-    places-form (assign q e) s = places-plain (λ p. places-path q true true ⨾ said ⨾ places-expr e Bottom)
-    places-form (compoundAssign q op e) s = places-plain (λ p. places-path q true true ⨾ said ⨾ places-expr e Bottom)
+        places-no-op (λ p. places-path q true true ⨾ said ⨾ places-separated "{" "}" "," (all-entries es) t Spaced)
+    places-form (list es) s = places-no-op (λ p. places-separated "[" "]" "," (all-grouped es) s Tight)
+    places-form (not′ e) s = places-no-op (λ p. said ⨾ places-expr e Unit′)
+    places-form (assign q e) s = places-no-op (λ p. places-path q true true ⨾ said ⨾ places-expr e Bottom)
+    places-form (compoundAssign q op e) s = places-no-op (λ p. places-path q true true ⨾ said ⨾ places-expr e Bottom)
     places-form (binOp l t op r) s =
         let q : ℕ = binopPrecedence op in
-        let chain : (p : ℕ) → PlacesSpine (extend g (look g l .under p) t op (whole g (look g r) Bottom)) =
-        λ p. places-extend (look g l .under p) t op (places-look l .under p) (places-expr r Bottom)
+        let chain : (p : ℕ) → PlacesOperands (popped g (operands g p l) t op (exprWithPrecedence g r Bottom)) =
+        λ p. places-popped (operands g p l) t op (places-operands l p) (places-expr r Bottom)
         in
-        let own : Places g (chained (extend g (look g l .under q) t op (whole g (look g r) Bottom))) = places-chained _ (chain q) in
-        record { form = λ p. own; under = λ p. places-pick (eqb q p) (chain p) (places-lone (own ⨾ places-trailing)) }
-    places-form (negate e) s = places-plain (λ p. said ⨾ places-expr e Bottom)
+        let own : Places g (binop (popped g (operands g q l) t op (exprWithPrecedence g r Bottom))) = places-binop _ (chain q) in
+        record { form = λ p. own; under = λ p. places-pick (eqb q p) (chain p) (places-leftmost (own ⨾ places-trailing)) }
+    places-form (negate e) s = places-no-op (λ p. said ⨾ places-expr e Bottom)
     places-form (ifElse c b e) s =
-        places-plain (λ p. places-clause "if " (places-expr c Bottom) (places-block b) ⨾ places-otherwise e)
-    places-form (while c b) s = places-plain (λ p. places-clause "while " (places-expr c Bottom) (places-block b))
-    places-form (for i e b) s = places-plain (λ p. said ⨾ named ⨾ places-clause " in " (places-expr e Bottom) (places-block b))
-    places-form (questionMark e) s = places-plain (λ p. places-expr e p ⨾ said)
+        places-no-op (λ p. places-clause "if " (places-expr c Bottom) (places-block b) ⨾ places-otherwise e)
+    places-form (while c b) s = places-no-op (λ p. places-clause "while " (places-expr c Bottom) (places-block b))
+    places-form (for i e b) s = places-no-op (λ p. said ⨾ named ⨾ places-clause " in " (places-expr e Bottom) (places-block b))
+    places-form (questionMark e) s = places-no-op (λ p. places-expr e p ⨾ said)
     places-form (fString ps) s =
-        places-plain (λ p. places-gap (s .start) true true false ⨾ said ⨾ places-parts ps ⨾ said)
+        places-no-op (λ p. places-gap (s .start) true true false ⨾ said ⨾ places-parts ps ⨾ said)
     places-form (parentheses e) s =
-        places-plain (λ p. places-gap (s .start) true true false ⨾ said ⨾ places-expr e Bottom ⨾ said)
+        places-no-op (λ p. places-gap (s .start) true true false ⨾ said ⨾ places-expr e Bottom ⨾ said)
 
     places-maybe : (e : MaybeExpr) (w : String) → Places g (maybeExpr g w e)
     places-maybe noExpr w = places-skip
@@ -328,12 +328,10 @@ module _ (g : Given) where
       places-asks (popWhitespace g p (not first) true (not first)) (places-gap p (not first) true (not first))
       (λ whitespace. places-when (not first && not whitespace) lined)
 
-  places-typeParams : (is : Idents) → Places g (typeParams g is)
-  unfolding typeParams
+  places-typeParams : (is : Idents) → Places g (typeParams g (identElems g (is .elems)) (is .span))
   places-typeParams is = places-separated "[" "]" "," (all-idents (is .elems)) (is .span) Tight
 
-  places-params : (fs : Fields) (s : Span) → Places g (params g fs s)
-  unfolding params
+  places-params : (fs : Fields) (s : Span) → Places g (params g (fieldElems g fs) s)
   places-params fs s = places-separated "(" ")" "," (all-fields fs) s Tight
 
   all-variants : (vs : Variants) → All (variantElems g vs)
@@ -353,7 +351,7 @@ module _ (g : Given) where
 
   -- ---- each declaration, and the whole file
   pub places-declaration : (d : Declaration) (first : Bool) → Places g (declaration g d first)
-  unfolding declaration declares recordTypeRule
+  unfolding declaration declares
   places-declaration (filterMap i s fs b) first =
       (places-opening (i .span .start) first ⨾ said ⨾ named) ⨾ places-params fs s ⨾ said ⨾ places-block b
   places-declaration (const i t e) first =
@@ -385,7 +383,7 @@ module _ (g : Given) where
   places-declarations (d ∷ ds) first = places-declaration d first ⨾ places-declarations ds false
 
   pub places-shebang : (i : Option Ident) → Places g (shebangRule g i)
-  unfolding shebangRule commentsOf
+  unfolding shebangRule commentsOfNode
   places-shebang nothing = places-skip
   places-shebang (some i) = named ⨾ places-push refl
 
@@ -401,7 +399,7 @@ module _ (g : Given) where
   -- From the fresh state: the comments among the nodes of a document are the first of the list, as many as it placed. Those left are the
   -- others.
   pub in-order : (t : SyntaxTree)
-      → commentsIn (fmtParsed g t fresh .nodes) ≡ take (fmtParsed g t fresh .placed) (map (trimmed g) (g .comments))
+      → commentsInNodes (fmtParsed g t fresh .nodes) ≡ take (fmtParsed g t fresh .placed) (map (trimmed g) (g .comments))
   in-order t =
       let n : ℕ = fmtParsed g t fresh .placed in
       let same : n - 0 ≡ n = omega arith in

@@ -16,6 +16,8 @@ use Rattle.tree.specs.At.{past, DeclarationsAt}
 use Rattle.tree.specs.Records.{syntaxTree}
 use Rattle.tree.proofs.Walk.{declarations-order}
 use Rattle.tree.proofs.Whole.{root-at}
+use Rattle.rows.specs.Limits.{MAX-ROWS, MAX-NUMBER}
+use Rattle.rows.specs.Places.{PLACES}
 use Rattle.rows.specs.Node.{Nodes}
 use Rattle.rows.specs.Rows.{sizes, rows}
 use Rattle.rows.proofs.Flatten.{Holds}
@@ -152,19 +154,19 @@ module _ {g : Given} {t : SyntaxTree} {at : ℕ} (a : Stands g t at) where
   pub call-passes : (xs ys zs : List Declaration) (begins first closes : Bool) → xs ++ (ys ++ zs) ≡ t .declarations
       → (s : St) (store : List ℕ) (r : ℕ)
       → let ns : Nodes = callRule g t begins ys first closes s .nodes in
-      Holds store r (rows ns r) → r + sizes ns ≤ 2097152 → (r + sizes ns) * 9 ≤ length store
+      Holds store r (rows ns r) → r + sizes ns ≤ MAX-ROWS → (r + sizes ns) * PLACES ≤ length store
       → wrongPlace (g .source) (g .image) store r (r + sizes ns) ≡ nothing
   call-passes xs ys zs begins first closes e s store r h few fits =
       let p = call-sound xs ys zs begins first closes e .from s in
       not-refused g (callRule g t begins ys first closes s .nodes) store r h (omega (arith, p .deep)) (p .texts) few fits
 
   -- the rows due from the fresh state, at the start of the store
-  pub due-passes : {o : Out} → Within g o → (store : List ℕ) → Holds store 0 (rows (o .nodes) 0) → sizes (o .nodes) * 9 ≤ length store
+  pub due-passes : {o : Out} → Within g o → (store : List ℕ) → Holds store 0 (rows (o .nodes) 0) → sizes (o .nodes) * PLACES ≤ length store
       → wrongPlace (g .source) (g .image) store 0 (0 + sizes (o .nodes)) ≡ nothing
   due-passes {o} w store h fits = not-refused g (o .nodes) store 0 h (w .deep) (w .texts) (omega (arith, w .rows)) (omega arith)
 
   -- ---- room for the rows of a layout call, from any state that refusal 12 lets pass
-  room : {d : ℕ} (s : Act) → Sounds g (be32 (g .image) at) d s → Places g s → (c : Cursor) → c .row ≤ 2097152 → c .number ≤ 1048576
+  room : {d : ℕ} (s : Act) → Sounds g (be32 (g .image) at) d s → Places g s → (c : Cursor) → c .row ≤ MAX-ROWS → c .number ≤ MAX-NUMBER
       → c .placed ≤ length (g .comments) → Room s c
   room s p q c h i j =
       let r = p .from (st c) in
@@ -175,7 +177,7 @@ module _ {g : Given} {t : SyntaxTree} {at : ℕ} (a : Stands g t at) where
       }
 
   pub call-room : (xs ys zs : List Declaration) (begins first closes : Bool) → xs ++ (ys ++ zs) ≡ t .declarations → (c : Cursor)
-      → c .row ≤ 2097152 → c .number ≤ 1048576 → c .placed ≤ length (g .comments) → Room (callRule g t begins ys first closes) c
+      → c .row ≤ MAX-ROWS → c .number ≤ MAX-NUMBER → c .placed ≤ length (g .comments) → Room (callRule g t begins ys first closes) c
   call-room xs ys zs begins first closes e =
       room (callRule g t begins ys first closes) (call-sound xs ys zs begins first closes e) (places-call g t begins ys first closes)
 

@@ -20,8 +20,8 @@ use Rattle.rows.specs.Node.{Text}
 use Rattle.rows.specs.Words.{among, word, isWord}
 use Rattle.rows.proofs.Table.{words-there, word-inside}
 use Rattle.state.specs.Act.{Given, Act, says}
-use Rattle.layout.specs.declared.kinds.WrapStyle.{WrapStyle}
-use Rattle.layout.specs.declared.kinds.WrapStyle.the-variants.{Tight, Spaced, Wrap}
+use Rattle.layout.specs.declared.forms.WrapStyle.{WrapStyle}
+use Rattle.layout.specs.declared.forms.WrapStyle.the-variants.{Tight, Spaced, Wrap}
 use Rattle.layout.specs.Layout.{edge, isWrap, opens, ends, inside, beforeElem, pathNext, Elem, elements, separated, pathMore, pathRule, ident}
 use Rattle.layout.specs.Layout.{identElems, typeExpr, typeForm, typeArgs, typeElems, fieldElems, lastSpan, importPath, importGroup, importItems}
 use Rattle.layout.specs.Layout.{importElems, pattern, typeSpan, importSpan, isGroup, oneOr}

@@ -11,6 +11,8 @@ use lib.ListN.{length, getD, length-append}
 use lib.Seq.{getD-append-add}
 use lib.Dec.{leb, eqb}
 use borrow.Author.Tests.{le-leb}
+use Rattle.rows.specs.Limits.{MAX-ROWS}
+use Rattle.rows.specs.Places.{PLACES}
 use Rattle.rows.specs.Node.{Text, Nodes}
 use Rattle.rows.specs.Rows.{sizes, depths, row, rows}
 use Rattle.rows.specs.View.{viewOf}
@@ -103,8 +105,8 @@ passes g ns store r h d t =
 
 -- so refusal 11 does not hold of them, where they are in the store and not too many
 pub not-refused : (g : Given) (ns : Nodes) (store : List ℕ) (r : ℕ) → Holds store r (rows ns r) → depths ns ≤ 256 → TextsIn g ns
-    → r + sizes ns ≤ 2097152 → (r + sizes ns) * 9 ≤ length store
+    → r + sizes ns ≤ MAX-ROWS → (r + sizes ns) * PLACES ≤ length store
     → wrongPlace (g .source) (g .image) store r (r + sizes ns) ≡ nothing
 unfolding wrongPlace
 not-refused g ns store r h d t few room =
-    rw (le-leb (r + sizes ns) 2097152 few, le-leb ((r + sizes ns) * 9) (length store) room) (passes g ns store r h d t)
+    rw (le-leb (r + sizes ns) MAX-ROWS few, le-leb ((r + sizes ns) * PLACES) (length store) room) (passes g ns store r h d t)

@@ -19,13 +19,13 @@ use Rattle.rows.specs.Node.{Text, Node, Nodes, group, indent, indentNext, comme
 use Rattle.state.specs.Act.{Given, St, Out, Act, Asking, next, join, _⨟_, _⨟?_, _⨟!_, skip, when, push, moveTo, pop, told, answering, grouped}
 use Rattle.state.specs.Act.{indented, indentedNext, called}
 use Rattle.comments.specs.Comments.{nth, front, remark, newlines, ignoreNewlines, popComment, waits, popComments, popWhitespace, popTrailingComment}
-use Rattle.layout_facts.specs.Placing.{commentsOf, commentsIn, trimmed, between, Placed, Places}
+use Rattle.layout_facts.specs.Placing.{commentsOfNode, commentsInNodes, trimmed, between, Placed, Places}
 
-commentsIn-join : (ns ms : Nodes) → commentsIn (join ns ms) ≡ commentsIn ns ++ commentsIn ms
-unfolding commentsIn join
-commentsIn-join none ms = refl
-commentsIn-join (n then ns) ms =
-    ap (λ (l : List Text). commentsOf n ++ l) (commentsIn-join ns ms) ∙ sym (append-assoc (commentsOf n) (commentsIn ns) (commentsIn ms))
+commentsInNodes-join : (ns ms : Nodes) → commentsInNodes (join ns ms) ≡ commentsInNodes ns ++ commentsInNodes ms
+unfolding commentsInNodes join
+commentsInNodes-join none ms = refl
+commentsInNodes-join (n then ns) ms =
+    ap (λ (l : List Text). commentsOfNode n ++ l) (commentsInNodes-join ns ms) ∙ sym (append-assoc (commentsOfNode n) (commentsInNodes ns) (commentsInNodes ms))
 
 between-join : (g : Given) (k m n : ℕ) → k ≤ m → m ≤ n → between g k m ++ between g m n ≡ between g k n
 between-join g k m n h i =
@@ -43,7 +43,7 @@ between-none g k m e =
 
 -- ---- steps that place no comment
 pub record Quiet (a : Act) : Type 0 where
-  pub none : (s : St) → commentsIn (a s .nodes) ≡ []
+  pub none : (s : St) → commentsInNodes (a s .nodes) ≡ []
   pub same : (s : St) → a s .placed ≡ s .placed
 
 pub places-quiet : {g : Given} {a : Act} → Quiet a → Places g a
@@ -59,20 +59,20 @@ quiet-then : {a b : Act} → Quiet a → Quiet b → Quiet (a ⨟ b)
 unfolding _⨟_
 quiet-then {a} {b} p q =
     record {
-      none = λ s. commentsIn-join (a s .nodes) (b (next s (a s)) .nodes) ∙ ap₂ (λ (x y : List Text). x ++ y) (p .none s) (q .none (next s (a s)));
+      none = λ s. commentsInNodes-join (a s .nodes) (b (next s (a s)) .nodes) ∙ ap₂ (λ (x y : List Text). x ++ y) (p .none s) (q .none (next s (a s)));
       same = λ s. q .same (next s (a s)) ∙ p .same s;
     }
 
 quiet-skip : Quiet skip
-unfolding commentsIn
+unfolding commentsInNodes
 quiet-skip = record { none = λ s. refl; same = λ s. refl }
 
 quiet-moveTo : {p : ℕ} → Quiet (moveTo p)
-unfolding commentsIn
+unfolding commentsInNodes
 quiet-moveTo = record { none = λ s. refl; same = λ s. refl }
 
-quiet-push : {n : Node} → commentsOf n ≡ [] → Quiet (push n)
-unfolding commentsIn
+quiet-push : {n : Node} → commentsOfNode n ≡ [] → Quiet (push n)
+unfolding commentsInNodes
 quiet-push e = record { none = λ s. ap (λ (l : List Text). l ++ []) e; same = λ s. refl }
 
 -- ---- ways of joining steps
@@ -84,7 +84,7 @@ placed-then g a b s x q =
       more = omega arith;
       within = y .within;
       same =
-          commentsIn-join (a s .nodes) (b (next s (a s)) .nodes)
+          commentsInNodes-join (a s .nodes) (b (next s (a s)) .nodes)
           ∙ ap₂ (λ (l r : List Text). l ++ r) (x .same) (y .same)
           ∙ between-join g (s .placed) (a s .placed) (b (next s (a s)) .placed) (x .more) (y .more);
     }
@@ -99,7 +99,7 @@ infixr 50 _⨾_
 pub places-skip : {g : Given} → Places g skip
 places-skip = places-quiet quiet-skip
 
-pub places-push : {g : Given} {n : Node} → commentsOf n ≡ [] → Places g (push n)
+pub places-push : {g : Given} {n : Node} → commentsOfNode n ≡ [] → Places g (push n)
 places-push e = places-quiet (quiet-push e)
 
 pub places-when : {g : Given} (t : Bool) {a : Act} → Places g a → Places g (when t a)
@@ -111,38 +111,38 @@ places-cond true p q = p
 places-cond false p q = q
 
 -- nodes and what encloses them have the same comments
-placed-in : (g : Given) (k : ℕ) (o : Out) (ns : Nodes) (t : ℕ) → commentsIn ns ≡ commentsIn (o .nodes) → Placed g k o
+placed-in : (g : Given) (k : ℕ) (o : Out) (ns : Nodes) (t : ℕ) → commentsInNodes ns ≡ commentsInNodes (o .nodes) → Placed g k o
     → Placed g k (record { nodes = ns; taken = t; pos = o .pos; placed = o .placed })
 placed-in g k o ns t e p = record { more = p .more; within = p .within; same = e ∙ p .same }
 
 pub places-grouped : {g : Given} {a : ℕ → Act} → ((n : ℕ) → Places g (a n)) → Places g (grouped a)
-unfolding grouped commentsIn
+unfolding grouped commentsInNodes
 places-grouped {g} {a} p =
     record {
       from =
           λ s h.
           let o : Out = a (s .number) (record { number = s .number + 1; pos = s .pos; placed = s .placed }) in
-          placed-in g (s .placed) o (group (s .number) (o .nodes) then none) (1 + o .taken) (append-nil (commentsIn (o .nodes)))
+          placed-in g (s .placed) o (group (s .number) (o .nodes) then none) (1 + o .taken) (append-nil (commentsInNodes (o .nodes)))
           (p (s .number) .from (record { number = s .number + 1; pos = s .pos; placed = s .placed }) h);
     }
 
 pub places-indented : {g : Given} {a : Act} → Places g a → Places g (indented a)
-unfolding indented commentsIn
+unfolding indented commentsInNodes
 places-indented {g} {a} p =
     record {
-      from = λ s h. placed-in g (s .placed) (a s) (indent (a s .nodes) then none) (a s .taken) (append-nil (commentsIn (a s .nodes))) (p .from s h);
+      from = λ s h. placed-in g (s .placed) (a s) (indent (a s .nodes) then none) (a s .taken) (append-nil (commentsInNodes (a s .nodes))) (p .from s h);
     }
 
 pub places-indentedNext : {g : Given} {a : Act} → Places g a → Places g (indentedNext a)
-unfolding indentedNext commentsIn
+unfolding indentedNext commentsInNodes
 places-indentedNext {g} {a} p =
     record {
       from =
-          λ s h. placed-in g (s .placed) (a s) (indentNext (a s .nodes) then none) (a s .taken) (append-nil (commentsIn (a s .nodes))) (p .from s h);
+          λ s h. placed-in g (s .placed) (a s) (indentNext (a s .nodes) then none) (a s .taken) (append-nil (commentsInNodes (a s .nodes))) (p .from s h);
     }
 
 pub places-called : {g : Given} {e a : Act} → Places g e → Places g a → Places g (called e a)
-unfolding called commentsIn
+unfolding called commentsInNodes
 places-called {g} {e} {a} p q =
     record {
       from =
@@ -155,7 +155,7 @@ places-called {g} {e} {a} p q =
             more = omega arith;
             within = y .within;
             same =
-                append-nil (commentsIn (o .nodes) ++ commentsIn (r .nodes))
+                append-nil (commentsInNodes (o .nodes) ++ commentsInNodes (r .nodes))
                 ∙ ap₂ (λ (l m : List Text). l ++ m) (x .same) (y .same)
                 ∙ between-join g (s .placed) (o .placed) (r .placed) (x .more) (y .more);
           };
@@ -183,7 +183,7 @@ front-is g (x ∷ xs) (suc k) c e = let r = front-is g xs k c e in (omega (arith
 
 -- a step that takes the front comment and pushes it places that comment
 placed-one : (g : Given) (k : ℕ) (c : Span) (o : Out) → nth (g .comments) k ≡ some c
-    → o .placed ≡ k + 1 → commentsIn (o .nodes) ≡ trimmed g c ∷ [] → Placed g k o
+    → o .placed ≡ k + 1 → commentsInNodes (o .nodes) ≡ trimmed g c ∷ [] → Placed g k o
 placed-one g k c o f e h =
     let r = front-is g (g .comments) k c f in
     let one : o .placed - k ≡ 1 = omega arith in
@@ -198,7 +198,7 @@ quiet-cond true p q = p
 quiet-cond false p q = q
 
 quiet-newlines : (g : Given) (p : ℕ) → Quiet (told (newlines g p))
-unfolding newlines commentsIn
+unfolding newlines commentsInNodes
 quiet-newlines g p =
     record {
       none = λ s. kept s .none s;
@@ -211,17 +211,17 @@ quiet-newlines g p =
         quiet-then (quiet-cond (eqb n 0) quiet-skip (quiet-cond (eqb n 1) (quiet-push refl) (quiet-push refl))) quiet-moveTo
 
 quiet-ignoreNewlines : (g : Given) (p : ℕ) → Quiet (ignoreNewlines g p)
-unfolding ignoreNewlines commentsIn
+unfolding ignoreNewlines commentsInNodes
 quiet-ignoreNewlines g p = record { none = λ s. refl; same = λ s. refl }
 
 -- the step between `pop` and the comment's node
 popped : (g : Given) (c : Span) (q : Act) (p : ℕ) (s : St) → Quiet q → front g s ≡ some c
     → Placed g (s .placed) ((pop ⨟ q ⨟ moveTo p ⨟ remark g c) s)
-unfolding _⨟_ join commentsIn
+unfolding _⨟_ join commentsInNodes
 popped g c q p s k f =
     let s′ : St = next s (pop s) in
     placed-one g (s .placed) c ((pop ⨟ q ⨟ moveTo p ⨟ remark g c) s) f (k .same s′)
-    (commentsIn-join (q s′ .nodes) (comment (trimmed g c) then none) ∙ ap (λ (l : List Text). l ++ (trimmed g c ∷ [])) (k .none s′))
+    (commentsInNodes-join (q s′ .nodes) (comment (trimmed g c) then none) ∙ ap (λ (l : List Text). l ++ (trimmed g c ∷ [])) (k .none s′))
 
 places-popComments : (g : Given) (n p : ℕ) (leading : Bool) → Places g (popComments g n p leading)
 unfolding popComments popComment
@@ -257,7 +257,7 @@ places-gap {g} p a b c =
 
 -- `pop_trailing_comment`
 pub places-trailing : {g : Given} → Places g (popTrailingComment g)
-unfolding popTrailingComment _⨟_ join commentsIn
+unfolding popTrailingComment _⨟_ join commentsInNodes
 places-trailing {g} = record { from = λ s h. found s h (something (g .source) (s .pos)) }
   where
     taken : (s : St) (c : Span) → s .placed ≤ length (g .comments) → front g s ≡ some c → (t : Bool)

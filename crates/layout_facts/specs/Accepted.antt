@@ -6,6 +6,7 @@ use mathlib.Core.List.{List, _++_}
 use lib.ListN.{length}
 use Rattle.tree.specs.Syntax.{Declaration, SyntaxTree}
 use Rattle.tree.specs.At.{TreeAt}
+use Rattle.rows.specs.Limits.{MAX-NUMBER}
 use Rattle.rows.specs.Node.{line}
 use Rattle.rows.specs.Rows.{sizes, depths}
 use Rattle.state.specs.Act.{Given, St, Out, Act, _⨟_, when, push}
@@ -40,7 +41,7 @@ callRule g t begins ds first closes =
 -- inside their origins, the position in the source, the comments placed in the list.
 pub record Within (g : Given) (o : Out) : Type 0 where
   pub rows : sizes (o .nodes) ≤ 1048576
-  pub numbers : o .taken ≤ 1048576
+  pub numbers : o .taken ≤ MAX-NUMBER
   pub deep : depths (o .nodes) ≤ 256
   pub texts : TextsIn g (o .nodes)
   pub position : o .pos ≤ length (g .source)

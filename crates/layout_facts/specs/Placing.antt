@@ -11,23 +11,23 @@ use Rattle.state.specs.Act.{Given, St, Out, Act}
 
 -- the texts of the comments among nodes, in order
 unfoldable mutual
-  pub commentsOf : Node → List Text
-  commentsOf (group n ns) = commentsIn ns
-  commentsOf (indent ns) = commentsIn ns
-  commentsOf (indentNext ns) = commentsIn ns
-  commentsOf wrapParent = []
-  commentsOf (comment t) = t ∷ []
-  commentsOf (str w t) = []
-  commentsOf (ascii t) = []
-  commentsOf line = []
-  commentsOf emptyLine = []
-  commentsOf lineOrSpace = []
-  commentsOf (ifWrap n a b) = commentsOf a ++ commentsOf b
-  commentsOf (call n e k a) = commentsIn e ++ commentsIn a
+  pub commentsOfNode : Node → List Text
+  commentsOfNode (group n ns) = commentsInNodes ns
+  commentsOfNode (indent ns) = commentsInNodes ns
+  commentsOfNode (indentNext ns) = commentsInNodes ns
+  commentsOfNode wrapParent = []
+  commentsOfNode (comment t) = t ∷ []
+  commentsOfNode (str w t) = []
+  commentsOfNode (ascii t) = []
+  commentsOfNode line = []
+  commentsOfNode emptyLine = []
+  commentsOfNode lineOrSpace = []
+  commentsOfNode (ifWrap n a b) = commentsOfNode a ++ commentsOfNode b
+  commentsOfNode (call n e k a) = commentsInNodes e ++ commentsInNodes a
 
-  pub commentsIn : Nodes → List Text
-  commentsIn none = []
-  commentsIn (n then ns) = commentsOf n ++ commentsIn ns
+  pub commentsInNodes : Nodes → List Text
+  commentsInNodes none = []
+  commentsInNodes (n then ns) = commentsOfNode n ++ commentsInNodes ns
 
 -- a comment of the list as `Node::Comment` has it: trimmed at the end
 abbrev pub trimmed : Given → Span → Text
@@ -41,7 +41,7 @@ between g k m = take (m - k) (drop k (map (trimmed g) (g .comments)))
 pub record Placed (g : Given) (k : ℕ) (o : Out) : Type 0 where
   pub more : k ≤ o .placed
   pub within : o .placed ≤ length (g .comments)
-  pub same : commentsIn (o .nodes) ≡ between g k (o .placed)
+  pub same : commentsInNodes (o .nodes) ≡ between g k (o .placed)
 
 -- so it is from every state
 pub record Places (g : Given) (a : Act) : Type 0 where

@@ -4,14 +4,15 @@
 use mathlib.Core.Path.{_≡_, refl, sym, ap, ap₂, subst₂, _∙_}
 use mathlib.Core.Bool.{Bool, true, false}
 use mathlib.Core.Option.{Option, none, some}
-use mathlib.Core.List.{List, [], _∷_}
+use mathlib.Core.List.{List, [], _∷_, _++_}
 use Prim.Native.Nat.{ℕ, _+_, _*_, _-_, _≤_, max}
 use native.Mathlib.Omega.{arith}
 use native.Mathlib.Nat.{sub-zero}
 use lib.Dec.{ltb}
-use lib.ListN.{length, getD, take, drop, replicate}
+use lib.ListN.{length, getD, drop, replicate}
 use lib.Seq.{take-append-le}
 use borrow.Author.Tests.{le-ltb, le-leb, eq-eqb}
+use Rattle.rows.specs.Places.{PLACES}
 use Rattle.image.specs.Bytes.{be32}
 use Rattle.image.specs.Read.{Read, got, bad, Image, header, sourceFits, readAll, answerOf}
 use Rattle.image.proofs.Accepted.{Header, accepted}
@@ -20,15 +21,17 @@ use Rattle.rows.proofs.Sizes.{length-rows}
 use Rattle.marks.specs.Marks.{marksNeeded}
 use Rattle.comments.specs.Listed.{commentsOf}
 use Rattle.renderer_rules.specs.Check.{wrongPlace}
-use Rattle.refusals.specs.Refusals.{Refusal, unless, first, when, whenFound, any}
-use Rattle.cut_rule.specs.Rules.{LayoutArgs, RenderArgs, Laid, Rendered}
+use Rattle.refusals.specs.Refusals.{Refusal, unless, first, refuseIf, refuseAt, any}
+use Rattle.refusals.proofs.Groups.{none-both}
+use Rattle.cut_rule.specs.Rules.{LayoutArgs, RenderArgs, LayoutResult, RenderResult}
 use Rattle.cut_rule.specs.Laws.{SameBefore}
-use Rattle.cut_rule.specs.Run.{onto, answerBy, laidOut, written}
+use Rattle.cut_rule.specs.Run.{writeFront, answerBy, laidOut, written}
 use Rattle.cut_rule.specs.Entries.{layoutAnswer, layoutStore, renderGives, renderAnswer, renderMarks, renderOutput}
-use Rattle.cut_rule.specs.Parts.{LayoutState, RenderState, layoutFresh, renderFresh, rowsIn, layoutTests, rowsNeeded, drawnOf}
-use Rattle.cut_rule.specs.Parts.{renderTests, renderTable}
-use Rattle.plain_run.specs.Parts.{refusalOf, renderImage, treeOf, drawn, parts}
-use Rattle.plain_run.specs.Demands.{rulesOf, laidTo}
+use Rattle.cut_rule.specs.States.{LayoutState, RenderState, layoutFresh, renderFresh, LayoutChoice, RenderChoice, onlyRenderChoice}
+use Rattle.cut_rule.specs.Tests.{rowsIn, renderTests, placesTests, limitTests, begunTests, stopTests, rowTests, penTests, markTests}
+use Rattle.cut_rule.specs.Parts.{layoutTests, rowsNeeded, drawnOf, beforeMarks, renderTable}
+use Rattle.plain_run.specs.Parts.{readRefusal, renderImage, acceptedTree, drawn, partsOf}
+use Rattle.plain_run.specs.Demands.{rulesOf, laidTo, closingAt}
 use Rattle.plain_run.specs.File.{built, rowsDue, marksDue, drawnDue, laidRefusal, refusalIn}
 use Rattle.plain_run.proofs.Whole.{fmt-parsed}
 use Rattle.plain_run.proofs.Limits.{all-limited}
@@ -50,15 +53,15 @@ fits-header b h =
 
 -- what the two calls leave of store, marks and output: where 9 or 10 refuses, the rows are laid already
 abbrev pub storeLeft : List ℕ → List ℕ → List ℕ → List ℕ
-storeLeft s b store = unless (laidRefusal s b (rowsIn store)) store (onto (rows (built s b .nodes) 0) store)
+storeLeft s b store = unless (laidRefusal s b (rowsIn store)) store (writeFront (rows (built s b .nodes) 0) store)
 
 abbrev pub marksLeft : List ℕ → List ℕ → List ℕ → List ℕ → List ℕ → List ℕ
 marksLeft s b store marks out =
-    unless (refusalIn s b (rowsIn store) (length marks) (length out)) marks (onto (drawnDue s b .marks) marks)
+    unless (refusalIn s b (rowsIn store) (length marks) (length out)) marks (writeFront (drawnDue s b .marks) marks)
 
 abbrev pub outputLeft : List ℕ → List ℕ → List ℕ → List ℕ → List ℕ → List ℕ
 outputLeft s b store marks out =
-    unless (refusalIn s b (rowsIn store) (length marks) (length out)) out (onto (drawnDue s b .text) out)
+    unless (refusalIn s b (rowsIn store) (length marks) (length out)) out (writeFront (drawnDue s b .text) out)
 
 first-none : (a b : Option Refusal) → first (a ∷ b ∷ []) ≡ none → a ≡ none
 first-none none b e = refl
@@ -66,11 +69,11 @@ first-none (some r) b e = let z : _≡_ {A = ℕ} 0 1 = cc in absurd (omega arit
 
 module _ (s b : List ℕ) where
   abbrev count : ℕ
-  count = length (treeOf b (readAll s b) .declarations)
+  count = length (acceptedTree b (readAll s b) .declarations)
 
   -- ---- the layout call: up to the last declaration, closing
-  abbrev pub layoutArgs : LayoutArgs (Unit {0})
-  layoutArgs = record { stop = count; close = true; choice = tt }
+  abbrev pub layoutArgs : LayoutArgs LayoutChoice
+  layoutArgs = closingAt count
 
   -- the state that it answers
   abbrev pub stateDue : LayoutState
@@ -81,10 +84,10 @@ module _ (s b : List ℕ) where
     cursor = record { row = rowsDue s b; number = built s b .taken; placed = built s b .placed; position = built s b .pos };
   }
 
-  laid-due : _≡_ {A = Laid LayoutState} (laidTo s b count true)
+  laid-due : _≡_ {A = LayoutResult LayoutState} (laidTo (readAll s b) s b layoutArgs)
       (record { state = stateDue; rows = rows (built s b .nodes) 0; left = length (commentsOf b) - built s b .placed })
   laid-due =
-      let g = fmt-parsed s b .closed in
+      let g = fmt-parsed (readAll s b) s b .closed in
       λ t.
       record {
         state = record {
@@ -98,116 +101,122 @@ module _ (s b : List ℕ) where
       }
 
   -- 12
-  layout-passes : (store : List ℕ) → any (layoutTests (parts s b) layoutArgs layoutFresh store) ≡ false
+  layout-passes : (store : List ℕ) → any (layoutTests (partsOf s b) layoutArgs layoutFresh store) ≡ false
   layout-passes store =
-      rw (
+      let stop = stopTests count layoutArgs layoutFresh in
+      none-both (placesTests count (length (commentsOf b)) (length s) (rowsIn store) layoutFresh)
+      (limitTests layoutFresh ++ (begunTests layoutFresh ++ stop))
+      (rw (
         le-ltb count 0 (omega arith),
         le-ltb (length (commentsOf b)) 0 (omega arith),
         le-ltb (length s) 0 (omega arith),
         le-ltb (rowsIn store) 0 (omega arith),
-        le-ltb count count (omega arith),
-        eq-eqb count count refl,
-      )
+      ))
+      (none-both (limitTests layoutFresh) (begunTests layoutFresh ++ stop) refl
+      (none-both (begunTests layoutFresh) stop refl
+      (rw (le-ltb count 0 (omega arith), le-ltb count count (omega arith), eq-eqb count count refl))))
 
-  rows-needed : rowsNeeded (parts s b) layoutArgs layoutFresh ≡ rowsDue s b
-  rows-needed = fmt-parsed s b .closed .row-due
+  rows-needed : rowsNeeded (partsOf s b) layoutArgs layoutFresh ≡ rowsDue s b
+  rows-needed = fmt-parsed (readAll s b) s b .closed .row-due
 
   pub layout-refusal-due : (store : List ℕ) → rulesOf s b .layout-refusal layoutArgs layoutFresh store ≡ laidRefusal s b (rowsIn store)
   layout-refusal-due store =
       ap (λ (x : Bool).
       first
-      (refusalOf (readAll s b)
-      ∷ when x 12 0
-      ∷ when (ltb (rowsIn store) (rowsNeeded (parts s b) layoutArgs layoutFresh)) 8 (rowsNeeded (parts s b) layoutArgs layoutFresh)
+      (readRefusal (readAll s b)
+      ∷ refuseIf x 12 0
+      ∷ refuseIf (ltb (rowsIn store) (rowsNeeded (partsOf s b) layoutArgs layoutFresh)) 8 (rowsNeeded (partsOf s b) layoutArgs layoutFresh)
       ∷ []))
       (layout-passes store)
-      ∙ ap (λ (n : ℕ). first (refusalOf (readAll s b) ∷ when (ltb (rowsIn store) n) 8 n ∷ [])) rows-needed
+      ∙ ap (λ (n : ℕ). first (readRefusal (readAll s b) ∷ refuseIf (ltb (rowsIn store) n) 8 n ∷ [])) rows-needed
 
   -- what it answers and leaves
   pub layout-answer-due : (store : List ℕ)
       → layoutAnswer (rulesOf s b) layoutArgs layoutFresh store
       ≡ answerBy (rulesOf s b) (laidRefusal s b (rowsIn store)) (laidOut stateDue (length (commentsOf b) - built s b .placed))
   layout-answer-due store =
-      ap₂ (λ (r : Option Refusal) (l : Laid LayoutState). answerBy (rulesOf s b) r (laidOut (l .state) (l .left)))
+      ap₂ (λ (r : Option Refusal) (l : LayoutResult LayoutState). answerBy (rulesOf s b) r (laidOut (l .state) (l .left)))
       (layout-refusal-due store)
       laid-due
 
   pub layout-store-due : (store : List ℕ) → layoutStore (rulesOf s b) layoutArgs layoutFresh store ≡ storeLeft s b store
   layout-store-due store =
-      ap₂ (λ (r : Option Refusal) (l : Laid LayoutState). unless r store (onto (l .rows) store)) (layout-refusal-due store) laid-due
+      ap₂ (λ (r : Option Refusal) (l : LayoutResult LayoutState). unless r store (writeFront (l .rows) store)) (layout-refusal-due store) laid-due
 
   -- ---- the rendering call: up to the last row
-  abbrev pub renderArgs : List ℕ → RenderArgs (Unit {0})
-  renderArgs out = record { stop = rowsDue s b; room = length out; choice = tt }
+  abbrev pub renderArgs : List ℕ → RenderArgs RenderChoice
+  renderArgs out = record { stop = rowsDue s b; room = length out; choice = onlyRenderChoice }
 
   -- 1 and 3
-  image-passes : refusalOf (readAll s b) ≡ none → renderImage s b ≡ none
+  image-passes : readRefusal (readAll s b) ≡ none → renderImage s b ≡ none
   image-passes h = go (readAll s b) refl h
     where
-      go : (r : Read Image) → readAll s b ≡ r → refusalOf r ≡ none → renderImage s b ≡ none
+      go : (r : Read Image) → readAll s b ≡ r → readRefusal r ≡ none → renderImage s b ≡ none
       go (bad n p) e h = let z : _≡_ {A = ℕ} 0 1 = cc in absurd (omega arith)
       go (got i end) e h =
           let a = accepted s b (i .comments) (i .at) (ap answerOf e) in
           rw (fits-source s (a .short), fits-header b (a .root .head))
 
   -- the rows that the layout call leaves
-  same-rows : (store : List ℕ) → SameBefore (rowsDue s b) (rows (built s b .nodes) 0) (onto (rows (built s b .nodes) 0) store)
+  same-rows : (store : List ℕ) → SameBefore (rowsDue s b) (rows (built s b .nodes) 0) (writeFront (rows (built s b .nodes) 0) store)
   same-rows store =
       let r = rows (built s b .nodes) 0 in
-      sym (take-append-le (9 * rowsDue s b) r (drop (length r) store) (omega (arith, length-rows (built s b .nodes) 0)))
+      sym (take-append-le (PLACES * rowsDue s b) r (drop (length r) store) (omega (arith, length-rows (built s b .nodes) 0)))
 
   -- 12
-  render-passes : (store marks out : List ℕ) → any (renderTests (parts s b) (renderArgs out) renderFresh store marks) ≡ false
+  render-passes : (store marks out : List ℕ) → any (renderTests (renderArgs out) renderFresh store marks) ≡ false
   render-passes store marks out =
-      rw (le-ltb (rowsIn store) 0 (omega arith), le-ltb (rowsDue s b) 0 (omega arith), le-ltb (length marks) 0 (omega arith))
+      none-both (rowTests (rowsIn store) (rowsDue s b) 0) (penTests (renderFresh .pen) ++ markTests marks 0)
+      (rw (le-ltb (rowsIn store) 0 (omega arith), le-ltb (rowsDue s b) 0 (omega arith)))
+      (none-both (penTests (renderFresh .pen)) (markTests marks 0) refl (rw (le-ltb (length marks) 0 (omega arith))))
 
-  module _ (store : List ℕ) (h : refusalOf (readAll s b) ≡ none) where
+  module _ (store : List ℕ) (h : readRefusal (readAll s b) ≡ none) where
     abbrev rowed : List ℕ
-    rowed = onto (rows (built s b .nodes) 0) store
+    rowed = writeFront (rows (built s b .nodes) 0) store
 
     -- 11
     rows-right : wrongPlace s b rowed 0 (rowsDue s b) ≡ none
     rows-right =
-        let g = fmt-parsed s b .closed in
-        render-parts s b .right-local (rows (built s b .nodes) 0) rowed (rowsDue s b) (same-rows store)
+        let g = fmt-parsed (readAll s b) s b .closed in
+        render-parts s b (readAll s b) .right-local (rows (built s b .nodes) 0) rowed (rowsDue s b) (same-rows store)
         (subst₂ (λ (x : List ℕ) (n : ℕ). wrongPlace s b x 0 n ≡ none) (g .rows-due) (g .row-due) (all-limited s b h .closed .right))
 
     marks-due : marksNeeded (rowsDue s b - 0) rowed 0 ≡ marksDue s b
     marks-due =
-        sym (render-parts s b .needed-local (rows (built s b .nodes) 0) rowed 0 (rowsDue s b) (same-rows store))
+        sym (render-parts s b (readAll s b) .needed-local (rows (built s b .nodes) 0) rowed 0 (rowsDue s b) (same-rows store))
         ∙ ap (λ (n : ℕ). marksNeeded n (rows (built s b .nodes) 0) 0) (sub-zero (rowsDue s b))
 
-    drawn-due : drawnOf (parts s b) renderFresh [] rowed (rowsDue s b) ≡ drawnDue s b
+    drawn-due : drawnOf (partsOf s b) renderFresh [] rowed (rowsDue s b) ≡ drawnDue s b
     drawn-due =
-        let g = fmt-parsed s b .closed in
+        let g = fmt-parsed (readAll s b) s b .closed in
         let z = renderFresh .pen in
         let m = marksNeeded (rowsDue s b - 0) rowed 0 in
         let cleared : List ℕ = replicate (marksDue s b) 0 in
-        sym (render-parts s b .draw-local z (replicate (m - 0) 0) (rows (built s b .nodes) 0) rowed 0 (rowsDue s b) (same-rows store))
+        sym (render-parts s b (readAll s b) .draw-local z (replicate (m - 0) 0) (rows (built s b .nodes) 0) rowed 0 (rowsDue s b) (same-rows store))
         ∙ ap (λ (n : ℕ). drawn s b z (replicate n 0) (rows (built s b .nodes) 0) 0 (rowsDue s b)) (sub-zero m ∙ marks-due)
         ∙ ap₂ (λ (x : List ℕ) (n : ℕ). drawn s b z cleared x 0 n) (sym (g .rows-due)) (sym (g .row-due))
         ∙ g .drawn-due z cleared
 
     render-table-due : (marks out : List ℕ)
-        → first (renderTable (parts s b) (renderArgs out) renderFresh rowed marks)
+        → first (renderTable (partsOf s b) (renderArgs out) renderFresh rowed marks)
         ≡ first
-        (when (ltb (length marks) (marksDue s b)) 9 (marksDue s b)
-        ∷ when (ltb (length out) (length (drawnDue s b .text))) 10 (length (drawnDue s b .text))
+        (refuseIf (ltb (length marks) (marksDue s b)) 9 (marksDue s b)
+        ∷ refuseIf (ltb (length out) (length (drawnDue s b .text))) 10 (length (drawnDue s b .text))
         ∷ [])
     render-table-due marks out =
         λ t.
         first
         (image-passes h t
-        ∷ whenFound (rows-right t) 11
-        ∷ when (render-passes rowed marks out t) 12 0
-        ∷ when (ltb (length marks) (marks-due t)) 9 (marks-due t)
-        ∷ when (ltb (length out) (length (drawn-due t .text))) 10 (length (drawn-due t .text))
+        ∷ refuseAt (rows-right t) 11
+        ∷ refuseIf (render-passes rowed marks out t) 12 0
+        ∷ refuseIf (ltb (length marks) (marks-due t)) 9 (marks-due t)
+        ∷ refuseIf (ltb (length out) (length (drawn-due t .text))) 10 (length (drawn-due t .text))
         ∷ [])
 
     -- but for marks that are too few and too long a text, nothing refuses
-    early-due : (marks out : List ℕ) → first (take 3 (renderTable (parts s b) (renderArgs out) renderFresh rowed marks)) ≡ none
+    early-due : (marks out : List ℕ) → first (beforeMarks (partsOf s b) (renderArgs out) renderFresh rowed marks) ≡ none
     early-due marks out =
-        λ t. first (image-passes h t ∷ whenFound (rows-right t) 11 ∷ when (render-passes rowed marks out t) 12 0 ∷ [])
+        λ t. first (image-passes h t ∷ refuseAt (rows-right t) 11 ∷ refuseIf (render-passes rowed marks out t) 12 0 ∷ [])
 
     rendered-due : (marks out : List ℕ)
         → renderGives (rulesOf s b) (renderArgs out) renderFresh rowed marks
@@ -230,27 +239,27 @@ module _ (s b : List ℕ) where
 
   -- what it answers and leaves, of what the layout call left
   module _ (store marks out : List ℕ) (h : laidRefusal s b (rowsIn store) ≡ none) where
-    read : refusalOf (readAll s b) ≡ none
-    read = first-none (refusalOf (readAll s b)) (when (ltb (rowsIn store) (rowsDue s b)) 8 (rowsDue s b)) h
+    read : readRefusal (readAll s b) ≡ none
+    read = first-none (readRefusal (readAll s b)) (refuseIf (ltb (rowsIn store) (rowsDue s b)) 8 (rowsDue s b)) h
 
-    left-store : storeLeft s b store ≡ onto (rows (built s b .nodes) 0) store
-    left-store = ap (λ (r : Option Refusal). unless r store (onto (rows (built s b .nodes) 0) store)) h
+    left-store : storeLeft s b store ≡ writeFront (rows (built s b .nodes) 0) store
+    left-store = ap (λ (r : Option Refusal). unless r store (writeFront (rows (built s b .nodes) 0) store)) h
 
     pub render-refusal-due : rulesOf s b .render-refusal (renderArgs out) renderFresh (storeLeft s b store) marks ≡ refusalIn s b (rowsIn store) (length marks) (length out)
     render-refusal-due =
-        ap (λ (x : List ℕ). first (renderTable (parts s b) (renderArgs out) renderFresh x marks)) left-store
+        ap (λ (x : List ℕ). first (renderTable (partsOf s b) (renderArgs out) renderFresh x marks)) left-store
         ∙ render-table-due store read marks out
         ∙ ap (λ (r : Option Refusal).
         first
         (r
-        ∷ when (ltb (length marks) (marksDue s b)) 9 (marksDue s b)
-        ∷ when (ltb (length out) (length (drawnDue s b .text))) 10 (length (drawnDue s b .text))
+        ∷ refuseIf (ltb (length marks) (marksDue s b)) 9 (marksDue s b)
+        ∷ refuseIf (ltb (length out) (length (drawnDue s b .text))) 10 (length (drawnDue s b .text))
         ∷ []))
         (sym h)
 
-    pub render-early-due : first (take 3 (renderTable (parts s b) (renderArgs out) renderFresh (storeLeft s b store) marks)) ≡ none
+    pub render-early-due : first (beforeMarks (partsOf s b) (renderArgs out) renderFresh (storeLeft s b store) marks) ≡ none
     render-early-due =
-        ap (λ (x : List ℕ). first (take 3 (renderTable (parts s b) (renderArgs out) renderFresh x marks))) left-store ∙ early-due store read marks out
+        ap (λ (x : List ℕ). first (beforeMarks (partsOf s b) (renderArgs out) renderFresh x marks)) left-store ∙ early-due store read marks out
 
     gives-due : renderGives (rulesOf s b) (renderArgs out) renderFresh (storeLeft s b store) marks
         ≡ record { state = renderedDue; marks = drawnDue s b .marks; text = drawnDue s b .text }
@@ -260,14 +269,14 @@ module _ (s b : List ℕ) where
     pub render-answer-due : renderAnswer (rulesOf s b) (renderArgs out) renderFresh (storeLeft s b store) marks
         ≡ answerBy (rulesOf s b) (refusalIn s b (rowsIn store) (length marks) (length out)) (written renderedDue (length (drawnDue s b .text)))
     render-answer-due =
-        ap₂ (λ (r : Option Refusal) (l : Rendered RenderState). answerBy (rulesOf s b) r (written (l .state) (length (l .text))))
+        ap₂ (λ (r : Option Refusal) (l : RenderResult RenderState). answerBy (rulesOf s b) r (written (l .state) (length (l .text))))
         render-refusal-due
         gives-due
 
     pub render-marks-due : renderMarks (rulesOf s b) (renderArgs out) renderFresh (storeLeft s b store) marks ≡ marksLeft s b store marks out
     render-marks-due =
-        ap₂ (λ (r : Option Refusal) (l : Rendered RenderState). unless r marks (onto (l .marks) marks)) render-refusal-due gives-due
+        ap₂ (λ (r : Option Refusal) (l : RenderResult RenderState). unless r marks (writeFront (l .marks) marks)) render-refusal-due gives-due
 
     pub render-output-due : renderOutput (rulesOf s b) (renderArgs out) renderFresh (storeLeft s b store) marks out ≡ outputLeft s b store marks out
     render-output-due =
-        ap₂ (λ (r : Option Refusal) (l : Rendered RenderState). unless r out (onto (l .text) out)) render-refusal-due gives-due
+        ap₂ (λ (r : Option Refusal) (l : RenderResult RenderState). unless r out (writeFront (l .text) out)) render-refusal-due gives-due

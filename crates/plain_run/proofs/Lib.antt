@@ -9,3 +9,4 @@ pub mod Limits
 pub mod Demands
 pub mod Edges
 pub mod File
+pub mod Refused

@@ -15,7 +15,7 @@ use Rattle.image.specs.Read.{Read, got, bad, Image, sourceFits, readImage, read
 use Rattle.image.specs.declared.Answer.the-variants.{Accepted}
 use Rattle.image.proofs.Accepted.{accepted}
 use Rattle.tree.specs.Syntax.{SyntaxTree}
-use Rattle.tree.specs.Records.{syntaxTree}
+use Rattle.rows.specs.Places.{PLACES}
 use Rattle.rows.specs.Rows.{sizes, rows}
 use Rattle.rows.proofs.Sizes.{length-rows}
 use Rattle.rows.proofs.Flatten.{Holds}
@@ -24,9 +24,9 @@ use Rattle.comments.specs.Listed.{given}
 use Rattle.layout_facts.specs.Accepted.{Stands, Within}
 use Rattle.layout_facts.proofs.Limits.{stands, whole-within, upTo-within, due-passes}
 use Rattle.renderer_rules.specs.Check.{wrongPlace}
-use Rattle.cut_rule.specs.Rules.{Laid}
-use Rattle.cut_rule.specs.Parts.{LayoutState}
-use Rattle.plain_run.specs.Parts.{refusalOf, treeOf}
+use Rattle.cut_rule.specs.Rules.{LayoutResult}
+use Rattle.cut_rule.specs.States.{LayoutState}
+use Rattle.plain_run.specs.Parts.{readRefusal, acceptedTree}
 use Rattle.plain_run.specs.Demands.{Gives, Limited, AllLimited}
 use Rattle.plain_run.proofs.Whole.{fmt-parsed}
 
@@ -40,32 +40,32 @@ module _ (s b : List ℕ) where
   reads-image h w = rw (le-leb (length s) 65536 h, w)
 
   -- an accepted source and image have the tree at the answered offset
-  pub standing : (n at : ℕ) → answerOf (readAll s b) ≡ Accepted n at → Stands g (treeOf b (readAll s b)) at
+  pub standing : (n at : ℕ) → answerOf (readAll s b) ≡ Accepted n at → Stands g (acceptedTree b (readAll s b)) at
   standing n at h =
       let a = accepted s b n at h in
       let c = a .root in
       let same : readAll s b ≡ got (record { comments = n; tree = c .tree; at = at }) (length b) = reads-image (a .short) (a .well) ∙ c .whole in
-      subst (λ (t : SyntaxTree). Stands g t at) (sym (ap (treeOf b) same)) (stands false s b n at c)
+      subst (λ (t : SyntaxTree). Stands g t at) (sym (ap (acceptedTree b) same)) (stands false s b n at c)
 
-  -- where the tree stands
-  record Stood : Type 0 where
-    at : ℕ
-    stood : Stands g (treeOf b (readAll s b)) at
+  -- where the tree of what was read stands
+  pub record Stood (r : Read Image) : Type 0 where
+    pub at : ℕ
+    pub stood : Stands g (acceptedTree b r) at
 
-  stood : refusalOf (readAll s b) ≡ none → Stood
+  stood : readRefusal (readAll s b) ≡ none → Stood (readAll s b)
   stood h = go (readAll s b) refl h
     where
-      go : (r : Read Image) → readAll s b ≡ r → refusalOf r ≡ none → Stood
+      go : (r : Read Image) → readAll s b ≡ r → readRefusal r ≡ none → Stood (readAll s b)
       go (bad n p) e h = let z : _≡_ {A = ℕ} 0 1 = cc in absurd (omega arith)
       go (got i end) e h = record { at = i .at; stood = standing (i .comments) (i .at) (ap answerOf e) }
 
   -- ---- limits
   held : (l : List ℕ) → Holds l 0 l
-  held l = record { at = λ k h. let e : 0 * 9 + k ≡ k = omega arith in ap (λ (j : ℕ). getD l j 0) e }
+  held l = record { at = λ k h. let e : 0 * PLACES + k ≡ k = omega arith in ap (λ (j : ℕ). getD l j 0) e }
 
-  limited : (a : Stood) (o : Out) (l : Laid LayoutState) → Gives s b o l → Within g o → Limited s b l
-  limited a o l e w =
-      let n : sizes (o .nodes) * 9 ≤ length (rows (o .nodes) 0) = omega (arith, length-rows (o .nodes) 0) in
+  limited : (r : Read Image) (a : Stood r) (o : Out) (l : LayoutResult LayoutState) → Gives s b o l → Within g o → Limited s b l
+  limited r a o l e w =
+      let n : sizes (o .nodes) * PLACES ≤ length (rows (o .nodes) 0) = omega (arith, length-rows (o .nodes) 0) in
       record {
         right =
             subst₂ (λ (x : List ℕ) (k : ℕ). wrongPlace s b x 0 k ≡ none) (sym (e .rows-due)) (zero-add (sizes (o .nodes)) ∙ sym (e .row-due))
@@ -76,15 +76,18 @@ module _ (s b : List ℕ) where
         placed-in = omega (arith, e .placed-due, w .placed);
       }
 
-  pub all-limited : refusalOf (readAll s b) ≡ none → AllLimited s b (treeOf b (readAll s b))
-  all-limited h =
-      let t = treeOf b (readAll s b) in
-      let a = stood h in
-      let f = fmt-parsed s b in
+  -- a tree that stands in its image is laid within the limits, whatever way it was read
+  pub limited-by : (r : Read Image) → Stood r → AllLimited r s b (acceptedTree b r)
+  limited-by r a =
+      let t = acceptedTree b r in
+      let f = fmt-parsed r s b in
       record {
         at-stop =
             λ n i.
-            limited a _ _ (f .at-stop n i)
+            limited r a _ _ (f .at-stop n i)
             (upTo-within (a .stood) (take n (t .declarations)) (drop n (t .declarations)) (take-append-drop n (t .declarations)));
-        closed = limited a _ _ (f .closed) (whole-within (a .stood));
+        closed = limited r a _ _ (f .closed) (whole-within (a .stood));
       }
+
+  pub all-limited : readRefusal (readAll s b) ≡ none → AllLimited (readAll s b) s b (acceptedTree b (readAll s b))
+  all-limited h = limited-by (readAll s b) (stood h)

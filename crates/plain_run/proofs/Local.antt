@@ -11,9 +11,11 @@ use lib.Dec.{ltb, eqb}
 use lib.ListN.{getD}
 use lib.Seq.{getD-take}
 use borrow.Author.Tests.{le-ltb}
+use Rattle.rows.specs.Places.{PLACES}
 use Rattle.rows.specs.Node.{Node, Nodes, group, indent, indentNext, wrapParent, comment, str, ascii, line, emptyLine, lineOrSpace, ifWrap, call, none, _then_}
 use Rattle.rows.specs.View.{View, cell, viewOf, firstOf, nodeOf, endIn, secondIn, decode, nodesAt}
-use Rattle.rows.specs.Nesting.{Within, TwoParts, Split, Nests, over, leaf, block, two, pair}
+use Rattle.rows.proofs.Decode.{step, decode-none}
+use Rattle.rows.specs.Nesting.{RangeIn, TwoParts, Split, Nests, over, leaf, block, two, pair}
 use Rattle.renderer_rules.specs.Check.{placesFit}
 use Rattle.cut_rule.specs.Laws.{SameBefore}
 
@@ -52,19 +54,11 @@ node-same v u i ns e a x =
     (x .kind t)
     wrapParent
 
--- the nodes from row i on, from those of its parts and of the rows after it
-abbrev step : View → ℕ → ℕ → Nodes → Nodes → Nodes → Nodes → Nodes
-step v i j ns e a r = cond (ltb i j) (nodeOf v i ns e a then r) none
-
 step-same : (v u : View) (i j : ℕ) {a b c d a′ b′ c′ d′ : Nodes} → Same v u i → a ≡ a′ → b ≡ b′ → c ≡ c′ → d ≡ d′
     → step v i j a b c d ≡ step u i j a′ b′ c′ d′
+unfolding step
 step-same v u i j {a′ = a′} {b′ = b′} {c′ = c′} {d′ = d′} x p q r s =
     (λ t. step v i j (p t) (q t) (r t) (s t)) ∙ ap (λ (n : Node). cond (ltb i j) (n then d′) none) (node-same v u i a′ b′ c′ x)
-
-decode-none : (f : ℕ) (v : View) (i j : ℕ) → j ≤ i → decode f v i j ≡ none
-unfolding decode
-decode-none zero v i j h = refl
-decode-none (suc f) v i j h = rw (le-ltb i j h)
 
 -- the parts of row i lie behind it and not past j
 pub in-end : (v : View) (i j k : ℕ) → i < j → k < endIn v i j → k < j
@@ -81,7 +75,7 @@ from-second v i e k q = omega arith
 
 decode-step : (f : ℕ) (v u : View) (i j : ℕ) → ((k l : ℕ) → Agree v u k l → decode f v k l ≡ decode f u k l) → Agree v u i j → i < j
     → decode (suc f) v i j ≡ decode (suc f) u i j
-unfolding decode
+unfolding decode step
 decode-step f v u i j rec s h =
     let x = s i (omega arith) h in
     let e : endIn v i j ≡ endIn u i j = ap (λ (a : ℕ). max (suc i) (min a j)) (x .after) in
@@ -106,7 +100,7 @@ unfolding nodesAt
 nodes-local v u i j s = decode-local (j - i) v u i j s
 
 -- ---- that they nest
-same-within : {v u : View} {i j : ℕ} → Same v u i → Within v i j → Within u i j
+same-within : {v u : View} {i j : ℕ} → Same v u i → RangeIn v i j → RangeIn u i j
 same-within x w = record { up = omega (arith, x .after, w .up); to = omega (arith, x .after, w .to) }
 
 same-split : {v u : View} {i : ℕ} → Same v u i → Split v i → Split u i
@@ -167,9 +161,9 @@ places-by-cells s b store other k l at =
 module _ (n : ℕ) (store other : List ℕ) (e : SameBefore n store other) where
   pub cell-same : (k c : ℕ) → k < n → c < 9 → cell store k c ≡ cell other k c
   cell-same k c h l =
-      sym (getD-take (9 * n) store (k * 9 + c) 0 (omega arith))
-      ∙ ap (λ (x : List ℕ). getD x (k * 9 + c) 0) e
-      ∙ getD-take (9 * n) other (k * 9 + c) 0 (omega arith)
+      sym (getD-take (PLACES * n) store (k * PLACES + c) 0 (omega arith))
+      ∙ ap (λ (x : List ℕ). getD x (k * PLACES + c) 0) e
+      ∙ getD-take (PLACES * n) other (k * PLACES + c) 0 (omega arith)
 
   pub rows-same : (i : ℕ) → Agree (viewOf store) (viewOf other) i n
   unfolding viewOf

@@ -8,10 +8,10 @@ use Prim.Native.Nat.{ℕ, _+_, _-_, _*_, _<_}
 use lib.Dec.{ltb, eqb}
 use lib.ListN.{length, replicate, length-set, List·getD-append}
 use lib.Seq.{set-append-left}
-use Rattle.rows.specs.Node.{Text, Node, Nodes, group, indent, indentNext, wrapParent, comment, str, ascii, line, emptyLine, lineOrSpace, ifWrap, call}
+use Rattle.rows.specs.Node.{Text, Node, Nodes, group, indent, indentNext, wrapParent, comment as commentNode, str, ascii, line, emptyLine, lineOrSpace, ifWrap, call}
 use Rattle.rows.specs.Node.{none, _then_, wrapped, width, widths, mustWraps}
-use Rattle.renderer_rules.specs.Renderer.{Page, Renderer, push, atColumn, newLine, margin, remark, text, virtualColumn, insert, indented, outdented}
-use Rattle.renderer_rules.specs.Renderer.{nextIndented, nextOutdented, wraps, groupWraps, trailing, calleeWraps, render, renders}
+use Rattle.renderer_rules.specs.Renderer.{Page, Renderer, withBuf, withMarks, onPen, pushStr, atColumn, newLine, margin, comment, text, virtualColumn, insert, indented, outdented}
+use Rattle.renderer_rules.specs.Renderer.{nextIndented, nextOutdented, wraps, groupWraps, trailingCall, calleeWraps, renderNode, renderNodes}
 
 -- the numbers of a node and of nodes are under b
 abbrev mutual
@@ -20,7 +20,7 @@ abbrev mutual
   Under b (indent ns) = Unders b ns
   Under b (indentNext ns) = Unders b ns
   Under b wrapParent = Unit {0}
-  Under b (comment t) = Unit {0}
+  Under b (commentNode t) = Unit {0}
   Under b (str w t) = Unit {0}
   Under b (ascii t) = Unit {0}
   Under b line = Unit {0}
@@ -47,32 +47,27 @@ insert-length true n r = length-set (r .marks) n 1
 insert-length false n r = refl
 
 margin-length : (r : Renderer) → marksIn (margin r) ≡ marksIn r
-unfolding margin atColumn push
+unfolding margin atColumn pushStr
 margin-length r = refl
 
-remark-length : (t : List ℕ) (r : Renderer) → marksIn (remark t r) ≡ marksIn r
-unfolding remark atColumn push
-remark-length t r = cond-length (ltb 0 (r .column)) _ (margin r) (marksIn r) refl (margin-length r)
+comment-length : (t : List ℕ) (r : Renderer) → marksIn (comment t r) ≡ marksIn r
+unfolding comment atColumn pushStr
+comment-length t r = cond-length (ltb 0 (r .pen .column .0)) _ (margin r) (marksIn r) refl (margin-length r)
 
 text-length : (t : List ℕ) (w : ℕ) (r : Renderer) → marksIn (text t w r) ≡ marksIn r
-unfolding text atColumn push
-text-length t w r = cond-length (ltb 0 (r .column)) r (margin r) (marksIn r) refl (margin-length r)
-
-nextOutdented-length : (w : Bool) (r : Renderer) → marksIn (nextOutdented w r) ≡ marksIn r
-unfolding nextOutdented outdented
-nextOutdented-length w r =
-    cond-length w _ r (marksIn r) (cond-length (ltb 0 (r .nextIndent)) _ _ (marksIn r) refl refl) refl
+unfolding text atColumn pushStr
+text-length t w r = cond-length (ltb 0 (r .pen .column .0)) r (margin r) (marksIn r) refl (margin-length r)
 
 module _ (p : Page) where
   mutual
-    unfolding render renders newLine push indented outdented nextIndented
+    unfolding renderNode renderNodes newLine pushStr indented outdented nextIndented
 
-    render-length : (n : Node) (w : Bool) (r : Renderer) → marksIn (render p n w r) ≡ marksIn r
+    render-length : (n : Node) (w : Bool) (r : Renderer) → marksIn (renderNode p n w r) ≡ marksIn r
     render-length (group n ns) w r = renders-length ns _ _ ∙ insert-length _ n r
-    render-length (indent ns) w r = renders-length ns w (indented w r)
-    render-length (indentNext ns) w r = nextOutdented-length w _ ∙ renders-length ns w (nextIndented w r)
+    render-length (indent ns) w r = renders-length ns w (onPen (indented w) r)
+    render-length (indentNext ns) w r = renders-length ns w (onPen (nextIndented w) r)
     render-length wrapParent w r = refl
-    render-length (comment t) w r = remark-length (p .bytes t) r
+    render-length (commentNode t) w r = comment-length (p .bytes t) r
     render-length (str k t) w r = text-length (p .bytes t) k r
     render-length (ascii t) w r = text-length (p .bytes t) (p .columns t) r
     render-length line w r = cond-length w (newLine r) r (marksIn r) refl refl
@@ -81,11 +76,11 @@ module _ (p : Page) where
     render-length (ifWrap n x y) w r =
         cond-length (wrapped (r .marks) n) _ _ (marksIn r) (render-length x w r) (render-length y w r)
     render-length (call n e k a) w r =
-        nextOutdented-length _ _ ∙ renders-length a _ _ ∙ insert-length _ k _ ∙ renders-length e _ _ ∙ insert-length _ n r
+        renders-length a _ _ ∙ insert-length _ k _ ∙ renders-length e _ _ ∙ insert-length _ n r
 
-    pub renders-length : (ns : Nodes) (w : Bool) (r : Renderer) → marksIn (renders p ns w r) ≡ marksIn r
+    pub renders-length : (ns : Nodes) (w : Bool) (r : Renderer) → marksIn (renderNodes p ns w r) ≡ marksIn r
     renders-length none w r = refl
-    renders-length (n then ns) w r = renders-length ns w (render p n w r) ∙ render-length n w r
+    renders-length (n then ns) w r = renders-length ns w (renderNode p n w r) ∙ render-length n w r
 
 -- ---- marks past the numbers are not read
 wrapped-past : (m past : List ℕ) (n : ℕ) → n < length m → wrapped (m ++ past) n ≡ wrapped m n
@@ -100,7 +95,7 @@ module _ (columns : Text → ℕ) (m past : List ℕ) where
     width-past (indent ns) u = widths-past ns u
     width-past (indentNext ns) u = widths-past ns u
     width-past wrapParent u = refl
-    width-past (comment t) u = refl
+    width-past (commentNode t) u = refl
     width-past (str w t) u = refl
     width-past (ascii t) u = refl
     width-past line u = refl
@@ -118,56 +113,42 @@ module _ (columns : Text → ℕ) (m past : List ℕ) where
 -- ---- the same with text ahead and marks behind
 module _ (ahead past : List ℕ) where
   abbrev pub ext : Renderer → Renderer
-  ext r = record { buf = ahead ++ r .buf; indent = r .indent; nextIndent = r .nextIndent; column = r .column; marks = r .marks ++ past }
-
-  abbrev withText : Renderer → List ℕ → Renderer
-  withText r t = record { buf = t; indent = r .indent; nextIndent = r .nextIndent; column = r .column; marks = r .marks }
-
-  abbrev withMarks : Renderer → List ℕ → Renderer
-  withMarks r m = record { buf = r .buf; indent = r .indent; nextIndent = r .nextIndent; column = r .column; marks = m }
+  ext r = withBuf (ahead ++ r .buf) (withMarks (r .marks ++ past) r)
 
   cond-ext : (c : Bool) (x y : Renderer) → cond c (ext x) (ext y) ≡ ext (cond c x y)
   cond-ext true x y = refl
   cond-ext false x y = refl
 
-  push-ext : (t : List ℕ) (r : Renderer) → push t (ext r) ≡ ext (push t r)
-  unfolding push
-  push-ext t r = ap (withText (ext r)) (append-assoc ahead (r .buf) t)
+  push-ext : (t : List ℕ) (r : Renderer) → pushStr t (ext r) ≡ ext (pushStr t r)
+  unfolding pushStr
+  push-ext t r = ap (λ (x : List ℕ). withBuf x (ext r)) (append-assoc ahead (r .buf) t)
 
   newLine-ext : (r : Renderer) → newLine (ext r) ≡ ext (newLine r)
   unfolding newLine
-  newLine-ext r = ap (withText (ext (newLine r))) (append-assoc ahead (r .buf) (cond (ltb 0 (r .column)) (0x0A ∷ []) []))
+  newLine-ext r = ap (λ (x : List ℕ). withBuf x (ext (newLine r))) (append-assoc ahead (r .buf) (cond (ltb 0 (r .pen .column .0)) (0x0A ∷ []) []))
 
   margin-ext : (r : Renderer) → margin (ext r) ≡ ext (margin r)
   unfolding margin atColumn
-  margin-ext r = ap (atColumn (4 * r .indent)) (push-ext (replicate (4 * r .indent) 0x20) r)
+  margin-ext r = ap (atColumn (4 * r .pen .indent)) (push-ext (replicate (4 * r .pen .indent) 0x20) r)
 
   text-ext : (t : List ℕ) (w : ℕ) (r : Renderer) → text t w (ext r) ≡ ext (text t w r)
   unfolding text atColumn
   text-ext t w r =
-      ap (λ (x : Renderer). atColumn (x .column + w) (push t x))
-      (ap (cond (ltb 0 (r .column)) (ext r)) (margin-ext r) ∙ cond-ext (ltb 0 (r .column)) r (margin r))
-      ∙ ap (atColumn (cond (ltb 0 (r .column)) r (margin r) .column + w)) (push-ext t (cond (ltb 0 (r .column)) r (margin r)))
+      ap (λ (x : Renderer). atColumn (x .pen .column .0 + w) (pushStr t x))
+      (ap (cond (ltb 0 (r .pen .column .0)) (ext r)) (margin-ext r) ∙ cond-ext (ltb 0 (r .pen .column .0)) r (margin r))
+      ∙ ap (atColumn (cond (ltb 0 (r .pen .column .0)) r (margin r) .pen .column .0 + w)) (push-ext t (cond (ltb 0 (r .pen .column .0)) r (margin r)))
 
-  remark-ext : (t : List ℕ) (r : Renderer) → remark t (ext r) ≡ ext (remark t r)
-  unfolding remark atColumn
-  remark-ext t r =
-      ap (λ (x : Renderer). atColumn 0 (push (t ++ (0x0A ∷ [])) x))
-      (ap₂ (cond (ltb 0 (r .column))) (push-ext (0x20 ∷ []) r) (margin-ext r)
-      ∙ cond-ext (ltb 0 (r .column)) (push (0x20 ∷ []) r) (margin r))
-      ∙ ap (atColumn 0) (push-ext (t ++ (0x0A ∷ [])) (cond (ltb 0 (r .column)) (push (0x20 ∷ []) r) (margin r)))
-
-  nextOutdented-ext : (w : Bool) (r : Renderer) → nextOutdented w (ext r) ≡ ext (nextOutdented w r)
-  unfolding nextOutdented outdented
-  nextOutdented-ext true r =
-      cond-ext (ltb 0 (r .nextIndent))
-      (record { buf = r .buf; indent = r .indent; nextIndent = r .nextIndent - 1; column = r .column; marks = r .marks })
-      (outdented true r)
-  nextOutdented-ext false r = refl
+  comment-ext : (t : List ℕ) (r : Renderer) → comment t (ext r) ≡ ext (comment t r)
+  unfolding comment atColumn
+  comment-ext t r =
+      ap (λ (x : Renderer). atColumn 0 (pushStr (t ++ (0x0A ∷ [])) x))
+      (ap₂ (cond (ltb 0 (r .pen .column .0))) (push-ext (0x20 ∷ []) r) (margin-ext r)
+      ∙ cond-ext (ltb 0 (r .pen .column .0)) (pushStr (0x20 ∷ []) r) (margin r))
+      ∙ ap (atColumn 0) (push-ext (t ++ (0x0A ∷ [])) (cond (ltb 0 (r .pen .column .0)) (pushStr (0x20 ∷ []) r) (margin r)))
 
   insert-ext : (w : Bool) (n : ℕ) (r : Renderer) → n < length (r .marks) → insert w n (ext r) ≡ ext (insert w n r)
   unfolding insert
-  insert-ext true n r h = ap (withMarks (ext r)) (set-append-left (r .marks) past n 1 h)
+  insert-ext true n r h = ap (λ (m : List ℕ). withMarks m (ext r)) (set-append-left (r .marks) past n 1 h)
   insert-ext false n r h = refl
 
   module _ (p : Page) where
@@ -179,14 +160,14 @@ module _ (ahead past : List ℕ) where
     groupWraps-ext ns r u = ap (λ (x : ℕ). wraps p (mustWraps ns) x r) (wide-ext ns r u)
 
     trailing-ext : (e a : Nodes) (r : Renderer) → Unders (length (r .marks)) e → Unders (length (r .marks)) a
-        → trailing p e a (ext r) ≡ trailing p e a r
-    unfolding trailing virtualColumn
+        → trailingCall p e a (ext r) ≡ trailingCall p e a r
+    unfolding trailingCall virtualColumn
     trailing-ext e a r u v =
         ap₂
         (λ (x y : ℕ).
         not (mustWraps e || mustWraps a)
-        && ltb (p .max) (virtualColumn r + x + y)
-        && ltb (virtualColumn r + x + 1) (p .max))
+        && ltb (p .max) (virtualColumn (r .pen) + x + y)
+        && ltb (virtualColumn (r .pen) + x + 1) (p .max))
         (wide-ext e r u)
         (wide-ext a r v)
 
@@ -197,36 +178,36 @@ module _ (ahead past : List ℕ) where
         ap₂ (λ (x y : ℕ). cond t (wraps p (mustWraps e) x r) (wraps p false (x + y) r)) (wide-ext e r u) (wide-ext a r v)
 
     abbrev Ih : Nodes → Type 0
-    Ih ns = (w : Bool) (r : Renderer) → Unders (length (r .marks)) ns → renders p ns w (ext r) ≡ ext (renders p ns w r)
+    Ih ns = (w : Bool) (r : Renderer) → Unders (length (r .marks)) ns → renderNodes p ns w (ext r) ≡ ext (renderNodes p ns w r)
 
     group-ext : (n : ℕ) (ns : Nodes) (r : Renderer) → Ih ns → n < length (r .marks) → Unders (length (r .marks)) ns
-        → renders p ns (groupWraps p ns (ext r)) (insert (groupWraps p ns (ext r)) n (ext r))
-        ≡ ext (renders p ns (groupWraps p ns r) (insert (groupWraps p ns r) n r))
+        → renderNodes p ns (groupWraps p ns (ext r)) (insert (groupWraps p ns (ext r)) n (ext r))
+        ≡ ext (renderNodes p ns (groupWraps p ns r) (insert (groupWraps p ns r) n r))
     group-ext n ns r ih h u =
         let w = groupWraps p ns r in
-        ap (λ (c : Bool). renders p ns c (insert c n (ext r))) (groupWraps-ext ns r u)
-        ∙ ap (renders p ns w) (insert-ext w n r h)
+        ap (λ (c : Bool). renderNodes p ns c (insert c n (ext r))) (groupWraps-ext ns r u)
+        ∙ ap (renderNodes p ns w) (insert-ext w n r h)
         ∙ ih w (insert w n r) (subst (λ (b : ℕ). Unders b ns) (sym (insert-length w n r)) u)
 
     -- a `Call`'s callee, and the whole of it, by what was decided of it
     callee : Bool → Bool → ℕ → Nodes → Renderer → Renderer
-    callee t w n e r = renders p e w (nextIndented (not t && w) (insert w n r))
+    callee t w n e r = renderNodes p e w (onPen (nextIndented (not t && w)) (insert w n r))
 
     wholeCall : Bool → Bool → ℕ → Nodes → ℕ → Nodes → Renderer → Renderer
     wholeCall t w n e k a r =
-        nextOutdented (not t && w)
-        (renders p a (groupWraps p a (callee t w n e r)) (insert (groupWraps p a (callee t w n e r)) k (callee t w n e r)))
+        onPen (nextOutdented (not t && w))
+        (renderNodes p a (groupWraps p a (callee t w n e r)) (insert (groupWraps p a (callee t w n e r)) k (callee t w n e r)))
 
     callee-length : (t w : Bool) (n : ℕ) (e : Nodes) (r : Renderer) → length (r .marks) ≡ length (callee t w n e r .marks)
     unfolding callee nextIndented
-    callee-length t w n e r = sym (renders-length p e w (nextIndented (not t && w) (insert w n r)) ∙ insert-length w n r)
+    callee-length t w n e r = sym (renders-length p e w (onPen (nextIndented (not t && w)) (insert w n r)) ∙ insert-length w n r)
 
     callee-ext : (t w : Bool) (n : ℕ) (e : Nodes) (r : Renderer) → Ih e → n < length (r .marks) → Unders (length (r .marks)) e
         → callee t w n e (ext r) ≡ ext (callee t w n e r)
     unfolding callee nextIndented
     callee-ext t w n e r ih h u =
-        ap (λ (x : Renderer). renders p e w (nextIndented (not t && w) x)) (insert-ext w n r h)
-        ∙ ih w (nextIndented (not t && w) (insert w n r)) (subst (λ (b : ℕ). Unders b e) (sym (insert-length w n r)) u)
+        ap (λ (x : Renderer). renderNodes p e w (onPen (nextIndented (not t && w)) x)) (insert-ext w n r h)
+        ∙ ih w (onPen (nextIndented (not t && w)) (insert w n r)) (subst (λ (b : ℕ). Unders b e) (sym (insert-length w n r)) u)
 
     call-ext : (t w : Bool) (n : ℕ) (e : Nodes) (k : ℕ) (a : Nodes) (r : Renderer) → Ih e → Ih a → Under (length (r .marks)) (call n e k a)
         → wholeCall t w n e k a (ext r) ≡ ext (wholeCall t w n e k a r)
@@ -235,41 +216,39 @@ module _ (ahead past : List ℕ) where
         let x = callee t w n e r in
         let l = callee-length t w n e r in
         ap
-        (λ (y : Renderer). nextOutdented (not t && w) (renders p a (groupWraps p a y) (insert (groupWraps p a y) k y)))
+        (λ (y : Renderer). onPen (nextOutdented (not t && w)) (renderNodes p a (groupWraps p a y) (insert (groupWraps p a y) k y)))
         (callee-ext t w n e r ihe (u .0) (u .2))
-        ∙ ap (nextOutdented (not t && w))
+        ∙ ap (onPen (nextOutdented (not t && w)))
         (group-ext k a x iha (subst (λ (z : ℕ). k < z) l (u .1)) (subst (λ (b : ℕ). Unders b a) l (u .3)))
-        ∙ nextOutdented-ext (not t && w) (renders p a (groupWraps p a x) (insert (groupWraps p a x) k x))
 
     mutual
-      unfolding render renders callee wholeCall indented outdented nextIndented
+      unfolding renderNode renderNodes callee wholeCall indented outdented nextIndented
 
-      render-ext : (n : Node) (w : Bool) (r : Renderer) → Under (length (r .marks)) n → render p n w (ext r) ≡ ext (render p n w r)
+      render-ext : (n : Node) (w : Bool) (r : Renderer) → Under (length (r .marks)) n → renderNode p n w (ext r) ≡ ext (renderNode p n w r)
       render-ext (group n ns) w r u = group-ext n ns r (λ w′ r′ u′. renders-ext ns w′ r′ u′) (u .0) (u .1)
-      render-ext (indent ns) w r u = ap (outdented w) (renders-ext ns w (indented w r) u)
-      render-ext (indentNext ns) w r u =
-          ap (nextOutdented w) (renders-ext ns w (nextIndented w r) u) ∙ nextOutdented-ext w (renders p ns w (nextIndented w r))
+      render-ext (indent ns) w r u = ap (onPen (outdented w)) (renders-ext ns w (onPen (indented w) r) u)
+      render-ext (indentNext ns) w r u = ap (onPen (nextOutdented w)) (renders-ext ns w (onPen (nextIndented w) r) u)
       render-ext wrapParent w r u = refl
-      render-ext (comment t) w r u = remark-ext (p .bytes t) r
+      render-ext (commentNode t) w r u = comment-ext (p .bytes t) r
       render-ext (str k t) w r u = text-ext (p .bytes t) k r
       render-ext (ascii t) w r u = text-ext (p .bytes t) (p .columns t) r
       render-ext line w r u = ap (λ (x : Renderer). cond w x (ext r)) (newLine-ext r) ∙ cond-ext w (newLine r) r
-      render-ext emptyLine w r u = ap newLine (push-ext (0x0A ∷ []) r) ∙ newLine-ext (push (0x0A ∷ []) r)
+      render-ext emptyLine w r u = ap newLine (push-ext (0x0A ∷ []) r) ∙ newLine-ext (pushStr (0x0A ∷ []) r)
       render-ext lineOrSpace w r u =
           ap₂ (cond w) (newLine-ext r) (text-ext (0x20 ∷ []) 1 r) ∙ cond-ext w (newLine r) (text (0x20 ∷ []) 1 r)
       render-ext (ifWrap n x y) w r u =
-          ap (λ (c : Bool). cond c (render p x w (ext r)) (render p y w (ext r))) (wrapped-past (r .marks) past n (u .0))
+          ap (λ (c : Bool). cond c (renderNode p x w (ext r)) (renderNode p y w (ext r))) (wrapped-past (r .marks) past n (u .0))
           ∙ ap₂ (cond (wrapped (r .marks) n)) (render-ext x w r (u .1)) (render-ext y w r (u .2))
-          ∙ cond-ext (wrapped (r .marks) n) (render p x w r) (render p y w r)
+          ∙ cond-ext (wrapped (r .marks) n) (renderNode p x w r) (renderNode p y w r)
       render-ext (call n e k a) w r u =
           ap (λ (t : Bool). wholeCall t (calleeWraps p t e a (ext r)) n e k a (ext r)) (trailing-ext e a r (u .2) (u .3))
-          ∙ ap (λ (c : Bool). wholeCall (trailing p e a r) c n e k a (ext r)) (calleeWraps-ext (trailing p e a r) e a r (u .2) (u .3))
-          ∙ call-ext (trailing p e a r) (calleeWraps p (trailing p e a r) e a r) n e k a r (λ w′ r′ u′. renders-ext e w′ r′ u′)
+          ∙ ap (λ (c : Bool). wholeCall (trailingCall p e a r) c n e k a (ext r)) (calleeWraps-ext (trailingCall p e a r) e a r (u .2) (u .3))
+          ∙ call-ext (trailingCall p e a r) (calleeWraps p (trailingCall p e a r) e a r) n e k a r (λ w′ r′ u′. renders-ext e w′ r′ u′)
           (λ w′ r′ u′. renders-ext a w′ r′ u′)
           u
 
-      pub renders-ext : (ns : Nodes) (w : Bool) (r : Renderer) → Unders (length (r .marks)) ns → renders p ns w (ext r) ≡ ext (renders p ns w r)
+      pub renders-ext : (ns : Nodes) (w : Bool) (r : Renderer) → Unders (length (r .marks)) ns → renderNodes p ns w (ext r) ≡ ext (renderNodes p ns w r)
       renders-ext none w r u = refl
       renders-ext (n then ns) w r u =
-          ap (renders p ns w) (render-ext n w r (u .0))
-          ∙ renders-ext ns w (render p n w r) (subst (λ (b : ℕ). Unders b ns) (sym (render-length p n w r)) (u .1))
+          ap (renderNodes p ns w) (render-ext n w r (u .0))
+          ∙ renders-ext ns w (renderNode p n w r) (subst (λ (b : ℕ). Unders b ns) (sym (render-length p n w r)) (u .1))

@@ -8,16 +8,18 @@ use mathlib.Core.List.{List, [], _++_, append-nil}
 use Prim.Native.Nat.{ℕ, _+_, _-_, _≤_, max}
 use native.Mathlib.Omega.{arith}
 use lib.ListN.{length}
+use Rattle.image.specs.Read.{Read, Image}
 use Rattle.rows.specs.Node.{Nodes}
 use Rattle.rows.specs.View.{viewOf, nodesAt}
 use Rattle.marks.specs.Marks.{marksNeeded}
-use Rattle.renderer_rules.specs.Renderer.{Page, Renderer, renders}
+use Rattle.renderer_rules.specs.Renderer.{Page, Renderer, withBuf, withMarks, renderNodes}
 use Rattle.renderer_rules.specs.Check.{wrongPlace}
 use Rattle.renderer_rules.proofs.Joined.{renders-ranges}
 use Rattle.cut_rule.specs.Laws.{SameBefore}
-use Rattle.cut_rule.specs.Parts.{Pen, Drawn}
+use Rattle.cut_rule.specs.States.{Pen}
+use Rattle.cut_rule.specs.Parts.{Drawn}
 use Rattle.cut_rule.specs.PartLaws.{withPast, thenDrawn, RenderPartLaws}
-use Rattle.plain_run.specs.Parts.{rendererOf, drawnBy, page, drawn, parts}
+use Rattle.plain_run.specs.Parts.{rendererOf, drawnBy, page, drawn, partsBy}
 use Rattle.plain_run.proofs.Local.{nodes-local, cell-same, rows-same}
 use Rattle.plain_run.proofs.Past.{Unders, ext, renders-length, renders-ext}
 use Rattle.plain_run.proofs.Marks.{marks-local, marks-add, nodes-under}
@@ -44,31 +46,31 @@ under-marks store marks i n h = nodes-under store (n - 0) 0 i n (length marks) h
 
 -- ---- going on
 -- what a renderer leaves with its text ahead
-abbrev onto : Renderer → Drawn → Drawn
-onto r d = record { pen = d .pen; marks = d .marks; text = r .buf ++ d .text }
+abbrev withAhead : Renderer → Drawn → Drawn
+withAhead r d = record { pen = d .pen; marks = d .marks; text = r .buf ++ d .text }
 
 abbrev penOf : Renderer → Pen
 penOf r = drawnBy r .pen
 
 abbrev remade : Renderer → List ℕ → List ℕ → Renderer
-remade r t m = record { buf = t; indent = r .indent; nextIndent = r .nextIndent; column = r .column; marks = m }
+remade r t m = withBuf t (withMarks m r)
 
 -- to go on with a text is to go on without it, and to put it ahead
 resumed : (p : Page) (ns : Nodes) (r : Renderer) → Unders (length (r .marks)) ns
-    → drawnBy (renders p ns true r) ≡ onto r (drawnBy (renders p ns true (rendererOf (penOf r) (r .marks))))
+    → drawnBy (renderNodes p ns true r) ≡ withAhead r (drawnBy (renderNodes p ns true (rendererOf (penOf r) (r .marks))))
 resumed p ns r u =
     let t = rendererOf (penOf r) (r .marks) in
     let e : _≡_ {A = Renderer} (ext (r .buf) [] t) r = ap₂ (remade r) (append-nil (r .buf)) (append-nil (r .marks)) in
-    ap (λ (x : Renderer). drawnBy (renders p ns true x)) (sym e)
+    ap (λ (x : Renderer). drawnBy (renderNodes p ns true x)) (sym e)
     ∙ ap drawnBy (renders-ext (r .buf) [] p ns true t u)
-    ∙ ap (λ (m : List ℕ). onto r (record { pen = penOf (renders p ns true t); marks = m; text = renders p ns true t .buf }))
-    (append-nil (renders p ns true t .marks))
+    ∙ ap (λ (m : List ℕ). withAhead r (record { pen = penOf (renderNodes p ns true t); marks = m; text = renderNodes p ns true t .buf }))
+    (append-nil (renderNodes p ns true t .marks))
 
 module _ (s b : List ℕ) where
   draw-local : (z : Pen) (marks store other : List ℕ) (i n : ℕ) → SameBefore n store other
       → drawn s b z marks store i n ≡ drawn s b z marks other i n
   draw-local z marks store other i n e =
-      ap (λ (ns : Nodes). drawnBy (renders (page s b) ns true (rendererOf z marks)))
+      ap (λ (ns : Nodes). drawnBy (renderNodes (page s b) ns true (rendererOf z marks)))
       (nodes-local (viewOf store) (viewOf other) i n (rows-same n store other e i))
 
   draw-past : (z : Pen) (marks past store : List ℕ) (n : ℕ) → needed store 0 n ≤ length marks
@@ -80,13 +82,13 @@ module _ (s b : List ℕ) where
       → drawn s b z marks store 0 m ≡ thenDrawn (drawn s b z marks store 0 n) (λ y ms. drawn s b y ms store n m)
   draw-join z marks store n m h e g =
       let v = viewOf store in
-      let one = renders (page s b) (nodesAt v 0 n) true (rendererOf z marks) in
+      let one = renderNodes (page s b) (nodesAt v 0 n) true (rendererOf z marks) in
       ap drawnBy (renders-ranges (page s b) m true (rendererOf z marks) (right s b store 0 n (omega arith) e .nests) h)
       ∙ resumed (page s b) (nodesAt v n m) one
       (subst (λ (k : ℕ). Unders k (nodesAt v n m)) (sym (renders-length (page s b) (nodesAt v 0 n) true (rendererOf z marks))) (under-marks store marks n m g))
 
-  pub render-parts : RenderPartLaws (parts s b)
-  render-parts = record {
+  pub render-parts : (r : Read Image) → RenderPartLaws (partsBy r s b)
+  render-parts r = record {
     none-wrong = λ store. none-found s b store 0 0 (right-none s b store);
     right-join =
         λ store n m h e f.

@@ -11,35 +11,37 @@ use native.Mathlib.Decide.{decLt}
 use lib.Dec.{ltb, leb}
 use lib.ListN.{length, length-take}
 use borrow.Author.Tests.{ltb-false, leb-true, le-leb}
+use Rattle.rows.specs.Limits.{MAX-ROWS}
+use Rattle.rows.specs.Places.{PLACES}
 use Rattle.laws.proofs.Options.{never}
 use Rattle.rows.specs.View.{View, viewOf}
-use Rattle.rows.specs.Nesting.{Within, Nests, over}
+use Rattle.rows.specs.Nesting.{RangeIn, Nests, over}
 use Rattle.rows.proofs.Nested.{nests-join}
-use Rattle.renderer_rules.specs.Check.{rowFits, orElse, firstWrong, wrongRow, placesFit, wrongPlace}
+use Rattle.renderer_rules.specs.Check.{rowFits, orLater, firstWrong, wrongRow, placesFit, wrongPlace}
 use Rattle.laws.proofs.Booleans.{both}
 use Rattle.renderer_rules.proofs.Checked.{fits-row, accepted-nests, nested-accepted}
 use Rattle.cut_rule.specs.Laws.{SameBefore}
 use Rattle.plain_run.proofs.Local.{nests-local, rows-same, places-same}
 
-neither : (a b : Option ℕ) → orElse a b ≡ none → (a ≡ none) × (b ≡ none)
+neither : (a b : Option ℕ) → orLater a b ≡ none → (a ≡ none) × (b ≡ none)
 neither none b e = (refl, e)
 neither (some i) b e = absurd (never i e)
 
 -- ---- the places of rows with nothing wrong are right
 module _ (places : ℕ → Bool) (v : View) where
   fit-row : (end d i k : ℕ) (a c : Bool) (r t : Option ℕ) → ltb i end ≡ a → rowFits places v end d i ≡ c
-      → cond a (cond c (orElse r t) (some i)) none ≡ none
+      → cond a (cond c (orLater r t) (some i)) none ≡ none
       → i ≤ k
       → k < end
-      → (Within v i end → r ≡ none → suc i ≤ k → k < v .after i → places k ≡ true)
-      → (Within v i end → t ≡ none → v .after i ≤ k → places k ≡ true)
+      → (RangeIn v i end → r ≡ none → suc i ≤ k → k < v .after i → places k ≡ true)
+      → (RangeIn v i end → t ≡ none → v .after i ≤ k → places k ≡ true)
       → places k ≡ true
   fit-row end d i k true true r t p q e l h f g =
       let x = neither r t e in
       let y = fits-row places v end d i q in
       go (y .within) (y .fit) (x .0) (x .1) (decLt i k) (decLt k (v .after i))
     where
-      go : Within v i end → places i ≡ true → r ≡ none → t ≡ none → Dec (i < k) → Dec (k < v .after i) → places k ≡ true
+      go : RangeIn v i end → places i ≡ true → r ≡ none → t ≡ none → Dec (i < k) → Dec (k < v .after i) → places k ≡ true
       go w y a c (no m) n = let z : i ≡ k = omega arith in subst (λ (j : ℕ). places j ≡ true) z y
       go w y a c (yes m) (yes n) = f w a m n
       go w y a c (yes m) (no n) = g w c (omega arith)
@@ -69,24 +71,24 @@ module _ (places : ℕ → Bool) (v : View) where
 
 -- ---- 11 as a statement
 pub record Right (s b store : List ℕ) (i n : ℕ) : Type 0 where
-  pub few : n ≤ 2097152
-  pub room : n * 9 ≤ length store
+  pub few : n ≤ MAX-ROWS
+  pub room : n * PLACES ≤ length store
   pub nests : Nests (viewOf store) i n 0
   pub places : (k : ℕ) → i ≤ k → k < n → placesFit s b store k ≡ true
 
 module _ (s b : List ℕ) where
   pub right : (store : List ℕ) (i n : ℕ) → i ≤ n → wrongPlace s b store i n ≡ none → Right s b store i n
   unfolding wrongPlace
-  right store i n h e = go (leb n 2097152 && leb (n * 9) (length store)) refl e
+  right store i n h e = go (leb n MAX-ROWS && leb (n * PLACES) (length store)) refl e
     where
-      go : (c : Bool) → (leb n 2097152 && leb (n * 9) (length store)) ≡ c
+      go : (c : Bool) → (leb n MAX-ROWS && leb (n * PLACES) (length store)) ≡ c
           → cond c (wrongRow (placesFit s b store) (viewOf store) n 0 i) (some 0) ≡ none
           → Right s b store i n
       go true q e =
-          let x = both (leb n 2097152) (leb (n * 9) (length store)) q in
+          let x = both (leb n MAX-ROWS) (leb (n * PLACES) (length store)) q in
           record {
-            few = leb-true n 2097152 (x .0);
-            room = leb-true (n * 9) (length store) (x .1);
+            few = leb-true n MAX-ROWS (x .0);
+            room = leb-true (n * PLACES) (length store) (x .1);
             nests = accepted-nests (placesFit s b store) (viewOf store) n 0 i e h;
             places = λ k p q. accepted-places (placesFit s b store) (viewOf store) n 0 i k e p q;
           }
@@ -95,7 +97,7 @@ module _ (s b : List ℕ) where
   pub none-found : (store : List ℕ) (i n : ℕ) → Right s b store i n → wrongPlace s b store i n ≡ none
   unfolding wrongPlace
   none-found store i n r =
-      rw (le-leb n 2097152 (r .few), le-leb (n * 9) (length store) (r .room))
+      rw (le-leb n MAX-ROWS (r .few), le-leb (n * PLACES) (length store) (r .room))
       (nested-accepted (placesFit s b store) (viewOf store) n 0 i (r .nests) (r .places))
 
   -- no rows
@@ -116,7 +118,7 @@ module _ (s b : List ℕ) where
   right-same store other n e x =
       record {
         few = x .few;
-        room = omega (arith, x .room, length-take (9 * n) store, length-take (9 * n) other, ap length e);
+        room = omega (arith, x .room, length-take (PLACES * n) store, length-take (PLACES * n) other, ap length e);
         nests = nests-local (viewOf other) (rows-same n store other e 0) (x .nests);
         places = λ k p q. sym (places-same n store other e s b k q) ∙ x .places k p q;
       }

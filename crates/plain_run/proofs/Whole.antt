@@ -12,7 +12,7 @@ use borrow.Author.Tests.{ne-eqb}
 use lib.Dec.{eqb}
 use lib.ListN.{length, take, drop, length-drop}
 use lib.Seq.{take-length}
-use Rattle.image.specs.Read.{readAll}
+use Rattle.image.specs.Read.{Read, Image}
 use Rattle.tree.specs.Syntax.{Declaration, SyntaxTree}
 use Rattle.rows.specs.Node.{Nodes, line}
 use Rattle.rows.specs.Rows.{sizes, rows}
@@ -24,14 +24,16 @@ use Rattle.comments.specs.Comments.{nth}
 use Rattle.comments.specs.Listed.{commentsOf, given}
 use Rattle.layout.specs.Layout.{shebangRule, declaration, declarationsRule, fmtParsed}
 use Rattle.layout_facts.specs.Accepted.{fresh, upTo, callRule}
-use Rattle.renderer_rules.specs.Renderer.{renders}
+use Rattle.renderer_rules.specs.Renderer.{renderNodes}
+use Rattle.cut_rule.specs.Rules.{LayoutArgs}
 use Rattle.cut_rule.specs.Parts as cut
-use Rattle.cut_rule.specs.Parts.{Cursor, LayoutState, Piece, Pen, layoutFresh, still, andThen, begin, several, end}
-use Rattle.plain_run.specs.Parts.{treeOf, pieceOf, declarationAct, rendererOf, drawnBy, page, drawn, parts}
-use Rattle.plain_run.specs.Demands.{Gives, laidTo, FmtParsed}
+use Rattle.cut_rule.specs.States.{LayoutChoice, Cursor, LayoutState, Pen, layoutFresh}
+use Rattle.cut_rule.specs.Parts.{Piece, still, andThen, begin, several, end}
+use Rattle.plain_run.specs.Parts.{acceptedTree, actPiece, declarationAct, rendererOf, drawnBy, page, drawn, partsBy}
+use Rattle.plain_run.specs.Demands.{Gives, laidTo, stoppingAt, closingAt, FmtParsed}
 
 -- ---- pieces
-piece-then : (a b : Act) (c : Cursor) → pieceOf (a ⨟ b) c ≡ andThen (pieceOf a c) (pieceOf b)
+piece-then : (a b : Act) (c : Cursor) → actPiece (a ⨟ b) c ≡ andThen (actPiece a c) (actPiece b)
 unfolding _⨟_
 piece-then a b c =
     let z : St = record { number = c .number; pos = c .position; placed = c .placed } in
@@ -44,7 +46,7 @@ piece-then a b c =
     let r = rows-join (o .nodes) (p .nodes) (c .row) in
     λ t. record { cursor = record { row = e t; number = f t; placed = p .placed; position = p .pos }; rows = r t }
 
-piece-skip : (c : Cursor) → pieceOf skip c ≡ still c
+piece-skip : (c : Cursor) → actPiece skip c ≡ still c
 unfolding rows sizes
 piece-skip c =
     λ t. record { cursor = record { row = add-zero (c .row) t; number = add-zero (c .number) t; placed = c .placed; position = c .position }; rows = [] }
@@ -59,8 +61,8 @@ then-then p f g =
 then-still : (p : Piece) → andThen p still ≡ p
 then-still p = λ t. record { cursor = p .cursor; rows = append-nil (p .rows) t }
 
-then-skip : (p : Piece) → andThen p (pieceOf skip) ≡ p
-then-skip p = then-at p (pieceOf skip) still (piece-skip (p .cursor)) ∙ then-still p
+then-skip : (p : Piece) → andThen p (actPiece skip) ≡ p
+then-skip p = then-at p (actPiece skip) still (piece-skip (p .cursor)) ∙ then-still p
 
 -- ---- one declaration more
 abbrev flag : ℕ → Bool → Bool
@@ -87,32 +89,32 @@ one g first (some d) = declaration g d first
 
 module _ (g : Given) where
   more : (n : ℕ) (ds : List Declaration) (first : Bool) (c : Cursor) → n < length ds
-      → pieceOf (declarationsRule g (take (suc n) ds) first) c
-      ≡ andThen (pieceOf (declarationsRule g (take n ds) first) c) (pieceOf (one g (flag n first) (nth ds n)))
+      → actPiece (declarationsRule g (take (suc n) ds) first) c
+      ≡ andThen (actPiece (declarationsRule g (take n ds) first) c) (actPiece (one g (flag n first) (nth ds n)))
   unfolding declarationsRule nth
   more n [] first c h = absurd (omega arith)
   more zero (d ∷ ds) first c h =
       piece-then (declaration g d first) skip c
-      ∙ then-skip (pieceOf (declaration g d first) c)
-      ∙ ap (λ (p : Piece). andThen p (pieceOf (declaration g d first))) (sym (piece-skip c))
+      ∙ then-skip (actPiece (declaration g d first) c)
+      ∙ ap (λ (p : Piece). andThen p (actPiece (declaration g d first))) (sym (piece-skip c))
   more (suc n) (d ∷ ds) first c h =
       let a = declaration g d first in
-      let last = pieceOf (one g (flag n false) (nth ds n)) in
+      let last = actPiece (one g (flag n false) (nth ds n)) in
       piece-then a (declarationsRule g (take (suc n) ds) false) c
-      ∙ then-at (pieceOf a c) (pieceOf (declarationsRule g (take (suc n) ds) false))
-      (λ x. andThen (pieceOf (declarationsRule g (take n ds) false) x) last)
-      (more n ds false (pieceOf a c .cursor) (omega arith))
-      ∙ sym (then-then (pieceOf a c) (pieceOf (declarationsRule g (take n ds) false)) last)
+      ∙ then-at (actPiece a c) (actPiece (declarationsRule g (take (suc n) ds) false))
+      (λ x. andThen (actPiece (declarationsRule g (take n ds) false) x) last)
+      (more n ds false (actPiece a c .cursor) (omega arith))
+      ∙ sym (then-then (actPiece a c) (actPiece (declarationsRule g (take n ds) false)) last)
       ∙ ap (λ (p : Piece). andThen p last) (sym (piece-then a (declarationsRule g (take n ds) false) c))
-      ∙ ap (λ (x : Bool). andThen (pieceOf (a ⨟ declarationsRule g (take n ds) false) c) (pieceOf (one g x (nth ds n)))) (flag-false n)
+      ∙ ap (λ (x : Bool). andThen (actPiece (a ⨟ declarationsRule g (take n ds) false) c) (actPiece (one g x (nth ds n)))) (flag-false n)
 
--- ---- the whole
-module _ (s b : List ℕ) where
+-- ---- the whole, whatever was read
+module _ (r : Read Image) (s b : List ℕ) where
   abbrev g : Given
   g = given s b
 
   abbrev tree : SyntaxTree
-  tree = treeOf b (readAll s b)
+  tree = acceptedTree b r
 
   abbrev ds : List Declaration
   ds = tree .declarations
@@ -126,67 +128,69 @@ module _ (s b : List ℕ) where
 
   -- n declarations from declaration d on are the loop over these
   loop : (n d : ℕ) (p : Piece) → d + n ≤ length ds
-      → several (parts s b) n d p ≡ andThen p (pieceOf (declarationsRule g (take n (drop d ds)) (eqb d 0)))
+      → several (partsBy r s b) n d p ≡ andThen p (actPiece (declarationsRule g (take n (drop d ds)) (eqb d 0)))
   unfolding declarationsRule
   loop zero d p h = sym (then-skip p)
   loop (suc n) d p h =
       let rest = drop d ds in
-      let rule = pieceOf (declarationsRule g (take n rest) (eqb d 0)) in
-      let last = pieceOf (one g (flag n (eqb d 0)) (nth rest n)) in
+      let rule = actPiece (declarationsRule g (take n rest) (eqb d 0)) in
+      let last = actPiece (one g (flag n (eqb d 0)) (nth rest n)) in
       let l = length-drop d ds in
-      ap (λ (x : Piece). andThen x (pieceOf (declarationAct s b (d + n) (nth ds (d + n))))) (loop n d p (omega arith))
-      ∙ ap (λ (a : Act). andThen (andThen p rule) (pieceOf a)) (at-place d n)
+      ap (λ (x : Piece). andThen x (actPiece (declarationAct s b (d + n) (nth ds (d + n))))) (loop n d p (omega arith))
+      ∙ ap (λ (a : Act). andThen (andThen p rule) (actPiece a)) (at-place d n)
       ∙ then-then p rule last
-      ∙ then-at p (λ c. andThen (rule c) last) (pieceOf (declarationsRule g (take (suc n) rest) (eqb d 0)))
+      ∙ then-at p (λ c. andThen (rule c) last) (actPiece (declarationsRule g (take (suc n) rest) (eqb d 0)))
       (sym (more g n rest (eqb d 0) (p .cursor) (omega arith)))
 
   -- what a call lays from any state, by the rules
-  pub call-piece : (z : LayoutState) (stop : ℕ) (close : Bool) → z .declaration ≤ stop → stop ≤ length ds
-      → cut.pieceOf (parts s b) z (record { stop = stop; close = close; choice = tt })
-      ≡ pieceOf (callRule g tree (not (z .begun)) (take (stop - z .declaration) (drop (z .declaration) ds)) (eqb (z .declaration) 0) close) (z .cursor)
-  call-piece z stop close h k =
+  pub call-piece : (z : LayoutState) (q : LayoutArgs LayoutChoice) → z .declaration ≤ q .stop → q .stop ≤ length ds
+      → cut.callPiece (partsBy r s b) z q
+      ≡ actPiece (callRule g tree (not (z .begun)) (take (q .stop - z .declaration) (drop (z .declaration) ds)) (eqb (z .declaration) 0) (q .close)) (z .cursor)
+  call-piece z q h k =
       let d = z .declaration in
+      let stop = q .stop in
+      let close = q .close in
       let a = when (not (z .begun)) (shebangRule g (tree .shebang)) in
       let rule = declarationsRule g (take (stop - d) (drop d ds)) (eqb d 0) in
       let last = when close (push line) in
-      ends close (several (parts s b) (stop - d) d (begin (parts s b) (z .begun) (z .cursor)))
-      ∙ ap (λ (p : Piece). andThen p (pieceOf last)) (loop (stop - d) d (begin (parts s b) (z .begun) (z .cursor)) (omega arith))
-      ∙ ap (λ (p : Piece). andThen (andThen p (pieceOf rule)) (pieceOf last)) (begins (z .begun) (z .cursor))
-      ∙ then-then (pieceOf a (z .cursor)) (pieceOf rule) (pieceOf last)
-      ∙ then-at (pieceOf a (z .cursor)) (λ c. andThen (pieceOf rule c) (pieceOf last)) (pieceOf (rule ⨟ last))
-      (sym (piece-then rule last (pieceOf a (z .cursor) .cursor)))
+      ends close (several (partsBy r s b) (stop - d) d (begin (partsBy r s b) (z .begun) (z .cursor)))
+      ∙ ap (λ (p : Piece). andThen p (actPiece last)) (loop (stop - d) d (begin (partsBy r s b) (z .begun) (z .cursor)) (omega arith))
+      ∙ ap (λ (p : Piece). andThen (andThen p (actPiece rule)) (actPiece last)) (begins (z .begun) (z .cursor))
+      ∙ then-then (actPiece a (z .cursor)) (actPiece rule) (actPiece last)
+      ∙ then-at (actPiece a (z .cursor)) (λ c. andThen (actPiece rule c) (actPiece last)) (actPiece (rule ⨟ last))
+      (sym (piece-then rule last (actPiece a (z .cursor) .cursor)))
       ∙ sym (piece-then a (rule ⨟ last) (z .cursor))
     where
-      begins : (begun : Bool) (c : Cursor) → begin (parts s b) begun c ≡ pieceOf (when (not begun) (shebangRule g (tree .shebang))) c
+      begins : (begun : Bool) (c : Cursor) → begin (partsBy r s b) begun c ≡ actPiece (when (not begun) (shebangRule g (tree .shebang))) c
       begins true c = sym (piece-skip c)
       begins false c = refl
 
-      ends : (close : Bool) (p : Piece) → end (parts s b) close p ≡ andThen p (pieceOf (when close (push line)))
+      ends : (close : Bool) (p : Piece) → end (partsBy r s b) close p ≡ andThen p (actPiece (when close (push line)))
       ends true p = refl
       ends false p = sym (then-skip p)
 
   abbrev start : Cursor
   start = layoutFresh .cursor
 
-  laid : (n : ℕ) → n ≤ length ds → several (parts s b) (n - 0) 0 (parts s b .shebang start) ≡ pieceOf (upTo g tree (take n ds)) start
+  laid : (n : ℕ) → n ≤ length ds → several (partsBy r s b) (n - 0) 0 (partsBy r s b .shebang start) ≡ actPiece (upTo g tree (take n ds)) start
   laid n h =
-      let one = pieceOf (shebangRule g (tree .shebang)) start in
-      ap (λ (k : ℕ). several (parts s b) k 0 one) (sub-zero n)
+      let one = actPiece (shebangRule g (tree .shebang)) start in
+      ap (λ (k : ℕ). several (partsBy r s b) k 0 one) (sub-zero n)
       ∙ loop n 0 one (omega arith)
       ∙ sym (piece-then (shebangRule g (tree .shebang)) (declarationsRule g (take n ds) true) start)
 
   -- rows of nodes render as the nodes do, since they are read back as those
   read-back : (ns : Nodes) (z : Pen) (marks : List ℕ)
-      → drawn s b z marks (rows ns 0) 0 (sizes ns) ≡ drawnBy (renders (page s b) ns true (rendererOf z marks))
+      → drawn s b z marks (rows ns 0) 0 (sizes ns) ≡ drawnBy (renderNodes (page s b) ns true (rendererOf z marks))
   read-back ns z marks =
-      ap (λ (x : Nodes). drawnBy (renders (page s b) x true (rendererOf z marks)))
+      ap (λ (x : Nodes). drawnBy (renderNodes (page s b) x true (rendererOf z marks)))
       (ap (nodesAt (viewOf (rows ns 0)) 0) (sym (zero-add (sizes ns))) ∙ flattened ns (rows ns 0) 0 (take-length (rows ns 0)))
 
   -- a piece from the fresh cursor is what its step gives
-  gives : (n : ℕ) (close : Bool) (a : Act) → laidTo s b n close .rows ≡ pieceOf a start .rows
-      → laidTo s b n close .state .cursor ≡ pieceOf a start .cursor
-      → Gives s b (a fresh) (laidTo s b n close)
-  gives n close a e f = record {
+  gives : (q : LayoutArgs LayoutChoice) (a : Act) → laidTo r s b q .rows ≡ actPiece a start .rows
+      → laidTo r s b q .state .cursor ≡ actPiece a start .cursor
+      → Gives s b (a fresh) (laidTo r s b q)
+  gives q a e f = record {
     rows-due = e;
     row-due = ap (λ (c : Cursor). c .row) f ∙ zero-add (sizes (a fresh .nodes));
     number-due = ap (λ (c : Cursor). c .number) f ∙ zero-add (a fresh .taken);
@@ -199,26 +203,26 @@ module _ (s b : List ℕ) where
         ∙ read-back (a fresh .nodes) z marks;
   }
 
-  pub fmt-parsed : FmtParsed s b tree
+  pub fmt-parsed : FmtParsed r s b tree
   unfolding fmtParsed
   fmt-parsed = record {
     at-stop =
         λ n h.
         let e = laid n h in
-        gives n false (upTo g tree (take n ds)) (ap (λ (p : Piece). p .rows) e) (ap (λ (p : Piece). p .cursor) e);
+        gives (stoppingAt n) (upTo g tree (take n ds)) (ap (λ (p : Piece). p .rows) e) (ap (λ (p : Piece). p .cursor) e);
     closed =
         let e = closes in
-        gives (length ds) true (fmtParsed g tree) (ap (λ (p : Piece). p .rows) e) (ap (λ (p : Piece). p .cursor) e);
+        gives (closingAt (length ds)) (fmtParsed g tree) (ap (λ (p : Piece). p .rows) e) (ap (λ (p : Piece). p .cursor) e);
   }
     where
-      closes : andThen (several (parts s b) (length ds - 0) 0 (parts s b .shebang start)) (pieceOf (push line)) ≡ pieceOf (fmtParsed g tree) start
+      closes : andThen (several (partsBy r s b) (length ds - 0) 0 (partsBy r s b .shebang start)) (actPiece (push line)) ≡ actPiece (fmtParsed g tree) start
       closes =
           let one = shebangRule g (tree .shebang) in
           let rule = declarationsRule g ds true in
-          ap (λ (p : Piece). andThen p (pieceOf (push line))) (laid (length ds) (omega arith))
-          ∙ ap (λ (xs : List Declaration). andThen (pieceOf (upTo g tree xs) start) (pieceOf (push line))) (take-length ds)
-          ∙ ap (λ (p : Piece). andThen p (pieceOf (push line))) (piece-then one rule start)
-          ∙ then-then (pieceOf one start) (pieceOf rule) (pieceOf (push line))
-          ∙ then-at (pieceOf one start) (λ c. andThen (pieceOf rule c) (pieceOf (push line))) (pieceOf (rule ⨟ push line))
-          (sym (piece-then rule (push line) (pieceOf one start .cursor)))
+          ap (λ (p : Piece). andThen p (actPiece (push line))) (laid (length ds) (omega arith))
+          ∙ ap (λ (xs : List Declaration). andThen (actPiece (upTo g tree xs) start) (actPiece (push line))) (take-length ds)
+          ∙ ap (λ (p : Piece). andThen p (actPiece (push line))) (piece-then one rule start)
+          ∙ then-then (actPiece one start) (actPiece rule) (actPiece (push line))
+          ∙ then-at (actPiece one start) (λ c. andThen (actPiece rule c) (actPiece (push line))) (actPiece (rule ⨟ push line))
+          (sym (piece-then rule (push line) (actPiece one start .cursor)))
           ∙ sym (piece-then one (rule ⨟ push line) start)

@@ -1,6 +1,5 @@
 -- The edges that document 01 marks with *, as a single list. Each is run by the rules of the two calls, refusals included.
 use mathlib.Core.Path.{_≡_}
-use mathlib.Core.Bool.{true}
 use mathlib.Core.Option.{Option, none, some}
 use mathlib.Core.List.{List, [], _∷_, _++_, map}
 use Prim.Native.Nat.{ℕ, zero, suc, _+_}
@@ -9,16 +8,17 @@ use Rattle.image.specs.Write.{Plain, Plains, without, plainly, done, _next_, by
 use Rattle.tree.specs.Syntax.{Span}
 use Rattle.rows.specs.Ascii.{bytes}
 use Rattle.rows.specs.Node.{Text, Node, Nodes, group, indent, indentNext, comment, ascii, line, emptyLine, lineOrSpace, call, none as nothing, _then_}
+use Rattle.rows.specs.Places.{KIND}
 use Rattle.rows.specs.Rows.{sizes, rows}
+use Rattle.rows.specs.View.{cell}
 use Rattle.comments.specs.Listed.{span}
 use Rattle.cut_rule.specs.Run.{layoutCall, renderCall, Carried, start, run}
-use Rattle.cut_rule.specs.CutRule.{cell}
-use Rattle.cut_rule.specs.Parts.{layoutFresh}
-use Rattle.plain_run.specs.Demands.{rulesOf}
+use Rattle.cut_rule.specs.States.{onlyRenderChoice, layoutFresh}
+use Rattle.plain_run.specs.Demands.{rulesOf, closingAt}
 
 -- ---- what an edge is
 -- nodes rendered as top rows, from an indent and a column: the text that this writes
-pub record Rendering : Type 0 where
+pub record EdgeRendering : Type 0 where
   pub source : List ℕ
   pub indent : ℕ
   pub column : ℕ
@@ -27,7 +27,7 @@ pub record Rendering : Type 0 where
 
 -- a file without a shebang, laid out and closed in one call, then rendered in one: how many rows, their kinds, how many group numbers, the text
 -- with its length, the comments left
-pub record File : Type 0 where
+pub record EdgeFile : Type 0 where
   pub source : List ℕ
   pub comments : List Span
   pub declarations : List Plain
@@ -39,8 +39,8 @@ pub record File : Type 0 where
   pub left : ℕ
 
 pub data Edge : Type 0 where
-  rendering : Rendering → Edge
-  file : File → Edge
+  rendering : EdgeRendering → Edge
+  file : EdgeFile → Edge
 
 -- ---- running it
 -- what is seen after the calls: layout's rows and numbers and the comments left, rendering's next row and text
@@ -55,7 +55,7 @@ pub record Seen : Type 0 where
 
 abbrev pub kindsIn : List ℕ → ℕ → List ℕ
 kindsIn store zero = []
-kindsIn store (suc n) = kindsIn store n ++ cell store n 0 ∷ []
+kindsIn store (suc n) = kindsIn store n ++ cell store n KIND ∷ []
 
 abbrev pub seen : (s b : List ℕ) → Carried (rulesOf s b) → Seen
 seen s b w = record {
@@ -73,7 +73,7 @@ abbrev pub noBody : List ℕ
 noBody = 1 ∷ bytes4 0
 
 -- a rendering call over the rows of the nodes, with 2 marks and an output of 200 bytes
-abbrev pub rendersAs : Rendering → Seen
+abbrev pub rendersAs : EdgeRendering → Seen
 rendersAs e =
     let r = rulesOf (e .source) noBody in
     let w : Carried r = record {
@@ -84,7 +84,7 @@ rendersAs e =
       text = [];
       left = none;
     } in
-    seen (e .source) noBody (run r w (renderCall (record { stop = sizes (e .nodes); room = 200; choice = tt }) ∷ []))
+    seen (e .source) noBody (run r w (renderCall (record { stop = sizes (e .nodes); room = 200; choice = onlyRenderChoice }) ∷ []))
 
 -- "two bytes, the number of comments; for each, start and end, four bytes each; one tree record"
 abbrev pub pairs : List Span → List ℕ
@@ -95,18 +95,18 @@ abbrev pub plains : List Plain → Plains
 plains [] = done
 plains (x ∷ xs) = x next plains xs
 
-abbrev pub imageOf : File → List ℕ
-imageOf f = 1 ∷ framed (0 ∷ length (f .comments) ∷ pairs (f .comments) ++ written (plainly 1 0 0 [] (without next plains (f .declarations))))
+abbrev pub edgeImage : EdgeFile → List ℕ
+edgeImage f = 1 ∷ framed (0 ∷ length (f .comments) ∷ pairs (f .comments) ++ written (plainly 1 0 0 [] (without next plains (f .declarations))))
 
 -- both calls, from fresh, with 24 rows, 2 marks and an output of 200 bytes
-abbrev pub formatsAs : File → Seen
+abbrev pub formatsAs : EdgeFile → Seen
 formatsAs f =
-    let image = imageOf f in
+    let image = edgeImage f in
     let r = rulesOf (f .source) image in
     seen (f .source) image
     (run r (start r (replicate 216 0) (0 ∷ 0 ∷ []))
-    (layoutCall (record { stop = length (f .declarations); close = true; choice = tt })
-    ∷ renderCall (record { stop = f .rows; room = 200; choice = tt })
+    (layoutCall (closingAt (length (f .declarations)))
+    ∷ renderCall (record { stop = f .rows; room = 200; choice = onlyRenderChoice })
     ∷ []))
 
 abbrev pub observed : Edge → Seen
@@ -114,8 +114,8 @@ observed (rendering e) = rendersAs e
 observed (file f) = formatsAs f
 
 -- what is due: the figures of the edge, and all rows rendered
-abbrev pub due : Edge → Seen
-due (rendering e) = record {
+abbrev pub edgeDue : Edge → Seen
+edgeDue (rendering e) = record {
   rows = 0;
   kinds = [];
   numbers = 0;
@@ -124,7 +124,7 @@ due (rendering e) = record {
   text = e .text;
   size = length (e .text);
 }
-due (file f) = record {
+edgeDue (file f) = record {
   rows = f .rows;
   kinds = f .kinds;
   numbers = f .numbers;
@@ -167,7 +167,7 @@ nodesOf (n ∷ ns) = n then nodesOf ns
 
 -- a node from an indent and a column
 abbrev pub from : ℕ → ℕ → Node → List ℕ → Edge
-from steps column n due = rendering (record { source = sample; indent = steps; column = column; nodes = n then nothing; text = due })
+from steps column n edgeDue = rendering (record { source = sample; indent = steps; column = column; nodes = n then nothing; text = edgeDue })
 
 -- a group of two words with `LineOrSpace` between
 abbrev pub pair : ℕ → ℕ → Node
@@ -283,4 +283,4 @@ edges = renderingEdges ++ fileEdges
 
 -- the one theorem about it
 abbrev pub EdgesHold : Type 0
-EdgesHold = map observed edges ≡ map due edges
+EdgesHold = map observed edges ≡ map edgeDue edges

@@ -13,11 +13,12 @@ use Rattle.state.specs.Act.{Out}
 use Rattle.comments.specs.Listed.{commentsOf, given}
 use Rattle.layout.specs.Layout.{fmtParsed}
 use Rattle.layout_facts.specs.Accepted.{fresh}
-use Rattle.renderer_rules.specs.Renderer.{renders}
-use Rattle.refusals.specs.Refusals.{Refusal, unless, first, when}
-use Rattle.cut_rule.specs.Run.{onto}
-use Rattle.cut_rule.specs.Parts.{Drawn, renderFresh}
-use Rattle.plain_run.specs.Parts.{refusalOf, treeOf, rendererOf, drawnBy, page}
+use Rattle.renderer_rules.specs.Renderer.{renderNodes}
+use Rattle.refusals.specs.Refusals.{Refusal, unless, first, refuseIf}
+use Rattle.cut_rule.specs.Run.{writeFront}
+use Rattle.cut_rule.specs.States.{renderFresh}
+use Rattle.cut_rule.specs.Parts.{Drawn}
+use Rattle.plain_run.specs.Parts.{readRefusal, acceptedTree, rendererOf, drawnBy, page}
 
 -- What the run has of its own: "It has 1,800 rows, 1,800 marks and 65,536 output bytes." The output is lent.
 abbrev pub fileRows : ℕ
@@ -29,7 +30,7 @@ fileMarks = 1800
 module _ (s b : List ℕ) where
   -- what `fmt_parsed` builds
   abbrev pub built : Out
-  built = fmtParsed (given s b) (treeOf b (readAll s b)) fresh
+  built = fmtParsed (given s b) (acceptedTree b (readAll s b)) fresh
 
   -- "rows needed in all"
   abbrev pub rowsDue : ℕ
@@ -41,19 +42,19 @@ module _ (s b : List ℕ) where
 
   -- what `Renderer` makes of it, with that many marks, all cleared
   abbrev pub drawnDue : Drawn
-  drawnDue = drawnBy (renders (page s b) (built .nodes) true (rendererOf (renderFresh .pen) (replicate marksDue 0)))
+  drawnDue = drawnBy (renderNodes (page s b) (built .nodes) true (rendererOf (renderFresh .pen) (replicate marksDue 0)))
 
   -- 1 to 7, then 8, in a store of so many rows
   abbrev pub laidRefusal : ℕ → Option Refusal
-  laidRefusal rows = first (refusalOf (readAll s b) ∷ when (ltb rows rowsDue) 8 rowsDue ∷ [])
+  laidRefusal rows = first (readRefusal (readAll s b) ∷ refuseIf (ltb rows rowsDue) 8 rowsDue ∷ [])
 
   -- then 9, then 10, with so many marks and so many bytes of output: no other cause refuses a whole file
   abbrev pub refusalIn : ℕ → ℕ → ℕ → Option Refusal
   refusalIn rows marks room =
       first
       (laidRefusal rows
-      ∷ when (ltb marks marksDue) 9 marksDue
-      ∷ when (ltb room (length (drawnDue .text))) 10 (length (drawnDue .text))
+      ∷ refuseIf (ltb marks marksDue) 9 marksDue
+      ∷ refuseIf (ltb room (length (drawnDue .text))) 10 (length (drawnDue .text))
       ∷ [])
 
   abbrev pub fileRefusal : ℕ → Option Refusal
@@ -61,7 +62,7 @@ module _ (s b : List ℕ) where
 
   -- what is left of the output
   abbrev pub fileOutput : List ℕ → List ℕ
-  fileOutput out = unless (fileRefusal (length out)) out (onto (drawnDue .text) out)
+  fileOutput out = unless (fileRefusal (length out)) out (writeFront (drawnDue .text) out)
 
 -- What a file's run answers: number and place; or the bytes written, the comments left, the rows and the group numbers.
 pub data FileAnswer : Type 0 where

@@ -18,27 +18,28 @@ use Rattle.state.specs.Act.{Act, skip, push}
 use Rattle.comments.specs.Comments.{nth}
 use Rattle.comments.specs.Listed.{commentsOf, given}
 use Rattle.layout.specs.Layout.{shebangRule, declaration}
-use Rattle.renderer_rules.specs.Renderer.{Page, Renderer, renders}
+use Rattle.renderer_rules.specs.Renderer.{Page, Renderer, fresh, renderNodes}
 use Rattle.renderer_rules.specs.Page.{pageOf}
 use Rattle.renderer_rules.specs.Check.{wrongPlace}
-use Rattle.refusals.specs.Refusals.{Refusal, first, when}
-use Rattle.cut_rule.specs.CutRule.{Text}
-use Rattle.cut_rule.specs.Parts.{Cursor, Piece, Pen, Drawn, Parts}
+use Rattle.refusals.specs.Refusals.{Refusal, first, refuseIf}
+use Rattle.rows.specs.Node.{Text}
+use Rattle.cut_rule.specs.States.{Cursor, Pen}
+use Rattle.cut_rule.specs.Parts.{Piece, Drawn, RuleParts}
 
 -- ---- source and image
 -- 1 to 7
-abbrev pub refusalOf : Read Image → Option Refusal
-refusalOf (got i end) = none
-refusalOf (bad n p) = some (record { number = n; place = p })
+abbrev pub readRefusal : Read Image → Option Refusal
+readRefusal (got i end) = none
+readRefusal (bad n p) = some (record { number = n; place = p })
 
 -- the syntax tree of an accepted image; nothing is laid out of another
-abbrev pub treeOf : List ℕ → Read Image → SyntaxTree
-treeOf b (got i end) = syntaxTree b (i .tree)
-treeOf b (bad n p) = record { shebang = none; declarations = [] }
+abbrev pub acceptedTree : List ℕ → Read Image → SyntaxTree
+acceptedTree b (got i end) = syntaxTree b (i .tree)
+acceptedTree b (bad n p) = record { shebang = none; declarations = [] }
 
 -- "rendering 1, 3 by the same tests"
 abbrev pub renderImage : List ℕ → List ℕ → Option Refusal
-renderImage s b = first (when (not (sourceFits s)) 1 0 ∷ when (not (header b)) 3 0 ∷ [])
+renderImage s b = first (refuseIf (not (sourceFits s)) 1 0 ∷ refuseIf (not (header b)) 3 0 ∷ [])
 
 -- the comment list as `Comment` rows have it: of the source, trimmed at the end
 abbrev pub listed : List ℕ → List ℕ → List Text
@@ -46,8 +47,8 @@ listed s b = map (λ c. record { origin = 0; start = c .start; size = trimEnd s 
 
 -- ---- layout
 -- a step of the layout rules, from a cursor: its nodes as rows, the first of them the cursor's next row
-abbrev pub pieceOf : Act → Cursor → Piece
-pieceOf a c =
+abbrev pub actPiece : Act → Cursor → Piece
+actPiece a c =
     let o = a (record { number = c .number; pos = c .position; placed = c .placed }) in
     record {
       cursor = record { row = c .row + sizes (o .nodes); number = c .number + o .taken; placed = o .placed; position = o .pos };
@@ -62,10 +63,10 @@ declarationAct s b n (some d) = declaration (given s b) d (eqb n 0)
 -- ---- rendering
 -- `Renderer` as a call makes it, and what a call takes from it
 abbrev pub rendererOf : Pen → List ℕ → Renderer
-rendererOf z marks = record { buf = []; indent = z .indent; nextIndent = z .next-indent; column = z .column; marks = marks }
+rendererOf z marks = fresh (record { indent = z .indent; «next_indent» = z .next-indent; column = record { 0 = z .column } }) marks
 
 abbrev pub drawnBy : Renderer → Drawn
-drawnBy r = record { pen = record { indent = r .indent; next-indent = r .nextIndent; column = r .column }; marks = r .marks; text = r .buf }
+drawnBy r = record { pen = record { indent = r .pen .indent; next-indent = r .pen .«next_indent»; column = r .pen .column .0 }; marks = r .marks; text = r .buf }
 
 -- 80 columns
 abbrev pub page : List ℕ → List ℕ → Page
@@ -73,22 +74,26 @@ page s b = pageOf 80 s b
 
 -- the rows from i up to a stop; what is read counts as top rows, so that `wrap` is true
 abbrev pub drawn : List ℕ → List ℕ → Pen → List ℕ → List ℕ → ℕ → ℕ → Drawn
-drawn s b z marks store i stop = drawnBy (renders (page s b) (nodesAt (viewOf store) i stop) true (rendererOf z marks))
+drawn s b z marks store i stop = drawnBy (renderNodes (page s b) (nodesAt (viewOf store) i stop) true (rendererOf z marks))
 
 -- ---- the whole
-abbrev pub parts : List ℕ → List ℕ → Parts
-parts s b =
-    let tree = treeOf b (readAll s b) in
+-- by what was read of the image: another way to read is another r
+abbrev pub partsBy : Read Image → List ℕ → List ℕ → RuleParts
+partsBy r s b =
+    let tree = acceptedTree b r in
     record {
       source-size = length s;
       declarations = length (tree .declarations);
       comments = length (commentsOf b);
-      layout-image = refusalOf (readAll s b);
+      layout-image = readRefusal r;
       render-image = renderImage s b;
-      shebang = pieceOf (shebangRule (given s b) (tree .shebang));
-      declaration = λ n. pieceOf (declarationAct s b n (nth (tree .declarations) n));
-      final = pieceOf (push line);
+      shebang = actPiece (shebangRule (given s b) (tree .shebang));
+      declaration = λ n. actPiece (declarationAct s b n (nth (tree .declarations) n));
+      final = actPiece (push line);
       wrong-row = wrongPlace s b;
       needed = λ store i stop. marksNeeded (stop - i) store i;
       draw = drawn s b;
     }
+
+abbrev pub partsOf : List ℕ → List ℕ → RuleParts
+partsOf s b = partsBy (readAll s b) s b

@@ -11,13 +11,13 @@ pub record Refusal : Type 0 where
   pub place : ℕ
 
 -- a refusal with its number and place, where a test holds or a place is found
-abbrev pub when : Bool → ℕ → ℕ → Option Refusal
-when true n p = some (record { number = n; place = p })
-when false n p = none
+abbrev pub refuseIf : Bool → ℕ → ℕ → Option Refusal
+refuseIf true n p = some (record { number = n; place = p })
+refuseIf false n p = none
 
-abbrev pub whenFound : Option ℕ → ℕ → Option Refusal
-whenFound (some p) n = some (record { number = n; place = p })
-whenFound none n = none
+abbrev pub refuseAt : Option ℕ → ℕ → Option Refusal
+refuseAt (some p) n = some (record { number = n; place = p })
+refuseAt none n = none
 
 -- a cause with several tests: one of them holds
 abbrev pub any : List Bool → Bool

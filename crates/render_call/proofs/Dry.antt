@@ -13,12 +13,12 @@ use Rattle.rows.specs.View.{View, cell, viewOf, nodesAt}
 use Rattle.rows.specs.Nesting.{Nested}
 use Rattle.rows.specs.declared.units.Bytes as sizes
 use Rattle.renderer_rules.specs.Check.{usesNumber, usesNumber2, usesSecond, usesText, usesWidth, textFits, noTextFits, placesFit}
-use Rattle.renderer_rules.specs.Renderer.{Renderer, renders}
+use Rattle.renderer_rules.specs.Renderer.{Renderer, fresh, renderNodes}
 use Rattle.renderer_rules.specs.Page.{pageOf}
 use Rattle.renderer_rules.proofs.Names.{renders-same}
 use Rattle.renderer_rules.proofs.OwnMarks.{Agree, Inside, renders-alike}
-use Rattle.renderer.specs.Run.{Rendered, stateOf}
-use Rattle.renderer.specs.declared.pen.Pen.{Pen}
+use Rattle.renderer.specs.Run.{Ended}
+use Rattle.renderer.specs.declared.pen.Writing.{Writing}
 use Rattle.renderer.proofs.Outcome.{over-dry}
 use Rattle.cut_rule.specs.Parts as cut
 use Rattle.marks.specs.Marks.{marksNeeded, clearFrom, Held, held, putAside, putBack}
@@ -28,6 +28,7 @@ use Rattle.plain_run.proofs.Past.{renders-length}
 use Rattle.plain_run.proofs.Right.{right}
 use Rattle.render_call.specs.Whole.{Counted, Takes}
 use Rattle.render_call.specs.declared.RenderState.{RenderState}
+use Rattle.render_call.specs.declared.RenderArgs.{RenderArgs}
 use Rattle.render_call.proofs.Accepted.{Accepted}
 use Rattle.render_call.proofs.Starts.{nested}
 use Rattle.render_call.proofs.Ran.{inUse}
@@ -65,10 +66,10 @@ cleared-front m u n h k =
     size : length (take u m ++ replicate (n - u) 0) ≡ u + (n - u)
     size = length-append (take u m) (replicate (n - u) 0) ∙ ap₂ _+_ front (length-replicate (n - u) 0)
 
-module _ (source image : List ℕ) (state : RenderState) (stop : ℕ) (store marks : List ℕ) (a : Accepted source image state stop store marks) where
+module _ (source image : List ℕ) (state : RenderState) (args : RenderArgs) (store marks : List ℕ) (a : Accepted source image state args store marks) where
   -- how many rows, and how many marks they need
   abbrev count : ℕ
-  count = stop - state .row
+  count = (args .stop) - state .row
 
   abbrev needed : ℕ
   needed = marksNeeded count store (state .row)
@@ -78,7 +79,7 @@ module _ (source image : List ℕ) (state : RenderState) (stop : ℕ) (store mar
 
   -- the marks that the true run starts with
   abbrev taken : List ℕ
-  taken = inUse source image state stop store marks (a .ahead)
+  taken = inUse source image state args store marks (a .ahead)
 
   abbrev behind : List ℕ
   behind = drop (length taken) marks
@@ -90,13 +91,13 @@ module _ (source image : List ℕ) (state : RenderState) (stop : ℕ) (store mar
   abbrev own : ℕ → Bool
   own x = owns x count store (state .row)
 
-  inside : Inside own (nodesAt (viewOf store) (state .row) stop)
-  inside x e = nodes-other x store count (state .row) stop e (omega (arith, a .ahead))
+  inside : Inside own (nodesAt (viewOf store) (state .row) (args .stop))
+  inside x e = nodes-other x store count (state .row) (args .stop) e (omega (arith, a .ahead))
 
   unused : Unused count store (state .row)
   unused =
       record {
-        at = λ k p q f. no-width source image store k (right source image store (state .row) stop (a .ahead) (a .right) .places k p (omega (arith, a .ahead))) f;
+        at = λ k p q f. no-width source image store k (right source image store (state .row) (args .stop) (a .ahead) (a .right) .places k p (omega (arith, a .ahead))) f;
       }
 
   -- at these numbers the dry run starts with the same marks
@@ -112,12 +113,12 @@ module _ (source image : List ℕ) (state : RenderState) (stop : ℕ) (store mar
       }
 
   abbrev rendered : Renderer → Renderer
-  rendered r = renders (pageOf 80 source image) (nodesAt (viewOf store) (state .row) stop) true r
+  rendered r = renderNodes (pageOf 80 source image) (nodesAt (viewOf store) (state .row) (args .stop)) true r
 
-  same-text : (p : Pen) → rendered (stateOf p (aside .marks) []) .buf ≡ rendered (stateOf p (taken ++ behind) []) .buf
+  same-text : (p : Writing) → rendered (fresh (p .pen) (aside .marks)) .buf ≡ rendered (fresh (p .pen) (taken ++ behind)) .buf
   same-text p =
       ap (λ (r : Renderer). r .buf)
-      (renders-alike own (pageOf 80 source image) (nodesAt (viewOf store) (state .row) stop) true (stateOf p (taken ++ behind) []) (stateOf p (aside .marks) [])
+      (renders-alike own (pageOf 80 source image) (nodesAt (viewOf store) (state .row) (args .stop)) true (fresh (p .pen) (taken ++ behind)) (fresh (p .pen) (aside .marks))
       inside
       (record { rest = refl; marks = agree }) .rest)
 
@@ -126,21 +127,21 @@ module _ (source image : List ℕ) (state : RenderState) (stop : ℕ) (store mar
     pub aside-rows : length rows2 ≡ length store
     aside-rows = ap (λ (h : Held). length (h .rows)) e ∙ aside-size count (state .«in_use») (held store marks) (state .row)
 
-    pub aside-nests : Nested rows2 (state .row) stop
-    aside-nests = rw (ap (λ (h : Held). h .rows) e) (aside-nested count (state .«in_use») (held store marks) (state .row) (state .row) stop (nested source image state stop store marks a))
+    pub aside-nests : Nested rows2 (state .row) (args .stop)
+    aside-nests = rw (ap (λ (h : Held). h .rows) e) (aside-nested count (state .«in_use») (held store marks) (state .row) (state .row) (args .stop) (nested source image state args store marks a))
 
     same-view : viewOf rows2 ≡ viewOf store
     same-view = ap (λ (h : Held). viewOf (h .rows)) e ∙ aside-view count (state .«in_use») (held store marks) (state .row)
 
     -- the run with limit 0, and the marks put back
-    module _ (p q : Pen) (k : Takes state p) (b : Bytes marks) (out marks3 out3 rows4 marks4 : List ℕ)
-        (r : Rendered 0 (renders (pageOf 80 source image) (nodesAt (viewOf rows2) (state .row) stop) true (stateOf p marks2 [])) out marks3 out3 q)
+    module _ (p q : Writing) (k : Takes state p) (b : Bytes marks) (out marks3 out3 rows4 marks4 : List ℕ)
+        (r : Ended 0 (renderNodes (pageOf 80 source image) (nodesAt (viewOf rows2) (state .row) (args .stop)) true (fresh (p .pen) marks2)) out marks3 out3 q)
         (f : held rows4 marks4 ≡ putBack count (held rows2 marks3) (state .row)) where
-      dry : Rendered 0 (rendered (stateOf p (aside .marks) [])) out marks3 out3 q
+      dry : Ended 0 (rendered (fresh (p .pen) (aside .marks))) out marks3 out3 q
       dry =
           subst₂
           (λ (v : View) (m : List ℕ).
-          Rendered 0 (renders (pageOf 80 source image) (nodesAt v (state .row) stop) true (stateOf p m [])) out marks3 out3 q)
+          Ended 0 (renderNodes (pageOf 80 source image) (nodesAt v (state .row) (args .stop)) true (fresh (p .pen) m)) out marks3 out3 q)
           same-view
           (ap (λ (h : Held). h .marks) e)
           r
@@ -151,21 +152,21 @@ module _ (source image : List ℕ) (state : RenderState) (stop : ℕ) (store mar
           ∙ ap (λ (h : Held). putBack count (held (h .rows) marks3) (state .row)) e
           ∙ undone count (state .«in_use») store marks marks3 (state .row) unused b (let h = a .within in let g = a .ahead in omega arith)
           (ap length (dry .marks)
-          ∙ renders-length (pageOf 80 source image) (nodesAt (viewOf store) (state .row) stop) true (stateOf p (aside .marks) [])
+          ∙ renders-length (pageOf 80 source image) (nodesAt (viewOf store) (state .row) (args .stop)) true (fresh (p .pen) (aside .marks))
           ∙ aside-count count (state .«in_use») (held store marks) (state .row))
           (λ x o.
           ap (λ (m : List ℕ). getD m x 0) (dry .marks)
-          ∙ renders-same x (nodesAt (viewOf store) (state .row) stop) (pageOf 80 source image) true (stateOf p (aside .marks) []) (inside x o) .mark)
+          ∙ renders-same x (nodesAt (viewOf store) (state .row) (args .stop)) (pageOf 80 source image) true (fresh (p .pen) (aside .marks)) (inside x o) .mark)
 
-      pub counted : (n : sizes.Bytes) → n .0 ≡ q .at .0 → Counted source image state stop store marks out n rows4 marks4 out3
+      pub counted : (n : sizes.Bytes) → n .0 ≡ q .at .0 → Counted source image state args store marks out n rows4 marks4 out3
       counted n g =
           record {
             bytes =
                 g
                 ∙ dry .bytes
                 ∙ ap length (same-text p)
-                ∙ ap (λ (d : cut.Drawn). length (d .text)) (same source image state stop store marks (a .ahead) out p k behind);
+                ∙ ap (λ (d : cut.Drawn). length (d .text)) (same source image state args store marks (a .ahead) out p k behind);
             store-left = ap (λ (h : Held). h .rows) all-back;
             marks-left = ap (λ (h : Held). h .marks) all-back;
-            output-left = dry .written ∙ over-dry out 0 (rendered (stateOf p (aside .marks) []) .buf);
+            output-left = dry .written ∙ over-dry out 0 (rendered (fresh (p .pen) (aside .marks)) .buf);
           }

@@ -9,77 +9,79 @@ use native.Mathlib.Omega.{arith}
 use lib.ListN.{length, drop}
 use Rattle.rows.specs.View.{viewOf, nodesAt}
 use Rattle.rows.specs.declared.units.Bytes.{Bytes}
-use Rattle.renderer_rules.specs.Renderer.{Renderer, renders}
+use Rattle.renderer_rules.specs.Renderer.{Renderer, fresh, renderNodes}
 use Rattle.renderer_rules.specs.Page.{pageOf}
-use Rattle.renderer.specs.Run.{Rendered, stateOf}
-use Rattle.renderer.specs.declared.pen.Pen.{Pen}
+use Rattle.renderer.specs.Run.{Ended}
+use Rattle.renderer.specs.declared.pen.Writing.{Writing}
 use Rattle.renderer.proofs.Outcome.{over-full}
-use Rattle.cut_rule.specs.Run.{onto}
+use Rattle.cut_rule.specs.Run.{writeFront}
+use Rattle.cut_rule.specs.States as states
 use Rattle.cut_rule.specs.Parts as cut
 use Rattle.cut_rule.specs.PartLaws.{withPast}
 use Rattle.marks.specs.Marks.{marksNeeded}
 use Rattle.plain_run.specs.Parts.{drawnBy}
-use Rattle.render_call.specs.Calls.{toState, beforeRun}
-use Rattle.render_call.specs.Whole.{Called, Takes}
+use Rattle.render_call.specs.Calls.{toState, runRefusal}
+use Rattle.render_call.specs.Whole.{RenderCalled, Takes}
 use Rattle.render_call.specs.declared.RenderState.{RenderState}
+use Rattle.render_call.specs.declared.RenderArgs.{RenderArgs}
 use Rattle.render_call.specs.declared.Rendering.the-variants as rendering
 use Rattle.render_call.proofs.Whole.{bytes, ends-written}
 use Rattle.render_call.proofs.Ran.{inUse, gives, ran, marks-onto, started}
 
 -- t has the pen's numbers, the marks then in use, and the stop as its next row
-pub record Leaves (q : Pen) (used stop : ℕ) (t : RenderState) : Type 0 where
-  pub indent : t .indent ≡ q .indent
-  pub next : t .«next_indent» ≡ q .«next_indent»
-  pub column : t .column .0 ≡ q .column .0
+pub record Leaves (q : Writing) (used stop : ℕ) (t : RenderState) : Type 0 where
+  pub indent : t .indent ≡ q .pen .indent
+  pub next : t .«next_indent» ≡ q .pen .«next_indent»
+  pub column : t .column .0 ≡ q .pen .column .0
   pub in-use : t .«in_use» ≡ used
   pub row : t .row ≡ stop
 
-module _ (source image : List ℕ) (state : RenderState) (stop : ℕ) (store marks : List ℕ) (ahead : state .row ≤ stop) (out : List ℕ) where
+module _ (source image : List ℕ) (state : RenderState) (args : RenderArgs) (store marks : List ℕ) (ahead : state .row ≤ (args .stop)) (out : List ℕ) where
   -- the marks that the rows need
   abbrev needed : ℕ
-  needed = marksNeeded (stop - state .row) store (state .row)
+  needed = marksNeeded ((args .stop) - state .row) store (state .row)
 
   abbrev taken : List ℕ
-  taken = inUse source image state stop store marks ahead
+  taken = inUse source image state args store marks ahead
 
   abbrev given : cut.Drawn
-  given = gives source image state stop store marks ahead
+  given = gives source image state args store marks ahead
 
   abbrev rendered : Renderer → Renderer
-  rendered r = renders (pageOf 80 source image) (nodesAt (viewOf store) (state .row) stop) true r
+  rendered r = renderNodes (pageOf 80 source image) (nodesAt (viewOf store) (state .row) (args .stop)) true r
 
-  module _ (p : Pen) (k : Takes state p) (past : List ℕ) where
-    pub same : drawnBy (rendered (stateOf p (taken ++ past) [])) ≡ withPast given past
+  module _ (p : Writing) (k : Takes state p) (past : List ℕ) where
+    pub same : drawnBy (rendered (fresh (p .pen) (taken ++ past))) ≡ withPast given past
     same =
         ap (λ (r : Renderer). drawnBy (rendered r))
-        (started source image state stop store marks ahead p (taken ++ past) (k .indent) (k .next) (k .column))
-        ∙ ran source image state stop store marks ahead past
+        (started source image state args store marks ahead p (taken ++ past) (k .indent) (k .next) (k .column))
+        ∙ ran source image state args store marks ahead past
 
   -- the run with room enough, over the buffer in which the new marks are cleared
-  module _ (p : Pen) (k : Takes state p) (marks2 out2 : List ℕ) (q : Pen)
-      (r : Rendered (length out) (rendered (stateOf p (taken ++ drop (length taken) marks) [])) out marks2 out2 q) where
+  module _ (p : Writing) (k : Takes state p) (marks2 out2 : List ℕ) (q : Writing)
+      (r : Ended (length out) (rendered (fresh (p .pen) (taken ++ drop (length taken) marks))) out marks2 out2 q) where
     abbrev behind : List ℕ
     behind = drop (length taken) marks
 
     abbrev after : Renderer
-    after = rendered (stateOf p (taken ++ behind) [])
+    after = rendered (fresh (p .pen) (taken ++ behind))
 
     end : drawnBy after ≡ withPast given behind
     end = same p k behind
 
-    pub finished : (t : RenderState) (n : Bytes) → beforeRun source image stop (toState state) store marks ≡ none
-        → n .0 ≡ bytes source image state stop store marks out → n .0 ≤ length out → Leaves q (max (state .«in_use») needed) stop t
-        → Called source image state stop store marks out (rendering.Written t n) store marks2 out2
+    pub finished : (t : RenderState) (n : Bytes) → runRefusal source image args state store marks ≡ none
+        → n .0 ≡ bytes source image state args store marks out → n .0 ≤ length out → Leaves q (max (state .«in_use») needed) (args .stop) t
+        → RenderCalled source image state args store marks out (rendering.Written t n) store marks2 out2
     finished t n e f h l =
-        ends-written source image state stop store marks out t n marks2 out2 e f h left-state
-        (r .marks ∙ ap (λ (d : cut.Drawn). d .marks) end ∙ marks-onto source image state stop store marks ahead)
-        (r .written ∙ over-full (length out) out (after .buf) (let z = ap (λ (d : cut.Drawn). length (d .text)) end in omega arith) (omega arith) ∙ ap (λ (d : cut.Drawn). onto (d .text) out) end)
+        ends-written source image state args store marks out t n marks2 out2 e f h left-state
+        (r .marks ∙ ap (λ (d : cut.Drawn). d .marks) end ∙ marks-onto source image state args store marks ahead)
+        (r .written ∙ over-full (length out) out (after .buf) (let z = ap (λ (d : cut.Drawn). length (d .text)) end in omega arith) (omega arith) ∙ ap (λ (d : cut.Drawn). writeFront (d .text) out) end)
       where
-        pen-same : _≡_ {A = cut.Pen} (record { indent = t .indent; next-indent = t .«next_indent»; column = t .column .0 }) (drawnBy after .pen)
-        pen-same = rw (l .indent ∙ r .indent, l .next ∙ r .nextIndent, l .column ∙ r .column)
+        pen-same : _≡_ {A = states.Pen} (record { indent = t .indent; next-indent = t .«next_indent»; column = t .column .0 }) (drawnBy after .pen)
+        pen-same = rw (l .indent, l .next, l .column, r .pen)
 
-        left-state : toState t ≡ record { pen = given .pen; in-use = max (state .«in_use») needed; row = stop }
+        left-state : toState t ≡ record { pen = given .pen; in-use = max (state .«in_use») needed; row = (args .stop) }
         left-state =
             rw (l .in-use, l .row)
-            (ap (λ (z : cut.Pen). record { pen = z; in-use = max (state .«in_use») needed; row = stop })
+            (ap (λ (z : states.Pen). record { pen = z; in-use = max (state .«in_use») needed; row = (args .stop) })
             (pen-same ∙ ap (λ (d : cut.Drawn). d .pen) end))

@@ -7,19 +7,19 @@ use Prim.Native.Nat.{ℕ, _+_, _-_, _≤_}
 use native.Mathlib.Omega.{arith}
 use lib.ListN.{length, take, drop, replicate, length-append, length-replicate}
 use Rattle.rows.specs.View.{viewOf, nodesAt}
-use Rattle.renderer_rules.specs.Renderer.{Renderer, renders}
+use Rattle.renderer_rules.specs.Renderer.{Renderer, fresh, renderNodes}
 use Rattle.renderer_rules.specs.Page.{pageOf}
-use Rattle.renderer.specs.Run.{stateOf}
-use Rattle.renderer.specs.declared.pen.Pen.{Pen}
-use Rattle.cut_rule.specs.Run.{onto}
-use Rattle.cut_rule.specs.Parts.{Drawn, cleared, drawnOf}
+use Rattle.renderer.specs.declared.pen.Writing.{Writing}
+use Rattle.cut_rule.specs.Run.{writeFront}
+use Rattle.cut_rule.specs.Parts.{Drawn, withCleared, drawnOf}
 use Rattle.cut_rule.specs.PartLaws.{withPast}
 use Rattle.marks.specs.Marks.{marksNeeded}
-use Rattle.plain_run.specs.Parts.{parts, rendererOf, drawnBy}
+use Rattle.plain_run.specs.Parts.{partsOf, rendererOf, drawnBy}
 use Rattle.plain_run.proofs.Past.{Unders, renders-ext, renders-length}
 use Rattle.plain_run.proofs.Marks.{nodes-under}
 use Rattle.render_call.specs.Calls.{toState}
 use Rattle.render_call.specs.declared.RenderState.{RenderState}
+use Rattle.render_call.specs.declared.RenderArgs.{RenderArgs}
 
 enough-cleared : (m : List ℕ) (n : ℕ) → n ≤ length (m ++ replicate (n - length m) 0)
 enough-cleared m n =
@@ -28,39 +28,39 @@ enough-cleared m n =
     let f : length new ≡ n - length m = length-replicate (n - length m) 0 in
     omega arith
 
-module _ (source image : List ℕ) (state : RenderState) (stop : ℕ) (store marks : List ℕ) (ahead : state .row ≤ stop) where
+module _ (source image : List ℕ) (state : RenderState) (args : RenderArgs) (store marks : List ℕ) (ahead : state .row ≤ (args .stop)) where
   abbrev needed : ℕ
-  needed = marksNeeded (stop - state .row) store (state .row)
+  needed = marksNeeded ((args .stop) - state .row) store (state .row)
 
   -- the marks in use, "the new ones cleared first"
   abbrev pub inUse : List ℕ
-  inUse = cleared (parts source image) (take (state .«in_use») marks) needed
+  inUse = withCleared (partsOf source image) (take (state .«in_use») marks) needed
 
   abbrev pub gives : Drawn
-  gives = drawnOf (parts source image) (toState state) (take (state .«in_use») marks) store stop
+  gives = drawnOf (partsOf source image) (toState state) (take (state .«in_use») marks) store (args .stop)
 
-  under : Unders (length inUse) (nodesAt (viewOf store) (state .row) stop)
+  under : Unders (length inUse) (nodesAt (viewOf store) (state .row) (args .stop))
   under =
-      nodes-under store (stop - state .row) (state .row) (state .row) stop (length inUse)
+      nodes-under store ((args .stop) - state .row) (state .row) (state .row) (args .stop) (length inUse)
       (enough-cleared (take (state .«in_use») marks) needed)
       (omega arith)
       (omega arith)
 
   -- with any marks behind those in use
   pub ran : (past : List ℕ)
-      → drawnBy (renders (pageOf 80 source image) (nodesAt (viewOf store) (state .row) stop) true (rendererOf (toState state .pen) (inUse ++ past)))
+      → drawnBy (renderNodes (pageOf 80 source image) (nodesAt (viewOf store) (state .row) (args .stop)) true (rendererOf (toState state .pen) (inUse ++ past)))
       ≡ withPast gives past
   ran past =
       ap drawnBy
-      (renders-ext [] past (pageOf 80 source image) (nodesAt (viewOf store) (state .row) stop) true (rendererOf (toState state .pen) inUse) under)
+      (renders-ext [] past (pageOf 80 source image) (nodesAt (viewOf store) (state .row) (args .stop)) true (rendererOf (toState state .pen) inUse) under)
 
   -- what the run leaves of the marks is as many as it took up, so with the buffer's own behind them the buffer is as the call leaves it
-  pub marks-onto : gives .marks ++ drop (length inUse) marks ≡ onto (gives .marks) marks
+  pub marks-onto : gives .marks ++ drop (length inUse) marks ≡ writeFront (gives .marks) marks
   marks-onto =
       ap (λ (n : ℕ). gives .marks ++ drop n marks)
-      (sym (renders-length (pageOf 80 source image) (nodesAt (viewOf store) (state .row) stop) true (rendererOf (toState state .pen) inUse)))
+      (sym (renders-length (pageOf 80 source image) (nodesAt (viewOf store) (state .row) (args .stop)) true (rendererOf (toState state .pen) inUse)))
 
   -- the renderer that a pen with the state's numbers starts as
-  pub started : (p : Pen) (m : List ℕ) → p .indent ≡ state .indent → p .«next_indent» ≡ state .«next_indent» → p .column .0 ≡ state .column .0
-      → stateOf p m [] ≡ rendererOf (toState state .pen) m
+  pub started : (p : Writing) (m : List ℕ) → p .pen .indent ≡ state .indent → p .pen .«next_indent» ≡ state .«next_indent» → p .pen .column .0 ≡ state .column .0
+      → fresh (p .pen) m ≡ rendererOf (toState state .pen) m
   started p m e f g = rw (e, f, g)

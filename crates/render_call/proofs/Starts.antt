@@ -1,8 +1,8 @@
 -- A call that nothing refuses before its run may run.
 -- Assumes nothing.
-use mathlib.Core.Path.{_≡_, refl, sym, _∙_}
+use mathlib.Core.Path.{sym, _∙_}
 use mathlib.Core.List.{List}
-use Prim.Native.Nat.{ℕ, _*_, _≤_}
+use Prim.Native.Nat.{ℕ, _≤_}
 use native.Mathlib.Omega.{arith}
 use lib.ListN.{length}
 use Rattle.rows.specs.View.{viewOf}
@@ -11,28 +11,29 @@ use Rattle.renderer_rules.specs.Check.{placesFit}
 use Rattle.renderer_rules.proofs.Checked.{accepted-nests}
 use Rattle.rowcheck.proofs.Pending.{stop-fits}
 use Rattle.renderer.specs.Run.{Starting}
-use Rattle.renderer.specs.declared.pen.Pen.{Pen}
+use Rattle.renderer.specs.declared.pen.Writing.{Writing}
 use Rattle.render_call.specs.Whole.{Takes}
 use Rattle.render_call.specs.declared.RenderState.{RenderState}
+use Rattle.render_call.specs.declared.RenderArgs.{RenderArgs}
 use Rattle.render_call.proofs.Tests.{few-rows}
 use Rattle.render_call.proofs.Accepted.{Accepted}
 
-module _ (source image : List ℕ) (state : RenderState) (stop : ℕ) (store marks : List ℕ) (a : Accepted source image state stop store marks) where
-  pub nested : Nested store (state .row) stop
+module _ (source image : List ℕ) (state : RenderState) (args : RenderArgs) (store marks : List ℕ) (a : Accepted source image state args store marks) where
+  pub nested : Nested store (state .row) (args .stop)
   nested =
-      let few = few-rows source image store (state .row) stop (a .right) in
+      let few = few-rows source image store (state .row) (args .stop) (a .right) in
       record {
         room = a .within;
         few = few;
         nests =
-            accepted-nests (placesFit source image store) (viewOf store) stop 0 (state .row)
-            (sym (stop-fits source image store (state .row) stop few (a .within)) ∙ a .right)
+            accepted-nests (placesFit source image store) (viewOf store) (args .stop) 0 (state .row)
+            (sym (stop-fits source image store (state .row) (args .stop) few (a .within)) ∙ a .right)
             (a .ahead);
       }
 
   -- with a pen that has the state's numbers and wrote nothing yet, over rows that nest as the store's do
-  pub starts : (rows : List ℕ) → Nested rows (state .row) stop → (p : Pen) (limit : ℕ) (out : List ℕ) → Takes state p → limit ≤ length out
-      → Starting rows limit (state .row) stop out p
+  pub starts : (rows : List ℕ) → Nested rows (state .row) (args .stop) → (p : Writing) (limit : ℕ) (out : List ℕ) → Takes state p → limit ≤ length out
+      → Starting rows limit (state .row) (args .stop) out p
   starts rows nests p limit out k l =
       let e = k .indent in
       let f = k .next in

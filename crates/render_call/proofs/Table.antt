@@ -1,73 +1,44 @@
--- The entry 12 of the table, from what the code tests.
+-- Refusal 12, from the code's tests, group by group, to the table's.
 -- Assumes nothing.
 use mathlib.Core.Path.{_≡_, sym, ap, _∙_}
-use mathlib.Core.Bool.{Bool, true, false, not, _||_}
-use mathlib.Core.Option.{Option}
-use mathlib.Core.List.{List, [], _∷_}
-use Prim.Native.Nat.{ℕ, _/_, _≤_, _<_}
-use lib.ListN.{length, take, drop}
-use lib.Dec.{ltb}
-use borrow.Author.Tests.{lt-ltb, le-ltb, not-true, not-false}
-use Rattle.refusals.specs.Refusals.{Refusal, any, first, when}
-use Rattle.cut_rule.specs.Parts.{Parts, oddMark, renderTests, renderTable}
-use Rattle.plain_run.specs.Parts.{parts}
-use Rattle.render_call.specs.Calls.{toState, args, refusalOf}
+use mathlib.Core.Bool.{Bool, true, false, not}
+use mathlib.Core.List.{List, _++_}
+use Prim.Native.Nat.{ℕ}
+use borrow.Author.Tests.{not-true, not-false}
+use Rattle.refusals.specs.Refusals.{any, refuseIf}
+use Rattle.refusals.proofs.Groups.{group-refuses, group-passes}
+use Rattle.cut_rule.specs.Tests.{rowsIn, rowTests, penTests, markTests, renderTests}
+use Rattle.render_call.specs.Calls.{toState, toArgs, verdictRefusal}
 use Rattle.render_call.specs.declared.RenderState.{RenderState}
-use Rattle.render_call.specs.declared.Verdict.the-variants as verdict
-use Rattle.render_call.proofs.Tests.{pen-wrong, pen-right, second-right}
+use Rattle.render_call.specs.declared.RenderArgs.{RenderArgs}
+use Rattle.render_call.specs.declared.refusal.Verdict.the-variants as verdict
 
--- ---- 12: the state
-module _ (P : Parts) (s : RenderState) (stop : ℕ) (store marks : List ℕ) where
+module _ (state : RenderState) (args : RenderArgs) (store marks : List ℕ) where
+  abbrev row : List Bool
+  row = rowTests (rowsIn store) (args .stop) (state .row)
+
+  abbrev pen : List Bool
+  pen = penTests (toState state .pen)
+
+  abbrev used : List Bool
+  used = markTests marks (state .«in_use»)
+
   abbrev tests : Bool
-  tests = any (renderTests P (args stop 0) (toState s) store marks)
+  tests = any (renderTests (toArgs args 0) (toState state) store marks)
 
-  abbrev pens : Bool
-  pens = any (ltb 64 (s .indent) ∷ ltb 64 (s .«next_indent») ∷ ltb 72057594037927936 (s .column .0) ∷ [])
+  pub row-fails : (x : Bool) → x ≡ not (any row) → not x ≡ true → false ≡ not tests
+  row-fails x e h = group-refuses x row (pen ++ used) e h
 
-  abbrev used : Bool
-  used = any (ltb (length marks) (s .«in_use») ∷ oddMark (take (s .«in_use») marks) ∷ [])
+  module _ (x : Bool) (e : x ≡ not (any row)) (h : not x ≡ false) where
+    pub pen-fails : (y : Bool) → y ≡ not (any pen) → not y ≡ true → false ≡ not tests
+    pen-fails y f i = group-passes x false row (pen ++ used) e h (group-refuses y pen used f i)
 
-  pub past-store : length store / 9 < s .row → false ≡ not tests
-  past-store h = rw (lt-ltb (length store / 9) (s .row) h)
+    pub marks-say : (y z : Bool) → y ≡ not (any pen) → not y ≡ false → z ≡ not (any used) → z ≡ not tests
+    marks-say y z f i g = group-passes x z row (pen ++ used) e h (group-passes y z pen used f i g)
 
-  module _ (h : s .row ≤ length store / 9) where
-    pub past-stop : stop < s .row → false ≡ not tests
-    past-stop k = rw (le-ltb (length store / 9) (s .row) h, lt-ltb stop (s .row) k)
+  -- the line of 12
+  pub state-unfit : (x : Bool) → x ≡ not tests → not x ≡ true → verdictRefusal (verdict.Refused 12 0) ≡ refuseIf tests 12 0
+  state-unfit x e h = sym (ap (λ (t : Bool). refuseIf t 12 0) (not-false tests (sym e ∙ not-true x h)))
 
-    module _ (k : s .row ≤ stop) where
-      pub past-limit : 2097152 < s .row → false ≡ not tests
-      past-limit m = rw (le-ltb (length store / 9) (s .row) h, le-ltb stop (s .row) k, lt-ltb 2097152 (s .row) m)
-
-      module _ (m : s .row ≤ 2097152) where
-        rest : tests ≡ (ltb 64 (s .indent) || (ltb 64 (s .«next_indent») || (ltb 72057594037927936 (s .column .0) || used)))
-        rest = rw (le-ltb (length store / 9) (s .row) h, le-ltb stop (s .row) k, le-ltb 2097152 (s .row) m)
-
-        pub wrong-pen : not pens ≡ false → false ≡ not tests
-        wrong-pen e =
-            pen-wrong (ltb 64 (s .indent)) (ltb 64 (s .«next_indent»)) (ltb 72057594037927936 (s .column .0)) used e ∙ ap not (sym rest)
-
-        pub right-pen : (x : Bool) → not pens ≡ true → x ≡ not used → x ≡ not tests
-        right-pen x e f =
-            pen-right (ltb 64 (s .indent)) (ltb 64 (s .«next_indent»)) (ltb 72057594037927936 (s .column .0)) used x e f ∙ ap not (sym rest)
-
-  pub row-within : not tests ≡ true → s .row ≤ stop
-  row-within e =
-      second-right (ltb (length store / 9) (s .row))
-      (ltb 2097152 (s .row) || (ltb 64 (s .indent) || (ltb 64 (s .«next_indent») || (ltb 72057594037927936 (s .column .0) || used))))
-      stop
-      (s .row)
-      e
-
--- ---- the entry of 12
-module _ (source image : List ℕ) (s : RenderState) (stop : ℕ) (store marks : List ℕ) where
-  abbrev unfit : Bool
-  unfit = any (renderTests (parts source image) (args stop 0) (toState s) store marks)
-
-  abbrev entry : Option Refusal
-  entry = first (drop 2 (take 3 (renderTable (parts source image) (args stop 0) (toState s) store marks)))
-
-  pub state-unfit : not unfit ≡ false → refusalOf (verdict.Refused 12 0) ≡ entry
-  state-unfit e = sym (ap (λ (x : Bool). first (when x 12 0 ∷ [])) (not-false unfit e))
-
-  pub state-fit : not unfit ≡ true → refusalOf verdict.Accepted ≡ entry
-  state-fit e = sym (ap (λ (x : Bool). first (when x 12 0 ∷ [])) (not-true unfit e))
+  pub state-fit : (x : Bool) → x ≡ not tests → not x ≡ false → verdictRefusal verdict.Accepted ≡ refuseIf tests 12 0
+  state-fit x e h = sym (ap (λ (t : Bool). refuseIf t 12 0) (not-true tests (sym e ∙ not-false x h)))

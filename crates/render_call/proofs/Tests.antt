@@ -1,23 +1,23 @@
 -- The tests of a rendering state, from what the code tests.
 -- Assumes nothing.
 use mathlib.Core.Path.{_≡_, refl, sym, ap, _∙_}
-use mathlib.Core.Bool.{Bool, true, false, cond, not, _&&_, _||_}
+use mathlib.Core.Bool.{Bool, true, false, cond, _&&_, _||_}
 use mathlib.Core.Option.{Option, none, some}
 use mathlib.Core.List.{List, [], _∷_}
 use Prim.Native.Nat.{ℕ, zero, suc, _+_, _*_, _-_, _≤_, _<_}
 use native.Mathlib.Omega.{arith}
 use native.Mathlib.Numerals.{add-one}
 use lib.ListN.{length, getD, take, drop}
-use native.Mathlib.Decide.{decLe}
 use lib.Dec.{ltb, leb}
-use borrow.Author.Tests.{lt-ltb, le-ltb, le-leb, lt-leb, ltb-false, leb-true}
-use Rattle.laws.proofs.Booleans.{false-true, at-most, or-none}
+use borrow.Author.Tests.{lt-ltb, le-ltb, leb-true}
 use Rattle.renderer_rules.specs.Check.{wrongPlace}
 use Rattle.rowcheck.specs.Found.{refusalOf}
 use Rattle.rowcheck.specs.declared.Found.{Found}
 use Rattle.rowcheck.specs.declared.Found.the-variants.{Right, Wrong}
-use Rattle.refusals.specs.Refusals.{Refusal, any, whenFound}
-use Rattle.cut_rule.specs.Parts.{oddMark}
+use Rattle.rows.specs.Limits.{MAX-ROWS}
+use Rattle.rows.specs.Places.{PLACES}
+use Rattle.refusals.specs.Refusals.{Refusal, refuseAt, first}
+use Rattle.cut_rule.specs.Tests.{oddMark}
 
 -- ---- marks in use
 odd-next : (i n : ℕ) (m : List ℕ) → i < length m → oddMark (take (suc n) (drop i m)) ≡ (ltb 1 (getD m i 0) || oddMark (take n (drop (suc i) m)))
@@ -63,61 +63,44 @@ module _ (m : List ℕ) (used i : ℕ) (o : Odd m used i) where
               ∙ ap (λ (j : ℕ). oddMark (take (used - j) (drop j m))) (sym (add-one i));
         }
 
--- ---- the numbers of the pen, and then the rest
-pub pen-wrong : (a b c t : Bool) → not (any (a ∷ b ∷ c ∷ [])) ≡ false → false ≡ not (a || (b || (c || t)))
-pen-wrong true b c t e = refl
-pen-wrong false true c t e = refl
-pen-wrong false false true t e = refl
-pen-wrong false false false t e = false-true (sym e)
-
-pub pen-right : (a b c t x : Bool) → not (any (a ∷ b ∷ c ∷ [])) ≡ true → x ≡ not t → x ≡ not (a || (b || (c || t)))
-pen-right true b c t x e f = false-true e
-pen-right false true c t x e f = false-true e
-pen-right false false true t x e f = false-true e
-pen-right false false false t x e f = f
-
--- the second test is that of the next row past the stop
-pub second-right : (a t : Bool) (stop row : ℕ) → not (a || (ltb stop row || t)) ≡ true → row ≤ stop
-second-right true t stop row e = false-true e
-second-right false t stop row e = ltb-false stop row (go (ltb stop row) e)
-  where
-    go : (x : Bool) → not (x || t) ≡ true → x ≡ false
-    go true e = false-true e
-    go false e = refl
+-- the last line of a table
+pub alone : (o : Option Refusal) → o ≡ first (o ∷ [])
+alone none = refl
+alone (some r) = refl
 
 -- ---- the check of rows
 abbrev placeOf : Option Refusal → ℕ
 placeOf none = 0
 placeOf (some r) = r .place
 
-module _ (o : Option ℕ) (f : Found) (e : refusalOf f ≡ whenFound o 11) where
+module _ (o : Option ℕ) (f : Found) (e : refusalOf f ≡ refuseAt o 11) where
   pub found-wrong : (row : ℕ) → f ≡ Wrong row → o ≡ some row
   found-wrong row g = go o (sym (ap refusalOf g) ∙ e)
     where
-      go : (x : Option ℕ) → some (record { number = 11; place = row }) ≡ whenFound x 11 → x ≡ some row
+      go : (x : Option ℕ) → some (record { number = 11; place = row }) ≡ refuseAt x 11 → x ≡ some row
       go none h = let z : _≡_ {A = ℕ} 0 1 = cc in absurd (omega arith)
       go (some x) h = ap some (sym (ap placeOf h))
 
   pub found-right : f ≡ Right → o ≡ none
   found-right g = go o (sym (ap refusalOf g) ∙ e)
     where
-      go : (x : Option ℕ) → none ≡ whenFound x 11 → x ≡ none
+      go : (x : Option ℕ) → none ≡ refuseAt x 11 → x ≡ none
       go none h = refl
       go (some x) h = let z : _≡_ {A = ℕ} 0 1 = cc in absurd (omega arith)
 
 -- rows that are right are in the store
-pub stop-within : (s b store : List ℕ) (from stop : ℕ) → wrongPlace s b store from stop ≡ none → stop * 9 ≤ length store
+pub stop-within : (s b store : List ℕ) (from stop : ℕ) → wrongPlace s b store from stop ≡ none → stop * PLACES ≤ length store
 unfolding wrongPlace
-stop-within s b store from stop e = leb-true (stop * 9) (length store) (go (leb stop 2097152) (leb (stop * 9) (length store)) _ e)
+stop-within s b store from stop e = leb-true (stop * PLACES) (length store) (go (leb stop MAX-ROWS) (leb (stop * PLACES) (length store)) _ e)
   where
     go : (t u : Bool) (x : Option ℕ) → cond (t && u) x (some 0) ≡ none → u ≡ true
     go true true x e = refl
     go true false x e = let z : _≡_ {A = ℕ} 0 1 = cc in absurd (omega arith)
     go false u x e = let z : _≡_ {A = ℕ} 0 1 = cc in absurd (omega arith)
 
-pub few-rows : (s b store : List ℕ) (from stop : ℕ) → wrongPlace s b store from stop ≡ none → stop ≤ 2097152
+pub few-rows : (s b store : List ℕ) (from stop : ℕ) → wrongPlace s b store from stop ≡ none → stop ≤ MAX-ROWS
 unfolding wrongPlace
-few-rows s b store from stop e = leb-true stop 2097152 (go (leb stop 2097152) (leb (stop * 9) (length store)) _ e)
+few-rows s b store from stop e = leb-true stop MAX-ROWS (go (leb stop MAX-ROWS) (leb (stop * PLACES) (length store)) _ e)
   where
     go : (t u : Bool) (x : Option ℕ) → cond (t && u) x (some 0) ≡ none → t ≡ true
     go true u x e = refl

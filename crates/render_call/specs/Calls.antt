@@ -1,23 +1,23 @@
--- A rendering call's state and answer as document 01's, and its refusals before it renders.
-use mathlib.Core.Bool.{Bool}
+-- A rendering call's state, arguments and answer as document 01's, and its refusals before it renders.
 use mathlib.Core.Option.{Option, none, some}
 use mathlib.Core.List.{List}
 use Prim.Native.Nat.{ℕ}
-use lib.ListN.{take}
 use Rattle.refusals.specs.Refusals.{Refusal, first}
-use Rattle.cut_rule.specs.Rules.{RenderArgs}
+use Rattle.cut_rule.specs.Rules as cut
 use Rattle.cut_rule.specs.Run.{Answer, refused, written}
-use Rattle.cut_rule.specs.Parts as cut
-use Rattle.plain_run.specs.Parts.{parts}
+use Rattle.cut_rule.specs.States as states
+use Rattle.cut_rule.specs.Parts.{beforeMarks, beforeText}
+use Rattle.plain_run.specs.Parts.{partsOf}
 use Rattle.plain_run.specs.Demands.{rulesOf}
 use Rattle.render_call.specs.declared.RenderState.{RenderState}
+use Rattle.render_call.specs.declared.RenderArgs.{RenderArgs}
 use Rattle.render_call.specs.declared.Rendering.{Rendering}
 use Rattle.render_call.specs.declared.Rendering.the-variants as rendering
-use Rattle.render_call.specs.declared.Verdict.{Verdict}
-use Rattle.render_call.specs.declared.Verdict.the-variants as verdict
+use Rattle.render_call.specs.declared.refusal.Verdict.{Verdict}
+use Rattle.render_call.specs.declared.refusal.Verdict.the-variants as verdict
 
 -- "Rendering state: `indent`, `next_indent`, `column`, marks in use, next row."
-abbrev pub toState : RenderState → cut.RenderState
+abbrev pub toState : RenderState → states.RenderState
 toState s = record {
   pen = record { indent = s .indent; next-indent = s .«next_indent»; column = s .column .0 };
   in-use = s .«in_use»;
@@ -25,23 +25,23 @@ toState s = record {
 }
 
 -- "A rendering call names the row to stop before"; `room` is the length of the output that it is lent.
-abbrev pub args : ℕ → ℕ → RenderArgs (Unit {0})
-args stop room = record { stop = stop; room = room; choice = tt }
+abbrev pub toArgs : RenderArgs → ℕ → cut.RenderArgs states.RenderChoice
+toArgs args room = record { stop = args .stop; room = room; choice = states.onlyRenderChoice }
 
 -- A call's answer, case by case: "the new state and the bytes written"; "Number and place are all that comes back."
-abbrev pub answerOf : (s b : List ℕ) → Rendering → Answer (rulesOf s b)
-answerOf s b (rendering.Written t n) = written (toState t) (n .0)
-answerOf s b (rendering.Refused n p) = refused (record { number = n; place = p })
+abbrev pub renderingAnswer : (s b : List ℕ) → Rendering → Answer (rulesOf s b)
+renderingAnswer s b (rendering.Written t n) = written (toState t) (n .0)
+renderingAnswer s b (rendering.Refused n p) = refused (record { number = n; place = p })
 
 -- A verdict, case by case: none, or number and place.
-abbrev pub refusalOf : Verdict → Option Refusal
-refusalOf verdict.Accepted = none
-refusalOf (verdict.Refused n p) = some (record { number = n; place = p })
+abbrev pub verdictRefusal : Verdict → Option Refusal
+verdictRefusal verdict.Accepted = none
+verdictRefusal (verdict.Refused n p) = some (record { number = n; place = p })
 
--- "rendering 1, 3 by the same tests, then 11, 12": the first entries of the table
-abbrev pub beforeMarks : List ℕ → List ℕ → ℕ → cut.RenderState → List ℕ → List ℕ → Option Refusal
-beforeMarks s b stop state store marks = first (take 3 (cut.renderTable (parts s b) (args stop 0) state store marks))
+-- "rendering 1, 3 by the same tests, then 11, 12": the lines before the rows are counted
+abbrev pub earlyRefusal : List ℕ → List ℕ → RenderArgs → RenderState → List ℕ → List ℕ → Option Refusal
+earlyRefusal s b args state store marks = first (beforeMarks (partsOf s b) (toArgs args 0) (toState state) store marks)
 
--- "rendering 1, 3 by the same tests, then 11, 12, 9": the table but for its last entry, 10, which alone reads the room
-abbrev pub beforeRun : List ℕ → List ℕ → ℕ → cut.RenderState → List ℕ → List ℕ → Option Refusal
-beforeRun s b stop state store marks = first (take 4 (cut.renderTable (parts s b) (args stop 0) state store marks))
+-- and 9: all but 10, which alone reads the room
+abbrev pub runRefusal : List ℕ → List ℕ → RenderArgs → RenderState → List ℕ → List ℕ → Option Refusal
+runRefusal s b args state store marks = first (beforeText (partsOf s b) (toArgs args 0) (toState state) store marks)

@@ -5,51 +5,52 @@ use mathlib.Core.List.{List}
 use Prim.Native.Nat.{ℕ, _+_, _*_, _-_, _≤_}
 use lib.ListN.{length}
 use Rattle.rows.specs.declared.units.Bytes.{Bytes}
-use Rattle.renderer.specs.declared.pen.Pen.{Pen}
+use Rattle.renderer.specs.declared.pen.Writing.{Writing}
 use Rattle.renderer_rules.specs.Most.{rowsMost}
 use Rattle.cut_rule.specs.Entries.{renderAnswer, renderMarks, renderOutput}
 use Rattle.cut_rule.specs.Parts.{bytesNeeded}
-use Rattle.plain_run.specs.Parts.{parts}
+use Rattle.plain_run.specs.Parts.{partsOf}
 use Rattle.plain_run.specs.Demands.{rulesOf}
-use Rattle.render_call.specs.Calls.{toState, args, answerOf, beforeMarks, beforeRun}
+use Rattle.render_call.specs.Calls.{toState, toArgs, renderingAnswer, earlyRefusal, runRefusal}
 use Rattle.render_call.specs.declared.RenderState.{RenderState}
+use Rattle.render_call.specs.declared.RenderArgs.{RenderArgs}
 use Rattle.render_call.specs.declared.Rendering.{Rendering}
 
--- the answer, and store, marks and output at exit, for one source and image: what the caller's state, stop, store, marks and output give
-pub record Called (source image : List ℕ) (state : RenderState) (stop : ℕ) (store marks out : List ℕ) (r : Rendering) (store2 marks2 out2 : List ℕ) : Type 0 where
-  pub answer : answerOf source image r ≡ renderAnswer (rulesOf source image) (args stop (length out)) (toState state) store marks
+-- the answer, and store, marks and output at exit, for one source and image: what the caller's state, arguments, store, marks and output give
+pub record RenderCalled (source image : List ℕ) (state : RenderState) (args : RenderArgs) (store marks out : List ℕ) (r : Rendering) (store2 marks2 out2 : List ℕ) : Type 0 where
+  pub answer : renderingAnswer source image r ≡ renderAnswer (rulesOf source image) (toArgs args (length out)) (toState state) store marks
   pub store-left : store2 ≡ store
-  pub marks-left : marks2 ≡ renderMarks (rulesOf source image) (args stop (length out)) (toState state) store marks
-  pub output-left : out2 ≡ renderOutput (rulesOf source image) (args stop (length out)) (toState state) store marks out
+  pub marks-left : marks2 ≡ renderMarks (rulesOf source image) (toArgs args (length out)) (toState state) store marks
+  pub output-left : out2 ≡ renderOutput (rulesOf source image) (toArgs args (length out)) (toState state) store marks out
 
 -- the bytes that the text has, 10's place, with store, marks and output as they were
-pub record Counted (source image : List ℕ) (state : RenderState) (stop : ℕ) (store marks out : List ℕ) (n : Bytes) (store2 marks2 out2 : List ℕ) : Type 0 where
-  pub bytes : n .0 ≡ bytesNeeded (parts source image) (args stop (length out)) (toState state) store marks
+pub record Counted (source image : List ℕ) (state : RenderState) (args : RenderArgs) (store marks out : List ℕ) (n : Bytes) (store2 marks2 out2 : List ℕ) : Type 0 where
+  pub bytes : n .0 ≡ bytesNeeded (partsOf source image) (toArgs args (length out)) (toState state) store marks
   pub store-left : store2 ≡ store
   pub marks-left : marks2 ≡ marks
   pub output-left : out2 ≡ out
 
 -- 1, 3, 11 and 12 do not refuse the call
-pub record Checked (source image : List ℕ) (state : RenderState) (stop : ℕ) (store marks : List ℕ) : Type 0 where
-  pub passes : beforeMarks source image stop (toState state) store marks ≡ none
+pub record Checked (source image : List ℕ) (state : RenderState) (args : RenderArgs) (store marks : List ℕ) : Type 0 where
+  pub passes : earlyRefusal source image args state store marks ≡ none
 
 -- nothing refuses the call before its run
-pub record Passing (source image : List ℕ) (state : RenderState) (stop : ℕ) (store marks : List ℕ) : Type 0 where
-  pub passes : beforeRun source image stop (toState state) store marks ≡ none
+pub record Passing (source image : List ℕ) (state : RenderState) (args : RenderArgs) (store marks : List ℕ) : Type 0 where
+  pub passes : runRefusal source image args state store marks ≡ none
 
 -- and its text has room
-pub record Fitting (source image : List ℕ) (state : RenderState) (stop : ℕ) (store marks out : List ℕ) : Type 0 where
-  pub passing : Passing source image state stop store marks
-  pub room : bytesNeeded (parts source image) (args stop (length out)) (toState state) store marks ≤ length out
+pub record Fitting (source image : List ℕ) (state : RenderState) (args : RenderArgs) (store marks out : List ℕ) : Type 0 where
+  pub passing : Passing source image state args store marks
+  pub room : bytesNeeded (partsOf source image) (toArgs args (length out)) (toState state) store marks ≤ length out
 
 -- the bytes that the rows give at most, with the start of the first line
-abbrev pub mostOf : RenderState → ℕ → List ℕ → ℕ
-mostOf state stop store =
-    4 * (state .indent + state .«next_indent») + rowsMost (stop - state .row) (state .indent + state .«next_indent») store (state .row)
+abbrev pub mostOf : RenderState → RenderArgs → List ℕ → ℕ
+mostOf state args store =
+    4 * (state .indent + state .«next_indent») + rowsMost (args .stop - state .row) (state .indent + state .«next_indent») store (state .row)
 
 -- p has the state's numbers, and wrote nothing yet
-pub record Takes (state : RenderState) (p : Pen) : Type 0 where
-  pub indent : p .indent ≡ state .indent
-  pub next : p .«next_indent» ≡ state .«next_indent»
-  pub column : p .column .0 ≡ state .column .0
+pub record Takes (state : RenderState) (p : Writing) : Type 0 where
+  pub indent : p .pen .indent ≡ state .indent
+  pub next : p .pen .«next_indent» ≡ state .«next_indent»
+  pub column : p .pen .column .0 ≡ state .column .0
   pub at : p .at .0 ≡ 0

@@ -1,11 +1,14 @@
 // How many bytes rows give, by rendering them into nothing.
 ghost use Rattle.render_call.specs.Whole.{Counted, Passing};
-use crate::MAX;
+use crate::RenderArgs;
 use crate::RenderState;
-use crate::start_pen;
+use crate::run::MAX;
+use crate::run::start_text;
 use marks::keep::put_aside;
 use marks::keep::put_back;
 use renderer::machine::run_rows;
+use renderer::run::Bounds;
+use renderer::run::RowRange;
 use rows::units::Bytes;
 
 // How many bytes the rows give: a dry run. The marks of the rows' numbers are put aside in the rows, in a place that these don't use, and
@@ -17,15 +20,21 @@ pub(crate) fn bytes_needed(
     marks: &mut [u8],
     out: &mut [u8],
     state: RenderState,
-    stop: usize,
+    args: RenderArgs,
 ) -> Bytes
-    requires { ⌜ Passing (now source) (now image) state stop (now store) (now marks) ⌝ }
-    ensures { λ r. ⌜ Counted (now (source .entry)) (now (image .entry)) state stop (now (store .entry)) (now (marks .entry)) (now (out .entry)) r (now (store .exit)) (now (marks .exit)) (now (out .exit)) ⌝ }
+    requires { ⌜ Passing (now source) (now image) state args (now store) (now marks) ⌝ }
+    ensures { λ r. ⌜ Counted (now (source .entry)) (now (image .entry)) state args (now (store .entry)) (now (marks .entry)) (now (out .entry)) r (now (store .exit)) (now (marks .exit)) (now (out .exit)) ⌝ }
 {
     let from = state.row;
-    let start = start_pen(state);
+    let stop = args.stop;
+    let rows = RowRange {
+        from: from,
+        stop: stop,
+    };
+    let bounds = Bounds { max: MAX, limit: 0 };
+    let start = start_text(state);
     put_aside(store, marks, state.in_use, from, stop);
-    let end = run_rows(start, store, source, image, marks, out, 0, MAX, from, stop);
+    let end = run_rows(start, rows, store, source, image, marks, out, bounds);
     put_back(store, marks, from, stop);
     let bytes = end.at;
     bytes

@@ -1,25 +1,47 @@
-// Refusal 12, as far as it is of rendering.
+// Refusal 12, as far as it is of rendering: a function for each group of tests.
 ghost use mathlib.Core.Path.{_≡_};
 ghost use mathlib.Core.Bool.{not};
-ghost use mathlib.Core.List.{List, [], _∷_};
-ghost use Prim.Native.Nat.{ℕ, _≤_};
-ghost use lib.ListN.{length, take, drop};
-ghost use lib.Dec.{ltb};
-ghost use Rattle.renderer_rules.specs.Limits.{MAX-INDENT, MAX-COLUMN};
-ghost use Rattle.refusals.specs.Refusals.{any, first};
-ghost use Rattle.cut_rule.specs.Parts.{Parts, oddMark, renderTests, renderTable};
-ghost use Rattle.plain_run.specs.Parts.{parts};
-ghost use Rattle.render_call.specs.Calls.{toState, args, refusalOf};
+ghost use Prim.Native.Nat.{_≤_};
+ghost use lib.ListN.{length, take};
+ghost use Rattle.refusals.specs.Refusals.{refuseIf, any};
+ghost use Rattle.cut_rule.specs.Tests.{rowsIn, oddMark, rowTests, penTests, markTests, renderTests};
+ghost use Rattle.render_call.specs.Calls.{toState, toArgs, verdictRefusal};
+use crate::RenderArgs;
 use crate::RenderState;
-use crate::Verdict;
+use crate::refusal::Verdict;
 use rows::limits::MAX_ROWS;
 use rows::places::PLACES;
-use rows::units::Columns;
 
 // "`indent` or `next_indent` over 64; column over 72,057,594,037,927,936".
 const MAX_INDENT: usize = 64;
 
 const MAX_COLUMN: usize = 72057594037927936;
+
+// Whether the state's next row is within the store, not past the stop, and within its limit.
+fn row_fits(row: usize, stop: usize, store: &[u32]) -> bool
+    ensures { λ r. ⌜ r ≡ not (any (rowTests (rowsIn (now (store .entry))) stop row)) ⌝ }
+{
+    if store.len() / PLACES < row {
+        return false;
+    }
+    if stop < row {
+        return false;
+    }
+    row <= MAX_ROWS
+}
+
+// Whether `indent`, `next_indent` and `column` are within their limits.
+fn pen_fits(state: RenderState) -> bool
+    ensures { λ r. ⌜ r ≡ not (any (penTests (toState state .pen))) ⌝ }
+{
+    if MAX_INDENT < state.indent {
+        return false;
+    }
+    if MAX_INDENT < state.next_indent {
+        return false;
+    }
+    state.column.0 <= MAX_COLUMN
+}
 
 // Whether one of the marks in use is neither 0 nor 1.
 fn has_odd_mark(marks: &[u8], used: usize) -> bool
@@ -36,22 +58,9 @@ fn has_odd_mark(marks: &[u8], used: usize) -> bool
     false
 }
 
-// Whether `indent`, `next_indent` and `column` are within their limits.
-fn pen_fits(indent: usize, next: usize, column: Columns) -> bool
-    ensures { λ r. ⌜ r ≡ not (any (ltb MAX-INDENT indent ∷ ltb MAX-INDENT next ∷ ltb MAX-COLUMN (column .0) ∷ [])) ⌝ }
-{
-    if MAX_INDENT < indent {
-        return false;
-    }
-    if MAX_INDENT < next {
-        return false;
-    }
-    column.0 <= MAX_COLUMN
-}
-
 // Whether the marks in use are in the buffer, and each 0 or 1.
 fn marks_fit(marks: &[u8], used: usize) -> bool
-    ensures { λ r. ⌜ r ≡ not (any (ltb (length (now (marks .entry))) used ∷ oddMark (take used (now (marks .entry))) ∷ [])) ⌝ }
+    ensures { λ r. ⌜ r ≡ not (any (markTests (now (marks .entry)) used)) ⌝ }
 {
     if marks.len() < used {
         return false;
@@ -59,30 +68,29 @@ fn marks_fit(marks: &[u8], used: usize) -> bool
     !has_odd_mark(marks, used)
 }
 
-// Refusal 12: whether the state is one that a call to this stop may have.
-fn state_fits(state: RenderState, stop: usize, store: &[u32], marks: &[u8]) -> bool
-    ensures { λ r. ⌜ ((P : Parts) → r ≡ not (any (renderTests P (args stop 0) (toState state) (now (store .entry)) (now (marks .entry))))) ⌝ }
+// Whether the state is one that this call may have.
+fn state_fits(state: RenderState, args: RenderArgs, store: &[u32], marks: &[u8]) -> bool
+    ensures { λ r. ⌜ r ≡ not (any (renderTests (toArgs args 0) (toState state) (now (store .entry)) (now (marks .entry)))) ⌝ }
 {
-    if store.len() / PLACES < state.row {
+    if !row_fits(state.row, args.stop, store) {
         return false;
     }
-    if stop < state.row {
-        return false;
-    }
-    if MAX_ROWS < state.row {
-        return false;
-    }
-    if !pen_fits(state.indent, state.next_indent, state.column) {
+    if !pen_fits(state) {
         return false;
     }
     marks_fit(marks, state.in_use)
 }
 
 // Refusal 12.
-pub(crate) fn state_refusal(state: RenderState, stop: usize, store: &[u32], marks: &[u8]) -> Verdict
-    ensures { λ r. ⌜ ((s b : List ℕ) → refusalOf r ≡ first (drop 2 (take 3 (renderTable (parts s b) (args stop 0) (toState state) (now (store .entry)) (now (marks .entry)))))) ⌝ }
+pub(crate) fn state_refusal(
+    state: RenderState,
+    args: RenderArgs,
+    store: &[u32],
+    marks: &[u8],
+) -> Verdict
+    ensures { λ r. ⌜ verdictRefusal r ≡ refuseIf (any (renderTests (toArgs args 0) (toState state) (now (store .entry)) (now (marks .entry)))) 12 0 ⌝ }
 {
-    if !state_fits(state, stop, store, marks) {
+    if !state_fits(state, args, store, marks) {
         return Verdict::Refused(12, 0);
     }
     Verdict::Accepted

@@ -10,22 +10,21 @@ use lib.Dec.{ltb}
 use borrow.Author.Tests.{lt-ltb, le-ltb}
 use Rattle.rows.specs.Node.{Nodes, widths, mustWraps, byteColumns}
 use Rattle.renderer_rules.specs.Page.{pageOf}
-use Rattle.renderer_rules.specs.Renderer.{virtualColumn, wraps, groupWraps, trailing, calleeWraps, indented, outdented, nextIndented, nextOutdented}
-use Rattle.renderer.specs.declared.pen.Pen.{Pen}
-use Rattle.renderer.specs.Pen.{shown, withMargin}
+use Rattle.renderer_rules.specs.Renderer.{fresh, withMargin, virtualColumn, wraps, groupWraps, trailingCall, calleeWraps, indented, outdented, nextIndented, nextOutdented}
+use Rattle.renderer_rules.specs.declared.Pen.{Pen}
 use Rattle.renderer.proofs.Capped.{ltb-same}
 
-pub virtual-on : (p : Pen) → 0 < p .column .0 → p .column .0 ≡ virtualColumn (shown p [])
-unfolding virtualColumn shown
+pub virtual-on : (p : Pen) → 0 < p .column .0 → p .column .0 ≡ virtualColumn p
+unfolding virtualColumn
 virtual-on p h = sym (rw (lt-ltb 0 (p .column .0) h))
 
-pub virtual-new : (p : Pen) → p .column .0 ≤ 0 → 4 * p .indent ≡ virtualColumn (shown p [])
-unfolding virtualColumn shown
+pub virtual-new : (p : Pen) → p .column .0 ≤ 0 → 4 * p .indent ≡ virtualColumn p
+unfolding virtualColumn
 virtual-new p h = sym (rw (le-ltb 0 (p .column .0) h))
 
 -- the virtual column is small
-pub virtual-low : (p : Pen) → p .indent ≤ 384 → p .column .0 < 1152921504606846976 → virtualColumn (shown p []) < 1152921504606846976
-unfolding virtualColumn shown
+pub virtual-low : (p : Pen) → p .indent ≤ 384 → p .column .0 < 1152921504606846976 → virtualColumn p < 1152921504606846976
+unfolding virtualColumn
 virtual-low p a b = go (ltb 0 (p .column .0))
   where
     go : (t : Bool) → cond t (p .column .0) (4 * p .indent) < 1152921504606846976
@@ -33,59 +32,59 @@ virtual-low p a b = go (ltb 0 (p .column .0))
     go false = omega arith
 
 module _ (max : ℕ) (p : Pen) (m : List ℕ) where
-  pub group-must : (ns : Nodes) → true ≡ mustWraps ns → true ≡ groupWraps (pageOf max [] []) ns (shown p m)
+  pub group-must : (ns : Nodes) → true ≡ mustWraps ns → true ≡ groupWraps (pageOf max [] []) ns (fresh p m)
   unfolding groupWraps wraps
   group-must ns e = rw (← e)
 
-  group-full : (ns : Nodes) (c w : ℕ) → false ≡ mustWraps ns → c ≡ virtualColumn (shown p []) → w ≡ widths byteColumns m ns
-      → ltb max (c + w) ≡ groupWraps (pageOf max [] []) ns (shown p m)
-  unfolding groupWraps wraps virtualColumn shown
+  group-full : (ns : Nodes) (c w : ℕ) → false ≡ mustWraps ns → c ≡ virtualColumn p → w ≡ widths byteColumns m ns
+      → ltb max (c + w) ≡ groupWraps (pageOf max [] []) ns (fresh p m)
+  unfolding groupWraps wraps virtualColumn
   group-full ns c w e f g = rw (← e, f, g)
 
-  pub group-wide : (ns : Nodes) (c w : ℕ) → false ≡ mustWraps ns → c ≡ virtualColumn (shown p []) → w ≡ min (max + 1) (widths byteColumns m ns)
-      → ltb max (c + w) ≡ groupWraps (pageOf max [] []) ns (shown p m)
+  pub group-wide : (ns : Nodes) (c w : ℕ) → false ≡ mustWraps ns → c ≡ virtualColumn p → w ≡ min (max + 1) (widths byteColumns m ns)
+      → ltb max (c + w) ≡ groupWraps (pageOf max [] []) ns (fresh p m)
   group-wide ns c w e f g =
       ltb-same max (c + w) max (c + widths byteColumns m ns) (λ h. omega arith) (λ h. omega arith)
       ∙ group-full ns c (widths byteColumns m ns) e f refl
 
-  pub trail-callee : (e a : Nodes) → true ≡ mustWraps e → false ≡ trailing (pageOf max [] []) e a (shown p m)
-  unfolding trailing
+  pub trail-callee : (e a : Nodes) → true ≡ mustWraps e → false ≡ trailingCall (pageOf max [] []) e a (fresh p m)
+  unfolding trailingCall
   trail-callee e a h = rw (← h)
 
-  pub trail-arguments : (e a : Nodes) → false ≡ mustWraps e → true ≡ mustWraps a → false ≡ trailing (pageOf max [] []) e a (shown p m)
-  unfolding trailing
+  pub trail-arguments : (e a : Nodes) → false ≡ mustWraps e → true ≡ mustWraps a → false ≡ trailingCall (pageOf max [] []) e a (fresh p m)
+  unfolding trailingCall
   trail-arguments e a h k = rw (← h, ← k)
 
-  module _ (e a : Nodes) (c x y : ℕ) (h : false ≡ mustWraps e) (k : false ≡ mustWraps a) (f : c ≡ virtualColumn (shown p []))
+  module _ (e a : Nodes) (c x y : ℕ) (h : false ≡ mustWraps e) (k : false ≡ mustWraps a) (f : c ≡ virtualColumn p)
       (i : x ≡ min (max + 1) (widths byteColumns m e))
       (j : y ≡ min (max + 1) (widths byteColumns m a))
     where
       trail-full : (t : Bool) → ltb max (c + widths byteColumns m e + widths byteColumns m a) ≡ t
-          → (t && ltb (c + widths byteColumns m e + 1) max) ≡ trailing (pageOf max [] []) e a (shown p m)
-      unfolding trailing virtualColumn shown
+          → (t && ltb (c + widths byteColumns m e + 1) max) ≡ trailingCall (pageOf max [] []) e a (fresh p m)
+      unfolding trailingCall virtualColumn
       trail-full t l = sym (rw (← h, ← k, ← f, l))
 
-      pub trail-long : max < c + x + y → ltb (c + x + 1) max ≡ trailing (pageOf max [] []) e a (shown p m)
+      pub trail-long : max < c + x + y → ltb (c + x + 1) max ≡ trailingCall (pageOf max [] []) e a (fresh p m)
       trail-long l =
           ltb-same (c + x + 1) max (c + widths byteColumns m e + 1) max (λ q. omega arith) (λ q. omega arith)
           ∙ trail-full true (lt-ltb max (c + widths byteColumns m e + widths byteColumns m a) (omega arith))
 
-      pub trail-short : c + x + y ≤ max → false ≡ trailing (pageOf max [] []) e a (shown p m)
+      pub trail-short : c + x + y ≤ max → false ≡ trailingCall (pageOf max [] []) e a (fresh p m)
       trail-short l = trail-full false (le-ltb max (c + widths byteColumns m e + widths byteColumns m a) (omega arith))
 
-  pub callee-own : (t : Bool) (e a : Nodes) → t ≡ true → groupWraps (pageOf max [] []) e (shown p m) ≡ calleeWraps (pageOf max [] []) t e a (shown p m)
+  pub callee-own : (t : Bool) (e a : Nodes) → t ≡ true → groupWraps (pageOf max [] []) e (fresh p m) ≡ calleeWraps (pageOf max [] []) t e a (fresh p m)
   unfolding calleeWraps
   callee-own t e a q = rw q
 
-  callee-full : (t : Bool) (e a : Nodes) (c x y : ℕ) → t ≡ false → c ≡ virtualColumn (shown p []) → x ≡ widths byteColumns m e
+  callee-full : (t : Bool) (e a : Nodes) (c x y : ℕ) → t ≡ false → c ≡ virtualColumn p → x ≡ widths byteColumns m e
       → y ≡ widths byteColumns m a
-      → ltb max (c + (x + y)) ≡ calleeWraps (pageOf max [] []) t e a (shown p m)
-  unfolding calleeWraps wraps virtualColumn shown
+      → ltb max (c + (x + y)) ≡ calleeWraps (pageOf max [] []) t e a (fresh p m)
+  unfolding calleeWraps wraps virtualColumn
   callee-full t e a c x y q f i j = rw (q, f, i, j)
 
-  pub callee-both : (t : Bool) (e a : Nodes) (c x y : ℕ) → t ≡ false → c ≡ virtualColumn (shown p []) → x ≡ min (max + 1) (widths byteColumns m e)
+  pub callee-both : (t : Bool) (e a : Nodes) (c x y : ℕ) → t ≡ false → c ≡ virtualColumn p → x ≡ min (max + 1) (widths byteColumns m e)
       → y ≡ min (max + 1) (widths byteColumns m a)
-      → ltb max (c + (x + y)) ≡ calleeWraps (pageOf max [] []) t e a (shown p m)
+      → ltb max (c + (x + y)) ≡ calleeWraps (pageOf max [] []) t e a (fresh p m)
   callee-both t e a c x y q f i j =
       ltb-same max (c + (x + y)) max (c + (widths byteColumns m e + widths byteColumns m a)) (λ h. omega arith) (λ h. omega arith)
       ∙ callee-full t e a c (widths byteColumns m e) (widths byteColumns m a) q f refl refl
@@ -103,49 +102,49 @@ pub insert-past : (m : List ℕ) (n : ℕ) (w : Bool) → w ≡ true → length 
 insert-past m n w e h = rw e (sym (set-past m n 1 h))
 
 -- The margin, by what the code tests.
-pub indent-on : (p : Pen) (w : Bool) → w ≡ true → record { indent = p .indent + 1; «next_indent» = p .«next_indent»; column = p .column; at = p .at } ≡ withMargin p (indented w (shown p []))
-unfolding withMargin indented shown
+pub indent-on : (p : Pen) (w : Bool) → w ≡ true → withMargin (p .indent + 1) (p .«next_indent») p ≡ indented w p
+unfolding indented
 indent-on p w e = rw e
 
-pub indent-off : (p : Pen) (w : Bool) → w ≡ false → p ≡ withMargin p (indented w (shown p []))
-unfolding withMargin indented shown
+pub indent-off : (p : Pen) (w : Bool) → w ≡ false → p ≡ indented w p
+unfolding indented
 indent-off p w e = rw e
 
-pub next-on : (p : Pen) (w : Bool) → w ≡ true → record { indent = p .indent; «next_indent» = p .«next_indent» + 1; column = p .column; at = p .at } ≡ withMargin p (nextIndented w (shown p []))
-unfolding withMargin nextIndented shown
+pub next-on : (p : Pen) (w : Bool) → w ≡ true → withMargin (p .indent) (p .«next_indent» + 1) p ≡ nextIndented w p
+unfolding nextIndented
 next-on p w e = rw e
 
-pub next-off : (p : Pen) (w : Bool) → w ≡ false → p ≡ withMargin p (nextIndented w (shown p []))
-unfolding withMargin nextIndented shown
+pub next-off : (p : Pen) (w : Bool) → w ≡ false → p ≡ nextIndented w p
+unfolding nextIndented
 next-off p w e = rw e
 
-pub out-on : (p : Pen) (w : Bool) → w ≡ true → record { indent = p .indent - 1; «next_indent» = p .«next_indent»; column = p .column; at = p .at } ≡ withMargin p (outdented w (shown p []))
-unfolding withMargin outdented shown
+pub out-on : (p : Pen) (w : Bool) → w ≡ true → withMargin (p .indent - 1) (p .«next_indent») p ≡ outdented w p
+unfolding outdented
 out-on p w e = rw e
 
-pub out-off : (p : Pen) (w : Bool) → w ≡ false → p ≡ withMargin p (outdented w (shown p []))
-unfolding withMargin outdented shown
+pub out-off : (p : Pen) (w : Bool) → w ≡ false → p ≡ outdented w p
+unfolding outdented
 out-off p w e = rw e
 
 pub back-next : (p : Pen) (w : Bool) → w ≡ true → 0 < p .«next_indent»
-    → record { indent = p .indent; «next_indent» = p .«next_indent» - 1; column = p .column; at = p .at } ≡ withMargin p (nextOutdented w (shown p []))
-unfolding withMargin nextOutdented shown
+    → withMargin (p .indent) (p .«next_indent» - 1) p ≡ nextOutdented w p
+unfolding nextOutdented
 back-next p w e h = rw (e, lt-ltb 0 (p .«next_indent») h)
 
 pub back-indent : (p : Pen) (w : Bool) → w ≡ true → p .«next_indent» ≤ 0
-    → record { indent = p .indent - 1; «next_indent» = p .«next_indent»; column = p .column; at = p .at } ≡ withMargin p (nextOutdented w (shown p []))
-unfolding withMargin nextOutdented outdented shown
+    → withMargin (p .indent - 1) (p .«next_indent») p ≡ nextOutdented w p
+unfolding nextOutdented outdented
 back-indent p w e h = rw (e, le-ltb 0 (p .«next_indent») h)
 
-pub back-off : (p : Pen) (w : Bool) → w ≡ false → p ≡ withMargin p (nextOutdented w (shown p []))
-unfolding withMargin nextOutdented shown
+pub back-off : (p : Pen) (w : Bool) → w ≡ false → p ≡ nextOutdented w p
+unfolding nextOutdented
 back-off p w e = rw e
 
 -- sums of columns and widths fit
 pub sum-fits : (a b : ℕ) → a < 2305843009213693952 → b < 2305843009213693952 → a + b < 18446744073709551616
 sum-fits a b h k = omega arith
 
-pub virtual-small : (p : Pen) (c : ℕ) → c ≡ virtualColumn (shown p []) → p .indent ≤ 384 → p .column .0 < 1152921504606846976 → c < 1152921504606846976
+pub virtual-small : (p : Pen) (c : ℕ) → c ≡ virtualColumn p → p .indent ≤ 384 → p .column .0 < 1152921504606846976 → c < 1152921504606846976
 virtual-small p c e a b = rw e (virtual-low p a b)
 
 pub lower : (a : ℕ) → a < 36028797018963968 → a < 2305843009213693952

@@ -9,29 +9,28 @@ use lib.ListN.{replicate}
 use lib.Dec.{ltb}
 use Rattle.rows.specs.View.{View, nodeAt}
 use Rattle.rows.proofs.Decode.{node-parent, node-comment, node-str, node-ascii, node-line, node-empty, node-space}
-use Rattle.renderer_rules.specs.Renderer.{Page, Renderer, render, push, atColumn, newLine, margin, remark, text}
-use Rattle.renderer.specs.declared.pen.Pen.{Pen}
-use Rattle.renderer.specs.Pen.{shown}
+use Rattle.renderer_rules.specs.declared.Pen.{Pen}
+use Rattle.renderer_rules.specs.Renderer.{Page, Renderer, fresh, withBuf, withMarks, renderNode, pushStr, atColumn, newLine, margin, comment, text}
 use Rattle.renderer.specs.Run.{stateOf}
 
 -- s behind a text, with other marks
 unfoldable pub under : List ℕ → List ℕ → Renderer → Renderer
-under b m s = record { buf = b ++ s .buf; indent = s .indent; nextIndent = s .nextIndent; column = s .column; marks = m }
+under b m s = withBuf (b ++ s .buf) (withMarks m s)
 
-pub shown-under : (p : Pen) (m b : List ℕ) → stateOf p m b ≡ under b m (shown p [])
-unfolding under shown
-shown-under p m b = rw (append-nil b)
+pub fresh-under : (p : Pen) (m b : List ℕ) → stateOf p m b ≡ under b m (fresh p [])
+unfolding under
+fresh-under p m b = rw (append-nil b)
 
-column-of : (b m : List ℕ) (s : Renderer) → under b m s .column ≡ s .column
+column-of : (b m : List ℕ) (s : Renderer) → under b m s .pen .column .0 ≡ s .pen .column .0
 unfolding under
 column-of b m s = refl
 
-column-same : (b m : List ℕ) (s : Renderer) → ltb 0 (under b m s .column) ≡ ltb 0 (s .column)
+column-same : (b m : List ℕ) (s : Renderer) → ltb 0 (under b m s .pen .column .0) ≡ ltb 0 (s .pen .column .0)
 unfolding under
 column-same b m s = refl
 
-push-under : (t b m : List ℕ) (s : Renderer) → push t (under b m s) ≡ under b m (push t s)
-unfolding push under
+push-under : (t b m : List ℕ) (s : Renderer) → pushStr t (under b m s) ≡ under b m (pushStr t s)
+unfolding pushStr under
 push-under t b m s = rw (append-assoc b (s .buf) t)
 
 column-under : (c : ℕ) (b m : List ℕ) (s : Renderer) → atColumn c (under b m s) ≡ under b m (atColumn c s)
@@ -39,58 +38,58 @@ unfolding atColumn under
 column-under c b m s = refl
 
 margin-under : (b m : List ℕ) (s : Renderer) → margin (under b m s) ≡ under b m (margin s)
-unfolding margin under push atColumn
-margin-under b m s = rw (append-assoc b (s .buf) (replicate (4 * s .indent) 0x20))
+unfolding margin under pushStr atColumn
+margin-under b m s = rw (append-assoc b (s .buf) (replicate (4 * s .pen .indent) 0x20))
 
 line-under : (b m : List ℕ) (s : Renderer) → newLine (under b m s) ≡ under b m (newLine s)
 unfolding newLine under
-line-under b m s = rw (append-assoc b (s .buf) (cond (ltb 0 (s .column)) (0x0A ∷ []) []))
+line-under b m s = rw (append-assoc b (s .buf) (cond (ltb 0 (s .pen .column .0)) (0x0A ∷ []) []))
 
 cond-under : (w : Bool) (b m : List ℕ) (s t s2 t2 : Renderer) → s2 ≡ under b m s → t2 ≡ under b m t → cond w s2 t2 ≡ under b m (cond w s t)
 cond-under true b m s t s2 t2 e f = e
 cond-under false b m s t s2 t2 e f = f
 
-put-under : (t : List ℕ) (c : ℕ) (b m : List ℕ) (s s2 : Renderer) → s2 ≡ under b m s → atColumn c (push t s2) ≡ under b m (atColumn c (push t s))
-put-under t c b m s s2 e = ap (λ (x : Renderer). atColumn c (push t x)) e ∙ ap (atColumn c) (push-under t b m s) ∙ column-under c b m (push t s)
+put-under : (t : List ℕ) (c : ℕ) (b m : List ℕ) (s s2 : Renderer) → s2 ≡ under b m s → atColumn c (pushStr t s2) ≡ under b m (atColumn c (pushStr t s))
+put-under t c b m s s2 e = ap (λ (x : Renderer). atColumn c (pushStr t x)) e ∙ ap (atColumn c) (push-under t b m s) ∙ column-under c b m (pushStr t s)
 
 text-under : (t : List ℕ) (w : ℕ) (b m : List ℕ) (s : Renderer) → text t w (under b m s) ≡ under b m (text t w s)
 unfolding text
-text-under t w b m s = go (ltb 0 (s .column)) (ltb 0 (under b m s .column)) (column-same b m s)
+text-under t w b m s = go (ltb 0 (s .pen .column .0)) (ltb 0 (under b m s .pen .column .0)) (column-same b m s)
   where
     go : (x y : Bool) → y ≡ x
-        → atColumn (cond y (under b m s) (margin (under b m s)) .column + w) (push t (cond y (under b m s) (margin (under b m s))))
-        ≡ under b m (atColumn (cond x s (margin s) .column + w) (push t (cond x s (margin s))))
-    go true y e = rw e (ap (λ (c : ℕ). atColumn (c + w) (push t (under b m s))) (column-of b m s) ∙ put-under t (s .column + w) b m s (under b m s) refl)
+        → atColumn (cond y (under b m s) (margin (under b m s)) .pen .column .0 + w) (pushStr t (cond y (under b m s) (margin (under b m s))))
+        ≡ under b m (atColumn (cond x s (margin s) .pen .column .0 + w) (pushStr t (cond x s (margin s))))
+    go true y e = rw e (ap (λ (c : ℕ). atColumn (c + w) (pushStr t (under b m s))) (column-of b m s) ∙ put-under t (s .pen .column .0 + w) b m s (under b m s) refl)
     go false y e =
         rw e
-        (ap (λ (c : ℕ). atColumn (c + w) (push t (margin (under b m s)))) (ap (λ (r : Renderer). r .column) (margin-under b m s) ∙ column-of b m (margin s))
-        ∙ put-under t (margin s .column + w) b m (margin s) (margin (under b m s)) (margin-under b m s))
+        (ap (λ (c : ℕ). atColumn (c + w) (pushStr t (margin (under b m s)))) (ap (λ (r : Renderer). r .pen .column .0) (margin-under b m s) ∙ column-of b m (margin s))
+        ∙ put-under t (margin s .pen .column .0 + w) b m (margin s) (margin (under b m s)) (margin-under b m s))
 
-remark-under : (t b m : List ℕ) (s : Renderer) → remark t (under b m s) ≡ under b m (remark t s)
-unfolding remark
-remark-under t b m s = go (ltb 0 (s .column)) (ltb 0 (under b m s .column)) (column-same b m s)
+comment-under : (t b m : List ℕ) (s : Renderer) → comment t (under b m s) ≡ under b m (comment t s)
+unfolding comment
+comment-under t b m s = go (ltb 0 (s .pen .column .0)) (ltb 0 (under b m s .pen .column .0)) (column-same b m s)
   where
     go : (x y : Bool) → y ≡ x
-        → atColumn 0 (push (t ++ (0x0A ∷ [])) (cond y (push (0x20 ∷ []) (under b m s)) (margin (under b m s))))
-        ≡ under b m (atColumn 0 (push (t ++ (0x0A ∷ [])) (cond x (push (0x20 ∷ []) s) (margin s))))
-    go true y e = rw e (put-under (t ++ (0x0A ∷ [])) 0 b m (push (0x20 ∷ []) s) (push (0x20 ∷ []) (under b m s)) (push-under (0x20 ∷ []) b m s))
+        → atColumn 0 (pushStr (t ++ (0x0A ∷ [])) (cond y (pushStr (0x20 ∷ []) (under b m s)) (margin (under b m s))))
+        ≡ under b m (atColumn 0 (pushStr (t ++ (0x0A ∷ [])) (cond x (pushStr (0x20 ∷ []) s) (margin s))))
+    go true y e = rw e (put-under (t ++ (0x0A ∷ [])) 0 b m (pushStr (0x20 ∷ []) s) (pushStr (0x20 ∷ []) (under b m s)) (push-under (0x20 ∷ []) b m s))
     go false y e = rw e (put-under (t ++ (0x0A ∷ [])) 0 b m (margin s) (margin (under b m s)) (margin-under b m s))
 
 pub leaf-under : (v : View) (pg : Page) (i : ℕ) (w : Bool) (k : ℕ) → v .kind i ≡ k → 3 ≤ k → k ≤ 9 → (b m : List ℕ) (s : Renderer)
-    → render pg (nodeAt v i) w (under b m s) ≡ under b m (render pg (nodeAt v i) w s)
-unfolding render
+    → renderNode pg (nodeAt v i) w (under b m s) ≡ under b m (renderNode pg (nodeAt v i) w s)
+unfolding renderNode
 leaf-under v pg i w zero e x y b m s = absurd (omega arith)
 leaf-under v pg i w (suc zero) e x y b m s = absurd (omega arith)
 leaf-under v pg i w (suc (suc zero)) e x y b m s = absurd (omega arith)
 leaf-under v pg i w (suc (suc (suc zero))) e x y b m s = rw (node-parent v i e)
-leaf-under v pg i w (suc (suc (suc (suc zero)))) e x y b m s = rw (node-comment v i e) (remark-under (pg .bytes (v .text i)) b m s)
+leaf-under v pg i w (suc (suc (suc (suc zero)))) e x y b m s = rw (node-comment v i e) (comment-under (pg .bytes (v .text i)) b m s)
 leaf-under v pg i w (suc (suc (suc (suc (suc zero))))) e x y b m s = rw (node-str v i e) (text-under (pg .bytes (v .text i)) (v .width i) b m s)
 leaf-under v pg i w (suc (suc (suc (suc (suc (suc zero)))))) e x y b m s =
     rw (node-ascii v i e) (text-under (pg .bytes (v .text i)) (pg .columns (v .text i)) b m s)
 leaf-under v pg i w (suc (suc (suc (suc (suc (suc (suc zero))))))) e x y b m s =
     rw (node-line v i e) (cond-under w b m (newLine s) s (newLine (under b m s)) (under b m s) (line-under b m s) refl)
 leaf-under v pg i w (suc (suc (suc (suc (suc (suc (suc (suc zero)))))))) e x y b m s =
-    rw (node-empty v i e) (ap newLine (push-under (0x0A ∷ []) b m s) ∙ line-under b m (push (0x0A ∷ []) s))
+    rw (node-empty v i e) (ap newLine (push-under (0x0A ∷ []) b m s) ∙ line-under b m (pushStr (0x0A ∷ []) s))
 leaf-under v pg i w (suc (suc (suc (suc (suc (suc (suc (suc (suc zero))))))))) e x y b m s =
     rw (node-space v i e)
     (cond-under w b m

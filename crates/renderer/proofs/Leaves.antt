@@ -1,4 +1,4 @@
--- A row without parts, by its kind: what `render` does there, from the row's places.
+-- A row without parts, by its kind: what `renderNode` does there, from the row's places.
 -- Assumes nothing.
 use mathlib.Core.Path.{_≡_, refl, ap, sym, _∙_}
 use Prim.Native.Nat.{ℕ, _+_}
@@ -8,20 +8,20 @@ use mathlib.Core.List.{List, [], _∷_}
 use Rattle.rows.specs.View.{viewOf, cell, nodeAt}
 use Rattle.rows.proofs.Decode.{node-parent, node-comment, node-str, node-ascii, node-line, node-empty, node-space}
 use Rattle.renderer_rules.specs.Page.{pageOf, textBytes, textOf}
-use Rattle.renderer_rules.specs.Renderer.{Renderer, render, push, newLine, remark, text}
-use Rattle.renderer.specs.declared.pen.Pen.{Pen}
-use Rattle.renderer.specs.Output.{over}
-use Rattle.renderer.specs.Pen.{shown, penAfter, Drawn}
+use Rattle.renderer_rules.specs.Renderer.{Renderer, fresh, renderNode, pushStr, newLine, comment, text}
+use Rattle.renderer.specs.declared.pen.Writing.{Writing}
+use Rattle.renderer.specs.Output.{writtenOver}
+use Rattle.renderer.specs.Writing.{writing, writingAfter, Writes}
 
-pub drawn-as : (limit : ℕ) (s t : Renderer) (out : List ℕ) (p : Pen) (out2 : List ℕ) (q : Pen) → t ≡ s → Drawn limit s out p out2 q → Drawn limit t out p out2 q
-drawn-as limit s t out p out2 q e d = rw e d
+pub writes-as : (limit : ℕ) (s t : Renderer) (out : List ℕ) (p : Writing) (out2 : List ℕ) (q : Writing) → t ≡ s → Writes limit s out p out2 q → Writes limit t out p out2 q
+writes-as limit s t out p out2 q e d = rw e d
 
 -- nothing is written
-pub still-drawn : (limit : ℕ) (out : List ℕ) (p : Pen) → Drawn limit (shown p []) out p out p
-unfolding penAfter shown over
-still-drawn limit out p =
+pub writes-none : (limit : ℕ) (out : List ℕ) (p : Writing) → Writes limit (fresh (p .pen) []) out p out p
+unfolding writingAfter writtenOver
+writes-none limit out p =
     record {
-      pen = ap (λ (n : ℕ). record { indent = p .indent; «next_indent» = p .«next_indent»; column = p .column; at = record { 0 = n } }) (plus-none (p .at .0));
+      after = ap (writing (p .pen)) (plus-none (p .at .0));
       written = refl;
     }
   where
@@ -38,49 +38,49 @@ module _ (max : ℕ) (source image store : List ℕ) (row kind : ℕ) (w : Bool)
   abbrev bytes : List ℕ
   bytes = textBytes source image (textOf (cell store row 5) (cell store row 6) (cell store row 7))
 
-  pub render-parent : kind ≡ 3 → render (pageOf max source image) (nodeAt (viewOf store) row) w s ≡ s
-  unfolding render viewOf
+  pub render-parent : kind ≡ 3 → renderNode (pageOf max source image) (nodeAt (viewOf store) row) w s ≡ s
+  unfolding renderNode viewOf
   render-parent k = rw (node-parent (viewOf store) row (sym e ∙ k))
 
-  pub render-comment : kind ≡ 4 → render (pageOf max source image) (nodeAt (viewOf store) row) w s ≡ remark bytes s
-  unfolding render viewOf
+  pub render-comment : kind ≡ 4 → renderNode (pageOf max source image) (nodeAt (viewOf store) row) w s ≡ comment bytes s
+  unfolding renderNode viewOf
   render-comment k = rw (node-comment (viewOf store) row (sym e ∙ k))
 
-  pub render-str : kind ≡ 5 → render (pageOf max source image) (nodeAt (viewOf store) row) w s ≡ text bytes (cell store row 8) s
-  unfolding render viewOf
+  pub render-str : kind ≡ 5 → renderNode (pageOf max source image) (nodeAt (viewOf store) row) w s ≡ text bytes (cell store row 8) s
+  unfolding renderNode viewOf
   render-str k = rw (node-str (viewOf store) row (sym e ∙ k), sym e ∙ k)
 
-  pub render-ascii : kind ≡ 6 → render (pageOf max source image) (nodeAt (viewOf store) row) w s ≡ text bytes (cell store row 7) s
-  unfolding render viewOf
+  pub render-ascii : kind ≡ 6 → renderNode (pageOf max source image) (nodeAt (viewOf store) row) w s ≡ text bytes (cell store row 7) s
+  unfolding renderNode viewOf
   render-ascii k = rw (node-ascii (viewOf store) row (sym e ∙ k))
 
-  pub render-line : kind ≡ 7 → render (pageOf max source image) (nodeAt (viewOf store) row) w s ≡ cond w (newLine s) s
-  unfolding render viewOf
+  pub render-line : kind ≡ 7 → renderNode (pageOf max source image) (nodeAt (viewOf store) row) w s ≡ cond w (newLine s) s
+  unfolding renderNode viewOf
   render-line k = rw (node-line (viewOf store) row (sym e ∙ k))
 
-  pub render-empty : kind ≡ 8 → render (pageOf max source image) (nodeAt (viewOf store) row) w s ≡ newLine (push (0x0A ∷ []) s)
-  unfolding render viewOf
+  pub render-empty : kind ≡ 8 → renderNode (pageOf max source image) (nodeAt (viewOf store) row) w s ≡ newLine (pushStr (0x0A ∷ []) s)
+  unfolding renderNode viewOf
   render-empty k = rw (node-empty (viewOf store) row (sym e ∙ k))
 
-  pub render-space : kind ≡ 9 → render (pageOf max source image) (nodeAt (viewOf store) row) w s ≡ cond w (newLine s) (text (0x20 ∷ []) 1 s)
-  unfolding render viewOf
+  pub render-space : kind ≡ 9 → renderNode (pageOf max source image) (nodeAt (viewOf store) row) w s ≡ cond w (newLine s) (text (0x20 ∷ []) 1 s)
+  unfolding renderNode viewOf
   render-space k = rw (node-space (viewOf store) row (sym e ∙ k))
 
 -- a `Comment`, a `Str` and an `Ascii`, from the places that the code read
-module _ (max limit : ℕ) (source image store : List ℕ) (row kind : ℕ) (w : Bool) (out : List ℕ) (p : Pen) (out2 : List ℕ) (q : Pen) (origin start size : ℕ)
+module _ (max limit : ℕ) (source image store : List ℕ) (row kind : ℕ) (w : Bool) (out : List ℕ) (p : Writing) (out2 : List ℕ) (q : Writing) (origin start size : ℕ)
     (e : kind ≡ cell store row 0)
     (a : origin ≡ cell store row 5)
     (b : start ≡ cell store row 6)
     (c : size ≡ cell store row 7)
   where
-    pub comment-leaf : kind ≡ 4 → Drawn limit (remark (textBytes source image (textOf origin start size)) (shown p [])) out p out2 q
-        → Drawn limit (render (pageOf max source image) (nodeAt (viewOf store) row) w (shown p [])) out p out2 q
-    comment-leaf k d = drawn-as limit _ _ out p out2 q (render-comment max source image store row kind w (shown p []) e k ∙ rw (a, b, c)) d
+    pub comment-leaf : kind ≡ 4 → Writes limit (comment (textBytes source image (textOf origin start size)) (fresh (p .pen) [])) out p out2 q
+        → Writes limit (renderNode (pageOf max source image) (nodeAt (viewOf store) row) w (fresh (p .pen) [])) out p out2 q
+    comment-leaf k d = writes-as limit _ _ out p out2 q (render-comment max source image store row kind w (fresh (p .pen) []) e k ∙ rw (a, b, c)) d
 
-    pub str-leaf : (x : ℕ) → x ≡ cell store row 8 → kind ≡ 5 → Drawn limit (text (textBytes source image (textOf origin start size)) x (shown p [])) out p out2 q
-        → Drawn limit (render (pageOf max source image) (nodeAt (viewOf store) row) w (shown p [])) out p out2 q
-    str-leaf x h k d = drawn-as limit _ _ out p out2 q (render-str max source image store row kind w (shown p []) e k ∙ rw (a, b, c, h)) d
+    pub str-leaf : (x : ℕ) → x ≡ cell store row 8 → kind ≡ 5 → Writes limit (text (textBytes source image (textOf origin start size)) x (fresh (p .pen) [])) out p out2 q
+        → Writes limit (renderNode (pageOf max source image) (nodeAt (viewOf store) row) w (fresh (p .pen) [])) out p out2 q
+    str-leaf x h k d = writes-as limit _ _ out p out2 q (render-str max source image store row kind w (fresh (p .pen) []) e k ∙ rw (a, b, c, h)) d
 
-    pub ascii-leaf : (x : ℕ) → x ≡ size → kind ≡ 6 → Drawn limit (text (textBytes source image (textOf origin start size)) x (shown p [])) out p out2 q
-        → Drawn limit (render (pageOf max source image) (nodeAt (viewOf store) row) w (shown p [])) out p out2 q
-    ascii-leaf x h k d = drawn-as limit _ _ out p out2 q (render-ascii max source image store row kind w (shown p []) e k ∙ rw (h, a, b, c)) d
+    pub ascii-leaf : (x : ℕ) → x ≡ size → kind ≡ 6 → Writes limit (text (textBytes source image (textOf origin start size)) x (fresh (p .pen) [])) out p out2 q
+        → Writes limit (renderNode (pageOf max source image) (nodeAt (viewOf store) row) w (fresh (p .pen) [])) out p out2 q
+    ascii-leaf x h k d = writes-as limit _ _ out p out2 q (render-ascii max source image store row kind w (fresh (p .pen) []) e k ∙ rw (h, a, b, c)) d

@@ -1,6 +1,6 @@
 pub mod Capped
 pub mod Decided
-pub mod Drawn
+pub mod Writes
 pub mod Followed
 pub mod Framed
 pub mod Leaves

@@ -1,20 +1,20 @@
 -- A row that the code opened, told by the row's places.
 -- Assumes nothing.
 use mathlib.Core.Path.{_≡_, ap, _∙_}
-use Prim.Native.Nat.{ℕ, _+_, _-_}
+use Prim.Native.Nat.{ℕ, _+_}
 use mathlib.Core.Bool.{Bool, true, false, cond, not, _&&_}
 use mathlib.Core.List.{List, []}
-use lib.ListN.{set}
 use Rattle.rows.specs.Node.{wrapped}
 use Rattle.rows.specs.View.{viewOf, cell, nodesAt}
 use Rattle.rows.specs.Nesting.{Nested}
 use Rattle.renderer_rules.specs.declared.Frame.{Frame}
 use Rattle.renderer_rules.specs.Page.{pageOf}
-use Rattle.renderer_rules.specs.Renderer.{groupWraps, trailing, calleeWraps, nextIndented}
+use Rattle.renderer_rules.specs.Renderer.{fresh, groupWraps, trailingCall, calleeWraps, nextIndented}
 use Rattle.renderer_rules.specs.Machine.{frame}
-use Rattle.renderer.specs.declared.pen.Pen.{Pen}
-use Rattle.renderer.specs.Pen.{shown, withMargin}
-use Rattle.renderer.specs.Run.{Running, openedRun, inserted, GroupOpened, CallOpened, ArgumentsOpened}
+use Rattle.renderer_rules.specs.declared.Pen.{Pen}
+use Rattle.renderer.specs.declared.pen.Writing.{Writing}
+use Rattle.renderer.specs.Writing.{setPen}
+use Rattle.renderer.specs.Run.{Running, openedRun, reopenedRun, inserted, GroupOpened, CallOpened, ArgumentsOpened}
 
 pub nested-to : (store : List ℕ) (from to to2 : ℕ) → to ≡ to2 → Nested store from to2 → Nested store from to
 nested-to store from to to2 e n = rw e n
@@ -24,54 +24,49 @@ nested-at store from to from2 to2 e f n = rw (e, f) n
 
 module _ (store : List ℕ) (max : ℕ) (marks : List ℕ) (r : Running) (marks2 : List ℕ) (q : Running) where
   pub group-opened : (end number : ℕ) (w : Bool) → end ≡ cell store (r .next) 4 → number ≡ cell store (r .next) 1
-      → w ≡ groupWraps (pageOf max [] []) (nodesAt (viewOf store) (r .next + 1) end) (shown (r .pen) marks)
+      → w ≡ groupWraps (pageOf max [] []) (nodesAt (viewOf store) (r .next + 1) end) (fresh (r .writing .pen) marks)
       → marks2 ≡ inserted w number marks
-      → q ≡ openedRun r (frame (r .next) w false false) (r .next + 1) (r .pen)
+      → q ≡ openedRun r (frame (r .next) w false false) (r .next + 1) (r .writing)
       → GroupOpened store max marks r marks2 q
   group-opened end number w e n g m o =
       record {
         wraps = w;
-        isWraps = g ∙ ap (λ (x : ℕ). groupWraps (pageOf max [] []) (nodesAt (viewOf store) (r .next + 1) x) (shown (r .pen) marks)) e;
+        isWraps = g ∙ ap (λ (x : ℕ). groupWraps (pageOf max [] []) (nodesAt (viewOf store) (r .next + 1) x) (fresh (r .writing .pen) marks)) e;
         run = o;
         marked = m ∙ ap (λ (x : ℕ). inserted w x marks) n;
       }
 
-  pub call-opened : (mid end number : ℕ) (t w deep : Bool) (p : Pen) → mid ≡ cell store (r .next) 3 → end ≡ cell store (r .next) 4
+  pub call-opened : (mid end number : ℕ) (t w deep : Bool) (p : Pen) (x : Writing) → mid ≡ cell store (r .next) 3 → end ≡ cell store (r .next) 4
       → number ≡ cell store (r .next) 1
-      → t ≡ trailing (pageOf max [] []) (nodesAt (viewOf store) (r .next + 1) mid) (nodesAt (viewOf store) mid end) (shown (r .pen) marks)
-      → w ≡ calleeWraps (pageOf max [] []) t (nodesAt (viewOf store) (r .next + 1) mid) (nodesAt (viewOf store) mid end) (shown (r .pen) marks)
+      → t ≡ trailingCall (pageOf max [] []) (nodesAt (viewOf store) (r .next + 1) mid) (nodesAt (viewOf store) mid end) (fresh (r .writing .pen) marks)
+      → w ≡ calleeWraps (pageOf max [] []) t (nodesAt (viewOf store) (r .next + 1) mid) (nodesAt (viewOf store) mid end) (fresh (r .writing .pen) marks)
       → deep ≡ (not t && w)
-      → p ≡ withMargin (r .pen) (nextIndented deep (shown (r .pen) []))
+      → p ≡ nextIndented deep (r .writing .pen)
+      → x ≡ setPen p (r .writing)
       → marks2 ≡ inserted w number marks
-      → q ≡ openedRun r (frame (r .next) w true deep) (r .next + 1) p
+      → q ≡ openedRun r (frame (r .next) w true deep) (r .next + 1) x
       → CallOpened store max marks r marks2 q
-  call-opened mid end number t w deep p a b n g h d k m o =
+  call-opened mid end number t w deep p x a b n g h d k s m o =
       record {
         trails = t;
         wraps = w;
         isTrails = g ∙ rw (a, b);
         isWraps = h ∙ rw (a, b);
-        run = o ∙ rw (k, d);
+        run = o ∙ rw (s, k, d);
         marked = m ∙ ap (λ (x : ℕ). inserted w x marks) n;
       }
 
   pub arguments-opened : (f : Frame) (row end number : ℕ) (w : Bool) → row ≡ f .row → end ≡ cell store row 4 → number ≡ cell store row 2
-      → w ≡ groupWraps (pageOf max [] []) (nodesAt (viewOf store) (r .next) end) (shown (r .pen) marks)
+      → w ≡ groupWraps (pageOf max [] []) (nodesAt (viewOf store) (r .next) end) (fresh (r .writing .pen) marks)
       → marks2 ≡ inserted w number marks
-      → q
-      ≡ record {
-        frames = set (r .frames) (r .depth - 1) (frame (f .row) w false (f .deep));
-        depth = r .depth;
-        next = r .next;
-        pen = r .pen;
-      }
+      → q ≡ reopenedRun r (frame (f .row) w false (f .deep))
       → ArgumentsOpened store max marks r f marks2 q
   arguments-opened f row end number w i e n g m o =
       record {
         wraps = w;
         isWraps =
             g
-            ∙ ap (λ (x : ℕ). groupWraps (pageOf max [] []) (nodesAt (viewOf store) (r .next) x) (shown (r .pen) marks))
+            ∙ ap (λ (x : ℕ). groupWraps (pageOf max [] []) (nodesAt (viewOf store) (r .next) x) (fresh (r .writing .pen) marks))
             (e ∙ ap (λ (x : ℕ). cell store x 4) i);
         run = o;
         marked = m ∙ ap (λ (x : ℕ). inserted w x marks) (n ∙ ap (λ (x : ℕ). cell store x 2) i);
@@ -82,11 +77,11 @@ module _ (store marks : List ℕ) (r : Running) (wrap : Bool) (number : ℕ) (b 
   abbrev chosen : Running
   chosen =
       cond (wrapped marks (cell store (r .next) 1))
-      (openedRun r (frame (r .next) wrap true false) (r .next + 1) (r .pen))
-      (openedRun r (frame (r .next) wrap false false) (cell store (r .next) 3) (r .pen))
+      (openedRun r (frame (r .next) wrap true false) (r .next + 1) (r .writing))
+      (openedRun r (frame (r .next) wrap false false) (cell store (r .next) 3) (r .writing))
 
-  pub if-first : b ≡ true → q ≡ openedRun r (frame (r .next) wrap b false) (r .next + 1) (r .pen) → q ≡ chosen
+  pub if-first : b ≡ true → q ≡ openedRun r (frame (r .next) wrap b false) (r .next + 1) (r .writing) → q ≡ chosen
   if-first h o = o ∙ rw (h, ← n, ← e, h)
 
-  pub if-second : (k : ℕ) → k ≡ cell store (r .next) 3 → b ≡ false → q ≡ openedRun r (frame (r .next) wrap b false) k (r .pen) → q ≡ chosen
+  pub if-second : (k : ℕ) → k ≡ cell store (r .next) 3 → b ≡ false → q ≡ openedRun r (frame (r .next) wrap b false) k (r .writing) → q ≡ chosen
   if-second k f h o = o ∙ rw (h, ← n, ← e, h, f)

@@ -8,10 +8,10 @@ use mathlib.Core.List.{List, [], _∷_, _++_, append-assoc}
 use lib.ListN.{length, set, take, drop, length-set, take-append-drop}
 use lib.Seq.{take-suc-set, drop-set-lt}
 use borrow.Author.Tests.{lt-ltb}
-use Rattle.renderer.specs.Output.{over}
+use Rattle.renderer.specs.Output.{writtenOver}
 use Rattle.renderer.proofs.Written.{over-past}
 
-pub over-dry : (out : List ℕ) (at : ℕ) (t : List ℕ) → over 0 out at t ≡ out
+pub over-dry : (out : List ℕ) (at : ℕ) (t : List ℕ) → writtenOver 0 out at t ≡ out
 over-dry out at t = over-past 0 out at t (omega arith)
 
 stepped : (out : List ℕ) (at b : ℕ) (t : List ℕ) → at < length out
@@ -24,8 +24,8 @@ stepped out at b t h =
     along at n = omega arith
 
 over-at : (limit : ℕ) (out : List ℕ) (at : ℕ) (t : List ℕ) → at + length t ≤ limit → limit ≤ length out
-    → over limit out at t ≡ take at out ++ (t ++ drop (at + length t) out)
-unfolding over
+    → writtenOver limit out at t ≡ take at out ++ (t ++ drop (at + length t) out)
+unfolding writtenOver
 over-at limit out at [] h l = sym (rw (none at) (take-append-drop at out))
   where
     none : (at : ℕ) → at + 0 ≡ at
@@ -35,7 +35,7 @@ over-at limit out at (b ∷ t) h l =
     (over-at limit (set out at b) (at + 1) t (omega arith) (let e = length-set out at b in omega arith)
     ∙ stepped out at b t (omega arith))
 
-pub over-full : (limit : ℕ) (out t : List ℕ) → length t ≤ limit → limit ≤ length out → over limit out 0 t ≡ t ++ drop (length t) out
+pub over-full : (limit : ℕ) (out t : List ℕ) → length t ≤ limit → limit ≤ length out → writtenOver limit out 0 t ≡ t ++ drop (length t) out
 over-full limit out t h l = over-at limit out 0 t (omega arith) l ∙ ap (λ (n : ℕ). t ++ drop n out) (none (length t))
   where
     none : (n : ℕ) → 0 + n ≡ n

@@ -10,37 +10,37 @@ use lib.Dec.{eqb}
 use borrow.Author.Tests.{ne-eqb, eq-eqb}
 use Rattle.renderer_rules.specs.declared.Frame.{Frame}
 use Rattle.renderer_rules.specs.Frames.{noFrame, frameAt}
-use Rattle.renderer.specs.declared.pen.Pen.{Pen}
+use Rattle.renderer.specs.declared.pen.Writing.{Writing}
 use Rattle.renderer.specs.declared.run.Run.{Run}
-use Rattle.renderer.specs.Run.{unpacked, framed, whole, openedRun}
+use Rattle.renderer.specs.Run.{unpackedFrame, withFrames, wholeRun, openedRun}
 
-pub map-length : (ns : List ℕ) → length (map unpacked ns) ≡ length ns
+pub map-length : (ns : List ℕ) → length (map unpackedFrame ns) ≡ length ns
 map-length [] = refl
 map-length (n ∷ ns) = ap suc (map-length ns)
 
-map-set : (ns : List ℕ) (i n : ℕ) → map unpacked (set ns i n) ≡ set (map unpacked ns) i (unpacked n)
+map-set : (ns : List ℕ) (i n : ℕ) → map unpackedFrame (set ns i n) ≡ set (map unpackedFrame ns) i (unpackedFrame n)
 map-set [] i n = refl
 map-set (m ∷ ns) zero n = refl
-map-set (m ∷ ns) (suc i) n = ap (λ (t : List Frame). unpacked m ∷ t) (map-set ns i n)
+map-set (m ∷ ns) (suc i) n = ap (λ (t : List Frame). unpackedFrame m ∷ t) (map-set ns i n)
 
 -- a row is stored
-set-packed : (ns : List ℕ) (i n : ℕ) (f : Frame) → unpacked n ≡ f → map unpacked (set ns i n) ≡ set (map unpacked ns) i f
-set-packed ns i n f e = map-set ns i n ∙ ap (set (map unpacked ns) i) e
+set-packed : (ns : List ℕ) (i n : ℕ) (f : Frame) → unpackedFrame n ≡ f → map unpackedFrame (set ns i n) ≡ set (map unpackedFrame ns) i f
+set-packed ns i n f e = map-set ns i n ∙ ap (set (map unpackedFrame ns) i) e
 
-pub opened-packed : (ns : List ℕ) (r : Run) (n : ℕ) (f : Frame) (k : ℕ) (p : Pen) → unpacked n ≡ f
-    → whole (set ns (r .depth) n) (record { depth = r .depth + 1; next = k; pen = p }) ≡ openedRun (whole ns r) f k p
+pub opened-packed : (ns : List ℕ) (r : Run) (n : ℕ) (f : Frame) (k : ℕ) (p : Writing) → unpackedFrame n ≡ f
+    → wholeRun (set ns (r .depth) n) (record { depth = r .depth + 1; next = k; writing = p }) ≡ openedRun (wholeRun ns r) f k p
 opened-packed ns r n f k p e =
-    ap (λ (fs : List Frame). framed fs (record { depth = r .depth + 1; next = k; pen = p })) (set-packed ns (r .depth) n f e)
+    ap (λ (fs : List Frame). withFrames fs (record { depth = r .depth + 1; next = k; writing = p })) (set-packed ns (r .depth) n f e)
 
-pub stored-packed : (ns : List ℕ) (r : Run) (i n : ℕ) (f : Frame) → unpacked n ≡ f → whole (set ns i n) r ≡ framed (set (map unpacked ns) i f) r
-stored-packed ns r i n f e = ap (λ (fs : List Frame). framed fs r) (set-packed ns i n f e)
+pub stored-packed : (ns : List ℕ) (r : Run) (i n : ℕ) (f : Frame) → unpackedFrame n ≡ f → wholeRun (set ns i n) r ≡ withFrames (set (map unpackedFrame ns) i f) r
+stored-packed ns r i n f e = ap (λ (fs : List Frame). withFrames fs r) (set-packed ns i n f e)
 
-none-packed : noFrame ≡ unpacked 0
-unfolding unpacked
+none-packed : noFrame ≡ unpackedFrame 0
+unfolding unpackedFrame
 none-packed = refl
 
 -- a row is read
-pub at-packed : (ns : List ℕ) (i : ℕ) → unpacked (getD ns i 0) ≡ frameAt (map unpacked ns) i
+pub at-packed : (ns : List ℕ) (i : ℕ) → unpackedFrame (getD ns i 0) ≡ frameAt (map unpackedFrame ns) i
 at-packed [] i = sym none-packed
 at-packed (n ∷ ns) zero = refl
 at-packed (n ∷ ns) (suc i) = at-packed ns i
@@ -59,8 +59,8 @@ one-low false n e = omega arith
 
 pub packed : (f : Frame) (n w e d : ℕ) → w ≡ one (f .wrap) → e ≡ one (f .early) → d ≡ one (f .deep)
     → n ≡ f .row * 8 + w * 4 + e * 2 + d
-    → unpacked n ≡ f
-unfolding unpacked
+    → unpackedFrame n ≡ f
+unfolding unpackedFrame
 packed f n w e d a b c h =
     let x = one-low (f .wrap) w a in
     let y = one-low (f .early) e b in

@@ -1,4 +1,4 @@
--- The loop over rows: each turn keeps what is still to be rendered, so that in the end the state is that of the rules.
+-- The loop writtenOver rows: each turn keeps what is still to be rendered, so that in the end the state is that of the rules.
 -- Assumes nothing.
 use mathlib.Core.Path.{_≡_, refl, ap, sym, _∙_, subst}
 use mathlib.Core.Logic.{_⊎_, inl, inr}
@@ -13,21 +13,21 @@ use Rattle.rows.specs.View.{View, viewOf, cell, nodesAt}
 use Rattle.rows.proofs.Nested.{nests-le}
 use Rattle.renderer_rules.specs.declared.Frame.{Frame}
 use Rattle.renderer_rules.specs.Page.{pageOf}
-use Rattle.renderer_rules.specs.Renderer.{Page, Renderer, renders}
+use Rattle.renderer_rules.specs.Renderer.{Page, Renderer, fresh, renderNodes}
 use Rattle.renderer_rules.specs.Frames.{limit as partLimit, wrapAt, Under}
 use Rattle.renderer_rules.proofs.Meaning.{meaning, rest}
 use Rattle.renderer_rules.proofs.Opened.{limit-zero}
 use Rattle.renderer_rules.specs.Machine.{Machine, turn}
 use Rattle.renderer_rules.proofs.Machine.{Fine, left, weight, means, isDone, turned, done-means}
-use Rattle.renderer_rules.specs.Safe.{Safe, Small, steps, ins}
+use Rattle.renderer_rules.specs.Safe.{Safe, SmallTexts, steps, ins}
 use Rattle.renderer_rules.proofs.Safe.{turn-safe}
-use Rattle.renderer.specs.declared.pen.Pen.{Pen}
-use Rattle.renderer.specs.Output.{over}
-use Rattle.renderer.specs.Run.{Running, stateOf, machineOf, Wrote, Shows, Follows, Ready, Starting, Rendered}
+use Rattle.renderer.specs.declared.pen.Writing.{Writing}
+use Rattle.renderer.specs.Output.{writtenOver}
+use Rattle.renderer.specs.Run.{Running, withFrames, machineOf, Wrote, Shows, Follows, Ready, Starting, Ended}
 use Rattle.renderer.proofs.Written.{over-length, text-fits}
 
 -- numbers of 32 bits
-pub small-cells : (max : ℕ) (source image store : List ℕ) → ((k : ℕ) → getD store k 0 < 4294967296) → Small (viewOf store) (pageOf max source image)
+pub small-cells : (max : ℕ) (source image store : List ℕ) → ((k : ℕ) → getD store k 0 < 4294967296) → SmallTexts (viewOf store) (pageOf max source image)
 unfolding viewOf
 small-cells max source image store h =
     record {
@@ -51,19 +51,19 @@ module _ (store source image : List ℕ) (max limit stop : ℕ) where
     pub room : stop * 9 ≤ length store
     pub few : stop ≤ 2097152
     pub fits : limit ≤ length out0
-    pub small : Small v pg
+    pub small : SmallTexts v pg
     pub base : ℕ
     pub low : base ≤ 128
     pub text : List ℕ
     pub entered : ℕ
-    pub wrote : Wrote limit out0 out (r .pen .at .0) text
+    pub wrote : Wrote limit out0 out (r .writing .at .0) text
     pub fine : Fine v pg stop (machineOf r marks text entered)
     pub safe : Safe v base (machineOf r marks text entered)
     pub mean : means v pg stop (machineOf r marks text entered) ≡ final
 
-  pub going-start : (out marks : List ℕ) (p : Pen) (from : ℕ) (fs : List Frame) → length fs ≡ 256 → Small v pg → Starting store limit from stop out p
-      → Going (renders pg (nodesAt v from stop) true (stateOf p marks [])) out marks out (record { frames = fs; depth = 0; next = from; pen = p })
-  unfolding machineOf meaning rest partLimit wrapAt Under steps ins over
+  pub going-start : (out marks : List ℕ) (p : Writing) (from : ℕ) (fs : List Frame) → length fs ≡ 256 → SmallTexts v pg → Starting store limit from stop out p
+      → Going (renderNodes pg (nodesAt v from stop) true (fresh (p .pen) marks)) out marks out (withFrames fs (record { depth = 0; next = from; writing = p }))
+  unfolding machineOf meaning rest partLimit wrapAt Under steps ins writtenOver
   going-start out marks p from fs e s g =
       let c = g .column in
       record {
@@ -71,13 +71,13 @@ module _ (store source image : List ℕ) (max limit stop : ℕ) where
         few = g .nested .few;
         fits = g .fits;
         small = s;
-        base = p .indent + p .«next_indent»;
+        base = p .pen .indent + p .pen .«next_indent»;
         low = g .margin;
         text = [];
         entered = 0;
         wrote = record { bytes = g .at; written = refl };
         fine = record { good = g .nested .nests; under = tt; low = omega arith; size = e; deep = omega arith };
-        safe = record { sum = plus-none (p .indent + p .«next_indent»); low = omega arith; column = omega arith; bytes = omega arith };
+        safe = record { sum = plus-none (p .pen .indent + p .pen .«next_indent»); low = omega arith; column = omega arith; bytes = omega arith };
         mean = refl;
       }
     where
@@ -157,9 +157,9 @@ module _ (store source image : List ℕ) (max limit stop : ℕ) where
         let h = nests-le (g .fine .good) in
         rw (eq-eqb (r .depth) 0 k, eq-eqb (r .next) stop (omega arith))
 
-    pub going-end : r .depth ≤ 0 → stop ≤ r .next → Rendered limit final out0 marks out (r .pen)
+    pub going-end : r .depth ≤ 0 → stop ≤ r .next → Ended limit final out0 marks out (r .writing)
     unfolding machineOf
     going-end d e =
         let z = is-done d e in
-        subst (λ (s : Renderer). Rendered limit s out0 marks out (r .pen)) (sym (done-means v pg stop (machineOf r marks (g .text) (g .entered)) z) ∙ g .mean)
-        (record { indent = refl; nextIndent = refl; column = refl; bytes = g .wrote .bytes; marks = refl; written = g .wrote .written })
+        subst (λ (s : Renderer). Ended limit s out0 marks out (r .writing)) (sym (done-means v pg stop (machineOf r marks (g .text) (g .entered)) z) ∙ g .mean)
+        (record { pen = refl; bytes = g .wrote .bytes; marks = refl; written = g .wrote .written })

@@ -4,52 +4,52 @@ use mathlib.Core.Path.{_≡_, refl, ap, sym, _∙_, subst}
 use Prim.Native.Nat.{ℕ, zero, suc, _+_, _*_, _-_, _≤_, _<_}
 use native.Mathlib.Omega.{arith}
 use native.Mathlib.Numerals.{add-one}
-use mathlib.Core.Bool.{Bool, true, false, cond, _&&_}
+use mathlib.Core.Bool.{Bool, true, false, cond, _&&_, _||_}
 use mathlib.Core.List.{List, []}
 use lib.ListN.{length}
 use lib.Dec.{ltb, eqb}
-use borrow.Author.Tests.{ne-eqb, eqb-true, eqb-false, lt-ltb, le-ltb, ltb-true}
+use borrow.Author.Tests.{ne-eqb, eqb-true, eqb-false, lt-ltb, le-ltb, ltb-true, ltb-false}
 use Rattle.rows.specs.View.{View, viewOf, cell}
 use Rattle.rows.specs.Nesting.{Nests, Nested}
 use Rattle.rows.proofs.Nested.{nests-le, nests-deep, nests-block, nests-pair, nests-kind, nests-weaken}
 use Rattle.renderer_rules.specs.declared.Frame.{Frame}
 use Rattle.renderer_rules.specs.Page.{pageOf}
-use Rattle.renderer_rules.specs.Renderer.{Page, Renderer, indented, outdented, nextIndented, nextOutdented}
+use Rattle.renderer_rules.specs.Renderer.{Page, Renderer, onPen, indented, outdented, nextIndented, nextOutdented}
 use Rattle.renderer_rules.specs.Frames.{frameAt, partEnd, limit as partLimit, wrapAt, Open}
-use Rattle.renderer_rules.specs.Machine.{closing, frame, enter, turn}
+use Rattle.renderer_rules.specs.Machine.{Machine, closing, frame, enter, turn}
 use Rattle.renderer_rules.proofs.Opened.{at-top, limit-zero, limit-pos, wrapAt-zero, wrapAt-pos}
 use Rattle.laws.proofs.Booleans.{both}
 use Rattle.renderer_rules.proofs.Machine.{turn-enter}
-use Rattle.renderer_rules.specs.Safe.{steps, ins, stepOf, insOf}
+use Rattle.renderer_rules.specs.Safe.{steps, ins, stepsBack, insOf}
 use Rattle.renderer_rules.proofs.Safe.{steps-le, closing-plain, closing-indent, closing-next, closing-call, indent-steps, next-steps, call-steps}
-use Rattle.renderer.specs.declared.pen.Pen.{Pen}
-use Rattle.renderer.specs.Pen.{shown, withMargin, Room}
+use Rattle.renderer_rules.specs.declared.Pen.{Pen}
+use Rattle.renderer.specs.declared.pen.Writing.{Writing}
+use Rattle.renderer.specs.Writing.{setPen, WritingRoom}
 use Rattle.renderer.specs.declared.run.Run.{Run}
-use Rattle.renderer.specs.Run.{Running, bare, stateOf, machineOf, Follows, Ready, Enters, Entering, Leaves, Backs, Left, goesOn, ends, openedRun, closedRun, closes}
-use Rattle.renderer.proofs.Followed.{shows-as, indent-follows, next-follows, arguments-follows, closed-follows, out-same, nextout-same, margin-at}
+use Rattle.renderer.specs.Run.{Running, withFrames, wholeRun, bareRun, passedRun, machineOf, Follows, Ready, Enters, Entering, Leaves, Backs, Left, goesOn, ends, openedRun, closedAt, closedRun, closes}
+use Rattle.renderer.proofs.Followed.{shows-as, indent-follows, next-follows, arguments-follows, closed-follows}
 
 -- `close`, by what it tests
 module _ (kind : ℕ) (f : Frame) (p q : Pen) where
-  pub closes-indent : kind ≡ 1 → q ≡ withMargin p (outdented (f .wrap) (shown p [])) → q ≡ withMargin p (closes kind f (shown p []))
+  pub closes-indent : kind ≡ 1 → q ≡ outdented (f .wrap) p → q ≡ closes kind f p
   closes-indent k e = e ∙ rw k
 
-  pub closes-next : kind ≡ 2 → q ≡ withMargin p (nextOutdented (f .wrap) (shown p [])) → q ≡ withMargin p (closes kind f (shown p []))
+  pub closes-next : kind ≡ 2 → q ≡ nextOutdented (f .wrap) p → q ≡ closes kind f p
   closes-next k e = e ∙ rw k
 
-  pub closes-call : kind ≡ 11 → q ≡ withMargin p (nextOutdented (f .deep) (shown p [])) → q ≡ withMargin p (closes kind f (shown p []))
+  pub closes-call : kind ≡ 11 → q ≡ nextOutdented (f .deep) p → q ≡ closes kind f p
   closes-call k e = e ∙ rw k
 
-pub closes-none : (kind : ℕ) (f : Frame) (p : Pen) → (kind ≡ 1 → ⊥) → (kind ≡ 2 → ⊥) → (kind ≡ 11 → ⊥) → p ≡ withMargin p (closes kind f (shown p []))
-unfolding withMargin shown
+pub closes-none : (kind : ℕ) (f : Frame) (p : Pen) → (kind ≡ 1 → ⊥) → (kind ≡ 2 → ⊥) → (kind ≡ 11 → ⊥) → p ≡ closes kind f p
 closes-none kind f p a b c = rw (ne-eqb kind 1 a, ne-eqb kind 2 b, ne-eqb kind 11 c)
 
 pub finished : (store : List ℕ) (r : Run) (f : Frame) (row kind next : ℕ) (p : Pen) (q : Run) → row ≡ f .row → kind ≡ cell store row 0 → next ≡ cell store row 4
-    → p ≡ withMargin (r .pen) (closes kind f (shown (r .pen) []))
-    → q ≡ record { depth = r .depth - 1; next = next; pen = p }
+    → p ≡ closes kind f (r .writing .pen)
+    → q ≡ closedAt r next p
     → q ≡ closedRun store r f
 finished store r f row kind next p q e k n a b = b ∙ rw (a, n, k, e)
 
-pub backs-at : (store : List ℕ) (r : Run) (f : Frame) (row kind : ℕ) → row ≡ f .row → kind ≡ cell store row 0 → Leaves store r f → Backs kind f (r .pen)
+pub backs-at : (store : List ℕ) (r : Run) (f : Frame) (row kind : ℕ) → row ≡ f .row → kind ≡ cell store row 0 → Leaves store r f → Backs kind f (r .writing .pen)
 backs-at store r f row kind e k l = rw (k, e) (l .backs)
 
 pub kind-at : (store : List ℕ) (f : Frame) (row kind : ℕ) → row ≡ f .row → kind ≡ cell store row 0 → cell store (f .row) 0 ≡ kind
@@ -76,19 +76,53 @@ some-part d n e e2 p h = ap (eqb n) h ∙ sym (rw (lt-ltb 0 d p))
 pub none-part : (d : ℕ) (b : Bool) → d ≤ 0 → false ≡ (ltb 0 d && b)
 none-part d b p = sym (rw (le-ltb 0 d p))
 
-pub indent-kind : (kind : ℕ) (r : Running) (w : Bool) (q : Running) (p : Pen) → kind ≡ 1 → p ≡ withMargin (r .pen) (indented w (shown (r .pen) []))
-    → q ≡ openedRun r (frame (r .next) w false false) (r .next + 1) p
+pub indent-kind : (kind : ℕ) (r : Running) (w : Bool) (q : Running) (p : Pen) (x : Writing) → kind ≡ 1 → p ≡ indented w (r .writing .pen)
+    → x ≡ setPen p (r .writing)
+    → q ≡ openedRun r (frame (r .next) w false false) (r .next + 1) x
     → q
     ≡ openedRun r (frame (r .next) w false false) (r .next + 1)
-    (withMargin (r .pen) (cond (eqb kind 1) (indented w (shown (r .pen) [])) (nextIndented w (shown (r .pen) []))))
-indent-kind kind r w q p k e o = o ∙ rw (e, k)
+    (setPen (cond (eqb kind 1) (indented w (r .writing .pen)) (nextIndented w (r .writing .pen))) (r .writing))
+indent-kind kind r w q p x k e s o = o ∙ rw (s, e, k)
 
-pub next-kind : (kind : ℕ) (r : Running) (w : Bool) (q : Running) (p : Pen) → (kind ≡ 1 → ⊥) → p ≡ withMargin (r .pen) (nextIndented w (shown (r .pen) []))
-    → q ≡ openedRun r (frame (r .next) w false false) (r .next + 1) p
+pub next-kind : (kind : ℕ) (r : Running) (w : Bool) (q : Running) (p : Pen) (x : Writing) → (kind ≡ 1 → ⊥) → p ≡ nextIndented w (r .writing .pen)
+    → x ≡ setPen p (r .writing)
+    → q ≡ openedRun r (frame (r .next) w false false) (r .next + 1) x
     → q
     ≡ openedRun r (frame (r .next) w false false) (r .next + 1)
-    (withMargin (r .pen) (cond (eqb kind 1) (indented w (shown (r .pen) [])) (nextIndented w (shown (r .pen) []))))
-next-kind kind r w q p k e o = o ∙ rw (e, ne-eqb kind 1 k)
+    (setPen (cond (eqb kind 1) (indented w (r .writing .pen)) (nextIndented w (r .writing .pen))) (r .writing))
+next-kind kind r w q p x k e s o = o ∙ rw (s, e, ne-eqb kind 1 k)
+
+-- the run that the code goes on with, once a row without parts is passed
+pub passed-follows : (limit : ℕ) (f : Machine → Machine) (marks out : List ℕ) (r : Running) (marks2 out2 ns : List ℕ) (s q : Run) (w : Writing)
+    → q ≡ bareRun (passedRun (withFrames [] s) w)
+    → Follows limit f marks out r marks2 out2 (passedRun (wholeRun ns s) w)
+    → Follows limit f marks out r marks2 out2 (wholeRun ns q)
+passed-follows limit f marks out r marks2 out2 ns s q w e g = subst (λ (x : Run). Follows limit f marks out r marks2 out2 (wholeRun ns x)) (sym e) g
+
+-- which kinds have parts
+pub parts-low : (k : ℕ) → k < 3 → true ≡ (ltb k 3 || ltb 9 k)
+parts-low k h = sym (rw (lt-ltb k 3 h))
+
+pub parts-high : (k : ℕ) → 3 ≤ k → ltb 9 k ≡ (ltb k 3 || ltb 9 k)
+parts-high k h = sym (rw (le-ltb k 3 h))
+
+pub with-parts : (k : ℕ) (b : Bool) → b ≡ (ltb k 3 || ltb 9 k) → b ≡ true → 3 ≤ k → 9 < k
+with-parts k b e t h = ltb-true 9 k (parts-high k h ∙ sym e ∙ t)
+
+pub without-parts : (k : ℕ) (b : Bool) → b ≡ (ltb k 3 || ltb 9 k) → b ≡ false → (3 ≤ k) × (k ≤ 9)
+without-parts k b e f = go (ltb k 3) (ltb 9 k) refl refl (sym e ∙ f)
+  where
+    go : (x y : Bool) → ltb k 3 ≡ x → ltb 9 k ≡ y → (x || y) ≡ false → (3 ≤ k) × (k ≤ 9)
+    go true y p q h = absurd (let z : _≡_ {A = ℕ} 0 1 = cc in omega arith)
+    go false true p q h = absurd (let z : _≡_ {A = ℕ} 0 1 = cc in omega arith)
+    go false false p q h = (ltb-false k 3 p, ltb-false 9 k q)
+
+pub indents-low : (k : ℕ) → k ≤ 11 → (3 ≤ k → 9 < k) → (k ≡ 11 → ⊥) → (k ≡ 10 → ⊥) → k < 3
+indents-low k l h a b = go (ltb k 3) refl
+  where
+    go : (x : Bool) → ltb k 3 ≡ x → k < 3
+    go true p = ltb-true k 3 p
+    go false p = absurd (let y = h (ltb-false k 3 p) in omega arith)
 
 module _ (store source image : List ℕ) (max limit stop : ℕ) (marks out : List ℕ) (r : Running) where
   abbrev v : View
@@ -98,7 +132,7 @@ module _ (store source image : List ℕ) (max limit stop : ℕ) (marks out : Lis
   pg = pageOf max source image
 
   module _ (y : Ready store source image max limit stop marks out r) where
-    margin : r .pen .indent + r .pen .«next_indent» ≤ 384
+    margin : r .writing .pen .indent + r .writing .pen .«next_indent» ≤ 384
     unfolding machineOf
     margin =
         let a = y .safe .sum in
@@ -107,7 +141,7 @@ module _ (store source image : List ℕ) (max limit stop : ℕ) (marks out : Lis
         let d = y .at .deep in
         omega arith
 
-    column : r .pen .column .0 < 1152921504606846976
+    column : r .writing .pen .column .0 < 1152921504606846976
     unfolding machineOf
     column =
         let a = y .safe .column in
@@ -116,7 +150,7 @@ module _ (store source image : List ℕ) (max limit stop : ℕ) (marks out : Lis
         let d = y .few in
         omega arith
 
-    bytes : r .pen .at .0 < 1152921504606846976
+    bytes : r .writing .at .0 < 1152921504606846976
     unfolding machineOf
     bytes =
         let a = y .safe .bytes in
@@ -126,7 +160,7 @@ module _ (store source image : List ℕ) (max limit stop : ℕ) (marks out : Lis
         let d = y .few in
         omega arith
 
-    pub pen-room : Room 1152921504606846976 limit out (r .pen)
+    pub pen-room : WritingRoom 1152921504606846976 limit out (r .writing)
     pen-room = record { fits = y .fits; indent = margin; column = column; at = bytes }
 
     pub top-row : (f : Frame) → 0 < r .depth → f ≡ frameAt (r .frames) (r .depth - 1) → f .row * 9 + 8 < length store
@@ -151,7 +185,7 @@ module _ (store source image : List ℕ) (max limit stop : ℕ) (marks out : Lis
     row-in : r .next < stop
     row-in = let a = n .inside in let b = n .ready .at .low in omega arith
 
-    pub enters : Enters store (bare r)
+    pub enters : Enters store (bareRun r)
     enters =
         let a = row-in in
         let b = n .ready .room in
@@ -198,7 +232,7 @@ module _ (store source image : List ℕ) (max limit stop : ℕ) (marks out : Lis
       → w ≡ wrapAt (r .frames) (r .depth)
       → q
       ≡ openedRun r (frame (r .next) w false false) (r .next + 1)
-      (withMargin (r .pen) (cond (eqb kind 1) (indented w (shown (r .pen) [])) (nextIndented w (shown (r .pen) []))))
+      (setPen (cond (eqb kind 1) (indented w (r .writing .pen)) (nextIndented w (r .writing .pen))) (r .writing))
       → Follows limit (enter v pg) marks out r marks out q
   indents-follow zero q w k a b e o = absurd (a refl)
   indents-follow (suc zero) q w k a b e o = indent-follows store source image max limit marks out r q w (sym k) e o
@@ -237,19 +271,19 @@ module _ (store source image : List ℕ) (max limit stop : ℕ) (marks out : Lis
       pub in-wrap : f .wrap ≡ wrapAt (r .frames) (r .depth)
       in-wrap = ap (λ (x : Frame). x .wrap) i ∙ sym (wrapAt-pos v pg stop (r .frames) (r .depth) h)
 
-      in-depth : (d : ℕ) → r .depth ≡ d → (insOf v f ≤ r .pen .indent) × (stepOf v f ≤ r .pen .indent + r .pen .«next_indent»)
+      in-depth : (d : ℕ) → r .depth ≡ d → (insOf v f ≤ r .writing .pen .indent) × (stepsBack v f ≤ r .writing .pen .indent + r .writing .pen .«next_indent»)
       unfolding machineOf steps ins
       in-depth zero e = absurd (omega arith)
       in-depth (suc d) e =
           let k : r .depth - 1 ≡ d = omega arith in
           let j : f ≡ frameAt (r .frames) d = i ∙ ap (frameAt (r .frames)) k in
-          let s = subst (λ (x : ℕ). r .pen .indent + r .pen .«next_indent» ≡ y .base + steps v (r .frames) x) e (y .safe .sum) in
-          let l = subst (λ (x : ℕ). ins v (r .frames) x ≤ r .pen .indent) e (y .safe .low) in
+          let s = subst (λ (x : ℕ). r .writing .pen .indent + r .writing .pen .«next_indent» ≡ y .base + steps v (r .frames) x) e (y .safe .sum) in
+          let l = subst (λ (x : ℕ). ins v (r .frames) x ≤ r .writing .pen .indent) e (y .safe .low) in
           let a = ap (insOf v) j in
-          let b = ap (stepOf v) j in
+          let b = ap (stepsBack v) j in
           (omega arith, omega arith)
 
-      backs : Backs (cell store (f .row) 0) f (r .pen)
+      backs : Backs (cell store (f .row) 0) f (r .writing .pen)
       unfolding viewOf
       backs =
           let x = in-depth (r .depth) refl in
@@ -259,7 +293,7 @@ module _ (store source image : List ℕ) (max limit stop : ℕ) (marks out : Lis
             call = λ k w. let a = call-steps v f true k w .0 in let b = x .1 in omega arith;
           }
 
-      pub leaves : r .next ≡ partEnd v f → Leaves store (bare r) f
+      pub leaves : r .next ≡ partEnd v f → Leaves store (bareRun r) f
       unfolding viewOf
       leaves z =
           record {
@@ -279,35 +313,17 @@ module _ (store source image : List ℕ) (max limit stop : ℕ) (marks out : Lis
                 (rw (z, i) (opened-row .later));
           }
 
-      closing-closes : (t : Renderer) → (cell store (f .row) 0 ≡ 11 → f .early ≡ false) → closing v pg f t ≡ closes (cell store (f .row) 0) f t
+      closing-closes : (t : Renderer) → (cell store (f .row) 0 ≡ 11 → f .early ≡ false) → closing v pg f t ≡ onPen (closes (cell store (f .row) 0) f) t
       unfolding viewOf
       closing-closes t e = go (eqb (cell store (f .row) 0) 1) (eqb (cell store (f .row) 0) 2) (eqb (cell store (f .row) 0) 11) refl refl refl
         where
           go : (a b c : Bool) → eqb (cell store (f .row) 0) 1 ≡ a → eqb (cell store (f .row) 0) 2 ≡ b → eqb (cell store (f .row) 0) 11 ≡ c
               → closing v pg f t
-              ≡ cond a (outdented (f .wrap) t) (cond b (nextOutdented (f .wrap) t) (cond c (nextOutdented (f .deep) t) t))
+              ≡ onPen (λ (p : Pen). cond a (outdented (f .wrap) p) (cond b (nextOutdented (f .wrap) p) (cond c (nextOutdented (f .deep) p) p))) t
           go true b c p q s = closing-indent v pg f t (eqb-true _ 1 p)
           go false true c p q s = closing-next v pg f t (eqb-true _ 2 q)
           go false false true p q s = closing-call v pg f t (eqb-true _ 11 s) (e (eqb-true _ 11 s))
           go false false false p q s = closing-plain v pg f t (cell store (f .row) 0) refl (eqb-false _ 1 p) (eqb-false _ 2 q) (eqb-false _ 11 s)
-
-      closes-same : (k : ℕ) (b : List ℕ) → closes k f (stateOf (r .pen) marks b) ≡ stateOf (withMargin (r .pen) (closes k f (shown (r .pen) []))) marks b
-      unfolding withMargin shown
-      closes-same k b = go (eqb k 1) (eqb k 2) (eqb k 11)
-        where
-          s : Renderer
-          s = stateOf (r .pen) marks b
-
-          u : Renderer
-          u = shown (r .pen) []
-
-          go : (x y z : Bool)
-              → cond x (outdented (f .wrap) s) (cond y (nextOutdented (f .wrap) s) (cond z (nextOutdented (f .deep) s) s))
-              ≡ stateOf (withMargin (r .pen) (cond x (outdented (f .wrap) u) (cond y (nextOutdented (f .wrap) u) (cond z (nextOutdented (f .deep) u) u)))) marks b
-          go true y z = out-same (f .wrap) (r .pen) marks b
-          go false true z = nextout-same (f .wrap) (r .pen) marks b
-          go false false true = nextout-same (f .deep) (r .pen) marks b
-          go false false false = refl
 
       not-on : (cell store (f .row) 0 ≡ 11 → f .early ≡ false) → (eqb (v .kind (f .row)) 11 && f .early) ≡ false
       unfolding viewOf
@@ -326,12 +342,9 @@ module _ (store source image : List ℕ) (max limit stop : ℕ) (marks out : Lis
           subst (λ (x : List ℕ). Follows limit (turn v pg) marks out r x out q) (sym m)
           (closed-follows store source image max limit marks out r h f i z
           (closes (cell store (f .row) 0) f)
-          (withMargin (r .pen) (closes (cell store (f .row) 0) f (shown (r .pen) [])))
           q
           (not-on e)
           (λ t. closing-closes t e)
-          (λ b. closes-same (cell store (f .row) 0) b)
-          (margin-at (r .pen) (closes (cell store (f .row) 0) f (shown (r .pen) [])))
           o)
 
   -- A turn, by the innermost row as the code has it.

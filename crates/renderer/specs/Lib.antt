@@ -1,5 +1,4 @@
-pub mod Lent
 pub mod Limits
 pub mod Output
-pub mod Pen
+pub mod Writing
 pub mod Run

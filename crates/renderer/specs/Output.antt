@@ -8,9 +8,9 @@ use Rattle.renderer_rules.specs.Page.{textBytes, textOf}
 use Rattle.renderer.specs.declared.row_text.RowText.{RowText}
 
 -- the output with a text written from `at` on
-unfoldable pub over : ℕ → List ℕ → ℕ → List ℕ → List ℕ
-over limit out at [] = out
-over limit out at (b ∷ t) = over limit (cond (ltb at limit) (set out at b) out) (at + 1) t
+unfoldable pub writtenOver : ℕ → List ℕ → ℕ → List ℕ → List ℕ
+writtenOver limit out at [] = out
+writtenOver limit out at (b ∷ t) = writtenOver limit (cond (ltb at limit) (set out at b) out) (at + 1) t
 
 -- the bytes of a row's text
 abbrev pub bytesOf : List ℕ → List ℕ → RowText → List ℕ

@@ -13,92 +13,114 @@ use Rattle.renderer.specs.Limits.{MAX-MARGIN, BEFORE-ROW}
 use Rattle.rows.specs.View.{viewOf, cell, nodesAt}
 use Rattle.rows.specs.Nesting.{Nested}
 use Rattle.renderer_rules.specs.declared.Frame.{Frame}
-use Rattle.renderer_rules.specs.Renderer.{Renderer, groupWraps, trailing, calleeWraps, outdented, nextIndented, nextOutdented}
+use Rattle.renderer_rules.specs.declared.Pen.{Pen}
+use Rattle.renderer_rules.specs.Renderer.{Renderer, fresh, withBuf, groupWraps, trailingCall, calleeWraps, outdented, nextIndented, nextOutdented}
 use Rattle.renderer_rules.specs.Page.{pageOf}
 use Rattle.renderer_rules.specs.Frames.{limit as partLimit, At}
 use Rattle.renderer_rules.specs.Machine.{Machine, frame}
-use Rattle.renderer_rules.specs.Safe.{Safe, Small}
-use Rattle.renderer.specs.declared.pen.Pen.{Pen}
+use Rattle.renderer_rules.specs.Safe.{Safe, SmallTexts}
+use Rattle.renderer.specs.declared.pen.Writing.{Writing}
 use Rattle.renderer.specs.declared.run.Run.{Run}
-use Rattle.renderer.specs.Output.{over}
-use Rattle.renderer.specs.Pen.{shown, withMargin}
+use Rattle.renderer.specs.declared.run.Bounds.{Bounds}
+use Rattle.renderer.specs.Output.{writtenOver}
+use Rattle.renderer.specs.Writing.{setPen}
 
 -- an open row from its number: the row times 8, and a bit for each flag
-unfoldable pub unpacked : ℕ → Frame
-unpacked n = record { row = n / 8; wrap = eqb (n / 4 % 2) 1; early = eqb (n / 2 % 2) 1; deep = eqb (n % 2) 1 }
+unfoldable pub unpackedFrame : ℕ → Frame
+unpackedFrame n = record { row = n / 8; wrap = eqb (n / 4 % 2) 1; early = eqb (n / 2 % 2) 1; deep = eqb (n % 2) 1 }
 
 -- a run with its open rows
 pub record Running : Type 0 where
   pub frames : List Frame
   pub depth : ℕ
   pub next : ℕ
-  pub pen : Pen
+  pub writing : Writing
 
-abbrev pub framed : List Frame → Run → Running
-framed fs r = record { frames = fs; depth = r .depth; next = r .next; pen = r .pen }
+abbrev pub withFrames : List Frame → Run → Running
+withFrames fs r = record { frames = fs; depth = r .depth; next = r .next; writing = r .writing }
 
 -- a run whose open rows are these numbers
-abbrev pub whole : List ℕ → Run → Running
-whole ns r = framed (map unpacked ns) r
+abbrev pub wholeRun : List ℕ → Run → Running
+wholeRun ns r = withFrames (map unpackedFrame ns) r
 
 -- a run without its open rows
-abbrev pub bare : Running → Run
-bare r = record { depth = r .depth; next = r .next; pen = r .pen }
+abbrev pub bareRun : Running → Run
+bareRun r = record { depth = r .depth; next = r .next; writing = r .writing }
 
--- the renderer that has a pen's numbers, and has written b
+-- the renderer that has a pen, and has written b
 abbrev pub stateOf : Pen → List ℕ → List ℕ → Renderer
-stateOf p marks b =
-    record { buf = b; indent = p .indent; nextIndent = p .«next_indent»; column = p .column .0; marks = marks }
+stateOf p marks b = withBuf b (fresh p marks)
 
 -- the machine of a run that has written b and entered n rows
 unfoldable pub machineOf : Running → List ℕ → List ℕ → ℕ → Machine
 machineOf r marks b n =
-    record { frames = r .frames; depth = r .depth; next = r .next; state = stateOf (r .pen) marks b; entered = n }
+    record { frames = r .frames; depth = r .depth; next = r .next; state = stateOf (r .writing .pen) marks b; entered = n }
 
 -- b is what is written, over an output that was o
 pub record Wrote (limit : ℕ) (o out : List ℕ) (at : ℕ) (b : List ℕ) : Type 0 where
   pub bytes : at ≡ length b
-  pub written : out ≡ over limit o 0 b
+  pub written : out ≡ writtenOver limit o 0 b
 
 -- the run has become machine m
 pub record Shows (limit : ℕ) (o marks out : List ℕ) (r : Running) (m : Machine) : Type 0 where
   pub same : m ≡ machineOf r marks (m .state .buf) (m .entered)
-  pub wrote : Wrote limit o out (r .pen .at .0) (m .state .buf)
+  pub wrote : Wrote limit o out (r .writing .at .0) (m .state .buf)
 
 -- from a run to the next as f turns the machine
 pub record Follows (limit : ℕ) (f : Machine → Machine) (marks out : List ℕ) (r : Running) (marks2 out2 : List ℕ) (q : Running) : Type 0 where
-  pub goes : (o b : List ℕ) (n : ℕ) → Wrote limit o out (r .pen .at .0) b → Shows limit o marks2 out2 q (f (machineOf r marks b n))
+  pub goes : (o b : List ℕ) (n : ℕ) → Wrote limit o out (r .writing .at .0) b → Shows limit o marks2 out2 q (f (machineOf r marks b n))
 
 -- the rows that are left nest, and the numbers are in range
 pub record Ready (store source image : List ℕ) (max limit stop : ℕ) (marks out : List ℕ) (r : Running) : Type 0 where
   pub room : stop * PLACES ≤ length store
   pub few : stop ≤ MAX-ROWS
   pub fits : limit ≤ length out
-  pub small : Small (viewOf store) (pageOf max source image)
+  pub small : SmallTexts (viewOf store) (pageOf max source image)
   pub at : At (viewOf store) stop (r .frames) (r .depth) (r .next)
   pub base : ℕ
   pub low : base ≤ START-MARGIN
   pub before : List ℕ
   pub text : List ℕ
-  pub wrote : Wrote limit before out (r .pen .at .0) text
+  pub wrote : Wrote limit before out (r .writing .at .0) text
   pub safe : Safe (viewOf store) base (machineOf r marks text 0)
 
--- a run with one more row open, at row k
-abbrev pub openedRun : Running → Frame → ℕ → Pen → Running
-openedRun r f k p = record { frames = set (r .frames) (r .depth) f; depth = r .depth + 1; next = k; pen = p }
+-- how a run goes on: a row is opened, with row k next; a row without parts is passed; the innermost row is f from here on
+abbrev pub openedRun : Running → Frame → ℕ → Writing → Running
+openedRun r f k w = record { frames = set (r .frames) (r .depth) f; depth = r .depth + 1; next = k; writing = w }
+
+abbrev pub passedRun : Running → Writing → Running
+passedRun r w = record { frames = r .frames; depth = r .depth; next = r .next + 1; writing = w }
+
+abbrev pub reopenedRun : Running → Frame → Running
+reopenedRun r f = record { frames = set (r .frames) (r .depth - 1) f; depth = r .depth; next = r .next; writing = r .writing }
 
 -- the numbers of a run that enters a row
 pub record Enters (store : List ℕ) (r : Run) : Type 0 where
   pub depth : r .depth < MAX-DEPTH
   pub row : r .next * PLACES + WIDTH < length store
   pub few : r .next < MAX-ROWS
-  pub indent : r .pen .indent + r .pen .«next_indent» ≤ MAX-MARGIN
-  pub column : r .pen .column .0 < BEFORE-ROW
+  pub indent : r .writing .pen .indent + r .writing .pen .«next_indent» ≤ MAX-MARGIN
+  pub column : r .writing .pen .column .0 < BEFORE-ROW
 
 -- a row is ahead in the open part
 pub record Entering (store source image : List ℕ) (max limit stop : ℕ) (marks out : List ℕ) (r : Running) : Type 0 where
   pub ready : Ready store source image max limit stop marks out r
   pub inside : r .next < partLimit (viewOf store) stop (r .frames) (r .depth)
+
+-- a run that takes a turn: it is ready, and not done yet
+pub record Turning (store source image : List ℕ) (bounds : Bounds) (marks out : List ℕ) (r : Running) : Type 0 where
+  pub stop : ℕ
+  pub ready : Ready store source image (bounds .max) (bounds .limit) stop marks out r
+  pub more : r .depth ≡ 0 → r .next < stop
+
+-- a run that opens a row, which reads no text and writes none
+pub record Opening (store : List ℕ) (max : ℕ) (marks : List ℕ) (r : Running) : Type 0 where
+  pub source : List ℕ
+  pub image : List ℕ
+  pub out : List ℕ
+  pub limit : ℕ
+  pub stop : ℕ
+  pub entering : Entering store source image max limit stop marks out r
 
 -- the marks once group `number` wraps or not
 abbrev pub inserted : Bool → ℕ → List ℕ → List ℕ
@@ -108,8 +130,8 @@ inserted wraps number marks = cond wraps (set marks number 1) marks
 pub record GroupOpened (store : List ℕ) (max : ℕ) (marks : List ℕ) (r : Running) (marks2 : List ℕ) (q : Running) : Type 0 where
   pub wraps : Bool
   pub isWraps :
-      wraps ≡ groupWraps (pageOf max [] []) (nodesAt (viewOf store) (r .next + 1) (cell store (r .next) AFTER)) (shown (r .pen) marks)
-  pub run : q ≡ openedRun r (frame (r .next) wraps false false) (r .next + 1) (r .pen)
+      wraps ≡ groupWraps (pageOf max [] []) (nodesAt (viewOf store) (r .next + 1) (cell store (r .next) AFTER)) (fresh (r .writing .pen) marks)
+  pub run : q ≡ openedRun r (frame (r .next) wraps false false) (r .next + 1) (r .writing)
   pub marked : marks2 ≡ inserted wraps (cell store (r .next) NUMBER) marks
 
 -- A `Call` is opened: which way it goes, whether its callee wraps, the run and the marks.
@@ -118,42 +140,35 @@ pub record CallOpened (store : List ℕ) (max : ℕ) (marks : List ℕ) (r : Run
   pub wraps : Bool
   pub isTrails :
       trails
-      ≡ trailing (pageOf max [] [])
+      ≡ trailingCall (pageOf max [] [])
       (nodesAt (viewOf store) (r .next + 1) (cell store (r .next) SECOND))
       (nodesAt (viewOf store) (cell store (r .next) SECOND) (cell store (r .next) AFTER))
-      (shown (r .pen) marks)
+      (fresh (r .writing .pen) marks)
   pub isWraps :
       wraps
       ≡ calleeWraps (pageOf max [] []) trails
       (nodesAt (viewOf store) (r .next + 1) (cell store (r .next) SECOND))
       (nodesAt (viewOf store) (cell store (r .next) SECOND) (cell store (r .next) AFTER))
-      (shown (r .pen) marks)
+      (fresh (r .writing .pen) marks)
   pub run :
       q
       ≡ openedRun r (frame (r .next) wraps true (not trails && wraps)) (r .next + 1)
-      (withMargin (r .pen) (nextIndented (not trails && wraps) (shown (r .pen) [])))
+      (setPen (nextIndented (not trails && wraps) (r .writing .pen)) (r .writing))
   pub marked : marks2 ≡ inserted wraps (cell store (r .next) NUMBER) marks
 
 -- The arguments of the `Call` of frame f are opened.
 pub record ArgumentsOpened (store : List ℕ) (max : ℕ) (marks : List ℕ) (r : Running) (f : Frame) (marks2 : List ℕ) (q : Running) : Type 0 where
   pub wraps : Bool
-  pub isWraps : wraps ≡ groupWraps (pageOf max [] []) (nodesAt (viewOf store) (r .next) (cell store (f .row) AFTER)) (shown (r .pen) marks)
-  pub run :
-      q
-      ≡ record {
-        frames = set (r .frames) (r .depth - 1) (frame (f .row) wraps false (f .deep));
-        depth = r .depth;
-        next = r .next;
-        pen = r .pen;
-      }
+  pub isWraps : wraps ≡ groupWraps (pageOf max [] []) (nodesAt (viewOf store) (r .next) (cell store (f .row) AFTER)) (fresh (r .writing .pen) marks)
+  pub run : q ≡ reopenedRun r (frame (f .row) wraps false (f .deep))
   pub marked : marks2 ≡ inserted wraps (cell store (f .row) SECOND-NUMBER) marks
 
--- what the end of a row does, by its kind
-abbrev pub closes : ℕ → Frame → Renderer → Renderer
-closes kind f s =
+-- what the end of a row does to the pen, by its kind
+abbrev pub closes : ℕ → Frame → Pen → Pen
+closes kind f p =
     cond (eqb kind INDENT)
-    (outdented (f .wrap) s)
-    (cond (eqb kind INDENT-NEXT) (nextOutdented (f .wrap) s) (cond (eqb kind CALL) (nextOutdented (f .deep) s) s))
+    (outdented (f .wrap) p)
+    (cond (eqb kind INDENT-NEXT) (nextOutdented (f .wrap) p) (cond (eqb kind CALL) (nextOutdented (f .deep) p) p))
 
 -- the step back that the end of a row takes is there
 pub record Backs (kind : ℕ) (f : Frame) (p : Pen) : Type 0 where
@@ -167,38 +182,34 @@ pub record Leaves (store : List ℕ) (r : Run) (f : Frame) : Type 0 where
   pub depth : r .depth ≤ MAX-DEPTH
   pub row : f .row * PLACES + WIDTH < length store
   pub few : f .row < MAX-ROWS
-  pub indent : r .pen .indent ≤ MAX-MARGIN
-  pub column : r .pen .column .0 < BEFORE-ROW
-  pub backs : Backs (cell store (f .row) KIND) f (r .pen)
+  pub indent : r .writing .pen .indent ≤ MAX-MARGIN
+  pub column : r .writing .pen .column .0 < BEFORE-ROW
+  pub backs : Backs (cell store (f .row) KIND) f (r .writing .pen)
   pub arguments : cell store (f .row) KIND ≡ CALL → f .early ≡ true → Nested store (r .next) (cell store (f .row) AFTER)
 
--- the run with the row of f closed
+-- the run with its innermost row closed, row k next and another pen; and with the row of f closed
+abbrev pub closedAt : Run → ℕ → Pen → Run
+closedAt r k p = record { depth = r .depth - 1; next = k; writing = setPen p (r .writing) }
+
 abbrev pub closedRun : List ℕ → Run → Frame → Run
-closedRun store r f =
-    record {
-      depth = r .depth - 1;
-      next = cell store (f .row) AFTER;
-      pen = withMargin (r .pen) (closes (cell store (f .row) KIND) f (shown (r .pen) []));
-    }
+closedRun store r f = closedAt r (cell store (f .row) AFTER) (closes (cell store (f .row) KIND) f (r .writing .pen))
 
 -- The innermost row is left: the arguments of a `Call` are opened, or the row is closed.
 pub data Left (store : List ℕ) (max : ℕ) (marks : List ℕ) (r : Running) (f : Frame) (marks2 : List ℕ) (q : Running) : Type 0 where
   goesOn : cell store (f .row) KIND ≡ CALL → f .early ≡ true → ArgumentsOpened store max marks r f marks2 q → Left store max marks r f marks2 q
-  ends : (cell store (f .row) KIND ≡ CALL → f .early ≡ false) → marks2 ≡ marks → q ≡ framed (r .frames) (closedRun store (bare r) f) → Left store max marks r f marks2 q
+  ends : (cell store (f .row) KIND ≡ CALL → f .early ≡ false) → marks2 ≡ marks → q ≡ withFrames (r .frames) (closedRun store (bareRun r) f) → Left store max marks r f marks2 q
 
 -- a rendering may start: the rows nest, and the state's numbers are in range
-pub record Starting (store : List ℕ) (limit from stop : ℕ) (out : List ℕ) (p : Pen) : Type 0 where
+pub record Starting (store : List ℕ) (limit from stop : ℕ) (out : List ℕ) (w : Writing) : Type 0 where
   pub nested : Nested store from stop
   pub fits : limit ≤ length out
-  pub margin : p .indent + p .«next_indent» ≤ START-MARGIN
-  pub column : p .column .0 ≤ MAX-COLUMN
-  pub at : p .at .0 ≡ 0
+  pub margin : w .pen .indent + w .pen .«next_indent» ≤ START-MARGIN
+  pub column : w .pen .column .0 ≤ MAX-COLUMN
+  pub at : w .at .0 ≡ 0
 
--- what s has is what the pen, the marks and the output have become
-pub record Rendered (limit : ℕ) (s : Renderer) (out marks2 out2 : List ℕ) (q : Pen) : Type 0 where
-  pub indent : q .indent ≡ s .indent
-  pub nextIndent : q .«next_indent» ≡ s .nextIndent
-  pub column : q .column .0 ≡ s .column
+-- what s has is what the writing, the marks and the output have become
+pub record Ended (limit : ℕ) (s : Renderer) (out marks2 out2 : List ℕ) (q : Writing) : Type 0 where
+  pub pen : q .pen ≡ s .pen
   pub bytes : q .at .0 ≡ length (s .buf)
   pub marks : marks2 ≡ s .marks
-  pub written : out2 ≡ over limit out 0 (s .buf)
+  pub written : out2 ≡ writtenOver limit out 0 (s .buf)

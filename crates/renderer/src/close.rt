@@ -1,19 +1,18 @@
 // How the open part of a row ends, and what the end of a row takes back.
 ghost use mathlib.Core.Path.{_≡_};
 ghost use Prim.Native.Nat.{_+_, _-_, _*_, _<_};
-ghost use mathlib.Core.List.{[]};
 ghost use lib.ListN.{length};
 ghost use Rattle.rows.specs.Places.{WIDTH, PLACES};
 ghost use Rattle.rows.specs.View.{viewOf};
 ghost use Rattle.renderer_rules.specs.Frames.{partEnd};
-ghost use Rattle.renderer.specs.Pen.{shown, withMargin};
-ghost use Rattle.renderer.specs.Run.{whole, closedRun, closes, Backs, Leaves, Left};
+ghost use Rattle.renderer.specs.Run.{wholeRun, closedAt, closedRun, closes, Backs, Leaves, Left};
 use crate::margin::outdent;
 use crate::margin::outdent_next;
 use crate::open::enter_arguments;
-use crate::pen::Pen;
+use crate::pen::set_pen;
 use crate::run::Run;
 use renderer_rules::Frame;
+use renderer_rules::Pen;
 use rows::kinds::CALL;
 use rows::kinds::INDENT;
 use rows::kinds::INDENT_NEXT;
@@ -22,7 +21,7 @@ use rows::places::AFTER;
 use rows::places::KIND;
 use rows::places::SECOND;
 use rows::store::place;
-use rows::store::wide;
+use rows::store::to_usize;
 
 // Where the open part of a row ends.
 pub(crate) fn part_end(store: &[u32], f: Frame) -> usize
@@ -30,27 +29,28 @@ pub(crate) fn part_end(store: &[u32], f: Frame) -> usize
     ensures { λ r. ⌜ r ≡ partEnd (viewOf (now (store .entry))) f ⌝ }
 {
     if f.early {
-        return place(store, wide(f.row), SECOND);
+        return place(store, to_usize(f.row), SECOND);
     }
-    place(store, wide(f.row), AFTER)
+    place(store, to_usize(f.row), AFTER)
 }
 
 // The innermost row is closed.
 fn closed(r: Run, next: usize, pen: Pen) -> Run
     requires { ⌜ 0 < r .depth ⌝ }
-    ensures { λ q. ⌜ q ≡ record { depth = r .depth - 1; next = next; pen = pen } ⌝ }
+    ensures { λ q. ⌜ q ≡ closedAt r next pen ⌝ }
 {
+    let w = r.writing;
     Run {
         depth: r.depth - 1,
         next: next,
-        pen: pen,
+        writing: set_pen(w, pen),
     }
 }
 
 // What the end of a row takes back.
 fn close(p: Pen, kind: usize, f: Frame) -> Pen
     requires { ⌜ Backs kind f p ⌝ }
-    ensures { λ r. ⌜ r ≡ withMargin p (closes kind f (shown p [])) ⌝ }
+    ensures { λ r. ⌜ r ≡ closes kind f p ⌝ }
 {
     if kind == INDENT {
         return outdent(p, f.wrap);
@@ -69,11 +69,11 @@ fn finish(r: Run, f: Frame, store: &[u32]) -> Run
     requires { ⌜ Leaves (now store) r f ⌝ }
     ensures { λ q. ⌜ q ≡ closedRun (now (store .entry)) r f ⌝ }
 {
-    let row = wide(f.row);
+    let row = to_usize(f.row);
     let kind = place(store, row, KIND);
     let next = place(store, row, AFTER);
-    let p = r.pen;
-    closed(r, next, close(p, kind, f))
+    let w = r.writing;
+    closed(r, next, close(w.pen, kind, f))
 }
 
 // The open part of the innermost row is done.
@@ -86,9 +86,9 @@ pub(crate) fn leave(
     max: usize,
 ) -> Run
     requires { ⌜ Leaves (now store) r f ⌝ }
-    ensures { λ q. ⌜ Left (now (store .entry)) max (now (marks .entry)) (whole (now (frames .entry)) r) f (now (marks .exit)) (whole (now (frames .exit)) q) ⌝ }
+    ensures { λ q. ⌜ Left (now (store .entry)) max (now (marks .entry)) (wholeRun (now (frames .entry)) r) f (now (marks .exit)) (wholeRun (now (frames .exit)) q) ⌝ }
 {
-    let kind = place(store, wide(f.row), KIND);
+    let kind = place(store, to_usize(f.row), KIND);
     if kind != CALL {
         return finish(r, f, store);
     }

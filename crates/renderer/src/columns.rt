@@ -6,18 +6,17 @@ ghost use Rattle.renderer.specs.Limits.{MAX-MARGIN, BEFORE-ROW};
 ghost use Rattle.rows.specs.View.{viewOf, nodesAt};
 ghost use Rattle.rows.specs.Nesting.{Nested};
 ghost use Rattle.renderer_rules.specs.Page.{pageOf};
-ghost use Rattle.renderer_rules.specs.Renderer.{groupWraps, trailing, calleeWraps, virtualColumn};
-ghost use Rattle.renderer.specs.Pen.{shown};
+ghost use Rattle.renderer_rules.specs.Renderer.{fresh, groupWraps, trailingCall, calleeWraps, virtualColumn};
 use crate::measure::width_past;
-use crate::pen::Pen;
 use crate::pen::margin_columns;
+use renderer_rules::Pen;
 use rows::units::Columns;
-use rows::width::must_wrap;
+use rows::wrap::must_wrap;
 
 // The column, or where the line will start.
 fn virtual_column(p: Pen) -> Columns
     requires { ⌜ p .indent ≤ MAX-MARGIN ⌝ }
-    ensures { λ r. ⌜ r .0 ≡ virtualColumn (shown p []) ⌝ }
+    ensures { λ r. ⌜ r .0 ≡ virtualColumn p ⌝ }
 {
     if 0 < p.column.0 {
         return p.column;
@@ -35,7 +34,7 @@ pub(crate) fn group_wraps(
     max: usize,
 ) -> bool
     requires { ⌜ Nested (now store) from to × ((p .indent ≤ MAX-MARGIN) × (p .column .0 < BEFORE-ROW)) ⌝ }
-    ensures { λ r. ⌜ r ≡ groupWraps (pageOf max [] []) (nodesAt (viewOf (now (store .entry))) from to) (shown p (now (marks .entry))) ⌝ }
+    ensures { λ r. ⌜ r ≡ groupWraps (pageOf max [] []) (nodesAt (viewOf (now (store .entry))) from to) (fresh p (now (marks .entry))) ⌝ }
 {
     if must_wrap(store, from, to) {
         return true;
@@ -55,7 +54,7 @@ pub(crate) fn trails(
     max: usize,
 ) -> bool
     requires { ⌜ Nested (now store) from mid × (Nested (now store) mid to × ((p .indent ≤ MAX-MARGIN) × (p .column .0 < BEFORE-ROW))) ⌝ }
-    ensures { λ r. ⌜ r ≡ trailing (pageOf max [] []) (nodesAt (viewOf (now (store .entry))) from mid) (nodesAt (viewOf (now (store .entry))) mid to) (shown p (now (marks .entry))) ⌝ }
+    ensures { λ r. ⌜ r ≡ trailingCall (pageOf max [] []) (nodesAt (viewOf (now (store .entry))) from mid) (nodesAt (viewOf (now (store .entry))) mid to) (fresh p (now (marks .entry))) ⌝ }
 {
     if must_wrap(store, from, mid) {
         return false;
@@ -82,7 +81,7 @@ pub(crate) fn callee_wraps(
     max: usize,
 ) -> bool
     requires { ⌜ Nested (now store) from mid × (Nested (now store) mid to × ((p .indent ≤ MAX-MARGIN) × (p .column .0 < BEFORE-ROW))) ⌝ }
-    ensures { λ r. ⌜ r ≡ calleeWraps (pageOf max [] []) trailing (nodesAt (viewOf (now (store .entry))) from mid) (nodesAt (viewOf (now (store .entry))) mid to) (shown p (now (marks .entry))) ⌝ }
+    ensures { λ r. ⌜ r ≡ calleeWraps (pageOf max [] []) trailing (nodesAt (viewOf (now (store .entry))) from mid) (nodesAt (viewOf (now (store .entry))) mid to) (fresh p (now (marks .entry))) ⌝ }
 {
     if trailing {
         return group_wraps(p, store, marks, from, mid, max);

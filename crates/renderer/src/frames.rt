@@ -3,7 +3,7 @@ ghost use mathlib.Core.Path.{_≡_};
 ghost use Prim.Native.Nat.{_<_};
 ghost use mathlib.Core.Bool.{cond};
 ghost use Rattle.rows.specs.Limits.{MAX-ROWS};
-ghost use Rattle.renderer.specs.Run.{unpacked};
+ghost use Rattle.renderer.specs.Run.{unpackedFrame};
 use renderer_rules::Frame;
 
 fn bit(b: bool) -> u32
@@ -18,14 +18,14 @@ fn bit(b: bool) -> u32
 // The number of an open row.
 pub(crate) fn pack(f: Frame) -> u32
     requires { ⌜ f .row < MAX-ROWS ⌝ }
-    ensures { λ r. ⌜ unpacked r ≡ f ⌝ }
+    ensures { λ r. ⌜ unpackedFrame r ≡ f ⌝ }
 {
     f.row * 8 + bit(f.wrap) * 4 + bit(f.early) * 2 + bit(f.deep)
 }
 
 // The open row of a number.
 pub(crate) fn unpack(n: u32) -> Frame
-    ensures { λ r. ⌜ r ≡ unpacked n ⌝ }
+    ensures { λ r. ⌜ r ≡ unpackedFrame n ⌝ }
 {
     Frame {
         row: n / 8,

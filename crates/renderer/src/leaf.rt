@@ -9,9 +9,9 @@ ghost use Rattle.rows.specs.Places.{KIND, WIDTH, PLACES};
 ghost use Rattle.renderer.specs.Limits.{BEFORE-ROW};
 ghost use Rattle.rows.specs.View.{cell, viewOf, nodeAt};
 ghost use Rattle.renderer_rules.specs.Page.{pageOf};
-ghost use Rattle.renderer_rules.specs.Renderer.{render, newLine, text};
-ghost use Rattle.renderer.specs.Pen.{shown, Drawn, Room};
-use crate::pen::Pen;
+ghost use Rattle.renderer_rules.specs.Renderer.{fresh, renderNode, newLine, text};
+ghost use Rattle.renderer.specs.Writing.{Writes, WritingRoom};
+use crate::pen::Writing;
 use crate::pen::comment;
 use crate::pen::empty_line;
 use crate::pen::new_line;
@@ -27,10 +27,17 @@ use rows::kinds::WRAP_PARENT;
 use rows::store::str_width;
 use rows::units::ascii_columns;
 
+// A row without parts: its kind, and whether the part that it is in wraps.
+pub struct LeafRow {
+    pub row: usize,
+    pub kind: usize,
+    pub wrap: bool,
+}
+
 // A `Line`.
-fn line(p: Pen, out: &mut [u8], limit: usize, wrap: bool) -> Pen
-    requires { ⌜ Room BEFORE-ROW limit (now out) p ⌝ }
-    ensures { λ r. ⌜ Drawn limit (cond wrap (newLine (shown p [])) (shown p [])) (now (out .entry)) p (now (out .exit)) r ⌝ }
+fn line(p: Writing, out: &mut [u8], limit: usize, wrap: bool) -> Writing
+    requires { ⌜ WritingRoom BEFORE-ROW limit (now out) p ⌝ }
+    ensures { λ r. ⌜ Writes limit (cond wrap (newLine (fresh (p .pen) [])) (fresh (p .pen) [])) (now (out .entry)) p (now (out .exit)) r ⌝ }
 {
     if wrap {
         return new_line(p, out, limit);
@@ -39,9 +46,9 @@ fn line(p: Pen, out: &mut [u8], limit: usize, wrap: bool) -> Pen
 }
 
 // A `LineOrSpace`.
-fn line_or_space(p: Pen, out: &mut [u8], limit: usize, wrap: bool) -> Pen
-    requires { ⌜ Room BEFORE-ROW limit (now out) p ⌝ }
-    ensures { λ r. ⌜ Drawn limit (cond wrap (newLine (shown p [])) (text (0x20 ∷ []) 1 (shown p []))) (now (out .entry)) p (now (out .exit)) r ⌝ }
+fn line_or_space(p: Writing, out: &mut [u8], limit: usize, wrap: bool) -> Writing
+    requires { ⌜ WritingRoom BEFORE-ROW limit (now out) p ⌝ }
+    ensures { λ r. ⌜ Writes limit (cond wrap (newLine (fresh (p .pen) [])) (text (0x20 ∷ []) 1 (fresh (p .pen) []))) (now (out .entry)) p (now (out .exit)) r ⌝ }
 {
     if wrap {
         return new_line(p, out, limit);
@@ -49,56 +56,53 @@ fn line_or_space(p: Pen, out: &mut [u8], limit: usize, wrap: bool) -> Pen
     space(p, out, limit)
 }
 
-// A row without parts.
+// What a row without parts writes.
 pub(crate) fn leaf(
-    p: Pen,
+    p: Writing,
+    l: LeafRow,
     store: &[u32],
     source: &[u8],
     image: &[u8],
     out: &mut [u8],
     limit: usize,
-    row: usize,
-    kind: usize,
-    wrap: bool,
-) -> Pen
-    requires { ⌜ Room BEFORE-ROW limit (now out) p × ((row * PLACES + WIDTH < length (now store)) × ((kind ≡ cell (now store) row KIND) × ((WRAP-PARENT ≤ kind) × (kind ≤ LINE-OR-SPACE)))) ⌝ }
-    ensures { λ r. ⌜ ((max : ℕ) → Drawn limit (render (pageOf max (now (source .entry)) (now (image .entry))) (nodeAt (viewOf (now (store .entry))) row) wrap (shown p [])) (now (out .entry)) p (now (out .exit)) r) ⌝ }
+) -> Writing
+    requires { ⌜ WritingRoom BEFORE-ROW limit (now out) p × ((l .row * PLACES + WIDTH < length (now store)) × ((l .kind ≡ cell (now store) (l .row) KIND) × ((WRAP-PARENT ≤ l .kind) × (l .kind ≤ LINE-OR-SPACE)))) ⌝ }
+    ensures { λ r. ⌜ ((max : ℕ) → Writes limit (renderNode (pageOf max (now (source .entry)) (now (image .entry))) (nodeAt (viewOf (now (store .entry))) (l .row)) (l .wrap) (fresh (p .pen) [])) (now (out .entry)) p (now (out .exit)) r) ⌝ }
 {
-    if kind == WRAP_PARENT {
+    if l.kind == WRAP_PARENT {
         return p;
     }
-    if kind == LINE {
-        return line(p, out, limit, wrap);
+    if l.kind == LINE {
+        return line(p, out, limit, l.wrap);
     }
-    if kind == EMPTY_LINE {
+    if l.kind == EMPTY_LINE {
         return empty_line(p, out, limit);
     }
-    if kind == LINE_OR_SPACE {
-        return line_or_space(p, out, limit, wrap);
+    if l.kind == LINE_OR_SPACE {
+        return line_or_space(p, out, limit, l.wrap);
     }
-    text_leaf(p, store, source, image, out, limit, row, kind)
+    text_leaf(p, l, store, source, image, out, limit)
 }
 
 // A `Comment`, a `Str` or an `Ascii`.
 fn text_leaf(
-    p: Pen,
+    p: Writing,
+    l: LeafRow,
     store: &[u32],
     source: &[u8],
     image: &[u8],
     out: &mut [u8],
     limit: usize,
-    row: usize,
-    kind: usize,
-) -> Pen
-    requires { ⌜ Room BEFORE-ROW limit (now out) p × ((row * PLACES + WIDTH < length (now store)) × ((kind ≡ cell (now store) row KIND) × ((COMMENT ≤ kind) × (kind ≤ ASCII)))) ⌝ }
-    ensures { λ r. ⌜ ((max : ℕ) (wrap : Bool) → Drawn limit (render (pageOf max (now (source .entry)) (now (image .entry))) (nodeAt (viewOf (now (store .entry))) row) wrap (shown p [])) (now (out .entry)) p (now (out .exit)) r) ⌝ }
+) -> Writing
+    requires { ⌜ WritingRoom BEFORE-ROW limit (now out) p × ((l .row * PLACES + WIDTH < length (now store)) × ((l .kind ≡ cell (now store) (l .row) KIND) × ((COMMENT ≤ l .kind) × (l .kind ≤ ASCII)))) ⌝ }
+    ensures { λ r. ⌜ ((max : ℕ) (wrap : Bool) → Writes limit (renderNode (pageOf max (now (source .entry)) (now (image .entry))) (nodeAt (viewOf (now (store .entry))) (l .row)) wrap (fresh (p .pen) [])) (now (out .entry)) p (now (out .exit)) r) ⌝ }
 {
-    let t = row_text(store, row);
-    if kind == COMMENT {
+    let t = row_text(store, l.row);
+    if l.kind == COMMENT {
         return comment(p, out, limit, source, image, t);
     }
-    if kind == STR {
-        let w = str_width(store, row);
+    if l.kind == STR {
+        let w = str_width(store, l.row);
         return text(p, out, limit, source, image, t, w);
     }
     let size = t.size;

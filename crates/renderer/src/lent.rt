@@ -1,70 +1,65 @@
-// The three numbers of `Renderer`, lent and changed through `&mut`, as `&mut self` of fmt.rs has them. Each function over what is lent calls the
-// function by value. What the rest of rendering calls has plain parameters.
+// The pen, lent and changed through `&mut`, as `&mut self` of fmt.rs has its numbers. Each function over what is lent calls the function by
+// value. What the rest of rendering calls has plain parameters.
 ghost use mathlib.Core.Path.{_≡_};
 ghost use Prim.Native.Nat.{_+_, _≤_};
 ghost use Rattle.renderer.specs.Limits.{MAX-MARGIN};
-ghost use Rattle.renderer.specs.Lent.{moved, broken};
+ghost use Rattle.renderer_rules.specs.Renderer.{withMargin, onNewLine};
+use renderer_rules::Pen;
 use rows::units::Columns;
 
-pub struct Numbers {
-    pub indent: usize,
-    pub next_indent: usize,
-    pub column: Columns,
-}
-
-// The numbers with another margin.
-fn moved(n: Numbers, indent: usize, next_indent: usize) -> Numbers
-    ensures { λ r. ⌜ r ≡ moved n indent «next_indent» ⌝ }
+// The pen with another margin.
+fn moved(p: Pen, indent: usize, next_indent: usize) -> Pen
+    ensures { λ r. ⌜ r ≡ withMargin indent «next_indent» p ⌝ }
 {
-    Numbers {
+    Pen {
         indent: indent,
         next_indent: next_indent,
-        column: Columns(n.column.0),
+        column: Columns(p.column.0),
     }
 }
 
-// The numbers on a new line.
-fn broken(n: Numbers) -> Numbers
-    requires { ⌜ n .indent + n .«next_indent» ≤ MAX-MARGIN ⌝ }
-    ensures { λ r. ⌜ r ≡ broken n ⌝ }
+// The pen on a new line.
+fn broken(p: Pen) -> Pen
+    requires { ⌜ p .indent + p .«next_indent» ≤ MAX-MARGIN ⌝ }
+    ensures { λ r. ⌜ r ≡ onNewLine p ⌝ }
 {
-    Numbers {
-        indent: n.indent + n.next_indent,
+    Pen {
+        indent: p.indent + p.next_indent,
         next_indent: 0,
         column: Columns(0),
     }
 }
 
 // Sets the margin.
-fn set_margin(n: &mut Numbers, indent: usize, next_indent: usize)
-    ensures { λ _. ⌜ now (n .exit) ≡ moved (now (n .entry)) indent «next_indent» ⌝ }
+fn set_margin(p: &mut Pen, indent: usize, next_indent: usize)
+    ensures { λ _. ⌜ now (p .exit) ≡ withMargin indent «next_indent» (now (p .entry)) ⌝ }
 {
-    *n = moved(*n, indent, next_indent);
+    *p = moved(*p, indent, next_indent);
 }
 
 // Goes to a new line.
-fn break_line(n: &mut Numbers)
-    requires { ⌜ now n .indent + now n .«next_indent» ≤ MAX-MARGIN ⌝ }
-    ensures { λ _. ⌜ now (n .exit) ≡ broken (now (n .entry)) ⌝ }
+fn break_line(p: &mut Pen)
+    requires { ⌜ now p .indent + now p .«next_indent» ≤ MAX-MARGIN ⌝ }
+    ensures { λ _. ⌜ now (p .exit) ≡ onNewLine (now (p .entry)) ⌝ }
 {
-    *n = broken(*n);
+    *p = broken(*p);
 }
 
-// The numbers with another margin, by lending them.
-pub(crate) fn with_margin(n: Numbers, indent: usize, next_indent: usize) -> Numbers
-    ensures { λ r. ⌜ r ≡ moved n indent «next_indent» ⌝ }
+// The pen with another margin, by lending it.
+pub(crate) fn with_margin(p: Pen, indent: usize, next_indent: usize) -> Pen
+    ensures { λ r. ⌜ r ≡ withMargin indent «next_indent» p ⌝ }
 {
-    let mut m = n;
-    set_margin(&mut m, indent, next_indent);
-    m
+    let mut lent = p;
+    set_margin(&mut lent, indent, next_indent);
+    lent
 }
 
-// The numbers on a new line, by lending them.
-pub(crate) fn on_new_line(n: Numbers) -> Numbers
-    requires { ⌜ n .indent + n .«next_indent» ≤ MAX-MARGIN ⌝ }
-    ensures { λ r. ⌜ r ≡ broken n ⌝ }
+// The pen on a new line, by lending it.
+pub(crate) fn on_new_line(p: Pen) -> Pen
+    requires { ⌜ p .indent + p .«next_indent» ≤ MAX-MARGIN ⌝ }
+    ensures { λ r. ⌜ r ≡ onNewLine p ⌝ }
 {
-    let mut m = n;
-    break_line(&mut m);
-    m
+    let mut lent = p;
+    break_line(&mut lent);
+    lent
 }

@@ -12,4 +12,4 @@ mod open;
 pub mod output;
 pub mod pen;
 mod row_text;
-mod run;
+pub mod run;

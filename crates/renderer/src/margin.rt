@@ -2,27 +2,15 @@
 ghost use mathlib.Core.Path.{_≡_};
 ghost use Prim.Native.Nat.{_+_, _≤_};
 ghost use mathlib.Core.Bool.{true};
-ghost use mathlib.Core.List.{[]};
 ghost use Rattle.renderer.specs.Limits.{MAX-MARGIN};
 ghost use Rattle.renderer_rules.specs.Renderer.{indented, outdented, nextIndented, nextOutdented};
-ghost use Rattle.renderer.specs.Pen.{shown, withMargin};
-use crate::pen::Pen;
-use crate::pen::numbers;
-use crate::pen::pen_of;
-
-// The pen with another margin.
-fn with_margin(p: Pen, indent: usize, next_indent: usize) -> Pen
-    ensures { λ r. ⌜ r ≡ record { indent = indent; «next_indent» = «next_indent»; column = p .column; at = p .at } ⌝ }
-{
-    let n = crate::lent::with_margin(numbers(p), indent, next_indent);
-    let at = p.at;
-    pen_of(n, at)
-}
+use crate::lent::with_margin;
+use renderer_rules::Pen;
 
 // `indent` one more, where `wrap` holds.
 pub(crate) fn indent(p: Pen, wrap: bool) -> Pen
     requires { ⌜ p .indent ≤ MAX-MARGIN ⌝ }
-    ensures { λ r. ⌜ r ≡ withMargin p (indented wrap (shown p [])) ⌝ }
+    ensures { λ r. ⌜ r ≡ indented wrap p ⌝ }
 {
     if wrap {
         return with_margin(p, p.indent + 1, p.next_indent);
@@ -33,7 +21,7 @@ pub(crate) fn indent(p: Pen, wrap: bool) -> Pen
 // `next_indent` one more, where `wrap` holds.
 pub(crate) fn indent_next(p: Pen, wrap: bool) -> Pen
     requires { ⌜ p .«next_indent» ≤ MAX-MARGIN ⌝ }
-    ensures { λ r. ⌜ r ≡ withMargin p (nextIndented wrap (shown p [])) ⌝ }
+    ensures { λ r. ⌜ r ≡ nextIndented wrap p ⌝ }
 {
     if wrap {
         return with_margin(p, p.indent, p.next_indent + 1);
@@ -44,7 +32,7 @@ pub(crate) fn indent_next(p: Pen, wrap: bool) -> Pen
 // `indent` one less, where `wrap` holds.
 pub(crate) fn outdent(p: Pen, wrap: bool) -> Pen
     requires { ⌜ (wrap ≡ true → 1 ≤ p .indent) ⌝ }
-    ensures { λ r. ⌜ r ≡ withMargin p (outdented wrap (shown p [])) ⌝ }
+    ensures { λ r. ⌜ r ≡ outdented wrap p ⌝ }
 {
     if wrap {
         return with_margin(p, p.indent - 1, p.next_indent);
@@ -55,7 +43,7 @@ pub(crate) fn outdent(p: Pen, wrap: bool) -> Pen
 // What `IndentNext` takes back in the end, where `wrap` holds.
 pub(crate) fn outdent_next(p: Pen, wrap: bool) -> Pen
     requires { ⌜ (wrap ≡ true → 1 ≤ p .indent + p .«next_indent») ⌝ }
-    ensures { λ r. ⌜ r ≡ withMargin p (nextOutdented wrap (shown p [])) ⌝ }
+    ensures { λ r. ⌜ r ≡ nextOutdented wrap p ⌝ }
 {
     if wrap {
         if 0 < p.next_indent {

@@ -11,9 +11,9 @@ use rows::places::NUMBER;
 use rows::places::SECOND;
 use rows::store::place;
 use rows::units::Columns;
-use rows::width::is_wrapped;
 use rows::width::own_width;
 use rows::width::width;
+use rows::wrap::is_wrapped;
 
 // A width that is past the room is one column past it.
 fn clip(w: Columns, room: usize) -> Columns

@@ -5,7 +5,7 @@ ghost use mathlib.Core.List.{[], _∷_};
 ghost use lib.ListN.{length, take, drop, replicate};
 ghost use Rattle.rows.specs.Words.{words};
 ghost use Rattle.rows.specs.Texts.{originText};
-ghost use Rattle.renderer.specs.Output.{over, bytesOf};
+ghost use Rattle.renderer.specs.Output.{writtenOver, bytesOf};
 use crate::row_text::RowText;
 use rows::origins::origin_size;
 use rows::units::Bytes;
@@ -14,7 +14,7 @@ use rows::words::WORDS;
 // Writes a byte at a place below the limit.
 pub(crate) fn emit(out: &mut [u8], limit: usize, at: usize, b: u8)
     requires { ⌜ limit ≤ length (now out) ⌝ }
-    ensures { λ r. ⌜ now (out .exit) ≡ over limit (now (out .entry)) at (b ∷ []) ⌝ }
+    ensures { λ r. ⌜ now (out .exit) ≡ writtenOver limit (now (out .entry)) at (b ∷ []) ⌝ }
 {
     if at < limit {
         out[at] = b;
@@ -25,7 +25,7 @@ pub(crate) fn emit(out: &mut [u8], limit: usize, at: usize, b: u8)
 // Writes n blanks, all of which have room.
 fn put_blanks(out: &mut [u8], at: usize, n: usize)
     requires { ⌜ n ≤ length (now out) - at ⌝ }
-    ensures { λ r. ⌜ now (out .exit) ≡ over (length (now (out .entry))) (now (out .entry)) at (replicate n 0x20) ⌝ }
+    ensures { λ r. ⌜ now (out .exit) ≡ writtenOver (length (now (out .entry))) (now (out .entry)) at (replicate n 0x20) ⌝ }
 {
     let mut k: usize = 0;
     while k < n {
@@ -37,7 +37,7 @@ fn put_blanks(out: &mut [u8], at: usize, n: usize)
 // Writes n blanks.
 pub(crate) fn spaces(out: &mut [u8], limit: usize, at: usize, n: Bytes)
     requires { ⌜ limit ≤ length (now out) ⌝ }
-    ensures { λ r. ⌜ now (out .exit) ≡ over limit (now (out .entry)) at (replicate (n .0) 0x20) ⌝ }
+    ensures { λ r. ⌜ now (out .exit) ≡ writtenOver limit (now (out .entry)) at (replicate (n .0) 0x20) ⌝ }
 {
     put_blanks(out, at, clipped(limit, at, n.0));
 }
@@ -58,7 +58,7 @@ fn clipped(len: usize, start: usize, size: usize) -> usize
 // Writes n bytes of a text, all of which have room.
 fn put_part(out: &mut [u8], at: usize, text: &[u8], start: usize, n: usize)
     requires { ⌜ (n ≤ length (now out) - at) × (n ≤ length (now text) - start) ⌝ }
-    ensures { λ r. ⌜ now (out .exit) ≡ over (length (now (out .entry))) (now (out .entry)) at (take n (drop start (now (text .entry)))) ⌝ }
+    ensures { λ r. ⌜ now (out .exit) ≡ writtenOver (length (now (out .entry))) (now (out .entry)) at (take n (drop start (now (text .entry)))) ⌝ }
 {
     let mut j: usize = 0;
     while j < n {
@@ -70,7 +70,7 @@ fn put_part(out: &mut [u8], at: usize, text: &[u8], start: usize, n: usize)
 // Writes n bytes of the fixed words, all of which have room.
 fn put_words(out: &mut [u8], at: usize, start: usize, n: usize)
     requires { ⌜ (n ≤ length (now out) - at) × (n ≤ length words - start) ⌝ }
-    ensures { λ r. ⌜ now (out .exit) ≡ over (length (now (out .entry))) (now (out .entry)) at (take n (drop start words)) ⌝ }
+    ensures { λ r. ⌜ now (out .exit) ≡ writtenOver (length (now (out .entry))) (now (out .entry)) at (take n (drop start words)) ⌝ }
 {
     put_part(out, at, &WORDS, start, n);
 }
@@ -86,7 +86,7 @@ fn put_origin(
     n: usize,
 )
     requires { ⌜ (n ≤ length (now out) - at) × (n ≤ length (originText (now source) (now image) origin) - start) ⌝ }
-    ensures { λ r. ⌜ now (out .exit) ≡ over (length (now (out .entry))) (now (out .entry)) at (take n (drop start (originText (now (source .entry)) (now (image .entry)) origin))) ⌝ }
+    ensures { λ r. ⌜ now (out .exit) ≡ writtenOver (length (now (out .entry))) (now (out .entry)) at (take n (drop start (originText (now (source .entry)) (now (image .entry)) origin))) ⌝ }
 {
     if n == 0 {
         return;
@@ -112,7 +112,7 @@ pub(crate) fn copy(
     t: RowText,
 ) -> Bytes
     requires { ⌜ limit ≤ length (now out) ⌝ }
-    ensures { λ r. ⌜ (now (out .exit) ≡ over limit (now (out .entry)) at (bytesOf (now (source .entry)) (now (image .entry)) t)) × (r .0 ≡ length (bytesOf (now (source .entry)) (now (image .entry)) t)) ⌝ }
+    ensures { λ r. ⌜ (now (out .exit) ≡ writtenOver limit (now (out .entry)) at (bytesOf (now (source .entry)) (now (image .entry)) t)) × (r .0 ≡ length (bytesOf (now (source .entry)) (now (image .entry)) t)) ⌝ }
 {
     let n = clipped(origin_size(source, image, t.origin).0, t.start, t.size.0);
     put_origin(

@@ -4,86 +4,70 @@ ghost use Prim.Native.Nat.{_+_, _*_, _≤_, _<_};
 ghost use mathlib.Core.List.{[], _∷_, _++_};
 ghost use Rattle.rows.specs.Limits.{CELL-LIMIT};
 ghost use Rattle.renderer.specs.Limits.{MAX-MARGIN, BEFORE-ROW, IN-ROW};
-ghost use Rattle.renderer_rules.specs.Renderer.{push, atColumn, newLine, margin, remark, text};
-ghost use Rattle.renderer.specs.Lent.{numbersOf, penOf};
+ghost use Rattle.renderer_rules.specs.Renderer.{fresh, pushStr, atColumn, newLine, margin, comment, text};
 ghost use Rattle.renderer.specs.Output.{bytesOf};
-ghost use Rattle.renderer.specs.Pen.{shown, Drawn, Room};
-use crate::lent::Numbers;
+ghost use Rattle.renderer.specs.Writing.{setPen, movedTo, Writes, WritingRoom};
 use crate::lent::on_new_line;
 use crate::output::copy;
 use crate::output::emit;
 use crate::output::spaces;
 use crate::row_text::RowText;
+use renderer_rules::Pen;
 use rows::units::Bytes;
 use rows::units::Columns;
 
-// `indent`, `next_indent` and `column`, and how many bytes are written.
-pub struct Pen {
-    pub indent: usize,
-    pub next_indent: usize,
-    pub column: Columns,
+// A text on its way: the pen, and how many bytes are written.
+pub struct Writing {
+    pub pen: Pen,
     pub at: Bytes,
 }
 
-// The pen's numbers, to be lent.
-pub(crate) fn numbers(p: Pen) -> Numbers
-    ensures { λ r. ⌜ r ≡ numbersOf p ⌝ }
+// The same with another pen.
+pub(crate) fn set_pen(w: Writing, pen: Pen) -> Writing
+    ensures { λ r. ⌜ r ≡ setPen pen w ⌝ }
 {
-    Numbers {
-        indent: p.indent,
-        next_indent: p.next_indent,
-        column: Columns(p.column.0),
-    }
+    let at = w.at;
+    Writing { pen: pen, at: at }
 }
 
-// The pen with these numbers, once `at` bytes are written.
-pub(crate) fn pen_of(n: Numbers, at: Bytes) -> Pen
-    ensures { λ r. ⌜ r ≡ penOf n (at .0) ⌝ }
+// The pen at a column, once `at` bytes are written.
+fn moved_to(w: Writing, column: Columns, at: Bytes) -> Writing
+    ensures { λ r. ⌜ r ≡ movedTo (column .0) (at .0) w ⌝ }
 {
-    Pen {
-        indent: n.indent,
-        next_indent: n.next_indent,
-        column: Columns(n.column.0),
-        at: Bytes(at.0),
-    }
+    let pen = Pen {
+        indent: w.pen.indent,
+        next_indent: w.pen.next_indent,
+        column: column,
+    };
+    Writing { pen: pen, at: at }
 }
 
 // Writes one byte, `w` columns wide.
-fn put(p: Pen, out: &mut [u8], limit: usize, b: u8, w: Columns) -> Pen
-    requires { ⌜ Room IN-ROW limit (now out) p × (w .0 < CELL-LIMIT) ⌝ }
-    ensures { λ r. ⌜ Drawn limit (atColumn (p .column .0 + w .0) (push (b ∷ []) (shown p []))) (now (out .entry)) p (now (out .exit)) r ⌝ }
+fn put(p: Writing, out: &mut [u8], limit: usize, b: u8, w: Columns) -> Writing
+    requires { ⌜ WritingRoom IN-ROW limit (now out) p × (w .0 < CELL-LIMIT) ⌝ }
+    ensures { λ r. ⌜ Writes limit (atColumn (p .pen .column .0 + w .0) (pushStr (b ∷ []) (fresh (p .pen) []))) (now (out .entry)) p (now (out .exit)) r ⌝ }
 {
     let at = p.at.0;
     emit(out, limit, at, b);
-    Pen {
-        indent: p.indent,
-        next_indent: p.next_indent,
-        column: Columns(p.column.0 + w.0),
-        at: Bytes(at + 1),
-    }
+    moved_to(p, Columns(p.pen.column.0 + w.0), Bytes(at + 1))
 }
 
 // Writes a row's text, `w` columns wide.
 fn put_text(
-    p: Pen,
+    p: Writing,
     out: &mut [u8],
     limit: usize,
     source: &[u8],
     image: &[u8],
     t: RowText,
     w: Columns,
-) -> Pen
-    requires { ⌜ Room IN-ROW limit (now out) p × ((t .start < CELL-LIMIT) × ((t .size .0 < CELL-LIMIT) × (w .0 < CELL-LIMIT))) ⌝ }
-    ensures { λ r. ⌜ Drawn limit (atColumn (p .column .0 + w .0) (push (bytesOf (now (source .entry)) (now (image .entry)) t) (shown p []))) (now (out .entry)) p (now (out .exit)) r ⌝ }
+) -> Writing
+    requires { ⌜ WritingRoom IN-ROW limit (now out) p × ((t .start < CELL-LIMIT) × ((t .size .0 < CELL-LIMIT) × (w .0 < CELL-LIMIT))) ⌝ }
+    ensures { λ r. ⌜ Writes limit (atColumn (p .pen .column .0 + w .0) (pushStr (bytesOf (now (source .entry)) (now (image .entry)) t) (fresh (p .pen) []))) (now (out .entry)) p (now (out .exit)) r ⌝ }
 {
     let at = p.at.0;
     let n = copy(out, limit, at, source, image, t);
-    Pen {
-        indent: p.indent,
-        next_indent: p.next_indent,
-        column: Columns(p.column.0 + w.0),
-        at: Bytes(at + n.0),
-    }
+    moved_to(p, Columns(p.pen.column.0 + w.0), Bytes(at + n.0))
 }
 
 // A line's margin, four blanks a step, in bytes.
@@ -103,50 +87,48 @@ pub(crate) fn margin_columns(indent: usize) -> Columns
 }
 
 // The indent of a line that starts here.
-fn start_line(p: Pen, out: &mut [u8], limit: usize) -> Pen
-    requires { ⌜ Room IN-ROW limit (now out) p ⌝ }
-    ensures { λ r. ⌜ Drawn limit (margin (shown p [])) (now (out .entry)) p (now (out .exit)) r ⌝ }
+fn start_line(p: Writing, out: &mut [u8], limit: usize) -> Writing
+    requires { ⌜ WritingRoom IN-ROW limit (now out) p ⌝ }
+    ensures { λ r. ⌜ Writes limit (margin (fresh (p .pen) [])) (now (out .entry)) p (now (out .exit)) r ⌝ }
 {
     let at = p.at.0;
-    let n = margin_bytes(p.indent);
-    let column = margin_columns(p.indent);
+    let n = margin_bytes(p.pen.indent);
+    let column = margin_columns(p.pen.indent);
     spaces(out, limit, at, n);
-    Pen {
-        indent: p.indent,
-        next_indent: p.next_indent,
-        column: column,
-        at: Bytes(at + n.0),
-    }
+    moved_to(p, column, Bytes(at + n.0))
 }
 
 // `new_line`
-pub(crate) fn new_line(p: Pen, out: &mut [u8], limit: usize) -> Pen
-    requires { ⌜ Room IN-ROW limit (now out) p ⌝ }
-    ensures { λ r. ⌜ Drawn limit (newLine (shown p [])) (now (out .entry)) p (now (out .exit)) r ⌝ }
+pub(crate) fn new_line(p: Writing, out: &mut [u8], limit: usize) -> Writing
+    requires { ⌜ WritingRoom IN-ROW limit (now out) p ⌝ }
+    ensures { λ r. ⌜ Writes limit (newLine (fresh (p .pen) [])) (now (out .entry)) p (now (out .exit)) r ⌝ }
 {
     let at = p.at.0;
-    let n = on_new_line(numbers(p));
-    if 0 < p.column.0 {
+    let pen = on_new_line(p.pen);
+    if 0 < p.pen.column.0 {
         emit(out, limit, at, 0x0A);
-        return pen_of(n, Bytes(at + 1));
+        return Writing {
+            pen: pen,
+            at: Bytes(at + 1),
+        };
     }
-    pen_of(n, Bytes(at))
+    set_pen(p, pen)
 }
 
 // An `EmptyLine`.
-pub(crate) fn empty_line(p: Pen, out: &mut [u8], limit: usize) -> Pen
-    requires { ⌜ Room BEFORE-ROW limit (now out) p ⌝ }
-    ensures { λ r. ⌜ Drawn limit (newLine (push (0x0A ∷ []) (shown p []))) (now (out .entry)) p (now (out .exit)) r ⌝ }
+pub(crate) fn empty_line(p: Writing, out: &mut [u8], limit: usize) -> Writing
+    requires { ⌜ WritingRoom BEFORE-ROW limit (now out) p ⌝ }
+    ensures { λ r. ⌜ Writes limit (newLine (pushStr (0x0A ∷ []) (fresh (p .pen) []))) (now (out .entry)) p (now (out .exit)) r ⌝ }
 {
     new_line(put(p, out, limit, 0x0A, Columns(0)), out, limit)
 }
 
 // The blank of a `LineOrSpace`: `text(" ", 1)`.
-pub(crate) fn space(p: Pen, out: &mut [u8], limit: usize) -> Pen
-    requires { ⌜ Room BEFORE-ROW limit (now out) p ⌝ }
-    ensures { λ r. ⌜ Drawn limit (text (0x20 ∷ []) 1 (shown p [])) (now (out .entry)) p (now (out .exit)) r ⌝ }
+pub(crate) fn space(p: Writing, out: &mut [u8], limit: usize) -> Writing
+    requires { ⌜ WritingRoom BEFORE-ROW limit (now out) p ⌝ }
+    ensures { λ r. ⌜ Writes limit (text (0x20 ∷ []) 1 (fresh (p .pen) [])) (now (out .entry)) p (now (out .exit)) r ⌝ }
 {
-    if 0 < p.column.0 {
+    if 0 < p.pen.column.0 {
         return put(p, out, limit, b' ', Columns(1));
     }
     put(start_line(p, out, limit), out, limit, b' ', Columns(1))
@@ -154,52 +136,54 @@ pub(crate) fn space(p: Pen, out: &mut [u8], limit: usize) -> Pen
 
 // `text`
 pub(crate) fn text(
-    p: Pen,
+    p: Writing,
     out: &mut [u8],
     limit: usize,
     source: &[u8],
     image: &[u8],
     t: RowText,
     w: Columns,
-) -> Pen
-    requires { ⌜ Room BEFORE-ROW limit (now out) p × ((t .start < CELL-LIMIT) × ((t .size .0 < CELL-LIMIT) × (w .0 < CELL-LIMIT))) ⌝ }
-    ensures { λ r. ⌜ Drawn limit (text (bytesOf (now (source .entry)) (now (image .entry)) t) (w .0) (shown p [])) (now (out .entry)) p (now (out .exit)) r ⌝ }
+) -> Writing
+    requires { ⌜ WritingRoom BEFORE-ROW limit (now out) p × ((t .start < CELL-LIMIT) × ((t .size .0 < CELL-LIMIT) × (w .0 < CELL-LIMIT))) ⌝ }
+    ensures { λ r. ⌜ Writes limit (text (bytesOf (now (source .entry)) (now (image .entry)) t) (w .0) (fresh (p .pen) [])) (now (out .entry)) p (now (out .exit)) r ⌝ }
 {
-    if 0 < p.column.0 {
+    if 0 < p.pen.column.0 {
         return put_text(p, out, limit, source, image, t, w);
     }
     put_text(start_line(p, out, limit), out, limit, source, image, t, w)
 }
 
 // The text of a comment and the end of its line.
-fn end_line(p: Pen, out: &mut [u8], limit: usize, source: &[u8], image: &[u8], t: RowText) -> Pen
-    requires { ⌜ Room IN-ROW limit (now out) p × ((t .start < CELL-LIMIT) × (t .size .0 < CELL-LIMIT)) ⌝ }
-    ensures { λ r. ⌜ Drawn limit (atColumn 0 (push (bytesOf (now (source .entry)) (now (image .entry)) t ++ (0x0A ∷ [])) (shown p []))) (now (out .entry)) p (now (out .exit)) r ⌝ }
-{
-    let at = p.at.0;
-    let n = copy(out, limit, at, source, image, t);
-    emit(out, limit, at + n.0, 0x0A);
-    Pen {
-        indent: p.indent,
-        next_indent: p.next_indent,
-        column: Columns(0),
-        at: Bytes(at + n.0 + 1),
-    }
-}
-
-// `comment`
-pub(crate) fn comment(
-    p: Pen,
+fn end_line(
+    p: Writing,
     out: &mut [u8],
     limit: usize,
     source: &[u8],
     image: &[u8],
     t: RowText,
-) -> Pen
-    requires { ⌜ Room BEFORE-ROW limit (now out) p × ((t .start < CELL-LIMIT) × (t .size .0 < CELL-LIMIT)) ⌝ }
-    ensures { λ r. ⌜ Drawn limit (remark (bytesOf (now (source .entry)) (now (image .entry)) t) (shown p [])) (now (out .entry)) p (now (out .exit)) r ⌝ }
+) -> Writing
+    requires { ⌜ WritingRoom IN-ROW limit (now out) p × ((t .start < CELL-LIMIT) × (t .size .0 < CELL-LIMIT)) ⌝ }
+    ensures { λ r. ⌜ Writes limit (atColumn 0 (pushStr (bytesOf (now (source .entry)) (now (image .entry)) t ++ (0x0A ∷ [])) (fresh (p .pen) []))) (now (out .entry)) p (now (out .exit)) r ⌝ }
 {
-    let column = p.column.0;
+    let at = p.at.0;
+    let n = copy(out, limit, at, source, image, t);
+    emit(out, limit, at + n.0, 0x0A);
+    moved_to(p, Columns(0), Bytes(at + n.0 + 1))
+}
+
+// `comment`
+pub(crate) fn comment(
+    p: Writing,
+    out: &mut [u8],
+    limit: usize,
+    source: &[u8],
+    image: &[u8],
+    t: RowText,
+) -> Writing
+    requires { ⌜ WritingRoom BEFORE-ROW limit (now out) p × ((t .start < CELL-LIMIT) × (t .size .0 < CELL-LIMIT)) ⌝ }
+    ensures { λ r. ⌜ Writes limit (comment (bytesOf (now (source .entry)) (now (image .entry)) t) (fresh (p .pen) [])) (now (out .entry)) p (now (out .exit)) r ⌝ }
+{
+    let column = p.pen.column.0;
     if 0 < column {
         let q = put(p, out, limit, b' ', Columns(0));
         return end_line(q, out, limit, source, image, t);

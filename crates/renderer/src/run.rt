@@ -1,9 +1,38 @@
-// A rendering on its way.
-use crate::pen::Pen;
+// A rendering on its way, and what it is given.
+ghost use mathlib.Core.Path.{_≡_};
+ghost use Prim.Native.Nat.{_<_};
+ghost use Rattle.rows.specs.Limits.{MAX-ROWS};
+ghost use Rattle.renderer.specs.Run.{bareRun, withFrames, passedRun};
+ghost use mathlib.Core.List.{[]};
+use crate::pen::Writing;
 
-// How many rows are open, the next row, the pen. The open rows are numbers in an array beside it.
+// How many rows are open, the next row, the text so far. The open rows are numbers in an array beside it.
 pub struct Run {
     pub depth: usize,
     pub next: usize,
-    pub pen: Pen,
+    pub writing: Writing,
+}
+
+// The rows to be rendered: from one up to another.
+pub struct RowRange {
+    pub from: usize,
+    pub stop: usize,
+}
+
+// `max` of fmt.rs, in columns; and how many bytes of the output may be written: with 0 nothing is, and the bytes are counted.
+pub struct Bounds {
+    pub max: usize,
+    pub limit: usize,
+}
+
+// A row without parts is passed.
+pub(crate) fn passed(r: Run, writing: Writing) -> Run
+    requires { ⌜ r .next < MAX-ROWS ⌝ }
+    ensures { λ q. ⌜ q ≡ bareRun (passedRun (withFrames [] r) writing) ⌝ }
+{
+    Run {
+        depth: r.depth,
+        next: r.next + 1,
+        writing: writing,
+    }
 }

@@ -4,13 +4,13 @@ use mathlib.Core.Path.{_≡_, refl, sym, _∙_}
 use Prim.Native.Nat.{ℕ, zero, suc, _-_, _≤_}
 use native.Mathlib.Omega.{arith}
 use mathlib.Core.Bool.{Bool, true, false, cond, _&&_}
-use lib.ListN.{set}
 use lib.Dec.{ltb, leb, eqb}
 use borrow.Author.Tests.{lt-leb, leb-false}
-use Rattle.rows.specs.View.{View, nodesAt}
-use Rattle.renderer_rules.specs.Renderer.{Page, groupWraps, insert}
+use Rattle.rows.specs.View.{View}
+use Rattle.renderer_rules.specs.Renderer.{Page, Renderer}
+use Rattle.renderer_rules.specs.declared.Frame.{Frame}
 use Rattle.renderer_rules.specs.Frames.{frameAt, limit}
-use Rattle.renderer_rules.specs.Machine.{Machine, frame, closing, leave, turn}
+use Rattle.renderer_rules.specs.Machine.{Machine, reopened, closed, leave, turn}
 use Rattle.renderer_rules.proofs.Machine.{Fine, left, isDone, turned, spent}
 
 module _ (v : View) (pg : Page) (stop : ℕ) where
@@ -18,11 +18,11 @@ module _ (v : View) (pg : Page) (stop : ℕ) where
   -- a turn that closes enters no row
   pub leave-seen : (m : Machine) (k : ℕ) → leave v pg m k .entered ≡ m .entered
   unfolding leave
-  leave-seen m k = go (eqb (v .kind (frameAt (m .frames) k .row)) 11 && frameAt (m .frames) k .early)
+  leave-seen m k = go (eqb (v .kind (frameAt (m .frames) k .row)) 11 && frameAt (m .frames) k .early) _ _ _ _
     where
-      go : (b : Bool) → cond {A = Machine} b (record { frames = set (m .frames) k (frame (frameAt (m .frames) k .row) (groupWraps pg (nodesAt v (m .next) (v .after (frameAt (m .frames) k .row))) (m .state)) false (frameAt (m .frames) k .deep)); depth = suc k; next = m .next; state = insert (groupWraps pg (nodesAt v (m .next) (v .after (frameAt (m .frames) k .row))) (m .state)) (v .number2 (frameAt (m .frames) k .row)) (m .state); entered = m .entered }) (record { frames = m .frames; depth = k; next = v .after (frameAt (m .frames) k .row); state = closing v pg (frameAt (m .frames) k) (m .state); entered = m .entered }) .entered ≡ m .entered
-      go true = refl
-      go false = refl
+      go : (b : Bool) (f : Frame) (n : ℕ) (x y : Renderer) → cond {A = Machine} b (reopened m k f x) (closed m k n y) .entered ≡ m .entered
+      go true f n x y = refl
+      go false f n x y = refl
 
   -- the allotment n from m on: turns until n more rows are entered and all that they finished is closed
   unfoldable pub wantsRow : Machine → Bool

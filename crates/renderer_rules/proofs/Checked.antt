@@ -11,17 +11,17 @@ use Rattle.laws.proofs.Numbers.{lt-of}
 use Rattle.laws.proofs.Booleans.{both}
 use Rattle.laws.proofs.Options.{never}
 use Rattle.rows.specs.View.{View, viewOf}
-use Rattle.rows.specs.Nesting.{Within, Split, TwoParts, Nests, over, leaf, block, two, pair}
+use Rattle.rows.specs.Nesting.{RangeIn, Split, TwoParts, Nests, over, leaf, block, two, pair}
 use Rattle.rows.proofs.Nested.{nests-le, nests-leaf, nests-two, nests-pair, nests-kind, nests-after, nests-rest, nests-deep, nests-join}
-use Rattle.renderer_rules.specs.Check.{reaches, isLeaf, hasTwo, isSplit, partsFit, rowFits, orElse, firstWrong, wrongRow, placesFit, wrongPlace, FaultOfPart}
+use Rattle.renderer_rules.specs.Check.{reaches, isLeaf, hasTwo, isSplit, partsFit, rowFits, orLater, firstWrong, wrongRow, placesFit, wrongPlace, FaultOfPart}
 
-neither : (a b : Option ℕ) → orElse a b ≡ none → (a ≡ none) × (b ≡ none)
+neither : (a b : Option ℕ) → orLater a b ≡ none → (a ≡ none) × (b ≡ none)
 neither none b e = (refl, e)
 neither (some i) b e = absurd (never i e)
 
 -- What is accepted nests.
 
-closer : {v : View} {i j : ℕ} (b : ℕ) → Within v i j → v .after i ≤ b → Within v i b
+closer : {v : View} {i j : ℕ} (b : ℕ) → RangeIn v i j → v .after i ≤ b → RangeIn v i b
 closer b w h = record { up = w .up; to = h }
 
 -- the same row, with less behind it
@@ -60,10 +60,10 @@ nests-split zero v a b c d e g h = (over (eqb-true a b e), subst (λ (x : ℕ). 
 nests-split (suc f) v a b c d e g h =
     split-at v a b c d (eqb a b) (reaches f v (v .after a) b) refl e g h (λ q r. nests-split f v (v .after a) b c d q r h)
 
-far : {v : View} {i j : ℕ} → Within v i j → i < j
+far : {v : View} {i j : ℕ} → RangeIn v i j → i < j
 far w = omega arith
 
-module _ (v : View) (end d i : ℕ) (w : Within v i end) (m : d < 256) (g : Nests v (suc i) (v .after i) (suc d)) (h : Nests v (v .after i) end d) where
+module _ (v : View) (end d i : ℕ) (w : RangeIn v i end) (m : d < 256) (g : Nests v (suc i) (v .after i) (suc d)) (h : Nests v (v .after i) end d) where
   row-leaf : 3 ≤ v .kind i → v .kind i ≤ 9 → isLeaf v i ≡ true → Nests v i end d
   row-leaf a b e =
       let q = eqb-true (v .after i) (suc i) e in
@@ -121,7 +121,7 @@ module _ (v : View) (end d i : ℕ) (w : Within v i end) (m : d < 256) (g : Nest
 -- what a row that fits is
 pub record Fits (places : ℕ → Bool) (v : View) (end d i : ℕ) : Type 0 where
   pub shallow : d < 256
-  pub within : Within v i end
+  pub within : RangeIn v i end
   pub parts : partsFit v i (v .kind i) ≡ true
   pub fit : places i ≡ true
 
@@ -140,10 +140,10 @@ fits-row places v end d i e =
     }
 
 sound-step : (places : ℕ → Bool) (v : View) (end d i : ℕ) (a b : Bool) (r t : Option ℕ) → ltb i end ≡ a → rowFits places v end d i ≡ b
-    → cond a (cond b (orElse r t) (some i)) none ≡ none
+    → cond a (cond b (orLater r t) (some i)) none ≡ none
     → i ≤ end
-    → (Within v i end → r ≡ none → Nests v (suc i) (v .after i) (suc d))
-    → (Within v i end → t ≡ none → Nests v (v .after i) end d)
+    → (RangeIn v i end → r ≡ none → Nests v (suc i) (v .after i) (suc d))
+    → (RangeIn v i end → t ≡ none → Nests v (v .after i) end d)
     → Nests v i end d
 sound-step places v end d i true true r t p q e l f g =
     let x = neither r t e in
@@ -253,7 +253,7 @@ complete-step : (places : ℕ → Bool) (v : View) (end d i : ℕ) (a : Bool) (r
     → (i < end → places i ≡ true)
     → (i < end → r ≡ none)
     → (i < end → t ≡ none)
-    → cond a (cond (rowFits places v end d i) (orElse r t) (some i)) none ≡ none
+    → cond a (cond (rowFits places v end d i) (orLater r t) (some i)) none ≡ none
 complete-step places v end d i true r t e g q f h =
     let l = ltb-true i end e in
     rw (row-fits places v end d i g l (q l), f l) (h l)

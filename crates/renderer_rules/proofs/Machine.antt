@@ -1,4 +1,4 @@
--- The machine: one turn closes the innermost open row or enters the next row. Turned to its end, it renders as the rules do, since each turn
+-- The machine: one turn closes the innermost open row or enters the next row. Turned to its end, it renderNodes as the rules do, since each turn
 -- keeps what the open rows mean, and less is left.
 -- Assumes nothing.
 use mathlib.Core.Path.{_≡_, refl, ap, ap₂, sym, _∙_, subst}
@@ -18,10 +18,10 @@ use Rattle.rows.specs.Nesting.{Nests}
 use Rattle.rows.proofs.Decode.{nodes-none}
 use Rattle.rows.proofs.Nested.{nests-le, nests-two, nests-pair, nests-kind, nests-after, nests-deep}
 use Rattle.renderer_rules.specs.declared.Frame.{Frame}
-use Rattle.renderer_rules.specs.Renderer.{Page, Renderer, render, renders, groupWraps, insert, indented, nextIndented, trailing, calleeWraps}
+use Rattle.renderer_rules.specs.Renderer.{Page, Renderer, renderNode, renderNodes, groupWraps, insert, indented, nextIndented, trailingCall, calleeWraps}
 use Rattle.renderer_rules.specs.Frames.{frameAt, partEnd, limit, wrapAt, Under, At}
-use Rattle.renderer_rules.specs.Machine.{Machine, frame, opened, closing, enterGroup, enterIndent, enterNext, enterLeaf, enterIf, enterCall, enter, leave, turnAt, turn}
-use Rattle.renderer_rules.specs.Safe.{bit}
+use Rattle.renderer_rules.specs.Machine.{Machine, begun, opened, reopened, closed, frame, closing, enterGroup, enterIndent, enterNext, enterLeaf, enterIf, enterCall, enter, leave, turnAt, turn}
+use Rattle.renderer_rules.specs.Safe.{oneIf}
 use Rattle.renderer_rules.proofs.Meaning.{rest, meaning, pop, frame-other, frame-same, open-group}
 use Rattle.renderer_rules.proofs.Meaning.{open-indent, open-next, open-if-first, open-if-second, open-call, call-on}
 use Rattle.renderer_rules.proofs.Opened.{at-leaf, at-block, at-pop-suc, at-top-suc, advance-leaf, at-first, at-second, at-call, at-on}
@@ -29,7 +29,7 @@ use Rattle.renderer_rules.proofs.Opened.{at-leaf, at-block, at-pop-suc,
 -- how many turns the open rows can still take
 unfoldable pub weight : List Frame → ℕ → ℕ
 weight fs zero = 0
-weight fs (suc d) = suc (bit (frameAt fs d .early)) + weight fs d
+weight fs (suc d) = suc (oneIf (frameAt fs d .early)) + weight fs d
 
 weight-ge : (fs : List Frame) (d : ℕ) → d ≤ weight fs d
 unfolding weight
@@ -39,17 +39,17 @@ weight-ge fs (suc d) = let a = weight-ge fs d in omega arith
 weight-set : (v : View) (pg : Page) (stop : ℕ) (fs : List Frame) (k d : ℕ) (f : Frame) → d ≤ k → weight (set fs k f) d ≡ weight fs d
 unfolding weight
 weight-set v pg stop fs k zero f h = refl
-weight-set v pg stop fs k (suc d) f h = ap₂ (λ (x : Frame) (n : ℕ). suc (bit (x .early)) + n) (frame-other v pg stop fs k d f h) (weight-set v pg stop fs k d f (omega arith))
+weight-set v pg stop fs k (suc d) f h = ap₂ (λ (x : Frame) (n : ℕ). suc (oneIf (x .early)) + n) (frame-other v pg stop fs k d f h) (weight-set v pg stop fs k d f (omega arith))
 
-weight-top : (v : View) (pg : Page) (stop : ℕ) (fs : List Frame) (d : ℕ) (f : Frame) → d < length fs → weight (set fs d f) (suc d) ≡ suc (bit (f .early)) + weight fs d
+weight-top : (v : View) (pg : Page) (stop : ℕ) (fs : List Frame) (d : ℕ) (f : Frame) → d < length fs → weight (set fs d f) (suc d) ≡ suc (oneIf (f .early)) + weight fs d
 unfolding weight
-weight-top v pg stop fs d f h = ap₂ (λ (x : Frame) (n : ℕ). suc (bit (x .early)) + n) (frame-same v pg stop fs d f h) (weight-set v pg stop fs d d f (omega arith))
+weight-top v pg stop fs d f h = ap₂ (λ (x : Frame) (n : ℕ). suc (oneIf (x .early)) + n) (frame-same v pg stop fs d f h) (weight-set v pg stop fs d d f (omega arith))
 
-weight-suc : (fs : List Frame) (d : ℕ) → weight fs (suc d) ≡ suc (bit (frameAt fs d .early)) + weight fs d
+weight-suc : (fs : List Frame) (d : ℕ) → weight fs (suc d) ≡ suc (oneIf (frameAt fs d .early)) + weight fs d
 unfolding weight
 weight-suc fs d = refl
 
-bit-le2 : (b : Bool) → bit b ≤ 1
+bit-le2 : (b : Bool) → oneIf b ≤ 1
 bit-le2 true = omega arith
 bit-le2 false = omega arith
 
@@ -69,7 +69,7 @@ module _ (v : View) (pg : Page) (stop : ℕ) where
 
     leaf-same : 3 ≤ v .kind (m .next) → v .kind (m .next) ≤ 9 → means (enterLeaf v pg m) ≡ means m
     unfolding enterLeaf
-    leaf-same k l = ap (λ (j : ℕ). meaning v pg stop (m .frames) (m .depth) j (render pg (nodeAt v (m .next)) (wrapAt (m .frames) (m .depth)) (m .state))) (sym (add-one (m .next))) ∙ advance-leaf v pg stop (m .frames) (m .depth) (m .next) (m .state) a h k l
+    leaf-same k l = ap (λ (j : ℕ). meaning v pg stop (m .frames) (m .depth) j (renderNode pg (nodeAt v (m .next)) (wrapAt (m .frames) (m .depth)) (m .state))) (sym (add-one (m .next))) ∙ advance-leaf v pg stop (m .frames) (m .depth) (m .next) (m .state) a h k l
 
     if-same : v .kind (m .next) ≡ 10 → means (enterIf v pg m) ≡ means m
     unfolding enterIf
@@ -191,10 +191,10 @@ module _ (v : View) (pg : Page) (stop : ℕ) where
         c = groupWraps pg (nodesAt v (m .next) (v .after (frameAt (m .frames) k .row))) (m .state)
 
         on : Machine
-        on = record { frames = set (m .frames) k (frame (frameAt (m .frames) k .row) c false (frameAt (m .frames) k .deep)); depth = suc k; next = m .next; state = insert c (v .number2 (frameAt (m .frames) k .row)) (m .state); entered = m .entered }
+        on = reopened m k (frame (frameAt (m .frames) k .row) c false (frameAt (m .frames) k .deep)) (insert c (v .number2 (frameAt (m .frames) k .row)) (m .state))
 
         off : Machine
-        off = record { frames = m .frames; depth = k; next = v .after (frameAt (m .frames) k .row); state = closing v pg (frameAt (m .frames) k) (m .state); entered = m .entered }
+        off = closed m k (v .after (frameAt (m .frames) k .row)) (closing v pg (frameAt (m .frames) k) (m .state))
 
         go : (b : Bool) → (eqb (v .kind (frameAt (m .frames) k .row)) 11 && frameAt (m .frames) k .early) ≡ b → means (cond b on off) ≡ meaning v pg stop (m .frames) (suc k) (m .next) (m .state)
         go true q =
@@ -210,15 +210,15 @@ module _ (v : View) (pg : Page) (stop : ℕ) where
         c = groupWraps pg (nodesAt v (m .next) (v .after (frameAt (m .frames) k .row))) (m .state)
 
         on : Machine
-        on = record { frames = set (m .frames) k (frame (frameAt (m .frames) k .row) c false (frameAt (m .frames) k .deep)); depth = suc k; next = m .next; state = insert c (v .number2 (frameAt (m .frames) k .row)) (m .state); entered = m .entered }
+        on = reopened m k (frame (frameAt (m .frames) k .row) c false (frameAt (m .frames) k .deep)) (insert c (v .number2 (frameAt (m .frames) k .row)) (m .state))
 
         off : Machine
-        off = record { frames = m .frames; depth = k; next = v .after (frameAt (m .frames) k .row); state = closing v pg (frameAt (m .frames) k) (m .state); entered = m .entered }
+        off = closed m k (v .after (frameAt (m .frames) k .row)) (closing v pg (frameAt (m .frames) k) (m .state))
 
         go : (b : Bool) → (eqb (v .kind (frameAt (m .frames) k .row)) 11 && frameAt (m .frames) k .early) ≡ b → Fine (cond b on off) × (left stop (cond b on off) < (stop - m .next) * 3 + weight (m .frames) (suc k))
         go true q =
             let x = both (eqb (v .kind (frameAt (m .frames) k .row)) 11) (frameAt (m .frames) k .early) q in
-            let y : bit (frameAt (m .frames) k .early) ≡ 1 = ap bit (x .1) in
+            let y : oneIf (frameAt (m .frames) k .early) ≡ 1 = ap oneIf (x .1) in
             let w = weight-top v pg stop (m .frames) k (frame (frameAt (m .frames) k .row) c false (frameAt (m .frames) k .deep)) roomy-top in
             let u = weight-suc (m .frames) k in
             (at-on v pg stop (m .frames) k (m .next) (frame (frameAt (m .frames) k .row) c false (frameAt (m .frames) k .deep)) a e refl refl, omega arith)
@@ -291,7 +291,7 @@ module _ (v : View) (pg : Page) (stop : ℕ) where
   run (suc f) m = cond (isDone m) m (run f (turn v pg m))
 
   pub done-means : (m : Machine) → isDone m ≡ true → means m ≡ m .state
-  unfolding isDone meaning rest limit renders
+  unfolding isDone meaning rest limit renderNodes
   done-means m e =
       let x = both (eqb (m .depth) 0) (eqb (m .next) stop) e in
       rw (eqb-true (m .depth) 0 (x .0)) (rw (nodes-none v (m .next) stop (let z = eqb-true (m .next) stop (x .1) in omega arith)))
@@ -319,10 +319,10 @@ module _ (v : View) (pg : Page) (stop : ℕ) where
 
 -- rows that nest, from any state: the machine's text, marks and numbers are those of the recursive rules on the tree of the rows
 pub machine-renders : (v : View) (pg : Page) (from stop : ℕ) (fs : List Frame) (st : Renderer) → Nests v from stop 0 → length fs ≡ 256
-    → run v pg stop ((stop - from) * 3) (record { frames = fs; depth = 0; next = from; state = st; entered = 0 }) .state ≡ renders pg (nodesAt v from stop) true st
+    → run v pg stop ((stop - from) * 3) (begun fs from st) .state ≡ renderNodes pg (nodesAt v from stop) true st
 unfolding meaning rest limit wrapAt weight Under
 machine-renders v pg from stop fs st g e =
-    run-means v pg stop ((stop - from) * 3) (record { frames = fs; depth = 0; next = from; state = st; entered = 0 })
+    run-means v pg stop ((stop - from) * 3) (begun fs from st)
     (record { good = g; under = tt; low = omega arith; size = e; deep = omega arith }) (omega arith)
 
 -- WHAT A TURN IS, for the code that takes it

@@ -1,5 +1,5 @@
 -- The meaning of a list of open rows: what is still to be rendered. A turn of the machine keeps it, whichever way it goes; each way to open
--- a row is one equation on `render` of that row.
+-- a row is one equation on `renderNode` of that row.
 -- Assumes nothing.
 use mathlib.Core.Path.{_≡_, refl, ap, sym, _∙_}
 use Prim.Native.Nat.{ℕ, zero, suc, _≤_, _<_}
@@ -10,24 +10,24 @@ use lib.ListN.{length, getD, set}
 use lib.Seq.{getD-set-same, getD-set-other}
 use Rattle.rows.specs.Node.{group, wrapped}
 use Rattle.rows.specs.View.{View, nodesAt, firstOf, nodeAt}
-use Rattle.rows.specs.Nesting.{Within, Split, TwoParts}
+use Rattle.rows.specs.Nesting.{RangeIn, Split, TwoParts}
 use Rattle.rows.proofs.Decode.{nodes-some, nodes-none, node-group, node-indent, node-next, node-if, node-call}
 use Rattle.renderer_rules.specs.declared.Frame.{Frame}
-use Rattle.renderer_rules.specs.Renderer.{Page, Renderer, render, renders, trailing, calleeWraps, groupWraps, insert, indented, outdented}
+use Rattle.renderer_rules.specs.Renderer.{Page, Renderer, onPen, renderNode, renderNodes, trailingCall, calleeWraps, groupWraps, insert, indented, outdented}
 use Rattle.renderer_rules.specs.Renderer.{nextIndented, nextOutdented}
 use Rattle.renderer_rules.specs.Frames.{noFrame, frameAt, partEnd, limit, wrapAt}
-use Rattle.renderer_rules.specs.Machine.{closing}
+use Rattle.renderer_rules.specs.Machine.{frame, closing}
 
 module _ (v : View) (pg : Page) (stop : ℕ) where
   -- what follows the open part of the innermost of d open rows
   unfoldable pub rest : List Frame → ℕ → Renderer → Renderer
   rest fs zero s = s
   rest fs (suc d) s =
-      rest fs d (renders pg (nodesAt v (v .after (frameAt fs d .row)) (limit v stop fs d)) (wrapAt fs d) (closing v pg (frameAt fs d) s))
+      rest fs d (renderNodes pg (nodesAt v (v .after (frameAt fs d .row)) (limit v stop fs d)) (wrapAt fs d) (closing v pg (frameAt fs d) s))
 
   -- what is rendered from row i on, with d rows open
   unfoldable pub meaning : List Frame → ℕ → ℕ → Renderer → Renderer
-  meaning fs d i s = rest fs d (renders pg (nodesAt v i (limit v stop fs d)) (wrapAt fs d) s)
+  meaning fs d i s = rest fs d (renderNodes pg (nodesAt v i (limit v stop fs d)) (wrapAt fs d) s)
 
   pub frame-same : (fs : List Frame) (k : ℕ) (f : Frame) → k < length fs → frameAt (set fs k f) k ≡ f
   frame-same fs k f h = getD-set-same fs k f noFrame h
@@ -59,15 +59,15 @@ module _ (v : View) (pg : Page) (stop : ℕ) where
       ∙ rw (limit-set fs k d f h, wrapAt-set fs k d f h)
 
   -- a row is rendered whole
-  pub advance : (fs : List Frame) (d i : ℕ) (s : Renderer) → Within v i (limit v stop fs d)
-      → meaning fs d i s ≡ meaning fs d (v .after i) (render pg (nodeAt v i) (wrapAt fs d) s)
-  unfolding meaning renders
+  pub advance : (fs : List Frame) (d i : ℕ) (s : Renderer) → RangeIn v i (limit v stop fs d)
+      → meaning fs d i s ≡ meaning fs d (v .after i) (renderNode pg (nodeAt v i) (wrapAt fs d) s)
+  unfolding meaning renderNodes
   advance fs d i s w = rw (nodes-some v i (limit v stop fs d) w)
 
   -- the innermost row's open part is done
   pub pop : (fs : List Frame) (d i : ℕ) (s : Renderer) → partEnd v (frameAt fs d) ≤ i
       → meaning fs (suc d) i s ≡ meaning fs d (v .after (frameAt fs d .row)) (closing v pg (frameAt fs d) s)
-  unfolding meaning renders rest limit
+  unfolding meaning renderNodes rest limit
   pop fs d i s h = rw (nodes-none v i (partEnd v (frameAt fs d)) h)
 
   pub wrap-same : (fs : List Frame) (d : ℕ) (f : Frame) → d < length fs → wrapAt (set fs d f) (suc d) ≡ f .wrap
@@ -81,7 +81,7 @@ module _ (v : View) (pg : Page) (stop : ℕ) where
   -- what an opened row stands for
   opened : (fs : List Frame) (d i : ℕ) (f : Frame) (s : Renderer) → d < length fs
       → meaning (set fs d f) (suc d) i s
-      ≡ meaning fs d (v .after (f .row)) (closing v pg f (renders pg (nodesAt v i (partEnd v f)) (f .wrap) s))
+      ≡ meaning fs d (v .after (f .row)) (closing v pg f (renderNodes pg (nodesAt v i (partEnd v f)) (f .wrap) s))
   unfolding meaning rest
   opened fs d i f s h =
       rw (limit-same fs d f h, wrap-same fs d f h, frame-same fs d f h)
@@ -89,70 +89,70 @@ module _ (v : View) (pg : Page) (stop : ℕ) where
       ∙ rw (limit-set fs d d f (omega arith), wrapAt-set fs d d f (omega arith)))
 
   -- a row is opened
-  pub push : (fs : List Frame) (d i k : ℕ) (f : Frame) (s t : Renderer) → d < length fs → f .row ≡ i → Within v i (limit v stop fs d)
-      → closing v pg f (renders pg (nodesAt v k (partEnd v f)) (f .wrap) t) ≡ render pg (nodeAt v i) (wrapAt fs d) s
+  pub pushed : (fs : List Frame) (d i k : ℕ) (f : Frame) (s t : Renderer) → d < length fs → f .row ≡ i → RangeIn v i (limit v stop fs d)
+      → closing v pg f (renderNodes pg (nodesAt v k (partEnd v f)) (f .wrap) t) ≡ renderNode pg (nodeAt v i) (wrapAt fs d) s
       → meaning (set fs d f) (suc d) k t ≡ meaning fs d i s
-  push fs d i k f s t h e w q = opened fs d k f t h ∙ rw (q, e) (sym (advance fs d i s w))
+  pushed fs d i k f s t h e w q = opened fs d k f t h ∙ rw (q, e) (sym (advance fs d i s w))
 
   -- Each way that a turn goes.
-  pub open-group : (fs : List Frame) (d i : ℕ) (s : Renderer) (b : Bool) → d < length fs → Within v i (limit v stop fs d) → v .kind i ≡ 0
+  pub open-group : (fs : List Frame) (d i : ℕ) (s : Renderer) (b : Bool) → d < length fs → RangeIn v i (limit v stop fs d) → v .kind i ≡ 0
       → b ≡ groupWraps pg (nodesAt v (suc i) (v .after i)) s
-      → meaning (set fs d (record { row = i; wrap = b; early = false; deep = false })) (suc d) (suc i) (insert b (v .number i) s) ≡ meaning fs d i s
-  unfolding closing partEnd render
+      → meaning (set fs d (frame i b false false)) (suc d) (suc i) (insert b (v .number i) s) ≡ meaning fs d i s
+  unfolding closing partEnd renderNode
   open-group fs d i s b h w k e =
-      push fs d i (suc i) (record { row = i; wrap = b; early = false; deep = false }) s (insert b (v .number i) s) h refl w
+      pushed fs d i (suc i) (frame i b false false) s (insert b (v .number i) s) h refl w
       (rw (node-group v i k, k, e))
 
-  pub open-indent : (fs : List Frame) (d i : ℕ) (s : Renderer) → d < length fs → Within v i (limit v stop fs d) → v .kind i ≡ 1
-      → meaning (set fs d (record { row = i; wrap = wrapAt fs d; early = false; deep = false })) (suc d) (suc i) (indented (wrapAt fs d) s) ≡ meaning fs d i s
-  unfolding closing partEnd render
+  pub open-indent : (fs : List Frame) (d i : ℕ) (s : Renderer) → d < length fs → RangeIn v i (limit v stop fs d) → v .kind i ≡ 1
+      → meaning (set fs d (frame i (wrapAt fs d) false false)) (suc d) (suc i) (onPen (indented (wrapAt fs d)) s) ≡ meaning fs d i s
+  unfolding closing partEnd renderNode
   open-indent fs d i s h w k =
-      push fs d i (suc i) (record { row = i; wrap = wrapAt fs d; early = false; deep = false }) s (indented (wrapAt fs d) s) h refl w
+      pushed fs d i (suc i) (frame i (wrapAt fs d) false false) s (onPen (indented (wrapAt fs d)) s) h refl w
       (rw (node-indent v i k, k))
 
-  pub open-next : (fs : List Frame) (d i : ℕ) (s : Renderer) → d < length fs → Within v i (limit v stop fs d) → v .kind i ≡ 2
-      → meaning (set fs d (record { row = i; wrap = wrapAt fs d; early = false; deep = false })) (suc d) (suc i) (nextIndented (wrapAt fs d) s) ≡ meaning fs d i s
-  unfolding closing partEnd render
+  pub open-next : (fs : List Frame) (d i : ℕ) (s : Renderer) → d < length fs → RangeIn v i (limit v stop fs d) → v .kind i ≡ 2
+      → meaning (set fs d (frame i (wrapAt fs d) false false)) (suc d) (suc i) (onPen (nextIndented (wrapAt fs d)) s) ≡ meaning fs d i s
+  unfolding closing partEnd renderNode
   open-next fs d i s h w k =
-      push fs d i (suc i) (record { row = i; wrap = wrapAt fs d; early = false; deep = false }) s (nextIndented (wrapAt fs d) s) h refl w
+      pushed fs d i (suc i) (frame i (wrapAt fs d) false false) s (onPen (nextIndented (wrapAt fs d)) s) h refl w
       (rw (node-next v i k, k))
 
   -- an IfWrap has two parts, each one row with what is below it
-  single : (i : ℕ) → Within v i (v .after i) → (w : Bool) (s : Renderer) → renders pg (nodesAt v i (v .after i)) w s ≡ render pg (firstOf (nodesAt v i (v .after i))) w s
-  unfolding renders
+  single : (i : ℕ) → RangeIn v i (v .after i) → (w : Bool) (s : Renderer) → renderNodes pg (nodesAt v i (v .after i)) w s ≡ renderNode pg (firstOf (nodesAt v i (v .after i))) w s
+  unfolding renderNodes
   single i h w s = rw (nodes-some v i (v .after i) h, nodes-none v (v .after i) (v .after i) (omega arith))
 
-  pub open-if-first : (fs : List Frame) (d i : ℕ) (s : Renderer) → d < length fs → Within v i (limit v stop fs d) → v .kind i ≡ 10 → TwoParts v i
+  pub open-if-first : (fs : List Frame) (d i : ℕ) (s : Renderer) → d < length fs → RangeIn v i (limit v stop fs d) → v .kind i ≡ 10 → TwoParts v i
       → wrapped (s .marks) (v .number i) ≡ true
-      → meaning (set fs d (record { row = i; wrap = wrapAt fs d; early = true; deep = false })) (suc d) (suc i) s ≡ meaning fs d i s
-  unfolding closing partEnd render
+      → meaning (set fs d (frame i (wrapAt fs d) true false)) (suc d) (suc i) s ≡ meaning fs d i s
+  unfolding closing partEnd renderNode
   open-if-first fs d i s h w k t m =
-      push fs d i (suc i) (record { row = i; wrap = wrapAt fs d; early = true; deep = false }) s s h refl w
+      pushed fs d i (suc i) (frame i (wrapAt fs d) true false) s s h refl w
       (rw (node-if v i k (record { up = omega arith; to = omega arith }), k, m) (rw (← t .first) (single (suc i) (record { up = omega arith; to = omega arith }) (wrapAt fs d) s)))
 
-  pub open-if-second : (fs : List Frame) (d i : ℕ) (s : Renderer) → d < length fs → Within v i (limit v stop fs d) → v .kind i ≡ 10 → TwoParts v i
+  pub open-if-second : (fs : List Frame) (d i : ℕ) (s : Renderer) → d < length fs → RangeIn v i (limit v stop fs d) → v .kind i ≡ 10 → TwoParts v i
       → wrapped (s .marks) (v .number i) ≡ false
-      → meaning (set fs d (record { row = i; wrap = wrapAt fs d; early = false; deep = false })) (suc d) (v .second i) s ≡ meaning fs d i s
-  unfolding closing partEnd render
+      → meaning (set fs d (frame i (wrapAt fs d) false false)) (suc d) (v .second i) s ≡ meaning fs d i s
+  unfolding closing partEnd renderNode
   open-if-second fs d i s h w k t m =
-      push fs d i (v .second i) (record { row = i; wrap = wrapAt fs d; early = false; deep = false }) s s h refl w
+      pushed fs d i (v .second i) (frame i (wrapAt fs d) false false) s s h refl w
       (rw (node-if v i k (record { up = omega arith; to = omega arith }), k, m) (rw (← t .second) (single (v .second i) (record { up = omega arith; to = omega arith }) (wrapAt fs d) s)))
 
-  pub open-call : (fs : List Frame) (d i : ℕ) (s : Renderer) (t b : Bool) → d < length fs → Within v i (limit v stop fs d) → v .kind i ≡ 11 → Split v i
-      → t ≡ trailing pg (nodesAt v (suc i) (v .second i)) (nodesAt v (v .second i) (v .after i)) s
+  pub open-call : (fs : List Frame) (d i : ℕ) (s : Renderer) (t b : Bool) → d < length fs → RangeIn v i (limit v stop fs d) → v .kind i ≡ 11 → Split v i
+      → t ≡ trailingCall pg (nodesAt v (suc i) (v .second i)) (nodesAt v (v .second i) (v .after i)) s
       → b ≡ calleeWraps pg t (nodesAt v (suc i) (v .second i)) (nodesAt v (v .second i) (v .after i)) s
-      → meaning (set fs d (record { row = i; wrap = b; early = true; deep = not t && b })) (suc d) (suc i) (nextIndented (not t && b) (insert b (v .number i) s)) ≡ meaning fs d i s
-  unfolding closing partEnd render
+      → meaning (set fs d (frame i b true (not t && b))) (suc d) (suc i) (onPen (nextIndented (not t && b)) (insert b (v .number i) s)) ≡ meaning fs d i s
+  unfolding closing partEnd renderNode
   open-call fs d i s t b h w k p e q =
-      push fs d i (suc i) (record { row = i; wrap = b; early = true; deep = not t && b }) s (nextIndented (not t && b) (insert b (v .number i) s)) h refl w
+      pushed fs d i (suc i) (frame i b true (not t && b)) s (onPen (nextIndented (not t && b)) (insert b (v .number i) s)) h refl w
       (rw (node-call v i k p, k, q, e))
 
   -- the callee is done: the arguments' group is opened
   pub call-on : (fs : List Frame) (d i : ℕ) (s : Renderer) (c : Bool) → d < length fs → v .kind (frameAt fs d .row) ≡ 11 → frameAt fs d .early ≡ true
       → i ≡ v .second (frameAt fs d .row)
       → c ≡ groupWraps pg (nodesAt v i (v .after (frameAt fs d .row))) s
-      → meaning (set fs d (record { row = frameAt fs d .row; wrap = c; early = false; deep = frameAt fs d .deep })) (suc d) i (insert c (v .number2 (frameAt fs d .row)) s) ≡ meaning fs (suc d) i s
-  unfolding closing partEnd render
+      → meaning (set fs d (frame (frameAt fs d .row) c false (frameAt fs d .deep))) (suc d) i (insert c (v .number2 (frameAt fs d .row)) s) ≡ meaning fs (suc d) i s
+  unfolding closing partEnd renderNode
   call-on fs d i s c h k y e q =
-      opened fs d i (record { row = frameAt fs d .row; wrap = c; early = false; deep = frameAt fs d .deep }) (insert c (v .number2 (frameAt fs d .row)) s) h
+      opened fs d i (frame (frameAt fs d .row) c false (frameAt fs d .deep)) (insert c (v .number2 (frameAt fs d .row)) s) h
       ∙ sym (pop fs d i s (rw (y, e) (omega arith)) ∙ rw (k, y, q, e))

@@ -1,4 +1,4 @@
--- Rows that nest render to no more bytes than their sum, and the start of the first line.
+-- Rows that nest renderNode to no more bytes than their sum, and the start of the first line.
 -- Assumes nothing.
 use mathlib.Core.Path.{_≡_, refl, ap, _∙_}
 use Prim.Native.Nat.{ℕ, zero, suc, _+_, _*_, _-_, _≤_, _<_}
@@ -8,19 +8,20 @@ use mathlib.Core.List.{List, [], _∷_, _++_}
 use lib.ListN.{length, drop, replicate, length-append, length-take, length-replicate}
 use lib.Dec.{ltb}
 use borrow.Author.Tests.{ltb-true, ltb-false}
-use Rattle.rows.specs.Node.{Text, Node, Nodes, group, indent, indentNext, wrapParent, comment, str, ascii, line, emptyLine, lineOrSpace, ifWrap, call, none}
+use Rattle.rows.specs.Node.{Text, Node, Nodes, group, indent, indentNext, wrapParent, comment as commentNode, str, ascii, line, emptyLine, lineOrSpace, ifWrap, call, none}
 use Rattle.rows.specs.Node.{_then_, wrapped}
 use Rattle.rows.specs.Rows.{size, sizes}
 use Rattle.rows.specs.View.{View, cell, viewOf, firstOf, nodesAt, nodeAt}
-use Rattle.rows.specs.Nesting.{Within, Split, Nests, over, leaf, block, two, pair}
+use Rattle.rows.specs.Nesting.{RangeIn, Split, Nests, over, leaf, block, two, pair}
 use Rattle.rows.proofs.Decode.{nodes-none, nodes-some, node-group, node-indent, node-next, node-parent, node-comment, node-str, node-ascii}
 use Rattle.rows.proofs.Decode.{node-line, node-empty, node-space, node-if, node-call}
 use Rattle.rows.proofs.Nested.{nests-le, leaf-within}
 use Rattle.renderer_rules.specs.Most.{rowMost, rowsMost}
 use Rattle.rows.specs.Texts.{originText}
 use Rattle.renderer_rules.specs.Page.{textBytes, pageOf}
-use Rattle.renderer_rules.specs.Renderer.{Page, Renderer, push, atColumn, newLine, margin, remark, text, insert, indented, outdented, nextIndented}
-use Rattle.renderer_rules.specs.Renderer.{nextOutdented, groupWraps, trailing, calleeWraps, render, renders}
+use Rattle.renderer_rules.specs.declared.Pen.{Pen}
+use Rattle.renderer_rules.specs.Renderer.{Page, Renderer, withNextIndent, onPen, pushStr, atColumn, newLine, margin, comment, text, insert, indented, outdented, nextIndented}
+use Rattle.renderer_rules.specs.Renderer.{nextOutdented, groupWraps, trailingCall, calleeWraps, renderNode, renderNodes}
 use Rattle.renderer_rules.proofs.Margin.{render-kept, renders-kept}
 
 -- ---- a sum over nodes, where lines start m steps in
@@ -30,7 +31,7 @@ unfoldable mutual
   cost (indent ns) m = 4 + costs ns (suc m)
   cost (indentNext ns) m = 4 + costs ns (suc m)
   cost wrapParent m = 0
-  cost (comment t) m = t .size + (2 + 4 * m)
+  cost (commentNode t) m = t .size + (2 + 4 * m)
   cost (str w t) m = t .size
   cost (ascii t) m = t .size
   cost line m = 2 + 4 * m
@@ -52,7 +53,7 @@ mutual
   cost-in (indent ns) m = let h = costs-in ns (suc m) in omega arith
   cost-in (indentNext ns) m = let h = costs-in ns (suc m) in omega arith
   cost-in wrapParent m = omega arith
-  cost-in (comment t) m = omega arith
+  cost-in (commentNode t) m = omega arith
   cost-in (str w t) m = omega arith
   cost-in (ascii t) m = omega arith
   cost-in line m = omega arith
@@ -68,7 +69,7 @@ mutual
 -- ---- a step adds no more
 -- the bytes of the line's start that are still to come
 unfoldable ahead : Renderer → ℕ
-ahead r = cond (ltb 0 (r .column)) 0 (4 * (r .indent + r .nextIndent))
+ahead r = cond (ltb 0 (r .pen .column .0)) 0 (4 * (r .pen .indent + r .pen .«next_indent»))
 
 record Adds (s t : Renderer) (n : ℕ) : Type 0 where
   most : length (t .buf) + ahead t ≤ length (s .buf) + ahead s + n
@@ -90,47 +91,47 @@ adds-either : (c : Bool) (s t u : Renderer) (a : ℕ) → Adds s t a → Adds s 
 adds-either true s t u a p q = p
 adds-either false s t u a p q = q
 
-push-adds : (t : List ℕ) (s : Renderer) → Adds s (push t s) (length t)
-unfolding push ahead
+push-adds : (t : List ℕ) (s : Renderer) → Adds s (pushStr t s) (length t)
+unfolding pushStr ahead
 push-adds t s = record { most = omega (arith, length-append (s .buf) t) }
 
-line-adds : (m : ℕ) (s : Renderer) → s .indent + s .nextIndent ≤ m → Adds s (newLine s) (1 + 4 * m)
+line-adds : (m : ℕ) (s : Renderer) → s .pen .indent + s .pen .«next_indent» ≤ m → Adds s (newLine s) (1 + 4 * m)
 unfolding newLine ahead
-line-adds m s h = go (ltb 0 (s .column)) refl
+line-adds m s h = go (ltb 0 (s .pen .column .0)) refl
   where
-    go : (c : Bool) → ltb 0 (s .column) ≡ c → Adds s (newLine s) (1 + 4 * m)
+    go : (c : Bool) → ltb 0 (s .pen .column .0) ≡ c → Adds s (newLine s) (1 + 4 * m)
     go true e = record { most = rw e (omega (arith, length-append (s .buf) (0x0A ∷ []))) }
     go false e = record { most = rw e (omega (arith, length-append (s .buf) [])) }
 
 -- the start of a line, four bytes a step; then a text of any width
 text-adds : (t : List ℕ) (w : ℕ) (s : Renderer) → Adds s (text t w s) (length t)
-unfolding text margin push atColumn ahead
-text-adds t w s = go (ltb 0 (s .column)) refl
+unfolding text margin pushStr atColumn ahead
+text-adds t w s = go (ltb 0 (s .pen .column .0)) refl
   where
-    wide : (c : Bool) → ltb 0 (s .column + w) ≡ c → 0 < s .column → cond c 0 (4 * (s .indent + s .nextIndent)) ≤ 0
+    wide : (c : Bool) → ltb 0 (s .pen .column .0 + w) ≡ c → 0 < s .pen .column .0 → cond c 0 (4 * (s .pen .indent + s .pen .«next_indent»)) ≤ 0
     wide true e h = omega arith
-    wide false e h = let g = ltb-false 0 (s .column + w) e in omega arith
+    wide false e h = let g = ltb-false 0 (s .pen .column .0 + w) e in omega arith
 
-    start : (c : Bool) → ltb 0 (4 * s .indent + w) ≡ c → 4 * s .indent + cond c 0 (4 * (s .indent + s .nextIndent)) ≤ 4 * (s .indent + s .nextIndent)
+    start : (c : Bool) → ltb 0 (4 * s .pen .indent + w) ≡ c → 4 * s .pen .indent + cond c 0 (4 * (s .pen .indent + s .pen .«next_indent»)) ≤ 4 * (s .pen .indent + s .pen .«next_indent»)
     start true e = omega arith
-    start false e = let g = ltb-false 0 (4 * s .indent + w) e in omega arith
+    start false e = let g = ltb-false 0 (4 * s .pen .indent + w) e in omega arith
 
-    go : (c : Bool) → ltb 0 (s .column) ≡ c → Adds s (text t w s) (length t)
+    go : (c : Bool) → ltb 0 (s .pen .column .0) ≡ c → Adds s (text t w s) (length t)
     go true e =
-        let h = wide (ltb 0 (s .column + w)) refl (ltb-true 0 (s .column) e) in
+        let h = wide (ltb 0 (s .pen .column .0 + w)) refl (ltb-true 0 (s .pen .column .0) e) in
         record { most = rw e (omega (arith, length-append (s .buf) t)) }
     go false e =
-        let h = start (ltb 0 (4 * s .indent + w)) refl in
-        let blanks : List ℕ = replicate (4 * s .indent) 0x20 in
+        let h = start (ltb 0 (4 * s .pen .indent + w)) refl in
+        let blanks : List ℕ = replicate (4 * s .pen .indent) 0x20 in
         record {
-          most = rw e (omega (arith, length-append (s .buf ++ blanks) t, length-append (s .buf) blanks, length-replicate {A = ℕ} (4 * s .indent) 0x20));
+          most = rw e (omega (arith, length-append (s .buf ++ blanks) t, length-append (s .buf) blanks, length-replicate {A = ℕ} (4 * s .pen .indent) 0x20));
         }
 
-remark-adds : (t : List ℕ) (m : ℕ) (s : Renderer) → s .indent + s .nextIndent ≤ m → Adds s (remark t s) (length t + (2 + 4 * m))
-unfolding remark margin push atColumn ahead
-remark-adds t m s h = go (ltb 0 (s .column)) refl
+comment-adds : (t : List ℕ) (m : ℕ) (s : Renderer) → s .pen .indent + s .pen .«next_indent» ≤ m → Adds s (comment t s) (length t + (2 + 4 * m))
+unfolding comment margin pushStr atColumn ahead
+comment-adds t m s h = go (ltb 0 (s .pen .column .0)) refl
   where
-    go : (c : Bool) → ltb 0 (s .column) ≡ c → Adds s (remark t s) (length t + (2 + 4 * m))
+    go : (c : Bool) → ltb 0 (s .pen .column .0) ≡ c → Adds s (comment t s) (length t + (2 + 4 * m))
     go true e =
         record {
           most =
@@ -143,7 +144,7 @@ remark-adds t m s h = go (ltb 0 (s .column)) refl
               ));
         }
     go false e =
-        let blanks : List ℕ = replicate (4 * s .indent) 0x20 in
+        let blanks : List ℕ = replicate (4 * s .pen .indent) 0x20 in
         record {
           most =
               rw e
@@ -152,7 +153,7 @@ remark-adds t m s h = go (ltb 0 (s .column)) refl
                 length-append (s .buf ++ blanks) (t ++ (0x0A ∷ [])),
                 length-append (s .buf) blanks,
                 length-append t (0x0A ∷ []),
-                length-replicate {A = ℕ} (4 * s .indent) 0x20,
+                length-replicate {A = ℕ} (4 * s .pen .indent) 0x20,
               ));
         }
 
@@ -169,46 +170,44 @@ more : (c : Bool) (a b : ℕ) → a ≤ b + 1 → cond c 0 (4 * a) ≤ cond c 0 
 more true a b h = omega arith
 more false a b h = omega arith
 
-in-adds : (b : Bool) (s : Renderer) → Adds s (indented b s) 4
+in-adds : (b : Bool) (s : Renderer) → Adds s (onPen (indented b) s) 4
 unfolding indented ahead
-in-adds true s = record { most = let h = more (ltb 0 (s .column)) (s .indent + 1 + s .nextIndent) (s .indent + s .nextIndent) (omega arith) in omega arith }
+in-adds true s = record { most = let h = more (ltb 0 (s .pen .column .0)) (s .pen .indent + 1 + s .pen .«next_indent») (s .pen .indent + s .pen .«next_indent») (omega arith) in omega arith }
 in-adds false s = record { most = omega arith }
 
-out-adds : (b : Bool) (s : Renderer) → Adds s (outdented b s) 0
+out-adds : (b : Bool) (s : Renderer) → Adds s (onPen (outdented b) s) 0
 unfolding outdented ahead
-out-adds true s = record { most = let h = less (ltb 0 (s .column)) (s .indent - 1 + s .nextIndent) (s .indent + s .nextIndent) (omega arith) in omega arith }
+out-adds true s = record { most = let h = less (ltb 0 (s .pen .column .0)) (s .pen .indent - 1 + s .pen .«next_indent») (s .pen .indent + s .pen .«next_indent») (omega arith) in omega arith }
 out-adds false s = record { most = omega arith }
 
-next-in-adds : (b : Bool) (s : Renderer) → Adds s (nextIndented b s) 4
+next-in-adds : (b : Bool) (s : Renderer) → Adds s (onPen (nextIndented b) s) 4
 unfolding nextIndented ahead
-next-in-adds true s = record { most = let h = more (ltb 0 (s .column)) (s .indent + (s .nextIndent + 1)) (s .indent + s .nextIndent) (omega arith) in omega arith }
+next-in-adds true s = record { most = let h = more (ltb 0 (s .pen .column .0)) (s .pen .indent + (s .pen .«next_indent» + 1)) (s .pen .indent + s .pen .«next_indent») (omega arith) in omega arith }
 next-in-adds false s = record { most = omega arith }
 
-next-out-adds : (b : Bool) (s : Renderer) → Adds s (nextOutdented b s) 0
+next-out-adds : (b : Bool) (s : Renderer) → Adds s (onPen (nextOutdented b) s) 0
 unfolding nextOutdented ahead
-next-out-adds true s =
-    adds-either (ltb 0 (s .nextIndent)) s
-    (record { buf = s .buf; indent = s .indent; nextIndent = s .nextIndent - 1; column = s .column; marks = s .marks })
-    (outdented true s)
-    0
-    (record { most = let h = less (ltb 0 (s .column)) (s .indent + (s .nextIndent - 1)) (s .indent + s .nextIndent) (omega arith) in omega arith })
-    (out-adds true s)
+next-out-adds true s = go (ltb 0 (s .pen .«next_indent»))
+  where
+    go : (c : Bool) → Adds s (onPen (λ (p : Pen). cond c (withNextIndent (p .«next_indent» - 1) p) (outdented true p)) s) 0
+    go true = record { most = let h = less (ltb 0 (s .pen .column .0)) (s .pen .indent + (s .pen .«next_indent» - 1)) (s .pen .indent + s .pen .«next_indent») (omega arith) in omega arith }
+    go false = out-adds true s
 next-out-adds false s = record { most = omega arith }
 
-push-sum : (t : List ℕ) (m : ℕ) (s : Renderer) → s .indent + s .nextIndent ≤ m → push t s .indent + push t s .nextIndent ≤ m
-unfolding push
+push-sum : (t : List ℕ) (m : ℕ) (s : Renderer) → s .pen .indent + s .pen .«next_indent» ≤ m → pushStr t s .pen .indent + pushStr t s .pen .«next_indent» ≤ m
+unfolding pushStr
 push-sum t m s h = h
 
-insert-sum : (n : ℕ) (b : Bool) (m : ℕ) (s : Renderer) → s .indent + s .nextIndent ≤ m → insert b n s .indent + insert b n s .nextIndent ≤ m
+insert-sum : (n : ℕ) (b : Bool) (m : ℕ) (s : Renderer) → s .pen .indent + s .pen .«next_indent» ≤ m → insert b n s .pen .indent + insert b n s .pen .«next_indent» ≤ m
 unfolding insert
 insert-sum n b m s h = h
 
-in-sum : (b : Bool) (m : ℕ) (s : Renderer) → s .indent + s .nextIndent ≤ m → indented b s .indent + indented b s .nextIndent ≤ suc m
+in-sum : (b : Bool) (m : ℕ) (s : Renderer) → s .pen .indent + s .pen .«next_indent» ≤ m → indented b (s .pen) .indent + indented b (s .pen) .«next_indent» ≤ suc m
 unfolding indented
 in-sum true m s h = omega arith
 in-sum false m s h = omega arith
 
-next-sum : (b : Bool) (m : ℕ) (s : Renderer) → s .indent + s .nextIndent ≤ m → nextIndented b s .indent + nextIndented b s .nextIndent ≤ suc m
+next-sum : (b : Bool) (m : ℕ) (s : Renderer) → s .pen .indent + s .pen .«next_indent» ≤ m → nextIndented b (s .pen) .indent + nextIndented b (s .pen) .«next_indent» ≤ suc m
 unfolding nextIndented
 next-sum true m s h = omega arith
 next-sum false m s h = omega arith
@@ -216,40 +215,40 @@ next-sum false m s h = omega arith
 -- ---- nodes add no more than their cost, where each text is as long as it says
 module _ (pg : Page) (said : (t : Text) → length (pg .bytes t) ≤ t .size) where
   mutual
-    unfolding render cost
+    unfolding renderNode cost
 
-    render-adds : (n : Node) (w : Bool) (m : ℕ) (s : Renderer) → s .indent + s .nextIndent ≤ m → Adds s (render pg n w s) (cost n m)
+    render-adds : (n : Node) (w : Bool) (m : ℕ) (s : Renderer) → s .pen .indent + s .pen .«next_indent» ≤ m → Adds s (renderNode pg n w s) (cost n m)
     render-adds (group n ns) w m s h =
         let b = groupWraps pg ns s in
         adds-more (costs ns m) (omega arith) (adds-then (insert-adds n b s) (renders-adds ns b m (insert b n s) (insert-sum n b m s h)))
     render-adds (indent ns) w m s h =
         adds-more (4 + costs ns (suc m)) (omega arith)
-        (adds-then (adds-then (in-adds w s) (renders-adds ns w (suc m) (indented w s) (in-sum w m s h))) (out-adds w (renders pg ns w (indented w s))))
+        (adds-then (adds-then (in-adds w s) (renders-adds ns w (suc m) (onPen (indented w) s) (in-sum w m s h))) (out-adds w (renderNodes pg ns w (onPen (indented w) s))))
     render-adds (indentNext ns) w m s h =
         adds-more (4 + costs ns (suc m)) (omega arith)
-        (adds-then (adds-then (next-in-adds w s) (renders-adds ns w (suc m) (nextIndented w s) (next-sum w m s h)))
-        (next-out-adds w (renders pg ns w (nextIndented w s))))
+        (adds-then (adds-then (next-in-adds w s) (renders-adds ns w (suc m) (onPen (nextIndented w) s) (next-sum w m s h)))
+        (next-out-adds w (renderNodes pg ns w (onPen (nextIndented w) s))))
     render-adds wrapParent w m s h = adds-none s
-    render-adds (comment t) w m s h = let g = said t in adds-more (t .size + (2 + 4 * m)) (omega arith) (remark-adds (pg .bytes t) m s h)
+    render-adds (commentNode t) w m s h = let g = said t in adds-more (t .size + (2 + 4 * m)) (omega arith) (comment-adds (pg .bytes t) m s h)
     render-adds (str k t) w m s h = adds-more (t .size) (said t) (text-adds (pg .bytes t) k s)
     render-adds (ascii t) w m s h = adds-more (t .size) (said t) (text-adds (pg .bytes t) (pg .columns t) s)
     render-adds line w m s h =
         adds-either w s (newLine s) s (2 + 4 * m) (adds-more (2 + 4 * m) (omega arith) (line-adds m s h)) (adds-more (2 + 4 * m) (omega arith) (adds-none s))
     render-adds emptyLine w m s h =
-        adds-more (2 + 4 * m) (omega arith) (adds-then (push-adds (0x0A ∷ []) s) (line-adds m (push (0x0A ∷ []) s) (push-sum (0x0A ∷ []) m s h)))
+        adds-more (2 + 4 * m) (omega arith) (adds-then (push-adds (0x0A ∷ []) s) (line-adds m (pushStr (0x0A ∷ []) s) (push-sum (0x0A ∷ []) m s h)))
     render-adds lineOrSpace w m s h =
         adds-either w s (newLine s) (text (0x20 ∷ []) 1 s) (2 + 4 * m)
         (adds-more (2 + 4 * m) (omega arith) (line-adds m s h))
         (adds-more (2 + 4 * m) (omega arith) (text-adds (0x20 ∷ []) 1 s))
     render-adds (ifWrap n a b) w m s h =
-        adds-cond (wrapped (s .marks) n) s (render pg a w s) (render pg b w s) (cost a m) (cost b m) (render-adds a w m s h) (render-adds b w m s h)
+        adds-cond (wrapped (s .marks) n) s (renderNode pg a w s) (renderNode pg b w s) (cost a m) (cost b m) (render-adds a w m s h) (render-adds b w m s h)
     render-adds (call n e k a) w m s h =
-        let t = trailing pg e a s in
+        let t = trailingCall pg e a s in
         let b = calleeWraps pg t e a s in
         let d = not t && b in
-        let s0 = nextIndented d (insert b n s) in
+        let s0 = onPen (nextIndented d) (insert b n s) in
         let h0 = next-sum d m (insert b n s) (insert-sum n b m s h) in
-        let s1 = renders pg e b s0 in
+        let s1 = renderNodes pg e b s0 in
         let z = renders-kept e pg b s0 .sum in
         let c = groupWraps pg a s1 in
         adds-more (4 + (costs e (suc m) + costs a (suc m))) (omega arith)
@@ -257,13 +256,13 @@ module _ (pg : Page) (said : (t : Text) → length (pg .bytes t) ≤ t .size) wh
         (adds-then (renders-adds e b (suc m) s0 h0)
         (adds-then (insert-adds k c s1)
         (adds-then (renders-adds a c (suc m) (insert c k s1) (insert-sum k c (suc m) s1 (omega arith)))
-        (next-out-adds d (renders pg a c (insert c k s1)))))))
+        (next-out-adds d (renderNodes pg a c (insert c k s1)))))))
 
-    renders-adds : (ns : Nodes) (w : Bool) (m : ℕ) (s : Renderer) → s .indent + s .nextIndent ≤ m → Adds s (renders pg ns w s) (costs ns m)
+    renders-adds : (ns : Nodes) (w : Bool) (m : ℕ) (s : Renderer) → s .pen .indent + s .pen .«next_indent» ≤ m → Adds s (renderNodes pg ns w s) (costs ns m)
     renders-adds none w m s h = adds-none s
     renders-adds (n then ns) w m s h =
         let z = render-kept n pg w s .sum in
-        adds-then (render-adds n w m s h) (renders-adds ns w m (render pg n w s) (omega arith))
+        adds-then (render-adds n w m s h) (renders-adds ns w m (renderNode pg n w s) (omega arith))
 
 -- ---- the rows' sum is no less than their nodes' cost
 first-cost : (ns : Nodes) (m : ℕ) → cost (firstOf ns) m ≤ costs ns m
@@ -306,7 +305,7 @@ module _ (s : List ℕ) where
       one-less h = omega arith
 
   -- a range that nests has a row for each node
-  node-size : (i j : ℕ) → Within v i j → size (nodeAt v i) ≤ v .after i - i → sizes (nodesAt v (v .after i) j) ≤ j - v .after i
+  node-size : (i j : ℕ) → RangeIn v i j → size (nodeAt v i) ≤ v .after i - i → sizes (nodesAt v (v .after i) j) ≤ j - v .after i
       → sizes (nodesAt v i j) ≤ j - i
   unfolding size
   node-size i j w a b = rw (nodes-some v i j w) (omega arith)
@@ -320,7 +319,7 @@ module _ (s : List ℕ) where
   leaves-size i (suc zero) e p q = absurd (omega arith)
   leaves-size i (suc (suc zero)) e p q = absurd (omega arith)
   leaves-size i (suc (suc (suc zero))) e p q = leaf-size i wrapParent refl (node-parent v i e)
-  leaves-size i (suc (suc (suc (suc zero)))) e p q = leaf-size i (comment (v .text i)) refl (node-comment v i e)
+  leaves-size i (suc (suc (suc (suc zero)))) e p q = leaf-size i (commentNode (v .text i)) refl (node-comment v i e)
   leaves-size i (suc (suc (suc (suc (suc zero))))) e p q = leaf-size i (str (v .width i) (v .text i)) refl (node-str v i e)
   leaves-size i (suc (suc (suc (suc (suc (suc zero)))))) e p q = leaf-size i (ascii (v .text i)) refl (node-ascii v i e)
   leaves-size i (suc (suc (suc (suc (suc (suc (suc zero))))))) e p q = leaf-size i line refl (node-line v i e)
@@ -401,7 +400,7 @@ module _ (s : List ℕ) where
       let q = t .to in
       rw (node-call v i e t) (omega arith)
 
-  node-most : (m i j : ℕ) → Within v i j → cost (nodeAt v i) m ≤ rowMost m s i (v .kind i) + span m (suc i) (v .after i)
+  node-most : (m i j : ℕ) → RangeIn v i j → cost (nodeAt v i) m ≤ rowMost m s i (v .kind i) + span m (suc i) (v .after i)
       → costs (nodesAt v (v .after i) j) m ≤ span m (v .after i) j
       → costs (nodesAt v i j) m ≤ span m i j
   unfolding cost viewOf
@@ -441,9 +440,9 @@ module _ (s : List ℕ) where
       let z = span-parts m (suc i) (v .second i) (v .after i) (omega arith) (omega arith) in
       node-most m i j w (rw a (omega arith)) (rows-most m r)
 
-ahead-most : (r : Renderer) → ahead r ≤ 4 * (r .indent + r .nextIndent)
+ahead-most : (r : Renderer) → ahead r ≤ 4 * (r .pen .indent + r .pen .«next_indent»)
 unfolding ahead
-ahead-most r = go (ltb 0 (r .column)) (4 * (r .indent + r .nextIndent))
+ahead-most r = go (ltb 0 (r .pen .column .0)) (4 * (r .pen .indent + r .pen .«next_indent»))
   where
     go : (c : Bool) (n : ℕ) → cond c 0 n ≤ n
     go true n = omega arith
@@ -455,8 +454,8 @@ text-size source image t = rw (length-take (t .size) (drop (t .start) (originTex
 
 -- the text of rows that nest
 pub text-most : (max : ℕ) (source image s : List ℕ) (i j d m : ℕ) → Nests (viewOf s) i j d → (w : Bool) (r : Renderer) → r .buf ≡ []
-    → r .indent + r .nextIndent ≡ m
-    → length (renders (pageOf max source image) (nodesAt (viewOf s) i j) w r .buf) ≤ 4 * m + rowsMost (j - i) m s i
+    → r .pen .indent + r .pen .«next_indent» ≡ m
+    → length (renderNodes (pageOf max source image) (nodesAt (viewOf s) i j) w r .buf) ≤ 4 * m + rowsMost (j - i) m s i
 text-most max source image s i j d m g w r e f =
     let a = renders-adds (pageOf max source image) (text-size source image) (nodesAt (viewOf s) i j) w m r (omega arith) .most in
     let b = rows-most s m g in

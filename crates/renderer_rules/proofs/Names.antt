@@ -9,10 +9,10 @@ use lib.ListN.{length, getD, length-set}
 use lib.Seq.{getD-set-other}
 use lib.Dec.{ltb, eqb}
 use borrow.Author.Tests.{eqb-false}
-use Rattle.rows.specs.Node.{Node, Nodes, group, indent, indentNext, wrapParent, comment, str, ascii, line, emptyLine, lineOrSpace, ifWrap, call, none}
+use Rattle.rows.specs.Node.{Node, Nodes, group, indent, indentNext, wrapParent, comment as commentNode, str, ascii, line, emptyLine, lineOrSpace, ifWrap, call, none}
 use Rattle.rows.specs.Node.{_then_, wrapped}
-use Rattle.renderer_rules.specs.Renderer.{Page, Renderer, push, atColumn, newLine, margin, remark, text, insert, indented, outdented, nextIndented}
-use Rattle.renderer_rules.specs.Renderer.{nextOutdented, groupWraps, trailing, calleeWraps, render, renders}
+use Rattle.renderer_rules.specs.Renderer.{Page, Renderer, onPen, pushStr, atColumn, newLine, margin, comment, text, insert, indented, nextIndented}
+use Rattle.renderer_rules.specs.Renderer.{groupWraps, trailingCall, calleeWraps, renderNode, renderNodes}
 
 -- x is a number of the node, or of one in it
 unfoldable mutual
@@ -21,7 +21,7 @@ unfoldable mutual
   names x (indent ns) = namesIn x ns
   names x (indentNext ns) = namesIn x ns
   names x wrapParent = false
-  names x (comment t) = false
+  names x (commentNode t) = false
   names x (str w t) = false
   names x (ascii t) = false
   names x line = false
@@ -59,18 +59,18 @@ insert-same x n true s e = record { mark = getD-set-other (s .marks) n x 1 0 (eq
 insert-same x n false s e = record { mark = refl; size = refl }
 
 text-marks : (t : List ℕ) (w : ℕ) (s : Renderer) → text t w s .marks ≡ s .marks
-unfolding text push atColumn margin
-text-marks t w s = go (ltb 0 (s .column))
+unfolding text pushStr atColumn margin
+text-marks t w s = go (ltb 0 (s .pen .column .0))
   where
     go : (b : Bool) → cond b s (margin s) .marks ≡ s .marks
     go true = refl
     go false = refl
 
-remark-marks : (t : List ℕ) (s : Renderer) → remark t s .marks ≡ s .marks
-unfolding remark push atColumn margin
-remark-marks t s = go (ltb 0 (s .column))
+comment-marks : (t : List ℕ) (s : Renderer) → comment t s .marks ≡ s .marks
+unfolding comment pushStr atColumn margin
+comment-marks t s = go (ltb 0 (s .pen .column .0))
   where
-    go : (b : Bool) → cond b (push (0x20 ∷ []) s) (margin s) .marks ≡ s .marks
+    go : (b : Bool) → cond b (pushStr (0x20 ∷ []) s) (margin s) .marks ≡ s .marks
     go true = refl
     go false = refl
 
@@ -78,47 +78,23 @@ line-marks : (s : Renderer) → newLine s .marks ≡ s .marks
 unfolding newLine
 line-marks s = refl
 
-empty-marks : (s : Renderer) → newLine (push (0x0A ∷ []) s) .marks ≡ s .marks
-unfolding newLine push
+empty-marks : (s : Renderer) → newLine (pushStr (0x0A ∷ []) s) .marks ≡ s .marks
+unfolding newLine pushStr
 empty-marks s = refl
 
-in-marks : (w : Bool) (s : Renderer) → indented w s .marks ≡ s .marks
-unfolding indented
-in-marks w s = refl
-
-out-marks : (w : Bool) (s : Renderer) → outdented w s .marks ≡ s .marks
-unfolding outdented
-out-marks w s = refl
-
-next-marks : (w : Bool) (s : Renderer) → nextIndented w s .marks ≡ s .marks
-unfolding nextIndented
-next-marks w s = refl
-
-back-marks : (w : Bool) (s : Renderer) → nextOutdented w s .marks ≡ s .marks
-unfolding nextOutdented outdented
-back-marks false s = refl
-back-marks true s = go (ltb 0 (s .nextIndent))
-  where
-    go : (b : Bool)
-        → cond b (record { buf = s .buf; indent = s .indent; nextIndent = s .nextIndent - 1; column = s .column; marks = s .marks }) (outdented true s) .marks ≡ s .marks
-    go true = refl
-    go false = refl
-
 mutual
-  unfolding render names
+  unfolding renderNode names
 
-  pub render-same : (x : ℕ) (n : Node) (p : Page) (w : Bool) (s : Renderer) → names x n ≡ false → Same x s (render p n w s)
+  pub render-same : (x : ℕ) (n : Node) (p : Page) (w : Bool) (s : Renderer) → names x n ≡ false → Same x s (renderNode p n w s)
   render-same x (group n ns) p w s e =
       let h = neither (eqb x n) (namesIn x ns) e in
       after (insert-same x n (groupWraps p ns s) s (h .0)) (renders-same x ns p (groupWraps p ns s) (insert (groupWraps p ns s) n s) (h .1))
   render-same x (indent ns) p w s e =
-      after (same-marks x s (indented w s) (in-marks w s))
-      (after (renders-same x ns p w (indented w s) e) (same-marks x _ _ (out-marks w (renders p ns w (indented w s)))))
+      after (same-marks x s (onPen (indented w) s) refl) (after (renders-same x ns p w (onPen (indented w) s) e) (same-marks x _ _ refl))
   render-same x (indentNext ns) p w s e =
-      after (same-marks x s (nextIndented w s) (next-marks w s))
-      (after (renders-same x ns p w (nextIndented w s) e) (same-marks x _ _ (back-marks w (renders p ns w (nextIndented w s)))))
+      after (same-marks x s (onPen (nextIndented w) s) refl) (after (renders-same x ns p w (onPen (nextIndented w) s) e) (same-marks x _ _ refl))
   render-same x wrapParent p w s e = same-marks x s s refl
-  render-same x (comment t) p w s e = same-marks x s _ (remark-marks (p .bytes t) s)
+  render-same x (commentNode t) p w s e = same-marks x s _ (comment-marks (p .bytes t) s)
   render-same x (str k t) p w s e = same-marks x s _ (text-marks (p .bytes t) k s)
   render-same x (ascii t) p w s e = same-marks x s _ (text-marks (p .bytes t) (p .columns t) s)
   render-same x line p w s e = cond-same w x s (newLine s) s (same-marks x s _ (line-marks s)) (same-marks x s s refl)
@@ -128,24 +104,24 @@ mutual
   render-same x (ifWrap n a b) p w s e =
       let h = neither (eqb x n) (names x a || names x b) e in
       let k = neither (names x a) (names x b) (h .1) in
-      cond-same (wrapped (s .marks) n) x s (render p a w s) (render p b w s) (render-same x a p w s (k .0)) (render-same x b p w s (k .1))
+      cond-same (wrapped (s .marks) n) x s (renderNode p a w s) (renderNode p b w s) (render-same x a p w s (k .0)) (render-same x b p w s (k .1))
   render-same x (call n e k a) p w s q =
       let h = neither (eqb x n || eqb x k) (namesIn x e || namesIn x a) q in
       let i = neither (eqb x n) (eqb x k) (h .0) in
       let j = neither (namesIn x e) (namesIn x a) (h .1) in
-      let t = trailing p e a s in
+      let t = trailingCall p e a s in
       let o = calleeWraps p t e a s in
       let d = not t && o in
-      let s1 = renders p e o (nextIndented d (insert o n s)) in
+      let s1 = renderNodes p e o (onPen (nextIndented d) (insert o n s)) in
       let c = groupWraps p a s1 in
       after (insert-same x n o s (i .0))
-      (after (same-marks x (insert o n s) (nextIndented d (insert o n s)) (next-marks d (insert o n s)))
-      (after (renders-same x e p o (nextIndented d (insert o n s)) (j .0))
+      (after (same-marks x (insert o n s) (onPen (nextIndented d) (insert o n s)) refl)
+      (after (renders-same x e p o (onPen (nextIndented d) (insert o n s)) (j .0))
       (after (insert-same x k c s1 (i .1))
-      (after (renders-same x a p c (insert c k s1) (j .1)) (same-marks x _ _ (back-marks d (renders p a c (insert c k s1))))))))
+      (after (renders-same x a p c (insert c k s1) (j .1)) (same-marks x _ _ refl)))))
 
-  pub renders-same : (x : ℕ) (ns : Nodes) (p : Page) (w : Bool) (s : Renderer) → namesIn x ns ≡ false → Same x s (renders p ns w s)
+  pub renders-same : (x : ℕ) (ns : Nodes) (p : Page) (w : Bool) (s : Renderer) → namesIn x ns ≡ false → Same x s (renderNodes p ns w s)
   renders-same x none p w s e = same-marks x s s refl
   renders-same x (n then ns) p w s e =
       let h = neither (names x n) (namesIn x ns) e in
-      after (render-same x n p w s (h .0)) (renders-same x ns p w (render p n w s) (h .1))
+      after (render-same x n p w s (h .0)) (renders-same x ns p w (renderNode p n w s) (h .1))

@@ -11,14 +11,14 @@ use Rattle.rows.specs.View.{View, nodeAt}
 use Rattle.rows.specs.Nesting.{Nests, over}
 use Rattle.rows.proofs.Nested.{nests-le, nests-leaf, nests-block, nests-two, nests-pair, nests-after, nests-rest, nests-deep}
 use Rattle.renderer_rules.specs.declared.Frame.{Frame}
-use Rattle.renderer_rules.specs.Renderer.{Page, Renderer, render}
+use Rattle.renderer_rules.specs.Renderer.{Page, Renderer, renderNode}
 use Rattle.renderer_rules.specs.Frames.{frameAt, partEnd, limit, wrapAt, Open, Under, At}
 use Rattle.renderer_rules.specs.Machine.{closing}
-use Rattle.renderer_rules.specs.Safe.{bit}
+use Rattle.renderer_rules.specs.Safe.{oneIf}
 use Rattle.renderer_rules.proofs.Meaning.{meaning, advance, pop, limit-set, limit-same, frame-same}
 use Rattle.renderer_rules.proofs.Meaning.{frame-other}
 
-bit-le : (b : Bool) → bit b ≤ 1
+bit-le : (b : Bool) → oneIf b ≤ 1
 bit-le true = omega arith
 bit-le false = omega arith
 
@@ -103,11 +103,11 @@ module _ (v : View) (pg : Page) (stop : ℕ) where
   pop-at fs (suc d) i s z h = let e : suc d - 1 ≡ d = omega arith in rw e (pop v pg stop fs d i s h)
 
   pub advance-leaf : (fs : List Frame) (d i : ℕ) (s : Renderer) → At v stop fs d i → i < limit v stop fs d → 3 ≤ v .kind i → v .kind i ≤ 9
-      → meaning v pg stop fs d (i + 1) (render pg (nodeAt v i) (wrapAt fs d) s) ≡ meaning v pg stop fs d i s
+      → meaning v pg stop fs d (i + 1) (renderNode pg (nodeAt v i) (wrapAt fs d) s) ≡ meaning v pg stop fs d i s
   advance-leaf fs d i s a h k l =
       sym
       (advance v pg stop fs d i s (nests-after (a .good) h)
-      ∙ ap (λ (j : ℕ). meaning v pg stop fs d j (render pg (nodeAt v i) (wrapAt fs d) s)) (nests-leaf (a .good) h k l .next ∙ sym (add-one i)))
+      ∙ ap (λ (j : ℕ). meaning v pg stop fs d j (renderNode pg (nodeAt v i) (wrapAt fs d) s)) (nests-leaf (a .good) h k l .next ∙ sym (add-one i)))
 
   -- a row is opened at one of its parts
   pub at-open : (fs : List Frame) (d i k : ℕ) (f : Frame) → At v stop fs d i → i < limit v stop fs d → f .row ≡ i

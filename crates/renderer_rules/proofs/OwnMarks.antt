@@ -11,57 +11,34 @@ use lib.ListN.{length, getD, set, length-set, List·getD-eq-default}
 use lib.Seq.{getD-set-same, getD-set-other}
 use lib.Dec.{ltb, eqb}
 use borrow.Author.Tests.{eqb-true, eqb-false}
-use Rattle.rows.specs.Node.{Text, Node, Nodes, group, indent, indentNext, wrapParent, comment, str, ascii, line, emptyLine, lineOrSpace, ifWrap, call}
+use Rattle.rows.specs.Node.{Text, Node, Nodes, group, indent, indentNext, wrapParent, comment as commentNode, str, ascii, line, emptyLine, lineOrSpace, ifWrap, call}
 use Rattle.rows.specs.Node.{none, _then_, wrapped, width, widths, mustWraps}
-use Rattle.renderer_rules.specs.Renderer.{Page, Renderer, push, atColumn, newLine, margin, remark, text, virtualColumn, insert, indented, outdented}
-use Rattle.renderer_rules.specs.Renderer.{nextIndented, nextOutdented, wraps, groupWraps, trailing, calleeWraps, render, renders}
+use Rattle.renderer_rules.specs.declared.Pen.{Pen}
+use Rattle.renderer_rules.specs.Renderer.{Page, Renderer, withMarks, onPen, pushStr, atColumn, newLine, margin, comment, text, virtualColumn, insert, indented, outdented}
+use Rattle.renderer_rules.specs.Renderer.{nextIndented, nextOutdented, wraps, groupWraps, trailingCall, calleeWraps, renderNode, renderNodes}
 use Rattle.renderer_rules.proofs.Names.{names, namesIn, neither}
 
--- s with other marks
-abbrev pub marked : List ℕ → Renderer → Renderer
-marked m s = record { buf = s .buf; indent = s .indent; nextIndent = s .nextIndent; column = s .column; marks = m }
-
 -- what keeps the marks does the same over other marks
-cond-marked : (c : Bool) (m : List ℕ) (s t : Renderer) → cond c (marked m s) (marked m t) ≡ marked m (cond c s t)
+cond-marked : (c : Bool) (m : List ℕ) (s t : Renderer) → cond c (withMarks m s) (withMarks m t) ≡ withMarks m (cond c s t)
 cond-marked true m s t = refl
 cond-marked false m s t = refl
 
-text-marked : (t : List ℕ) (w : ℕ) (m : List ℕ) (s : Renderer) → text t w (marked m s) ≡ marked m (text t w s)
-unfolding text push atColumn margin
-text-marked t w m s = ap (λ (x : Renderer). atColumn (x .column + w) (push t x)) (cond-marked (ltb 0 (s .column)) m s (margin s))
+text-marked : (t : List ℕ) (w : ℕ) (m : List ℕ) (s : Renderer) → text t w (withMarks m s) ≡ withMarks m (text t w s)
+unfolding text pushStr atColumn margin
+text-marked t w m s = ap (λ (x : Renderer). atColumn (x .pen .column .0 + w) (pushStr t x)) (cond-marked (ltb 0 (s .pen .column .0)) m s (margin s))
 
-remark-marked : (t : List ℕ) (m : List ℕ) (s : Renderer) → remark t (marked m s) ≡ marked m (remark t s)
-unfolding remark push atColumn margin
-remark-marked t m s =
-    ap (λ (x : Renderer). atColumn 0 (push (t ++ (0x0A ∷ [])) x)) (cond-marked (ltb 0 (s .column)) m (push (0x20 ∷ []) s) (margin s))
+comment-marked : (t : List ℕ) (m : List ℕ) (s : Renderer) → comment t (withMarks m s) ≡ withMarks m (comment t s)
+unfolding comment pushStr atColumn margin
+comment-marked t m s =
+    ap (λ (x : Renderer). atColumn 0 (pushStr (t ++ (0x0A ∷ [])) x)) (cond-marked (ltb 0 (s .pen .column .0)) m (pushStr (0x20 ∷ []) s) (margin s))
 
-line-marked : (m : List ℕ) (s : Renderer) → newLine (marked m s) ≡ marked m (newLine s)
+line-marked : (m : List ℕ) (s : Renderer) → newLine (withMarks m s) ≡ withMarks m (newLine s)
 unfolding newLine
 line-marked m s = refl
 
-empty-marked : (m : List ℕ) (s : Renderer) → newLine (push (0x0A ∷ []) (marked m s)) ≡ marked m (newLine (push (0x0A ∷ []) s))
-unfolding newLine push
+empty-marked : (m : List ℕ) (s : Renderer) → newLine (pushStr (0x0A ∷ []) (withMarks m s)) ≡ withMarks m (newLine (pushStr (0x0A ∷ []) s))
+unfolding newLine pushStr
 empty-marked m s = refl
-
-in-marked : (w : Bool) (m : List ℕ) (s : Renderer) → indented w (marked m s) ≡ marked m (indented w s)
-unfolding indented
-in-marked w m s = refl
-
-out-marked : (w : Bool) (m : List ℕ) (s : Renderer) → outdented w (marked m s) ≡ marked m (outdented w s)
-unfolding outdented
-out-marked w m s = refl
-
-next-marked : (w : Bool) (m : List ℕ) (s : Renderer) → nextIndented w (marked m s) ≡ marked m (nextIndented w s)
-unfolding nextIndented
-next-marked w m s = refl
-
-back-marked : (w : Bool) (m : List ℕ) (s : Renderer) → nextOutdented w (marked m s) ≡ marked m (nextOutdented w s)
-unfolding nextOutdented outdented
-back-marked false m s = refl
-back-marked true m s =
-    cond-marked (ltb 0 (s .nextIndent)) m
-    (record { buf = s .buf; indent = s .indent; nextIndent = s .nextIndent - 1; column = s .column; marks = s .marks })
-    (outdented true s)
 
 module _ (q : ℕ → Bool) where
   -- as many marks, and the same at the numbers q
@@ -71,7 +48,7 @@ module _ (q : ℕ → Bool) where
 
   -- t is s but for marks at numbers that are not q
   pub record Alike (s t : Renderer) : Type 0 where
-    pub rest : t ≡ marked (t .marks) s
+    pub rest : t ≡ withMarks (t .marks) s
     pub marks : Agree (s .marks) (t .marks)
 
   -- all numbers of nodes are q
@@ -82,15 +59,19 @@ module _ (q : ℕ → Bool) where
   Within n = (x : ℕ) → q x ≡ false → names x n ≡ false
 
   -- what keeps the marks keeps renderers alike
-  keeps : (f : Renderer → Renderer) → ((m : List ℕ) (s : Renderer) → f (marked m s) ≡ marked m (f s)) → (s t : Renderer) → Alike s t → Alike (f s) (f t)
+  keeps : (f : Renderer → Renderer) → ((m : List ℕ) (s : Renderer) → f (withMarks m s) ≡ withMarks m (f s)) → (s t : Renderer) → Alike s t → Alike (f s) (f t)
   keeps f k s t a =
-      let e : f t ≡ marked (t .marks) (f s) = ap f (a .rest) ∙ k (t .marks) s in
+      let e : f t ≡ withMarks (t .marks) (f s) = ap f (a .rest) ∙ k (t .marks) s in
       let l : t .marks ≡ f t .marks = sym (ap (λ (r : Renderer). r .marks) e) in
       let h : s .marks ≡ f s .marks = sym (ap (λ (r : Renderer). r .marks) (k (s .marks) s)) in
       record {
-        rest = e ∙ ap (λ (m : List ℕ). marked m (f s)) l;
+        rest = e ∙ ap (λ (m : List ℕ). withMarks m (f s)) l;
         marks = subst₂ (λ (m n : List ℕ). Agree m n) h l (a .marks);
       }
+
+  -- and so does what changes the pen
+  keeps-pen : (f : Pen → Pen) (s t : Renderer) → Alike s t → Alike (onPen f s) (onPen f t)
+  keeps-pen f s t a = keeps (onPen f) (λ m r. refl) s t a
 
   set-agree : (n : ℕ) (m o : List ℕ) → Agree m o → Agree (set m n 1) (set o n 1)
   set-agree n m o a = record { size = length-set o n 1 ∙ a .size ∙ sym (length-set m n 1); at = λ x h. go x h (eqb x n) refl (decLt n (length m)) }
@@ -109,8 +90,8 @@ module _ (q : ℕ → Bool) where
   insert-alike : (w : Bool) (n : ℕ) (s t : Renderer) → Alike s t → Alike (insert w n s) (insert w n t)
   unfolding insert
   insert-alike true n s t a =
-      record { rest = ap (λ (r : Renderer). marked (set (t .marks) n 1) r) (a .rest); marks = set-agree n (s .marks) (t .marks) (a .marks) }
-  insert-alike false n s t a = record { rest = ap (λ (r : Renderer). marked (t .marks) r) (a .rest); marks = a .marks }
+      record { rest = ap (λ (r : Renderer). withMarks (set (t .marks) n 1) r) (a .rest); marks = set-agree n (s .marks) (t .marks) (a .marks) }
+  insert-alike false n s t a = record { rest = ap (λ (r : Renderer). withMarks (t .marks) r) (a .rest); marks = a .marks }
 
   cond-alike : (c : Bool) (s t u v : Renderer) → Alike s u → Alike t v → Alike (cond c s t) (cond c u v)
   cond-alike true s t u v a b = a
@@ -133,7 +114,7 @@ module _ (q : ℕ → Bool) where
       width-same (indent ns) i = widths-same ns i
       width-same (indentNext ns) i = widths-same ns i
       width-same wrapParent i = refl
-      width-same (comment t) i = refl
+      width-same (commentNode t) i = refl
       width-same (str w t) i = refl
       width-same (ascii t) i = refl
       width-same line i = refl
@@ -158,9 +139,9 @@ module _ (q : ℕ → Bool) where
 
   module _ (p : Page) where
     -- what is decided is the same
-    virtual-same : (s t : Renderer) → Alike s t → virtualColumn t ≡ virtualColumn s
+    virtual-same : (s t : Renderer) → Alike s t → virtualColumn (t .pen) ≡ virtualColumn (s .pen)
     unfolding virtualColumn
-    virtual-same s t a = ap (λ (r : Renderer). virtualColumn r) (a .rest)
+    virtual-same s t a = ap (λ (r : Renderer). virtualColumn (r .pen)) (a .rest)
 
     wide-same : (ns : Nodes) (s t : Renderer) → Inside ns → Alike s t → widths (p .columns) (t .marks) ns ≡ widths (p .columns) (s .marks) ns
     wide-same ns s t i a = widths-same (p .columns) (s .marks) (t .marks) (a .marks) ns i
@@ -173,8 +154,8 @@ module _ (q : ℕ → Bool) where
     unfolding groupWraps
     group-same ns s t i a = wraps-same (mustWraps ns) _ _ s t (wide-same ns s t i a) a
 
-    trailing-same : (e b : Nodes) (s t : Renderer) → Inside e → Inside b → Alike s t → trailing p e b t ≡ trailing p e b s
-    unfolding trailing
+    trailing-same : (e b : Nodes) (s t : Renderer) → Inside e → Inside b → Alike s t → trailingCall p e b t ≡ trailingCall p e b s
+    unfolding trailingCall
     trailing-same e b s t i j a =
         rw (virtual-same s t a, wide-same e s t i a, wide-same b s t j a)
 
@@ -185,55 +166,55 @@ module _ (q : ℕ → Bool) where
         (wraps-same false _ _ s t (ap₂ _+_ (wide-same e s t i a) (wide-same b s t j a)) a)
 
     abbrev Ih : Nodes → Type 0
-    Ih ns = (w : Bool) (s t : Renderer) → Alike s t → Alike (renders p ns w s) (renders p ns w t)
+    Ih ns = (w : Bool) (s t : Renderer) → Alike s t → Alike (renderNodes p ns w s) (renderNodes p ns w t)
 
     -- a group, and a `Call`'s callee, by what was decided
     grouped : ℕ → Nodes → Renderer → Renderer
-    grouped n ns s = renders p ns (groupWraps p ns s) (insert (groupWraps p ns s) n s)
+    grouped n ns s = renderNodes p ns (groupWraps p ns s) (insert (groupWraps p ns s) n s)
 
     grouped-alike : (n : ℕ) (ns : Nodes) (s t : Renderer) → Inside ns → Ih ns → Alike s t → Alike (grouped n ns s) (grouped n ns t)
     unfolding grouped
     grouped-alike n ns s t i ih a =
         let w = groupWraps p ns s in
-        subst (λ (c : Bool). Alike (renders p ns w (insert w n s)) (renders p ns c (insert c n t))) (sym (group-same ns s t i a))
+        subst (λ (c : Bool). Alike (renderNodes p ns w (insert w n s)) (renderNodes p ns c (insert c n t))) (sym (group-same ns s t i a))
         (ih w (insert w n s) (insert w n t) (insert-alike w n s t a))
 
     called : Bool → Bool → ℕ → Nodes → ℕ → Nodes → Renderer → Renderer
-    called c w n e k b s = nextOutdented (not c && w) (grouped k b (renders p e w (nextIndented (not c && w) (insert w n s))))
+    called c w n e k b s = onPen (nextOutdented (not c && w)) (grouped k b (renderNodes p e w (onPen (nextIndented (not c && w)) (insert w n s))))
 
     called-alike : (c w : Bool) (n : ℕ) (e : Nodes) (k : ℕ) (b : Nodes) (s t : Renderer) → Inside b → Ih e → Ih b → Alike s t
         → Alike (called c w n e k b s) (called c w n e k b t)
     unfolding called
     called-alike c w n e k b s t j ihe ihb a =
         let d = not c && w in
-        keeps (nextOutdented d) (back-marked d) _ _
+        keeps-pen (nextOutdented d) _ _
         (grouped-alike k b _ _ j ihb
-        (ihe w _ _ (keeps (nextIndented d) (next-marked d) _ _ (insert-alike w n s t a))))
+        (ihe w _ _ (keeps-pen (nextIndented d) _ _ (insert-alike w n s t a))))
 
     mutual
-      unfolding render names called grouped
+      unfolding renderNode names called grouped
 
-      render-alike : (n : Node) (w : Bool) (s t : Renderer) → Within n → Alike s t → Alike (render p n w s) (render p n w t)
+      render-alike : (n : Node) (w : Bool) (s t : Renderer) → Within n → Alike s t → Alike (renderNode p n w s) (renderNode p n w t)
       render-alike (group n ns) w s t i a =
           let j : Inside ns = λ x h. neither (eqb x n) (namesIn x ns) (i x h) .1 in
           grouped-alike n ns s t j (λ w′ s′ t′ a′. renders-alike ns w′ s′ t′ j a′) a
       render-alike (indent ns) w s t i a =
-          keeps (outdented w) (out-marked w) _ _ (renders-alike ns w _ _ i (keeps (indented w) (in-marked w) s t a))
+          keeps-pen (outdented w) _ _ (renders-alike ns w _ _ i (keeps-pen (indented w) s t a))
       render-alike (indentNext ns) w s t i a =
-          keeps (nextOutdented w) (back-marked w) _ _ (renders-alike ns w _ _ i (keeps (nextIndented w) (next-marked w) s t a))
+          keeps-pen (nextOutdented w) _ _ (renders-alike ns w _ _ i (keeps-pen (nextIndented w) s t a))
       render-alike wrapParent w s t i a = a
-      render-alike (comment x) w s t i a = keeps (remark (p .bytes x)) (remark-marked (p .bytes x)) s t a
+      render-alike (commentNode x) w s t i a = keeps (comment (p .bytes x)) (comment-marked (p .bytes x)) s t a
       render-alike (str k x) w s t i a = keeps (text (p .bytes x) k) (text-marked (p .bytes x) k) s t a
       render-alike (ascii x) w s t i a = keeps (text (p .bytes x) (p .columns x)) (text-marked (p .bytes x) (p .columns x)) s t a
       render-alike line w s t i a = cond-alike w (newLine s) s (newLine t) t (keeps newLine line-marked s t a) a
-      render-alike emptyLine w s t i a = keeps (λ (r : Renderer). newLine (push (0x0A ∷ []) r)) empty-marked s t a
+      render-alike emptyLine w s t i a = keeps (λ (r : Renderer). newLine (pushStr (0x0A ∷ []) r)) empty-marked s t a
       render-alike lineOrSpace w s t i a =
           cond-alike w (newLine s) _ (newLine t) _ (keeps newLine line-marked s t a) (keeps (text (0x20 ∷ []) 1) (text-marked (0x20 ∷ []) 1) s t a)
       render-alike (ifWrap n b c) w s t i a =
           let f : (x : ℕ) → q x ≡ false → (names x b ≡ false) × (names x c ≡ false) =
           λ x h. neither (names x b) (names x c) (neither (eqb x n) (names x b || names x c) (i x h) .1)
           in
-          subst (λ (z : Bool). Alike (cond (wrapped (s .marks) n) (render p b w s) (render p c w s)) (cond z (render p b w t) (render p c w t)))
+          subst (λ (z : Bool). Alike (cond (wrapped (s .marks) n) (renderNode p b w s) (renderNode p c w s)) (cond z (renderNode p b w t) (renderNode p c w t)))
           (sym (wrapped-same n (s .marks) (t .marks) (a .marks) (λ h. neither (eqb n n) (names n b || names n c) (i n h) .0)))
           (cond-alike (wrapped (s .marks) n) _ _ _ _ (render-alike b w s t (λ x h. f x h .0) a) (render-alike c w s t (λ x h. f x h .1) a))
       render-alike (call n e k b) w s t i a =
@@ -242,15 +223,15 @@ module _ (q : ℕ → Bool) where
           in
           let u : Inside e = λ x h. f x h .0 in
           let v : Inside b = λ x h. f x h .1 in
-          let c = trailing p e b s in
+          let c = trailingCall p e b s in
           let o = calleeWraps p c e b s in
-          let one : trailing p e b t ≡ c = trailing-same e b s t u v a in
-          let two : calleeWraps p (trailing p e b t) e b t ≡ o = ap (λ (z : Bool). calleeWraps p z e b t) one ∙ callee-same c e b s t u v a in
+          let one : trailingCall p e b t ≡ c = trailing-same e b s t u v a in
+          let two : calleeWraps p (trailingCall p e b t) e b t ≡ o = ap (λ (z : Bool). calleeWraps p z e b t) one ∙ callee-same c e b s t u v a in
           subst₂ (λ (y z : Bool). Alike (called c o n e k b s) (called y z n e k b t)) (sym one) (sym two)
           (called-alike c o n e k b s t v (λ w′ s′ t′ a′. renders-alike e w′ s′ t′ u a′) (λ w′ s′ t′ a′. renders-alike b w′ s′ t′ v a′) a)
 
-      pub renders-alike : (ns : Nodes) (w : Bool) (s t : Renderer) → Inside ns → Alike s t → Alike (renders p ns w s) (renders p ns w t)
+      pub renders-alike : (ns : Nodes) (w : Bool) (s t : Renderer) → Inside ns → Alike s t → Alike (renderNodes p ns w s) (renderNodes p ns w t)
       renders-alike none w s t i a = a
       renders-alike (n then ns) w s t i a =
           let f : (x : ℕ) → q x ≡ false → (names x n ≡ false) × (namesIn x ns ≡ false) = λ x h. neither (names x n) (namesIn x ns) (i x h) in
-          renders-alike ns w (render p n w s) (render p n w t) (λ x h. f x h .1) (render-alike n w s t (λ x h. f x h .0) a)
+          renders-alike ns w (renderNode p n w s) (renderNode p n w t) (λ x h. f x h .1) (render-alike n w s t (λ x h. f x h .0) a)

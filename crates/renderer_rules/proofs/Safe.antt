@@ -1,4 +1,4 @@
--- What keeps the machine's numbers in range: `indent` and `next_indent` together are what they were at first and the steps of the open rows,
+-- What keeps the machine's numbers in range: `indent` and `next_indent` together are what they were at firstPart and the steps of the open rows,
 -- so that each step back finds a step to take; the column and the bytes grow by less than 2 ^ 34 a row.
 -- Assumes nothing.
 use mathlib.Core.Path.{_≡_, refl, ap, ap₂, sym, _∙_, subst}
@@ -15,32 +15,33 @@ use Rattle.rows.proofs.Decode.{node-parent, node-comment, node-str, node-ascii,
 use Rattle.rows.proofs.Nested.{nests-le, nests-two, nests-kind, nests-deep}
 use Rattle.laws.proofs.Booleans.{both}
 use Rattle.renderer_rules.specs.declared.Frame.{Frame}
-use Rattle.renderer_rules.specs.Renderer.{Page, Renderer, push, atColumn, newLine, margin, remark, text, insert, indented, outdented, nextIndented}
-use Rattle.renderer_rules.specs.Renderer.{nextOutdented, groupWraps, trailing, calleeWraps, render}
+use Rattle.renderer_rules.specs.declared.Pen.{Pen}
+use Rattle.renderer_rules.specs.Renderer.{Page, Renderer, withBuf, withNextIndent, onPen, onNewLine, pushStr, atColumn, newLine, margin, comment, text, insert, indented, outdented, nextIndented}
+use Rattle.renderer_rules.specs.Renderer.{nextOutdented, groupWraps, trailingCall, calleeWraps, renderNode}
 use Rattle.renderer_rules.proofs.Margin.{render-kept}
 use Rattle.renderer_rules.specs.Frames.{frameAt, partEnd, limit, wrapAt, At}
-use Rattle.renderer_rules.specs.Machine.{Machine, frame, opened, closing, first, second, enterGroup, enterIndent, enterNext, enterLeaf, enterIf, enterCall, enter, leave, turnAt, turn}
-use Rattle.renderer_rules.specs.Safe.{bit, stepOf, insOf, steps, ins, Small, Safe}
+use Rattle.renderer_rules.specs.Machine.{Machine, opened, reopened, closed, frame, closing, firstPart, secondPart, enterGroup, enterIndent, enterNext, enterLeaf, enterIf, enterCall, enter, leave, turnAt, turn}
+use Rattle.renderer_rules.specs.Safe.{oneIf, stepsBack, insOf, steps, ins, SmallTexts, Safe}
 use Rattle.renderer_rules.proofs.Meaning.{frame-other, frame-same}
 use Rattle.renderer_rules.proofs.Opened.{at-top-suc}
 use Rattle.renderer_rules.proofs.Machine.{Fine, isDone, not-done, in-part}
 
-pub bit-le : (b : Bool) → bit b ≤ 1
+pub bit-le : (b : Bool) → oneIf b ≤ 1
 bit-le true = omega arith
 bit-le false = omega arith
 
-step-le : (v : View) (f : Frame) → stepOf v f ≤ 1
-unfolding stepOf
+step-le : (v : View) (f : Frame) → stepsBack v f ≤ 1
+unfolding stepsBack
 step-le v f =
     bit-le ((eqb (v .kind (f .row)) 1 && f .wrap) || ((eqb (v .kind (f .row)) 2 && f .wrap) || (eqb (v .kind (f .row)) 11 && f .deep)))
 
-or-ge : (a b : Bool) → bit a ≤ bit (a || b)
+or-ge : (a b : Bool) → oneIf a ≤ oneIf (a || b)
 or-ge true b = omega arith
 or-ge false true = omega arith
 or-ge false false = omega arith
 
-in-le : (v : View) (f : Frame) → insOf v f ≤ stepOf v f
-unfolding insOf stepOf
+in-le : (v : View) (f : Frame) → insOf v f ≤ stepsBack v f
+unfolding insOf stepsBack
 in-le v f = or-ge (eqb (v .kind (f .row)) 1 && f .wrap) ((eqb (v .kind (f .row)) 2 && f .wrap) || (eqb (v .kind (f .row)) 11 && f .deep))
 
 pub steps-le : (v : View) (fs : List Frame) (d : ℕ) → steps v fs d ≤ d
@@ -71,79 +72,79 @@ closing-plain v pg f s (suc (suc (suc (suc (suc (suc (suc (suc (suc (suc zero)))
 closing-plain v pg f s (suc (suc (suc (suc (suc (suc (suc (suc (suc (suc (suc zero))))))))))) e a b c = absurd (c refl)
 closing-plain v pg f s (suc (suc (suc (suc (suc (suc (suc (suc (suc (suc (suc (suc k)))))))))))) e a b c = rw e
 
-pub closing-indent : (v : View) (pg : Page) (f : Frame) (s : Renderer) → v .kind (f .row) ≡ 1 → closing v pg f s ≡ outdented (f .wrap) s
+pub closing-indent : (v : View) (pg : Page) (f : Frame) (s : Renderer) → v .kind (f .row) ≡ 1 → closing v pg f s ≡ onPen (outdented (f .wrap)) s
 unfolding closing
 closing-indent v pg f s k = rw k
 
-pub closing-next : (v : View) (pg : Page) (f : Frame) (s : Renderer) → v .kind (f .row) ≡ 2 → closing v pg f s ≡ nextOutdented (f .wrap) s
+pub closing-next : (v : View) (pg : Page) (f : Frame) (s : Renderer) → v .kind (f .row) ≡ 2 → closing v pg f s ≡ onPen (nextOutdented (f .wrap)) s
 unfolding closing
 closing-next v pg f s k = rw k
 
-pub closing-call : (v : View) (pg : Page) (f : Frame) (s : Renderer) → v .kind (f .row) ≡ 11 → f .early ≡ false → closing v pg f s ≡ nextOutdented (f .deep) s
+pub closing-call : (v : View) (pg : Page) (f : Frame) (s : Renderer) → v .kind (f .row) ≡ 11 → f .early ≡ false → closing v pg f s ≡ onPen (nextOutdented (f .deep)) s
 unfolding closing
 closing-call v pg f s k e = rw (k, e)
 
-plain-step : (v : View) (f : Frame) → (v .kind (f .row) ≡ 1 → ⊥) → (v .kind (f .row) ≡ 2 → ⊥) → (v .kind (f .row) ≡ 11 → ⊥) → stepOf v f ≡ 0
-unfolding stepOf
+plain-step : (v : View) (f : Frame) → (v .kind (f .row) ≡ 1 → ⊥) → (v .kind (f .row) ≡ 2 → ⊥) → (v .kind (f .row) ≡ 11 → ⊥) → stepsBack v f ≡ 0
+unfolding stepsBack
 plain-step v f a b c = rw (ne-eqb (v .kind (f .row)) 1 a, ne-eqb (v .kind (f .row)) 2 b, ne-eqb (v .kind (f .row)) 11 c)
 
-pub indent-steps : (v : View) (f : Frame) (b : Bool) → v .kind (f .row) ≡ 1 → f .wrap ≡ b → (stepOf v f ≡ bit b) × (insOf v f ≡ bit b)
-unfolding stepOf insOf
+pub indent-steps : (v : View) (f : Frame) (b : Bool) → v .kind (f .row) ≡ 1 → f .wrap ≡ b → (stepsBack v f ≡ oneIf b) × (insOf v f ≡ oneIf b)
+unfolding stepsBack insOf
 indent-steps v f true k e = (rw (k, e), rw (k, e))
 indent-steps v f false k e = (rw (k, e), rw (k, e))
 
-pub next-steps : (v : View) (f : Frame) (b : Bool) → v .kind (f .row) ≡ 2 → f .wrap ≡ b → (stepOf v f ≡ bit b) × (insOf v f ≡ 0)
-unfolding stepOf insOf
+pub next-steps : (v : View) (f : Frame) (b : Bool) → v .kind (f .row) ≡ 2 → f .wrap ≡ b → (stepsBack v f ≡ oneIf b) × (insOf v f ≡ 0)
+unfolding stepsBack insOf
 next-steps v f true k e = (rw (k, e), rw k)
 next-steps v f false k e = (rw (k, e), rw k)
 
-pub call-steps : (v : View) (f : Frame) (b : Bool) → v .kind (f .row) ≡ 11 → f .deep ≡ b → (stepOf v f ≡ bit b) × (insOf v f ≡ 0)
-unfolding stepOf insOf
+pub call-steps : (v : View) (f : Frame) (b : Bool) → v .kind (f .row) ≡ 11 → f .deep ≡ b → (stepsBack v f ≡ oneIf b) × (insOf v f ≡ 0)
+unfolding stepsBack insOf
 call-steps v f true k e = (rw (k, e), rw k)
 call-steps v f false k e = (rw (k, e), rw k)
 
 -- how far the column and the bytes grow
 pub record Grows (k : ℕ) (s t : Renderer) : Type 0 where
-  pub column : t .column ≤ s .column + 4 * s .indent + k
-  pub bytes : length (t .buf) ≤ length (s .buf) + 4 * s .indent + k
+  pub column : t .pen .column .0 ≤ s .pen .column .0 + 4 * s .pen .indent + k
+  pub bytes : length (t .buf) ≤ length (s .buf) + 4 * s .pen .indent + k
 
 grows-more : (k l : ℕ) (s t : Renderer) → k ≤ l → Grows k s t → Grows l s t
 grows-more k l s t h g = let a = g .column in let b = g .bytes in record { column = omega arith; bytes = omega arith }
 
 text-grows : (x : List ℕ) (w : ℕ) (s : Renderer) → Grows (length x + w) s (text x w s)
-unfolding text push atColumn margin
-text-grows x w s = go (ltb 0 (s .column))
+unfolding text pushStr atColumn margin
+text-grows x w s = go (ltb 0 (s .pen .column .0))
   where
     line : Bool → Renderer
-    line b = cond b s (atColumn (4 * s .indent) (push (replicate (4 * s .indent) 0x20) s))
+    line b = cond b s (atColumn (4 * s .pen .indent) (pushStr (replicate (4 * s .pen .indent) 0x20) s))
 
-    go : (b : Bool) → Grows (length x + w) s (atColumn (line b .column + w) (push x (line b)))
+    go : (b : Bool) → Grows (length x + w) s (atColumn (line b .pen .column .0 + w) (pushStr x (line b)))
     go true = record { column = omega arith; bytes = simp length-append (omega arith) }
     go false = record { column = omega arith; bytes = simp (length-append, length-replicate) (omega arith) }
 
-remark-grows : (x : List ℕ) (s : Renderer) → Grows (length x + 2) s (remark x s)
-unfolding remark push atColumn margin
-remark-grows x s = go (ltb 0 (s .column))
+comment-grows : (x : List ℕ) (s : Renderer) → Grows (length x + 2) s (comment x s)
+unfolding comment pushStr atColumn margin
+comment-grows x s = go (ltb 0 (s .pen .column .0))
   where
     line : Bool → Renderer
-    line b = cond b (push (0x20 ∷ []) s) (atColumn (4 * s .indent) (push (replicate (4 * s .indent) 0x20) s))
+    line b = cond b (pushStr (0x20 ∷ []) s) (atColumn (4 * s .pen .indent) (pushStr (replicate (4 * s .pen .indent) 0x20) s))
 
-    go : (b : Bool) → Grows (length x + 2) s (atColumn 0 (push (x ++ (0x0A ∷ [])) (line b)))
+    go : (b : Bool) → Grows (length x + 2) s (atColumn 0 (pushStr (x ++ (0x0A ∷ [])) (line b)))
     go true = record { column = omega arith; bytes = simp length-append (omega arith) }
     go false = record { column = omega arith; bytes = simp (length-append, length-replicate) (omega arith) }
 
 line-grows : (s : Renderer) → Grows 1 s (newLine s)
 unfolding newLine
-line-grows s = go (ltb 0 (s .column))
+line-grows s = go (ltb 0 (s .pen .column .0))
   where
-    go : (b : Bool) → Grows 1 s (record { buf = s .buf ++ cond b (0x0A ∷ []) []; indent = s .indent + s .nextIndent; nextIndent = 0; column = 0; marks = s .marks })
+    go : (b : Bool) → Grows 1 s (onPen onNewLine (withBuf (s .buf ++ cond b (0x0A ∷ []) []) s))
     go true = record { column = omega arith; bytes = simp length-append (omega arith) }
     go false = record { column = omega arith; bytes = simp length-append (omega arith) }
 
-empty-grows : (s : Renderer) → Grows 2 s (newLine (push (0x0A ∷ []) s))
-unfolding push
+empty-grows : (s : Renderer) → Grows 2 s (newLine (pushStr (0x0A ∷ []) s))
+unfolding pushStr
 empty-grows s =
-    let g = line-grows (push (0x0A ∷ []) s) in
+    let g = line-grows (pushStr (0x0A ∷ []) s) in
     let b = g .bytes in
     let c = g .column in
     let l = length-append (s .buf) (0x0A ∷ []) in
@@ -156,9 +157,9 @@ cond-grows : (k : ℕ) (b : Bool) (s t u : Renderer) → Grows k s t → Grows k
 cond-grows k true s t u p q = p
 cond-grows k false s t u p q = q
 
-leaf-grows : (v : View) (pg : Page) (i : ℕ) (w : Bool) (s : Renderer) (k : ℕ) → Small v pg → v .kind i ≡ k → 3 ≤ k → k ≤ 9
-    → Grows 8589934592 s (render pg (nodeAt v i) w s)
-unfolding render
+leaf-grows : (v : View) (pg : Page) (i : ℕ) (w : Bool) (s : Renderer) (k : ℕ) → SmallTexts v pg → v .kind i ≡ k → 3 ≤ k → k ≤ 9
+    → Grows 8589934592 s (renderNode pg (nodeAt v i) w s)
+unfolding renderNode
 leaf-grows v pg i w s zero m e a b = absurd (omega arith)
 leaf-grows v pg i w s (suc zero) m e a b = absurd (omega arith)
 leaf-grows v pg i w s (suc (suc zero)) m e a b = absurd (omega arith)
@@ -166,7 +167,7 @@ leaf-grows v pg i w s (suc (suc (suc zero))) m e a b = rw (node-parent v i e) (g
 leaf-grows v pg i w s (suc (suc (suc (suc zero)))) m e a b =
     let h = m .bytes i in
     rw (node-comment v i e)
-    (grows-more (length (pg .bytes (v .text i)) + 2) 8589934592 s (remark (pg .bytes (v .text i)) s) (omega arith) (remark-grows (pg .bytes (v .text i)) s))
+    (grows-more (length (pg .bytes (v .text i)) + 2) 8589934592 s (comment (pg .bytes (v .text i)) s) (omega arith) (comment-grows (pg .bytes (v .text i)) s))
 leaf-grows v pg i w s (suc (suc (suc (suc (suc zero))))) m e a b =
     let h = m .bytes i in
     let g = m .width i in
@@ -191,7 +192,7 @@ leaf-grows v pg i w s (suc (suc (suc (suc (suc (suc (suc zero))))))) m e a b =
     (grows-more 1 8589934592 s (newLine s) (omega arith) (line-grows s))
     (grows-more 0 8589934592 s s (omega arith) (still-grows s)))
 leaf-grows v pg i w s (suc (suc (suc (suc (suc (suc (suc (suc zero)))))))) m e a b =
-    rw (node-empty v i e) (grows-more 2 8589934592 s (newLine (push (0x0A ∷ []) s)) (omega arith) (empty-grows s))
+    rw (node-empty v i e) (grows-more 2 8589934592 s (newLine (pushStr (0x0A ∷ []) s)) (omega arith) (empty-grows s))
 leaf-grows v pg i w s (suc (suc (suc (suc (suc (suc (suc (suc (suc zero))))))))) m e a b =
     rw (node-space v i e)
     (cond-grows 8589934592 w s
@@ -205,22 +206,22 @@ module _ (v : View) (pg : Page) (stop : ℕ) where
   steps-set : (fs : List Frame) (k d : ℕ) (f : Frame) → d ≤ k → steps v (set fs k f) d ≡ steps v fs d
   unfolding steps
   steps-set fs k zero f h = refl
-  steps-set fs k (suc d) f h = ap₂ _+_ (ap (stepOf v) (frame-other v pg stop fs k d f h)) (steps-set fs k d f (omega arith))
+  steps-set fs k (suc d) f h = ap₂ _+_ (ap (stepsBack v) (frame-other v pg stop fs k d f h)) (steps-set fs k d f (omega arith))
 
   ins-set : (fs : List Frame) (k d : ℕ) (f : Frame) → d ≤ k → ins v (set fs k f) d ≡ ins v fs d
   unfolding ins
   ins-set fs k zero f h = refl
   ins-set fs k (suc d) f h = ap₂ _+_ (ap (insOf v) (frame-other v pg stop fs k d f h)) (ins-set fs k d f (omega arith))
 
-  steps-top : (fs : List Frame) (d : ℕ) (f : Frame) → d < length fs → steps v (set fs d f) (suc d) ≡ stepOf v f + steps v fs d
+  steps-top : (fs : List Frame) (d : ℕ) (f : Frame) → d < length fs → steps v (set fs d f) (suc d) ≡ stepsBack v f + steps v fs d
   unfolding steps
-  steps-top fs d f h = ap₂ (λ (x : Frame) (n : ℕ). stepOf v x + n) (frame-same v pg stop fs d f h) (steps-set fs d d f (omega arith))
+  steps-top fs d f h = ap₂ (λ (x : Frame) (n : ℕ). stepsBack v x + n) (frame-same v pg stop fs d f h) (steps-set fs d d f (omega arith))
 
   ins-top : (fs : List Frame) (d : ℕ) (f : Frame) → d < length fs → ins v (set fs d f) (suc d) ≡ insOf v f + ins v fs d
   unfolding ins
   ins-top fs d f h = ap₂ (λ (x : Frame) (n : ℕ). insOf v x + n) (frame-same v pg stop fs d f h) (ins-set fs d d f (omega arith))
 
-  steps-suc : (fs : List Frame) (d : ℕ) → steps v fs (suc d) ≡ stepOf v (frameAt fs d) + steps v fs d
+  steps-suc : (fs : List Frame) (d : ℕ) → steps v fs (suc d) ≡ stepsBack v (frameAt fs d) + steps v fs d
   unfolding steps
   steps-suc fs d = refl
 
@@ -229,12 +230,12 @@ module _ (v : View) (pg : Page) (stop : ℕ) where
   ins-suc fs d = refl
 
   opened-safe : (base : ℕ) (m : Machine) (f : Frame) (k : ℕ) (t : Renderer) (x z : ℕ) → Safe v base m → m .depth < length (m .frames)
-      → stepOf v f ≡ x
+      → stepsBack v f ≡ x
       → insOf v f ≡ z
       → m .next ≤ k
-      → t .indent + t .nextIndent ≡ m .state .indent + m .state .nextIndent + x
-      → m .state .indent + z ≤ t .indent
-      → t .column ≡ m .state .column
+      → t .pen .indent + t .pen .«next_indent» ≡ m .state .pen .indent + m .state .pen .«next_indent» + x
+      → m .state .pen .indent + z ≤ t .pen .indent
+      → t .pen .column .0 ≡ m .state .pen .column .0
       → t .buf ≡ m .state .buf
       → Safe v base (opened m f k t)
   opened-safe base m f k t x z s h a b n c e p q =
@@ -252,30 +253,30 @@ module _ (v : View) (pg : Page) (stop : ℕ) where
     roomy = rw (a .size) (nests-deep (a .good) h)
 
     group-safe : v .kind (m .next) ≡ 0 → Safe v base (enterGroup v pg m)
-    unfolding enterGroup insert stepOf insOf
+    unfolding enterGroup insert stepsBack insOf
     group-safe k =
         opened-safe base m _ _ _ 0 0 s roomy (rw k) (rw k) (omega arith) (omega arith) (omega arith) refl refl
 
-    indent-step : (b : Bool) → v .kind (m .next) ≡ 1 → stepOf v (frame (m .next) b false false) ≡ bit b
-    unfolding stepOf
+    indent-step : (b : Bool) → v .kind (m .next) ≡ 1 → stepsBack v (frame (m .next) b false false) ≡ oneIf b
+    unfolding stepsBack
     indent-step true k = rw k
     indent-step false k = rw k
 
-    next-step : (b : Bool) → v .kind (m .next) ≡ 2 → stepOf v (frame (m .next) b false false) ≡ bit b
-    unfolding stepOf
+    next-step : (b : Bool) → v .kind (m .next) ≡ 2 → stepsBack v (frame (m .next) b false false) ≡ oneIf b
+    unfolding stepsBack
     next-step true k = rw k
     next-step false k = rw k
 
-    call-step : (w b : Bool) → v .kind (m .next) ≡ 11 → stepOf v (frame (m .next) w true b) ≡ bit b
-    unfolding stepOf
+    call-step : (w b : Bool) → v .kind (m .next) ≡ 11 → stepsBack v (frame (m .next) w true b) ≡ oneIf b
+    unfolding stepsBack
     call-step w true k = rw k
     call-step w false k = rw k
 
-    if-step : (w b : Bool) → v .kind (m .next) ≡ 10 → stepOf v (frame (m .next) w b false) ≡ 0
-    unfolding stepOf
+    if-step : (w b : Bool) → v .kind (m .next) ≡ 10 → stepsBack v (frame (m .next) w b false) ≡ 0
+    unfolding stepsBack
     if-step w b k = rw k
 
-    in-indent : (b : Bool) → v .kind (m .next) ≡ 1 → insOf v (frame (m .next) b false false) ≡ bit b
+    in-indent : (b : Bool) → v .kind (m .next) ≡ 1 → insOf v (frame (m .next) b false false) ≡ oneIf b
     unfolding insOf
     in-indent b k = rw k
 
@@ -283,31 +284,31 @@ module _ (v : View) (pg : Page) (stop : ℕ) where
     unfolding insOf
     no-ins f e k = rw (e, ne-eqb (v .kind (m .next)) 1 k)
 
-    indented-sum : (b : Bool) (t : Renderer) → indented b t .indent + indented b t .nextIndent ≡ t .indent + t .nextIndent + bit b
+    indented-sum : (b : Bool) (p : Pen) → indented b p .indent + indented b p .«next_indent» ≡ p .indent + p .«next_indent» + oneIf b
     unfolding indented
-    indented-sum true t = omega arith
-    indented-sum false t = omega arith
+    indented-sum true p = omega arith
+    indented-sum false p = omega arith
 
-    indented-low : (b : Bool) (t : Renderer) → t .indent + bit b ≤ indented b t .indent
+    indented-low : (b : Bool) (p : Pen) → p .indent + oneIf b ≤ indented b p .indent
     unfolding indented
-    indented-low true t = omega arith
-    indented-low false t = omega arith
+    indented-low true p = omega arith
+    indented-low false p = omega arith
 
-    next-sum : (b : Bool) (t : Renderer) → nextIndented b t .indent + nextIndented b t .nextIndent ≡ t .indent + t .nextIndent + bit b
+    next-sum : (b : Bool) (p : Pen) → nextIndented b p .indent + nextIndented b p .«next_indent» ≡ p .indent + p .«next_indent» + oneIf b
     unfolding nextIndented
-    next-sum true t = omega arith
-    next-sum false t = omega arith
+    next-sum true p = omega arith
+    next-sum false p = omega arith
 
     indent-safe : v .kind (m .next) ≡ 1 → Safe v base (enterIndent v pg m)
     unfolding enterIndent indented
     indent-safe k =
         let w = wrapAt (m .frames) (m .depth) in
-        opened-safe base m (frame (m .next) w false false) (suc (m .next)) (indented w (m .state)) (bit w) (bit w) s roomy
+        opened-safe base m (frame (m .next) w false false) (suc (m .next)) (onPen (indented w) (m .state)) (oneIf w) (oneIf w) s roomy
         (indent-step w k)
         (in-indent w k)
         (omega arith)
-        (indented-sum w (m .state))
-        (indented-low w (m .state))
+        (indented-sum w (m .state .pen))
+        (indented-low w (m .state .pen))
         refl
         refl
 
@@ -315,11 +316,11 @@ module _ (v : View) (pg : Page) (stop : ℕ) where
     unfolding enterNext nextIndented
     next-safe k =
         let w = wrapAt (m .frames) (m .depth) in
-        opened-safe base m (frame (m .next) w false false) (suc (m .next)) (nextIndented w (m .state)) (bit w) 0 s roomy
+        opened-safe base m (frame (m .next) w false false) (suc (m .next)) (onPen (nextIndented w) (m .state)) (oneIf w) 0 s roomy
         (next-step w k)
         (no-ins (frame (m .next) w false false) refl (λ e. omega arith))
         (omega arith)
-        (next-sum w (m .state))
+        (next-sum w (m .state .pen))
         (omega arith)
         refl
         refl
@@ -355,18 +356,18 @@ module _ (v : View) (pg : Page) (stop : ℕ) where
     call-safe : v .kind (m .next) ≡ 11 → Safe v base (enterCall v pg m)
     unfolding enterCall nextIndented insert
     call-safe k =
-        let t = trailing pg (first v (m .next)) (second v (m .next)) (m .state) in
-        let b = calleeWraps pg t (first v (m .next)) (second v (m .next)) (m .state) in
-        opened-safe base m (frame (m .next) b true (not t && b)) (suc (m .next)) (nextIndented (not t && b) (insert b (v .number (m .next)) (m .state))) (bit (not t && b)) 0 s roomy
+        let t = trailingCall pg (firstPart v (m .next)) (secondPart v (m .next)) (m .state) in
+        let b = calleeWraps pg t (firstPart v (m .next)) (secondPart v (m .next)) (m .state) in
+        opened-safe base m (frame (m .next) b true (not t && b)) (suc (m .next)) (onPen (nextIndented (not t && b)) (insert b (v .number (m .next)) (m .state))) (oneIf (not t && b)) 0 s roomy
         (call-step b (not t && b) k)
         (no-ins (frame (m .next) b true (not t && b)) refl (λ e. omega arith))
         (omega arith)
-        (next-sum (not t && b) (insert b (v .number (m .next)) (m .state)))
+        (next-sum (not t && b) (m .state .pen))
         (omega arith)
         refl
         refl
 
-    leaf-safe : Small v pg → base ≤ 128 → 3 ≤ v .kind (m .next) → v .kind (m .next) ≤ 9 → Safe v base (enterLeaf v pg m)
+    leaf-safe : SmallTexts v pg → base ≤ 128 → 3 ≤ v .kind (m .next) → v .kind (m .next) ≤ 9 → Safe v base (enterLeaf v pg m)
     unfolding enterLeaf
     leaf-safe z y k l =
         let w = wrapAt (m .frames) (m .depth) in
@@ -384,7 +385,7 @@ module _ (v : View) (pg : Page) (stop : ℕ) where
         let g2 = g .bytes in
         record { sum = omega arith; low = omega arith; column = omega arith; bytes = omega arith }
 
-    enter-safe : Small v pg → base ≤ 128 → (k : ℕ) → v .kind (m .next) ≡ k → Safe v base (enter v pg m)
+    enter-safe : SmallTexts v pg → base ≤ 128 → (k : ℕ) → v .kind (m .next) ≡ k → Safe v base (enter v pg m)
     unfolding enter
     enter-safe z y zero e = rw e (group-safe e)
     enter-safe z y (suc zero) e = rw e (indent-safe e)
@@ -402,81 +403,66 @@ module _ (v : View) (pg : Page) (stop : ℕ) where
         absurd (let x = nests-kind (a .good) h in omega arith)
 
   -- the state is closed: a step is taken back from `indent`, or from `next_indent` where that is over 0
-  outdented-safe : (base k n : ℕ) (fs : List Frame) (s : Renderer) (e : ℕ) (b : Bool)
-      → Safe v base (record { frames = fs; depth = suc k; next = n; state = s; entered = e })
-      → (n2 : ℕ)
-      → n ≤ n2
-      → (stepOf v (frameAt fs k) ≡ bit b) × (insOf v (frameAt fs k) ≡ bit b)
-      → Safe v base (record { frames = fs; depth = k; next = n2; state = outdented b s; entered = e })
+  outdented-safe : (base k : ℕ) (m : Machine) (b : Bool) → Safe v base (closed m (suc k) (m .next) (m .state)) → (n : ℕ) → m .next ≤ n
+      → (stepsBack v (frameAt (m .frames) k) ≡ oneIf b) × (insOf v (frameAt (m .frames) k) ≡ oneIf b)
+      → Safe v base (closed m k n (onPen (outdented b) (m .state)))
   unfolding outdented
-  outdented-safe base k n fs s e true g n2 h x =
+  outdented-safe base k m true g n h x =
       let a = x .0 in
       let b = x .1 in
-      let c = steps-suc fs k in
-      let d = ins-suc fs k in
+      let c = steps-suc (m .frames) k in
+      let d = ins-suc (m .frames) k in
       let g1 = g .sum in
       let g2 = g .low in
       let g3 = g .column in
       let g4 = g .bytes in
       record { sum = omega arith; low = omega arith; column = omega arith; bytes = omega arith }
-  outdented-safe base k n fs s e false g n2 h x =
+  outdented-safe base k m false g n h x =
       let a = x .0 in
       let b = x .1 in
-      let c = steps-suc fs k in
-      let d = ins-suc fs k in
+      let c = steps-suc (m .frames) k in
+      let d = ins-suc (m .frames) k in
       let g1 = g .sum in
       let g2 = g .low in
       let g3 = g .column in
       let g4 = g .bytes in
       record { sum = omega arith; low = omega arith; column = omega arith; bytes = omega arith }
 
-  nextOutdented-safe : (base k n : ℕ) (fs : List Frame) (s : Renderer) (e : ℕ) (b : Bool)
-      → Safe v base (record { frames = fs; depth = suc k; next = n; state = s; entered = e })
-      → (n2 : ℕ)
-      → n ≤ n2
-      → (stepOf v (frameAt fs k) ≡ bit b) × (insOf v (frameAt fs k) ≡ 0)
-      → Safe v base (record { frames = fs; depth = k; next = n2; state = nextOutdented b s; entered = e })
+  nextOutdented-safe : (base k : ℕ) (m : Machine) (b : Bool) → Safe v base (closed m (suc k) (m .next) (m .state)) → (n : ℕ) → m .next ≤ n
+      → (stepsBack v (frameAt (m .frames) k) ≡ oneIf b) × (insOf v (frameAt (m .frames) k) ≡ 0)
+      → Safe v base (closed m k n (onPen (nextOutdented b) (m .state)))
   unfolding nextOutdented outdented
-  nextOutdented-safe base k n fs s e true g n2 h x = go (ltb 0 (s .nextIndent)) refl
+  nextOutdented-safe base k m true g n h x = go (ltb 0 (m .state .pen .«next_indent»)) refl
     where
-      go : (b : Bool) → ltb 0 (s .nextIndent) ≡ b
+      go : (b : Bool) → ltb 0 (m .state .pen .«next_indent») ≡ b
           → Safe v base
-          (record {
-            frames = fs;
-            depth = k;
-            next = n2;
-            state =
-                cond b
-                (record { buf = s .buf; indent = s .indent; nextIndent = s .nextIndent - 1; column = s .column; marks = s .marks })
-                (outdented true s);
-            entered = e;
-          })
+          (closed m k n (onPen (λ (p : Pen). cond b (withNextIndent (p .«next_indent» - 1) p) (outdented true p)) (m .state)))
       go true q =
           let a = x .0 in
           let b = x .1 in
-          let c = steps-suc fs k in
-          let d = ins-suc fs k in
+          let c = steps-suc (m .frames) k in
+          let d = ins-suc (m .frames) k in
           let g1 = g .sum in
           let g2 = g .low in
           let g3 = g .column in
           let g4 = g .bytes in
-          let p = ltb-true 0 (s .nextIndent) q in
+          let p = ltb-true 0 (m .state .pen .«next_indent») q in
           record { sum = omega arith; low = omega arith; column = omega arith; bytes = omega arith }
       go false q =
           let a = x .0 in
           let b = x .1 in
-          let c = steps-suc fs k in
-          let l = ins-le v fs k in
+          let c = steps-suc (m .frames) k in
+          let l = ins-le v (m .frames) k in
           let g1 = g .sum in
           let g3 = g .column in
           let g4 = g .bytes in
-          let p = ltb-false 0 (s .nextIndent) q in
+          let p = ltb-false 0 (m .state .pen .«next_indent») q in
           record { sum = omega arith; low = omega arith; column = omega arith; bytes = omega arith }
-  nextOutdented-safe base k n fs s e false g n2 h x =
+  nextOutdented-safe base k m false g n h x =
       let a = x .0 in
       let b = x .1 in
-      let c = steps-suc fs k in
-      let d = ins-suc fs k in
+      let c = steps-suc (m .frames) k in
+      let d = ins-suc (m .frames) k in
       let g1 = g .sum in
       let g2 = g .low in
       let g3 = g .column in
@@ -484,7 +470,7 @@ module _ (v : View) (pg : Page) (stop : ℕ) where
       record { sum = omega arith; low = omega arith; column = omega arith; bytes = omega arith }
 
   module _ (base : ℕ) (m : Machine) (k : ℕ) (a : At v stop (m .frames) (suc k) (m .next)) (e : m .next ≡ partEnd v (frameAt (m .frames) k))
-      (s : Safe v base (record { frames = m .frames; depth = suc k; next = m .next; state = m .state; entered = m .entered }))
+      (s : Safe v base (closed m (suc k) (m .next) (m .state)))
     where
       f : Frame
       f = frameAt (m .frames) k
@@ -494,13 +480,7 @@ module _ (v : View) (pg : Page) (stop : ℕ) where
 
       off-plain : (n : ℕ) → v .kind (frameAt (m .frames) k .row) ≡ n → (n ≡ 1 → ⊥) → (n ≡ 2 → ⊥) → (n ≡ 11 → ⊥)
           → Safe v base
-          (record {
-            frames = m .frames;
-            depth = k;
-            next = v .after (frameAt (m .frames) k .row);
-            state = closing v pg (frameAt (m .frames) k) (m .state);
-            entered = m .entered;
-          })
+          (closed m k (v .after (frameAt (m .frames) k .row)) (closing v pg (frameAt (m .frames) k) (m .state)))
       off-plain n q x y z =
           rw (closing-plain v pg (frameAt (m .frames) k) (m .state) n q x y z)
           (let b = plain-step v (frameAt (m .frames) k) (λ p. x (sym q ∙ p)) (λ p. y (sym q ∙ p)) (λ p. z (sym q ∙ p)) in
@@ -516,48 +496,30 @@ module _ (v : View) (pg : Page) (stop : ℕ) where
 
       off-indent : v .kind (frameAt (m .frames) k .row) ≡ 1
           → Safe v base
-          (record {
-            frames = m .frames;
-            depth = k;
-            next = v .after (frameAt (m .frames) k .row);
-            state = closing v pg (frameAt (m .frames) k) (m .state);
-            entered = m .entered;
-          })
+          (closed m k (v .after (frameAt (m .frames) k .row)) (closing v pg (frameAt (m .frames) k) (m .state)))
       off-indent q =
           rw (closing-indent v pg (frameAt (m .frames) k) (m .state) q)
-          (outdented-safe base k (m .next) (m .frames) (m .state) (m .entered) (frameAt (m .frames) k .wrap) s
+          (outdented-safe base k m (frameAt (m .frames) k .wrap) s
           (v .after (frameAt (m .frames) k .row))
           later
           (indent-steps v (frameAt (m .frames) k) (frameAt (m .frames) k .wrap) q refl))
 
       off-next : v .kind (frameAt (m .frames) k .row) ≡ 2
           → Safe v base
-          (record {
-            frames = m .frames;
-            depth = k;
-            next = v .after (frameAt (m .frames) k .row);
-            state = closing v pg (frameAt (m .frames) k) (m .state);
-            entered = m .entered;
-          })
+          (closed m k (v .after (frameAt (m .frames) k .row)) (closing v pg (frameAt (m .frames) k) (m .state)))
       off-next q =
           rw (closing-next v pg (frameAt (m .frames) k) (m .state) q)
-          (nextOutdented-safe base k (m .next) (m .frames) (m .state) (m .entered) (frameAt (m .frames) k .wrap) s
+          (nextOutdented-safe base k m (frameAt (m .frames) k .wrap) s
           (v .after (frameAt (m .frames) k .row))
           later
           (next-steps v (frameAt (m .frames) k) (frameAt (m .frames) k .wrap) q refl))
 
       off-call : v .kind (frameAt (m .frames) k .row) ≡ 11 → frameAt (m .frames) k .early ≡ false
           → Safe v base
-          (record {
-            frames = m .frames;
-            depth = k;
-            next = v .after (frameAt (m .frames) k .row);
-            state = closing v pg (frameAt (m .frames) k) (m .state);
-            entered = m .entered;
-          })
+          (closed m k (v .after (frameAt (m .frames) k .row)) (closing v pg (frameAt (m .frames) k) (m .state)))
       off-call q y =
           rw (closing-call v pg (frameAt (m .frames) k) (m .state) q y)
-          (nextOutdented-safe base k (m .next) (m .frames) (m .state) (m .entered) (frameAt (m .frames) k .deep) s
+          (nextOutdented-safe base k m (frameAt (m .frames) k .deep) s
           (v .after (frameAt (m .frames) k .row))
           later
           (call-steps v (frameAt (m .frames) k) (frameAt (m .frames) k .deep) q refl))
@@ -566,13 +528,7 @@ module _ (v : View) (pg : Page) (stop : ℕ) where
           → eqb (v .kind (frameAt (m .frames) k .row)) 11 ≡ z
           → (z && frameAt (m .frames) k .early) ≡ false
           → Safe v base
-          (record {
-            frames = m .frames;
-            depth = k;
-            next = v .after (frameAt (m .frames) k .row);
-            state = closing v pg (frameAt (m .frames) k) (m .state);
-            entered = m .entered;
-          })
+          (closed m k (v .after (frameAt (m .frames) k .row)) (closing v pg (frameAt (m .frames) k) (m .state)))
       off-safe true y z p q r g = off-indent (eqb-true _ 1 p)
       off-safe false true z p q r g = off-next (eqb-true _ 2 q)
       off-safe false false true p q r g = off-call (eqb-true _ 11 r) g
@@ -582,13 +538,7 @@ module _ (v : View) (pg : Page) (stop : ℕ) where
       -- the arguments of a `Call` are opened: the same steps
       on-safe : (c : Bool) → v .kind (frameAt (m .frames) k .row) ≡ 11
           → Safe v base
-          (record {
-            frames = set (m .frames) k (frame (frameAt (m .frames) k .row) c false (frameAt (m .frames) k .deep));
-            depth = suc k;
-            next = m .next;
-            state = insert c (v .number2 (frameAt (m .frames) k .row)) (m .state);
-            entered = m .entered;
-          })
+          (reopened m k (frame (frameAt (m .frames) k .row) c false (frameAt (m .frames) k .deep)) (insert c (v .number2 (frameAt (m .frames) k .row)) (m .state)))
       unfolding insert
       on-safe c q =
           let deep = a .deep in
@@ -616,30 +566,16 @@ module _ (v : View) (pg : Page) (stop : ℕ) where
           c = groupWraps pg (nodesAt v (m .next) (v .after (frameAt (m .frames) k .row))) (m .state)
 
           on : Machine
-          on =
-              record {
-                frames = set (m .frames) k (frame (frameAt (m .frames) k .row) c false (frameAt (m .frames) k .deep));
-                depth = suc k;
-                next = m .next;
-                state = insert c (v .number2 (frameAt (m .frames) k .row)) (m .state);
-                entered = m .entered;
-              }
+          on = reopened m k (frame (frameAt (m .frames) k .row) c false (frameAt (m .frames) k .deep)) (insert c (v .number2 (frameAt (m .frames) k .row)) (m .state))
 
           off : Machine
-          off =
-              record {
-                frames = m .frames;
-                depth = k;
-                next = v .after (frameAt (m .frames) k .row);
-                state = closing v pg (frameAt (m .frames) k) (m .state);
-                entered = m .entered;
-              }
+          off = closed m k (v .after (frameAt (m .frames) k .row)) (closing v pg (frameAt (m .frames) k) (m .state))
 
           go : (b : Bool) → (eqb (v .kind (frameAt (m .frames) k .row)) 11 && frameAt (m .frames) k .early) ≡ b → Safe v base (cond b on off)
           go true q = on-safe c (eqb-true _ 11 (both (eqb (v .kind (frameAt (m .frames) k .row)) 11) (frameAt (m .frames) k .early) q .0))
           go false q = off-safe _ _ _ refl refl refl q
 
-  turn-safe-at : (base d : ℕ) (m : Machine) → m .depth ≡ d → Fine v pg stop m → isDone v pg stop m ≡ false → Small v pg → base ≤ 128 → Safe v base m
+  turn-safe-at : (base d : ℕ) (m : Machine) → m .depth ≡ d → Fine v pg stop m → isDone v pg stop m ≡ false → SmallTexts v pg → base ≤ 128 → Safe v base m
       → Safe v base (turnAt v pg d m)
   unfolding turnAt
   turn-safe-at base zero m e a n z y s = enter-safe base m a (not-done v pg stop m a n (omega arith)) s z y (v .kind (m .next)) refl
@@ -648,11 +584,11 @@ module _ (v : View) (pg : Page) (stop : ℕ) where
       go : (b : Bool) → eqb (m .next) (partEnd v (frameAt (m .frames) k)) ≡ b → Safe v base (cond b (leave v pg m k) (enter v pg m))
       go true q =
           leave-safe base m k (subst (λ (d : ℕ). At v stop (m .frames) d (m .next)) e a) (eqb-true (m .next) _ q)
-          (record { sum = subst (λ (d : ℕ). m .state .indent + m .state .nextIndent ≡ base + steps v (m .frames) d) e (s .sum); low = subst (λ (d : ℕ). ins v (m .frames) d ≤ m .state .indent) e (s .low); column = s .column; bytes = s .bytes })
+          (record { sum = subst (λ (d : ℕ). m .state .pen .indent + m .state .pen .«next_indent» ≡ base + steps v (m .frames) d) e (s .sum); low = subst (λ (d : ℕ). ins v (m .frames) d ≤ m .state .pen .indent) e (s .low); column = s .column; bytes = s .bytes })
       go false q = enter-safe base m a (in-part v pg stop m k e a (eqb-false (m .next) _ q)) s z y (v .kind (m .next)) refl
 
   -- a turn keeps the numbers in range
-  pub turn-safe : (base : ℕ) (m : Machine) → Fine v pg stop m → isDone v pg stop m ≡ false → Small v pg → base ≤ 128 → Safe v base m
+  pub turn-safe : (base : ℕ) (m : Machine) → Fine v pg stop m → isDone v pg stop m ≡ false → SmallTexts v pg → base ≤ 128 → Safe v base m
       → Safe v base (turn v pg m)
   unfolding turn
   turn-safe base m a n z y s = turn-safe-at base (m .depth) m refl a n z y s

@@ -56,16 +56,16 @@ partsFit v i kind =
 unfoldable pub rowFits : (ℕ → Bool) → View → ℕ → ℕ → ℕ → Bool
 rowFits places v end d i = (ltb d MAX-DEPTH && (ltb i (v .after i) && leb (v .after i) end)) && (partsFit v i (v .kind i) && places i)
 
-abbrev pub orElse : Option ℕ → Option ℕ → Option ℕ
-orElse none b = b
-orElse (some i) b = some i
+abbrev pub orLater : Option ℕ → Option ℕ → Option ℕ
+orLater none b = b
+orLater (some i) b = some i
 
 -- the first row from i up to `end` that is not right: row i, or one of its parts, or one after it; f rows at most (by `let`, so that nothing is
 -- computed where i is not before `end`)
 unfoldable pub firstWrong : ℕ → (ℕ → Bool) → View → ℕ → ℕ → ℕ → Option ℕ
 firstWrong zero places v end d i = none
 firstWrong (suc f) places v end d i =
-    let later : Option ℕ = orElse (firstWrong f places v (v .after i) (suc d) (suc i)) (firstWrong f places v end d (v .after i)) in
+    let later : Option ℕ = orLater (firstWrong f places v (v .after i) (suc d) (suc i)) (firstWrong f places v end d (v .after i)) in
     let found : Option ℕ = cond (rowFits places v end d i) later (some i) in
     cond (ltb i end) found none
 

@@ -8,7 +8,7 @@ use Rattle.rows.specs.Kinds.{CALL}
 use Rattle.rows.specs.Node.{Nodes, group, wrapped}
 use Rattle.rows.specs.View.{View, nodesAt, nodeAt}
 use Rattle.renderer_rules.specs.declared.Frame.{Frame}
-use Rattle.renderer_rules.specs.Renderer.{Page, Renderer, render, groupWraps, insert, indented, outdented, nextIndented, nextOutdented, trailing, calleeWraps}
+use Rattle.renderer_rules.specs.Renderer.{Page, Renderer, onPen, renderNode, groupWraps, insert, indented, outdented, nextIndented, nextOutdented, trailingCall, calleeWraps}
 use Rattle.renderer_rules.specs.Frames.{frameAt, partEnd, wrapAt}
 
 -- open rows, how many, the next row, the state, the rows entered
@@ -19,21 +19,35 @@ pub record Machine : Type 0 where
   pub state : Renderer
   pub entered : ℕ
 
+-- before the first turn: no row is open, and row `from` is next
+abbrev pub begun : List Frame → ℕ → Renderer → Machine
+begun fs from t = record { frames = fs; depth = 0; next = from; state = t; entered = 0 }
+
+-- How a turn goes on: one more row is open, with row k next; a row without parts is passed; frame k, the innermost, is f from here on; k rows
+-- stay open, with row n next. No rule and no proof writes a machine out but by these.
+abbrev pub opened : Machine → Frame → ℕ → Renderer → Machine
+opened m f k t = record { frames = set (m .frames) (m .depth) f; depth = suc (m .depth); next = k; state = t; entered = suc (m .entered) }
+
+abbrev pub passed : Machine → Renderer → Machine
+passed m t = record { frames = m .frames; depth = m .depth; next = suc (m .next); state = t; entered = suc (m .entered) }
+
+abbrev pub reopened : Machine → ℕ → Frame → Renderer → Machine
+reopened m k f t = record { frames = set (m .frames) k f; depth = suc k; next = m .next; state = t; entered = m .entered }
+
+abbrev pub closed : Machine → ℕ → ℕ → Renderer → Machine
+closed m k n t = record { frames = m .frames; depth = k; next = n; state = t; entered = m .entered }
+
 -- an open row by its four places
 abbrev pub frame : ℕ → Bool → Bool → Bool → Frame
 frame i w e p = record { row = i; wrap = w; early = e; deep = p }
-
--- one more row is open, with row k next
-abbrev pub opened : Machine → Frame → ℕ → Renderer → Machine
-opened m f k t = record { frames = set (m .frames) (m .depth) f; depth = suc (m .depth); next = k; state = t; entered = suc (m .entered) }
 
 -- what follows of f's row once the open part is rendered
 unfoldable pub closing : View → Page → Frame → Renderer → Renderer
 closing v pg f s =
     getD
     (s
-    ∷ outdented (f .wrap) s
-    ∷ nextOutdented (f .wrap) s
+    ∷ onPen (outdented (f .wrap)) s
+    ∷ onPen (nextOutdented (f .wrap)) s
     ∷ s
     ∷ s
     ∷ s
@@ -42,18 +56,18 @@ closing v pg f s =
     ∷ s
     ∷ s
     ∷ s
-    ∷ nextOutdented (f .deep)
-    (cond (f .early) (render pg (group (v .number2 (f .row)) (nodesAt v (v .second (f .row)) (v .after (f .row)))) true s) s)
+    ∷ onPen (nextOutdented (f .deep))
+    (cond (f .early) (renderNode pg (group (v .number2 (f .row)) (nodesAt v (v .second (f .row)) (v .after (f .row)))) true s) s)
     ∷ [])
     (v .kind (f .row))
     s
 
--- the first part of row k, and the second
-abbrev pub first : View → ℕ → Nodes
-first v k = nodesAt v (suc k) (v .second k)
+-- the firstPart part of row k, and the secondPart
+abbrev pub firstPart : View → ℕ → Nodes
+firstPart v k = nodesAt v (suc k) (v .second k)
 
-abbrev pub second : View → ℕ → Nodes
-second v k = nodesAt v (v .second k) (v .after k)
+abbrev pub secondPart : View → ℕ → Nodes
+secondPart v k = nodesAt v (v .second k) (v .after k)
 
 module _ (v : View) (pg : Page) where
   -- row `next` is entered, by its kind: the branches of `render_node`
@@ -63,13 +77,13 @@ module _ (v : View) (pg : Page) where
       opened m (frame (m .next) b false false) (suc (m .next)) (insert b (v .number (m .next)) (m .state))
 
   unfoldable pub enterIndent : Machine → Machine
-  enterIndent m = let w = wrapAt (m .frames) (m .depth) in opened m (frame (m .next) w false false) (suc (m .next)) (indented w (m .state))
+  enterIndent m = let w = wrapAt (m .frames) (m .depth) in opened m (frame (m .next) w false false) (suc (m .next)) (onPen (indented w) (m .state))
 
   unfoldable pub enterNext : Machine → Machine
-  enterNext m = let w = wrapAt (m .frames) (m .depth) in opened m (frame (m .next) w false false) (suc (m .next)) (nextIndented w (m .state))
+  enterNext m = let w = wrapAt (m .frames) (m .depth) in opened m (frame (m .next) w false false) (suc (m .next)) (onPen (nextIndented w) (m .state))
 
   unfoldable pub enterLeaf : Machine → Machine
-  enterLeaf m = record { frames = m .frames; depth = m .depth; next = suc (m .next); state = render pg (nodeAt v (m .next)) (wrapAt (m .frames) (m .depth)) (m .state); entered = suc (m .entered) }
+  enterLeaf m = passed m (renderNode pg (nodeAt v (m .next)) (wrapAt (m .frames) (m .depth)) (m .state))
 
   unfoldable pub enterIf : Machine → Machine
   enterIf m =
@@ -80,9 +94,9 @@ module _ (v : View) (pg : Page) where
 
   unfoldable pub enterCall : Machine → Machine
   enterCall m =
-      let t = trailing pg (first v (m .next)) (second v (m .next)) (m .state) in
-      let b = calleeWraps pg t (first v (m .next)) (second v (m .next)) (m .state) in
-      opened m (frame (m .next) b true (not t && b)) (suc (m .next)) (nextIndented (not t && b) (insert b (v .number (m .next)) (m .state)))
+      let t = trailingCall pg (firstPart v (m .next)) (secondPart v (m .next)) (m .state) in
+      let b = calleeWraps pg t (firstPart v (m .next)) (secondPart v (m .next)) (m .state) in
+      opened m (frame (m .next) b true (not t && b)) (suc (m .next)) (onPen (nextIndented (not t && b)) (insert b (v .number (m .next)) (m .state)))
 
   unfoldable pub enter : Machine → Machine
   enter m =
@@ -97,8 +111,8 @@ module _ (v : View) (pg : Page) where
       let f = frameAt (m .frames) k in
       let c = groupWraps pg (nodesAt v (m .next) (v .after (f .row))) (m .state) in
       cond (eqb (v .kind (f .row)) CALL && f .early)
-      (record { frames = set (m .frames) k (frame (f .row) c false (f .deep)); depth = suc k; next = m .next; state = insert c (v .number2 (f .row)) (m .state); entered = m .entered })
-      (record { frames = m .frames; depth = k; next = v .after (f .row); state = closing v pg f (m .state); entered = m .entered })
+      (reopened m k (frame (f .row) c false (f .deep)) (insert c (v .number2 (f .row)) (m .state)))
+      (closed m k (v .after (f .row)) (closing v pg f (m .state)))
 
   -- one turn, with k + 1 rows open and with none
   unfoldable pub turnAt : ℕ → Machine → Machine

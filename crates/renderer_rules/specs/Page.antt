@@ -1,4 +1,4 @@
--- What the port renders by: the texts that rows refer to.
+-- What the port renderNodes by: the texts that rows refer to.
 use Prim.Native.Nat.{ℕ}
 use mathlib.Core.List.{List}
 use lib.ListN.{take, drop}

@@ -6,8 +6,10 @@ use crate::states::render_state;
 use crate::states::same_layout;
 use crate::states::same_render;
 use layout_call::Laying;
+use layout_call::LayoutArgs;
 use layout_call::LayoutState;
 use layout_call::layout_call;
+use render_call::RenderArgs;
 use render_call::RenderState;
 use render_call::Rendering;
 use render_call::render_call;
@@ -140,9 +142,11 @@ fn lay(
 ) -> Run {
     let at = run.at;
     let state = run.layout;
-    let stop = long(d, past(at, STOP));
-    let close = long(d, past(at, ARGUMENT)) != 0;
-    let answer = layout_call(source, image, store, state, stop, close);
+    let args = LayoutArgs {
+        stop: long(d, past(at, STOP)),
+        close: long(d, past(at, ARGUMENT)) != 0,
+    };
+    let answer = layout_call(source, image, store, state, args);
     after_layout(d, counts, run, answer)
 }
 
@@ -198,8 +202,10 @@ fn render(
     run: Run,
 ) -> Run {
     let state = run.render;
-    let stop = long(d, past(run.at, STOP));
-    let answer = render_call(source, image, store, marks, out, state, stop);
+    let args = RenderArgs {
+        stop: long(d, past(run.at, STOP)),
+    };
+    let answer = render_call(source, image, store, marks, out, state, args);
     after_rendering(d, out, text, counts, run, answer)
 }
 

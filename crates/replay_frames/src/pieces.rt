@@ -5,8 +5,10 @@ use crate::stored::STOPS;
 use crate::stored::declarations;
 use crate::stored::output_found;
 use layout_call::Laying;
+use layout_call::LayoutArgs;
 use layout_call::LayoutState;
 use layout_call::layout_call;
+use render_call::RenderArgs;
 use render_call::RenderState;
 use render_call::Rendering;
 use render_call::render_call;
@@ -104,6 +106,14 @@ fn noted(l: Laid, more: Found) -> Laid {
     }
 }
 
+// The arguments of a layout call.
+fn to(stop: usize, close: bool) -> LayoutArgs {
+    LayoutArgs {
+        stop: stop,
+        close: close,
+    }
+}
+
 // The call to one stop, whose state is stored at `at`.
 fn to_stop(
     d: &[u8],
@@ -117,7 +127,7 @@ fn to_stop(
     let state = before.state;
     let l = answered(
         before,
-        layout_call(source, image, store, state, stop, false),
+        layout_call(source, image, store, state, to(stop, false)),
     );
     let s = l.state;
     let place = unless(is_at(s, stop, false), Found::State);
@@ -145,7 +155,10 @@ fn to_stops(d: &[u8], at: usize, source: &[u8], image: &[u8], store: &mut [u32])
 // The closing call.
 fn close(source: &[u8], image: &[u8], store: &mut [u32], stop: usize, before: Laid) -> Laid {
     let state = before.state;
-    let l = answered(before, layout_call(source, image, store, state, stop, true));
+    let l = answered(
+        before,
+        layout_call(source, image, store, state, to(stop, true)),
+    );
     let s = l.state;
     noted(l, unless(is_at(s, stop, true), Found::State))
 }
@@ -194,7 +207,8 @@ fn by_declarations(
 ) -> Found {
     let l = lay_out(d, at, source, image, store);
     let s = l.state;
-    let answer = render_call(source, image, store, marks, out, render_fresh(), s.row);
+    let to = RenderArgs { stop: s.row };
+    let answer = render_call(source, image, store, marks, out, render_fresh(), to);
     rendered_found(d, at, store, marks, out, l, answer)
 }
 
@@ -221,7 +235,7 @@ fn parts_found(
         return by_declarations(d, at, source, image, store, marks, out);
     }
     if number < 8 {
-        let answer = layout_call(source, image, store, layout_fresh(), 0, false);
+        let answer = layout_call(source, image, store, layout_fresh(), to(0, false));
         return refused_found(d, at, answer);
     }
     Found::Same

@@ -10,12 +10,12 @@ use lib.Seq.{sets, sets-eq}
 use Rattle.rows.specs.Ascii.{bytes}
 use Rattle.rows.specs.declared.units.Bytes.{Bytes}
 use Rattle.refusals.specs.Refusals.{Refusal, first, unless}
-use Rattle.cut_rule.specs.Run.{onto}
-use Rattle.plain_run.specs.File.{FileAnswer, refused, formatted, fileAnswerBy, drawnDue, fileRefusal, fileOutput}
-use Rattle.file.specs.Whole.{answerOf, sourceOf, imageOf, frameRefusal, frameAnswer, frameOutput, FormatsFrame}
+use Rattle.cut_rule.specs.Run.{writeFront}
+use Rattle.plain_run.specs.File.{refused, formatted, fileAnswerBy, drawnDue, fileRefusal, fileOutput}
+use Rattle.file.specs.Whole.{formattedAnswer, sourceOf, imageOf, frameRefusal, FormatsFrame}
 use Rattle.file.specs.declared.Formatted.{Formatted}
 use Rattle.file.specs.declared.Formatted.the-variants as answer
-use Rattle.reply.specs.Reply.{decimal, refusedLine, programRoom, programRefusal, replyBy, reply, Replies}
+use Rattle.reply.specs.Reply.{decimal, refusedLine, programRefusal, replyBy, reply, Replies}
 use Rattle.reply.proofs.Lines.{decimal-short}
 
 -- what an answer tells of the two refusals that could have been
@@ -72,19 +72,19 @@ module _ (frame out : List ℕ) (full : length out ≡ 65536) where
       → Replies frame out (n .0) out2
   unfolding reply
   replied-text a out2 n l k m f e =
-      let t = told-by x y (n .0) l k m _ _ _ (length text) (ap answerOf (sym e) ∙ f .answer) in
+      let t = told-by x y (n .0) l k m _ _ _ (length text) (ap formattedAnswer (sym e) ∙ f .answer) in
       let passes : programRefusal frame ≡ none = sym table-same ∙ t .passes in
       record {
         bytes-due = t .size ∙ sym (ap (λ (o : Option Refusal). length (replyBy o text)) passes);
         output-left =
             f .output-left
             ∙ ap (λ (o : Option Refusal). unless o out (fileOutput s b out)) (t .front)
-            ∙ ap (λ (o : Option Refusal). unless o out (onto text out)) (t .back)
-            ∙ sym (ap (λ (o : Option Refusal). onto (replyBy o text) out) passes);
+            ∙ ap (λ (o : Option Refusal). unless o out (writeFront text out)) (t .back)
+            ∙ sym (ap (λ (o : Option Refusal). writeFront (replyBy o text) out) passes);
       }
 
   -- a refusal leaves the output as it was
-  kept : (u v : Option Refusal) (r : Refusal) → first (u ∷ v ∷ []) ≡ some r → unless u out (unless v out (onto text out)) ≡ out
+  kept : (u v : Option Refusal) (r : Refusal) → first (u ∷ v ∷ []) ≡ some r → unless u out (unless v out (writeFront text out)) ≡ out
   kept (some q) v r e = refl
   kept none (some q) r e = refl
   kept none none r e = let z : _≡_ {A = ℕ} 0 1 = cc in absurd (omega arith)
@@ -95,12 +95,12 @@ module _ (frame out : List ℕ) (full : length out ≡ 65536) where
   unfolding reply
   replied-line a out1 out2 end n p f e w =
       let r : Refusal = record { number = n; place = p } in
-      let told : first (x ∷ y ∷ []) ≡ some r = refused-by x y r _ _ _ _ (ap answerOf (sym e) ∙ f .answer) in
+      let told : first (x ∷ y ∷ []) ≡ some r = refused-by x y r _ _ _ _ (ap formattedAnswer (sym e) ∙ f .answer) in
       let stops : programRefusal frame ≡ some r = sym table-same ∙ told in
       let same : out1 ≡ out = f .output-left ∙ kept x y r told in
       let short = line-short r in
       let from : 0 + length (refusedLine r) ≡ length (refusedLine r) = omega arith in
-      let put : sets out 0 (refusedLine r) ≡ onto (refusedLine r) out =
+      let put : sets out 0 (refusedLine r) ≡ writeFront (refusedLine r) out =
       sets-eq (refusedLine r) out 0 (omega arith) ∙ ap (λ (k : ℕ). refusedLine r ++ drop k out) from
       in
       record {
@@ -109,7 +109,7 @@ module _ (frame out : List ℕ) (full : length out ≡ 65536) where
             w .0
             ∙ ap (λ (l : List ℕ). sets l 0 (refusedLine r)) same
             ∙ put
-            ∙ sym (ap (λ (o : Option Refusal). onto (replyBy o text) out) stops);
+            ∙ sym (ap (λ (o : Option Refusal). writeFront (replyBy o text) out) stops);
       }
 
 -- the reply lies in the output

@@ -8,7 +8,7 @@ use lib.Dec.{ltb}
 use lib.ListN.{length}
 use Rattle.refusals.specs.Refusals.{Refusal, first}
 use Rattle.rows.specs.Ascii.{bytes}
-use Rattle.cut_rule.specs.Run.{onto}
+use Rattle.cut_rule.specs.Run.{writeFront}
 use Rattle.plain_run.specs.File.{drawnDue, fileRefusal}
 use Rattle.file.specs.Whole.{sourceOf, imageOf, frameRefusal}
 
@@ -51,4 +51,4 @@ reply frame = replyBy (programRefusal frame) (drawnDue (sourceOf frame) (imageOf
 -- n bytes are the reply, at the start of the output; behind them it is as it was
 pub record Replies (frame out : List ℕ) (n : ℕ) (out2 : List ℕ) : Type 0 where
   pub bytes-due : n ≡ length (reply frame)
-  pub output-left : out2 ≡ onto (reply frame) out
+  pub output-left : out2 ≡ writeFront (reply frame) out

@@ -12,19 +12,19 @@ use lib.Seq.{getD-set-same, getD-set-other}
 use lib.Dec.{ltb, eqb}
 use borrow.Author.Tests.{lt-ltb, le-ltb, le-leb, lt-leb, ltb-true, eqb-true, eqb-false}
 use Rattle.rows.specs.View.{View, viewOf, cell}
-use Rattle.refusals.specs.Refusals.{Refusal, whenFound}
-use Rattle.renderer_rules.specs.Check.{rowFits, orElse, firstWrong, wrongRow, placesFit, wrongPlace}
+use Rattle.refusals.specs.Refusals.{Refusal, refuseAt}
+use Rattle.renderer_rules.specs.Check.{rowFits, orLater, firstWrong, wrongRow, placesFit, wrongPlace}
 use Rattle.renderer_rules.proofs.Checked.{Fits, fits-row}
 
 module _ (places : ℕ → Bool) (v : View) where
   enough-step : (end d i : ℕ) (a b : Bool) (r r2 t t2 : Option ℕ) → ltb i end ≡ a → rowFits places v end d i ≡ b
       → (Fits places v end d i → i < end → r ≡ r2)
       → (Fits places v end d i → i < end → t ≡ t2)
-      → cond a (cond b (orElse r t) (some i)) none ≡ cond a (cond b (orElse r2 t2) (some i)) none
+      → cond a (cond b (orLater r t) (some i)) none ≡ cond a (cond b (orLater r2 t2) (some i)) none
   enough-step end d i true true r r2 t t2 p q f g =
       let x = fits-row places v end d i q in
       let l = ltb-true i end p in
-      ap₂ orElse (f x l) (g x l)
+      ap₂ orLater (f x l) (g x l)
   enough-step end d i true false r r2 t t2 p q f g = refl
   enough-step end d i false b r r2 t t2 p q f g = refl
 
@@ -64,13 +64,13 @@ module _ (places : ℕ → Bool) (v : View) where
   wrong-here end d i h e = first-bad (end - i) end d i h (omega arith) e
 
   first-good : (f end d i : ℕ) → i < end → end - i ≤ f → rowFits places v end d i ≡ true
-      → firstWrong f places v end d i ≡ orElse (wrongRow places v (v .after i) (suc d) (suc i)) (wrongRow places v end d (v .after i))
+      → firstWrong f places v end d i ≡ orLater (wrongRow places v (v .after i) (suc d) (suc i)) (wrongRow places v end d (v .after i))
   unfolding firstWrong wrongRow
   first-good zero end d i h l e = absurd (omega arith)
   first-good (suc f) end d i h l e =
       let w = fits-row places v end d i e .within in
       rw (lt-ltb i end h, e)
-      (ap₂ orElse
+      (ap₂ orLater
       (enough f (v .after i - suc i) (v .after i) (suc d) (suc i) (omega arith) (omega arith))
       (enough f (end - v .after i) end d (v .after i) (omega arith) (omega arith)))
 
@@ -79,15 +79,15 @@ module _ (places : ℕ → Bool) (v : View) where
   wrong-of end d i = refl
 
   pub wrong-in : (end d i : ℕ) → i < end → rowFits places v end d i ≡ true
-      → wrongRow places v end d i ≡ orElse (wrongRow places v (v .after i) (suc d) (suc i)) (wrongRow places v end d (v .after i))
+      → wrongRow places v end d i ≡ orLater (wrongRow places v (v .after i) (suc d) (suc i)) (wrongRow places v end d (v .after i))
   wrong-in end d i h e = wrong-of end d i ∙ first-good (end - i) end d i h (omega arith) e
 
   -- what is ahead from row i on, up to `end`, with the ends of d rows around
   unfoldable pub ahead : List ℕ → ℕ → ℕ → ℕ → Option ℕ
   ahead ends zero end i = wrongRow places v end 0 i
-  ahead ends (suc d) end i = orElse (wrongRow places v end (suc d) i) (ahead ends d (getD ends d 0) end)
+  ahead ends (suc d) end i = orLater (wrongRow places v end (suc d) i) (ahead ends d (getD ends d 0) end)
 
-  or-assoc : (a b c : Option ℕ) → orElse (orElse a b) c ≡ orElse a (orElse b c)
+  or-assoc : (a b c : Option ℕ) → orLater (orLater a b) c ≡ orLater a (orLater b c)
   or-assoc none b c = refl
   or-assoc (some i) b c = refl
 
@@ -95,29 +95,29 @@ module _ (places : ℕ → Bool) (v : View) where
   unfolding ahead
   ahead-set ends k zero end i x h = refl
   ahead-set ends k (suc d) end i x h =
-      ap (orElse (wrongRow places v end (suc d) i))
+      ap (orLater (wrongRow places v end (suc d) i))
       (ap (λ (n : ℕ). ahead (set ends k x) d n end) (getD-set-other ends k d x 0 (λ e. omega arith))
       ∙ ahead-set ends k d (getD ends d 0) end x (omega arith))
 
   pub ahead-here : (ends : List ℕ) (d end i : ℕ) → i < end → rowFits places v end d i ≡ false → ahead ends d end i ≡ some i
   unfolding ahead
   ahead-here ends zero end i h e = wrong-here end 0 i h e
-  ahead-here ends (suc d) end i h e = ap (λ (x : Option ℕ). orElse x (ahead ends d (getD ends d 0) end)) (wrong-here end (suc d) i h e)
+  ahead-here ends (suc d) end i h e = ap (λ (x : Option ℕ). orLater x (ahead ends d (getD ends d 0) end)) (wrong-here end (suc d) i h e)
 
-  ahead-first : (ends : List ℕ) (d end i : ℕ) (a b : Option ℕ) → wrongRow places v end d i ≡ orElse a b
-      → ((j : ℕ) → wrongRow places v end d j ≡ b → orElse a (ahead ends d end j) ≡ ahead ends d end i)
+  ahead-first : (ends : List ℕ) (d end i : ℕ) (a b : Option ℕ) → wrongRow places v end d i ≡ orLater a b
+      → ((j : ℕ) → wrongRow places v end d j ≡ b → orLater a (ahead ends d end j) ≡ ahead ends d end i)
   unfolding ahead
-  ahead-first ends zero end i a b e j f = ap (orElse a) f ∙ sym e
+  ahead-first ends zero end i a b e j f = ap (orLater a) f ∙ sym e
   ahead-first ends (suc d) end i a b e j f =
-      ap (λ (x : Option ℕ). orElse a (orElse x (ahead ends d (getD ends d 0) end))) f
-      ∙ sym (ap (λ (x : Option ℕ). orElse x (ahead ends d (getD ends d 0) end)) e ∙ or-assoc a b (ahead ends d (getD ends d 0) end))
+      ap (λ (x : Option ℕ). orLater a (orLater x (ahead ends d (getD ends d 0) end))) f
+      ∙ sym (ap (λ (x : Option ℕ). orLater x (ahead ends d (getD ends d 0) end)) e ∙ or-assoc a b (ahead ends d (getD ends d 0) end))
 
   -- a row that is right is entered
   pub ahead-in : (ends : List ℕ) (d end i : ℕ) → d < length ends → i < end → rowFits places v end d i ≡ true
       → ahead (set ends d end) (suc d) (v .after i) (suc i) ≡ ahead ends d end i
   unfolding ahead
   ahead-in ends d end i h l e =
-      ap (orElse (wrongRow places v (v .after i) (suc d) (suc i)))
+      ap (orLater (wrongRow places v (v .after i) (suc d) (suc i)))
       (ap (λ (n : ℕ). ahead (set ends d end) d n (v .after i)) (getD-set-same ends d end 0 h) ∙ ahead-set ends d d end (v .after i) end (omega arith))
       ∙ ahead-first ends d end i (wrongRow places v (v .after i) (suc d) (suc i)) (wrongRow places v end d (v .after i)) (wrong-in end d i l e) (v .after i) refl
 
@@ -127,7 +127,7 @@ module _ (places : ℕ → Bool) (v : View) where
   ahead-past ends d end i l e q =
       ahead-first ends d end i none (wrongRow places v end d (suc i))
       (wrong-in end d i l e
-      ∙ ap₂ orElse
+      ∙ ap₂ orLater
       (ap (λ (n : ℕ). wrongRow places v n (suc d) (suc i)) q ∙ wrong-none (suc i) (suc d) (suc i) (omega arith))
       (ap (wrongRow places v end d) q))
       (suc i)
@@ -144,7 +144,7 @@ module _ (places : ℕ → Bool) (v : View) where
 
 -- the refusal of a row that is found
 abbrev pub refused : Option ℕ → Option Refusal
-refused o = whenFound o 11
+refused o = refuseAt o 11
 
 -- What the loop keeps.
 pub record Checking (places : ℕ → Bool) (s : List ℕ) (stop : ℕ) (answer : Option ℕ) (ends : List ℕ) (depth end row : ℕ) : Type 0 where

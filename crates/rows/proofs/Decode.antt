@@ -9,10 +9,10 @@ use lib.Dec.{ltb}
 use borrow.Author.Tests.{lt-ltb, le-ltb}
 use Rattle.rows.specs.Node.{Node, Nodes, group, indent, indentNext, wrapParent, comment, str, ascii, line, emptyLine, lineOrSpace, ifWrap, call, none, _then_}
 use Rattle.rows.specs.View.{View, firstOf, nodeOf, endIn, secondIn, decode, nodesAt, nodeAt}
-use Rattle.rows.specs.Nesting.{Within, Split}
+use Rattle.rows.specs.Nesting.{RangeIn, Split}
 
 -- the nodes from row i on, from those of its parts and of the rows after it
-step : View → ℕ → ℕ → Nodes → Nodes → Nodes → Nodes → Nodes
+unfoldable pub step : View → ℕ → ℕ → Nodes → Nodes → Nodes → Nodes → Nodes
 step v i j ns e a r = cond (ltb i j) (nodeOf v i ns e a then r) none
 
 step-ap : (v : View) (i j : ℕ) {a b c d a′ b′ c′ d′ : Nodes} → a ≡ a′ → b ≡ b′ → c ≡ c′ → d ≡ d′ → step v i j a b c d ≡ step v i j a′ b′ c′ d′
@@ -28,7 +28,7 @@ decode-suc : (f : ℕ) (v : View) (i j : ℕ)
 unfolding decode step
 decode-suc f v i j = refl
 
-decode-none : (f : ℕ) (v : View) (i j : ℕ) → j ≤ i → decode f v i j ≡ none
+pub decode-none : (f : ℕ) (v : View) (i j : ℕ) → j ≤ i → decode f v i j ≡ none
 unfolding decode
 decode-none zero v i j h = refl
 decode-none (suc f) v i j h = rw (le-ltb i j h)
@@ -90,7 +90,7 @@ decode-some (suc f) v i j h p =
     (omega arith))
     (decode-enough f (j - endIn v i j) v (endIn v i j) j (less-rest v i j f p) (omega arith))
 
-end-in : (v : View) (i j : ℕ) → Within v i j → endIn v i j ≡ v .after i
+end-in : (v : View) (i j : ℕ) → RangeIn v i j → endIn v i j ≡ v .after i
 end-in v i j w = omega arith
 
 second-in : (v : View) (i : ℕ) → Split v i → secondIn v i (v .after i) ≡ v .second i
@@ -116,7 +116,7 @@ nodes-clamped : (v : View) (i j : ℕ) → i < j
 nodes-clamped v i j h = nodes-step v i j h ∙ step-some v i j _ _ _ _ h
 
 -- a row, and the rows after it
-pub nodes-some : (v : View) (i j : ℕ) → Within v i j → nodesAt v i j ≡ (nodeAt v i then nodesAt v (v .after i) j)
+pub nodes-some : (v : View) (i j : ℕ) → RangeIn v i j → nodesAt v i j ≡ (nodeAt v i then nodesAt v (v .after i) j)
 unfolding nodeAt
 nodes-some v i j w = nodes-clamped v i j (omega arith) ∙ rw (end-in v i j w)
 

@@ -13,7 +13,7 @@ use Rattle.rows.specs.Node.{Text, Node, Nodes, group, indent, indentNext
 use Rattle.rows.specs.Node.{call, none, _then_}
 use Rattle.rows.specs.Rows.{size, sizes, depth, depths, row, rowsOf, rows, noText}
 use Rattle.rows.specs.View.{cell, viewOf, nodesAt, firstOf, nodeAt}
-use Rattle.rows.specs.Nesting.{Within, Nests, over, leaf, block, two, pair}
+use Rattle.rows.specs.Nesting.{RangeIn, Nests, over, leaf, block, two, pair}
 use Rattle.rows.proofs.Decode.{nodes-some, nodes-none, node-group, node-indent, node-next, node-parent, node-comment, node-str}
 use Rattle.rows.proofs.Decode.{node-ascii, node-line, node-empty, node-space, node-if, node-call}
 use Rattle.rows.proofs.Nested.{nests-le}
@@ -271,7 +271,7 @@ module _ (s : List ℕ) (i kind n k x y j d : ℕ) (r : Row s i kind n k (i + (1
     isAfter′ : viewOf s .after i ≡ i + (1 + x) + y
     isAfter′ = let e = r .isAfter in omega arith
 
-    inside : Within (viewOf s) i j
+    inside : RangeIn (viewOf s) i j
     inside = let e = r .isAfter in let l = nests-le g in record { up = omega arith; to = omega arith }
 
     first-part : Nests (viewOf s) (suc i) (viewOf s .second i) (suc d)

@@ -10,7 +10,7 @@ use native.Mathlib.Omega.{arith}
 use native.Mathlib.Numerals.{add-one}
 use Rattle.rows.specs.Node.{Nodes, none, _then_, join, mustWrap, mustWraps}
 use Rattle.rows.specs.View.{View, viewOf, cell, nodesAt, nodeOf, nodeAt}
-use Rattle.rows.specs.Nesting.{Within, Nests}
+use Rattle.rows.specs.Nesting.{RangeIn, Nests}
 use Rattle.rows.proofs.Decode.{nodes-some, nodes-none, node-indent}
 use Rattle.rows.proofs.Nested.{nodes-join, nests-block, nests-after, nests-kind, nests-rest, nests-join, nests-weaken}
 
@@ -24,11 +24,11 @@ mustWraps-join none b = refl
 mustWraps-join (n then a) b = ap (λ x. mustWrap n || x) (mustWraps-join a b) ∙ sym (or-assoc (mustWrap n) (mustWraps a) (mustWraps b))
 
 module _ (v : View) where
-  must-some : (i j : ℕ) → Within v i j → mustWraps (nodesAt v i j) ≡ (mustWrap (nodeAt v i) || mustWraps (nodesAt v (v .after i) j))
+  must-some : (i j : ℕ) → RangeIn v i j → mustWraps (nodesAt v i j) ≡ (mustWrap (nodeAt v i) || mustWraps (nodesAt v (v .after i) j))
   unfolding mustWraps
   must-some i j w = ap mustWraps (nodes-some v i j w)
 
-  pub must-true : (k i j : ℕ) → Within v i j → v .kind i ≡ k → (k ≡ 3) ⊎ (k ≡ 4) → mustWraps (nodesAt v i j) ≡ true
+  pub must-true : (k i j : ℕ) → RangeIn v i j → v .kind i ≡ k → (k ≡ 3) ⊎ (k ≡ 4) → mustWraps (nodesAt v i j) ≡ true
   unfolding mustWrap nodeAt nodeOf
   must-true k i j w e (inl a) = must-some i j w ∙ rw (e ∙ a)
   must-true k i j w e (inr a) = must-some i j w ∙ rw (e ∙ a)

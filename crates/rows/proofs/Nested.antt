@@ -5,7 +5,7 @@ use Prim.Native.Nat.{ℕ, suc, _≤_, _<_}
 use native.Mathlib.Omega.{arith}
 use Rattle.rows.specs.Node.{join}
 use Rattle.rows.specs.View.{View, nodesAt}
-use Rattle.rows.specs.Nesting.{Within, Split, TwoParts, Nests, over, leaf, block, two, pair}
+use Rattle.rows.specs.Nesting.{RangeIn, Split, TwoParts, Nests, over, leaf, block, two, pair}
 use Rattle.rows.proofs.Decode.{nodes-some, nodes-none}
 
 pub nests-le : {v : View} {i j d : ℕ} → Nests v i j d → i ≤ j
@@ -31,7 +31,7 @@ nests-weaken c p (block a w q g h) = block a w (shallower p q) (nests-weaken (su
 nests-weaken c p (two a w t q g h k) = two a w t (shallower p q) (nests-weaken (suc c) (more p) g) (nests-weaken (suc c) (more p) h) (nests-weaken c p k)
 nests-weaken c p (pair a w t q g h k) = pair a w t (shallower p q) (nests-weaken (suc c) (more p) g) (nests-weaken (suc c) (more p) h) (nests-weaken c p k)
 
-wider : {v : View} {i j k : ℕ} → Within v i j → j ≤ k → Within v i k
+wider : {v : View} {i j k : ℕ} → RangeIn v i j → j ≤ k → RangeIn v i k
 wider w h = record { up = w .up; to = omega arith }
 
 pub nests-join : {v : View} {i j k d : ℕ} → Nests v i j d → Nests v j k d → Nests v i k d
@@ -41,10 +41,10 @@ nests-join (block a w q g h) r = block a (wider w (nests-le r)) q g (nests-join 
 nests-join (two a w t q g h l) r = two a (wider w (nests-le r)) t q g h (nests-join l r)
 nests-join (pair a w t q g h l) r = pair a (wider w (nests-le r)) t q g h (nests-join l r)
 
-pub leaf-within : {v : View} {i j : ℕ} → v .after i ≡ suc i → i < j → Within v i j
+pub leaf-within : {v : View} {i j : ℕ} → v .after i ≡ suc i → i < j → RangeIn v i j
 leaf-within e h = record { up = omega arith; to = omega arith }
 
-join-step : (v : View) (i j k : ℕ) → Within v i j → j ≤ k → nodesAt v (v .after i) k ≡ join (nodesAt v (v .after i) j) (nodesAt v j k) → nodesAt v i k ≡ join (nodesAt v i j) (nodesAt v j k)
+join-step : (v : View) (i j k : ℕ) → RangeIn v i j → j ≤ k → nodesAt v (v .after i) k ≡ join (nodesAt v (v .after i) j) (nodesAt v j k) → nodesAt v i k ≡ join (nodesAt v i j) (nodesAt v j k)
 unfolding join
 join-step v i j k w h e = rw (nodes-some v i k (wider w h), nodes-some v i j w, e)
 
@@ -64,13 +64,13 @@ pub record Leaf (v : View) (i j d : ℕ) : Type 0 where
   pub rest : Nests v (suc i) j d
 
 pub record Block (v : View) (i j d : ℕ) : Type 0 where
-  pub within : Within v i j
+  pub within : RangeIn v i j
   pub shallow : d < 256
   pub parts : Nests v (suc i) (v .after i) (suc d)
   pub rest : Nests v (v .after i) j d
 
 pub record Pair (v : View) (i j d : ℕ) : Type 0 where
-  pub within : Within v i j
+  pub within : RangeIn v i j
   pub split : Split v i
   pub shallow : d < 256
   pub first : Nests v (suc i) (v .second i) (suc d)
@@ -112,7 +112,7 @@ nests-kind (block k w q g r) h = omega arith
 nests-kind (two k w t q g l r) h = omega arith
 nests-kind (pair k w t q g l r) h = omega arith
 
-pub nests-after : {v : View} {i j d : ℕ} → Nests v i j d → i < j → Within v i j
+pub nests-after : {v : View} {i j d : ℕ} → Nests v i j d → i < j → RangeIn v i j
 nests-after (over e) h = absurd (omega arith)
 nests-after (leaf k l e f q g) h = leaf-within e f
 nests-after (block k w q g r) h = w

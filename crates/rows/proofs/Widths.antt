@@ -12,7 +12,7 @@ use lib.ListN.{length, getD, set, length-set}
 use lib.Seq.{getD-set-same, getD-set-other}
 use Rattle.rows.specs.Node.{Text, Node, Nodes, none, _then_, join, wrapped, width, widths}
 use Rattle.rows.specs.View.{View, nodesAt, nodeOf, firstOf, nodeAt}
-use Rattle.rows.specs.Nesting.{Within, Split, TwoParts, Nests}
+use Rattle.rows.specs.Nesting.{RangeIn, Split, TwoParts, Nests}
 use Rattle.rows.proofs.Decode.{nodes-some, nodes-none, node-group, node-indent, node-next, node-if, node-call}
 use Rattle.rows.proofs.Nested.{leaf-within, nodes-join, nests-leaf, nests-block, nests-two, nests-pair, nests-kind, nests-deep, nests-join}
 use Rattle.rows.proofs.Nested.{nests-weaken}
@@ -26,7 +26,7 @@ module _ (v : View) (columns : Text → ℕ) (m : List ℕ) where
   abbrev pub widthOf : ℕ → ℕ → ℕ
   widthOf i j = widths columns m (nodesAt v i j)
 
-  width-some : (i j : ℕ) → Within v i j → widthOf i j ≡ width columns m (nodeAt v i) + widthOf (v .after i) j
+  width-some : (i j : ℕ) → RangeIn v i j → widthOf i j ≡ width columns m (nodeAt v i) + widthOf (v .after i) j
   unfolding widths
   width-some i j w = ap (λ (n : Nodes). widths columns m n) (nodes-some v i j w)
 
@@ -48,14 +48,14 @@ module _ (v : View) (columns : Text → ℕ) (m : List ℕ) where
       go (suc (suc (suc k))) e q = absurd (omega arith)
 
   -- a block: its parts and what follows are one range
-  pub width-flat : {i j d : ℕ} → v .kind i ≤ 2 → Within v i j → Nests v (suc i) (v .after i) d → widthOf i j ≡ widthOf (suc i) j
+  pub width-flat : {i j d : ℕ} → v .kind i ≤ 2 → RangeIn v i j → Nests v (suc i) (v .after i) d → widthOf i j ≡ widthOf (suc i) j
   width-flat {i} {j} h w g =
       let a = width-some i j w in
       let b = width-split j g (w .to) in
       let c = width-block i h in
       omega arith
 
-  pub width-flat-call : {i j d : ℕ} → v .kind i ≡ 11 → Within v i j → Split v i → Nests v (suc i) (v .second i) d → Nests v (v .second i) (v .after i) d → widthOf i j ≡ widthOf (suc i) j
+  pub width-flat-call : {i j d : ℕ} → v .kind i ≡ 11 → RangeIn v i j → Split v i → Nests v (suc i) (v .second i) d → Nests v (v .second i) (v .after i) d → widthOf i j ≡ widthOf (suc i) j
   unfolding width
   width-flat-call {i} {j} h w s g l =
       let a = width-some i j w in
@@ -64,7 +64,7 @@ module _ (v : View) (columns : Text → ℕ) (m : List ℕ) where
       let c = ap (λ (n : Node). width columns m n) (node-call v i h s) in
       omega arith
 
-  single-width : (i : ℕ) → Within v i (v .after i) → width columns m (firstOf (nodesAt v i (v .after i))) ≡ widthOf i (v .after i)
+  single-width : (i : ℕ) → RangeIn v i (v .after i) → width columns m (firstOf (nodesAt v i (v .after i))) ≡ widthOf i (v .after i)
   unfolding widths
   single-width i h = rw (nodes-some v i (v .after i) h, nodes-none v (v .after i) (v .after i) (omega arith)) (omega arith)
 
@@ -77,14 +77,14 @@ module _ (v : View) (columns : Text → ℕ) (m : List ℕ) where
       (rw (t .second) at (single-width (v .second i) (record { up = omega arith; to = omega arith })))
 
   -- an IfWrap's chosen part
-  pub width-second : {i j d : ℕ} → v .kind i ≡ 10 → Within v i j → TwoParts v i → Nests v (v .second i) (v .after i) d → wrapped m (v .number i) ≡ false → widthOf i j ≡ widthOf (v .second i) j
+  pub width-second : {i j d : ℕ} → v .kind i ≡ 10 → RangeIn v i j → TwoParts v i → Nests v (v .second i) (v .after i) d → wrapped m (v .number i) ≡ false → widthOf i j ≡ widthOf (v .second i) j
   width-second {i} {j} h w t g e =
       let a = width-some i j w in
       let b = width-split j g (w .to) in
       let c = rw e at (width-if i h t) in
       omega arith
 
-  pub width-first : {i j : ℕ} → v .kind i ≡ 10 → Within v i j → TwoParts v i → wrapped m (v .number i) ≡ true → widthOf i j ≡ widthOf (suc i) (v .second i) + widthOf (v .after i) j
+  pub width-first : {i j : ℕ} → v .kind i ≡ 10 → RangeIn v i j → TwoParts v i → wrapped m (v .number i) ≡ true → widthOf i j ≡ widthOf (suc i) (v .second i) + widthOf (v .after i) j
   width-first {i} {j} h w t e =
       let a = width-some i j w in
       let c = rw e at (width-if i h t) in

@@ -8,6 +8,10 @@ MAX-ROWS = 2097152
 abbrev pub MAX-DEPTH : ℕ
 MAX-DEPTH = 256
 
+-- refusal 12: "next number over 1,048,576"
+abbrev pub MAX-NUMBER : ℕ
+MAX-NUMBER = 1048576
+
 -- 2 ^ 32: what each place of a row is below
 abbrev pub CELL-LIMIT : ℕ
 CELL-LIMIT = 4294967296

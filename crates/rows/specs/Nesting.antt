@@ -9,7 +9,7 @@ use Rattle.rows.specs.Limits.{MAX-ROWS, MAX-DEPTH}
 use Rattle.rows.specs.View.{View, viewOf}
 
 -- row i ends past itself and not past j
-pub record Within (v : View) (i j : ℕ) : Type 0 where
+pub record RangeIn (v : View) (i j : ℕ) : Type 0 where
   pub up : i < v .after i
   pub to : v .after i ≤ j
 
@@ -29,11 +29,11 @@ pub record Split (v : View) (i : ℕ) : Type 0 where
 pub data Nests (v : View) : ℕ → ℕ → ℕ → Type 0 where
   over : {i j d : ℕ} → i ≡ j → Nests v i j d
   leaf : {i j d : ℕ} → WRAP-PARENT ≤ v .kind i → v .kind i ≤ LINE-OR-SPACE → v .after i ≡ suc i → i < j → d < MAX-DEPTH → Nests v (suc i) j d → Nests v i j d
-  block : {i j d : ℕ} → v .kind i ≤ INDENT-NEXT → Within v i j → d < MAX-DEPTH → Nests v (suc i) (v .after i) (suc d) → Nests v (v .after i) j d → Nests v i j d
+  block : {i j d : ℕ} → v .kind i ≤ INDENT-NEXT → RangeIn v i j → d < MAX-DEPTH → Nests v (suc i) (v .after i) (suc d) → Nests v (v .after i) j d → Nests v i j d
   two :
       {i j d : ℕ}
       → v .kind i ≡ IF-WRAP
-      → Within v i j
+      → RangeIn v i j
       → TwoParts v i
       → d < MAX-DEPTH
       → Nests v (suc i) (v .second i) (suc d)
@@ -43,7 +43,7 @@ pub data Nests (v : View) : ℕ → ℕ → ℕ → Type 0 where
   pair :
       {i j d : ℕ}
       → v .kind i ≡ CALL
-      → Within v i j
+      → RangeIn v i j
       → Split v i
       → d < MAX-DEPTH
       → Nests v (suc i) (v .second i) (suc d)

@@ -7,3 +7,4 @@ pub mod store;
 pub mod units;
 pub mod width;
 pub mod words;
+pub mod wrap;

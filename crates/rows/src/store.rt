@@ -35,7 +35,8 @@ pub fn str_width(store: &[u32], row: usize) -> Columns
     Columns(place(store, row, WIDTH))
 }
 
-pub fn wide(x: u32) -> usize
+// What is kept in a place, as an index.
+pub fn to_usize(x: u32) -> usize
     ensures { λ r. ⌜ r ≡ x ⌝ }
 {
     x as usize

@@ -1,19 +1,16 @@
-// `must_wrap` and `width` of a range of rows.
+// `width` of a range of rows.
 ghost use mathlib.Core.Path.{_≡_};
 ghost use Prim.Native.Nat.{_+_, _*_, _-_, _≤_, _<_};
 ghost use lib.ListN.{length, getD};
 ghost use Rattle.rows.specs.Places.{SECOND, WIDTH, PLACES};
 ghost use Rattle.rows.specs.Limits.{MAX-DEPTH, CELL-LIMIT, WIDTH-LIMIT};
-ghost use Rattle.rows.specs.Node.{wrapped, widths, mustWraps, byteColumns};
+ghost use Rattle.rows.specs.Node.{widths, byteColumns};
 ghost use Rattle.rows.specs.View.{cell, viewOf, ownWidth, nodesAt};
 ghost use Rattle.rows.specs.Nesting.{Nested};
 use crate::kinds::ASCII;
-use crate::kinds::COMMENT;
 use crate::kinds::IF_WRAP;
-use crate::kinds::INDENT;
 use crate::kinds::LINE_OR_SPACE;
 use crate::kinds::STR;
-use crate::kinds::WRAP_PARENT;
 use crate::limits::MAX_DEPTH;
 use crate::places::AFTER;
 use crate::places::KIND;
@@ -22,42 +19,10 @@ use crate::places::SECOND;
 use crate::store::place;
 use crate::store::str_width;
 use crate::store::text_size;
-use crate::store::wide;
+use crate::store::to_usize;
 use crate::units::Columns;
 use crate::units::ascii_columns;
-
-// Whether a row from `from` up to `to`, or one in an `Indent` there, wraps what encloses it.
-pub fn must_wrap(store: &[u32], from: usize, to: usize) -> bool
-    requires { ⌜ Nested (now store) from to ⌝ }
-    ensures { λ r. ⌜ r ≡ mustWraps (nodesAt (viewOf (now (store .entry))) from to) ⌝ }
-{
-    let mut row = from;
-    while row < to {
-        let kind = place(store, row, KIND);
-        if kind == WRAP_PARENT {
-            return true;
-        }
-        if kind == COMMENT {
-            return true;
-        }
-        if kind == INDENT {
-            row += 1;
-        } else {
-            row = place(store, row, AFTER);
-        }
-    }
-    false
-}
-
-// Whether the group of a number has wrapped.
-pub fn is_wrapped(marks: &[u8], number: usize) -> bool
-    ensures { λ r. ⌜ r ≡ wrapped (now (marks .entry)) number ⌝ }
-{
-    if number < marks.len() {
-        return marks[number] == 1;
-    }
-    false
-}
+use crate::wrap::is_wrapped;
 
 // What a row measures by itself.
 pub fn own_width(store: &[u32], row: usize, kind: usize) -> Columns
@@ -84,7 +49,7 @@ fn part_end(store: &[u32], firsts: &[u32; MAX_DEPTH], depth: usize, to: usize) -
     if depth == 0 {
         return to;
     }
-    place(store, wide(firsts[depth - 1]), SECOND)
+    place(store, to_usize(firsts[depth - 1]), SECOND)
 }
 
 // The width of the rows from `from` up to `to`. `firsts` has the `IfWrap` rows whose first part the sum is in; a second part that is not
@@ -101,7 +66,7 @@ pub fn width(store: &[u32], marks: &[u8], from: usize, to: usize) -> Columns
     while 0 < depth || row < to {
         if row == end {
             depth -= 1;
-            row = place(store, wide(firsts[depth]), AFTER);
+            row = place(store, to_usize(firsts[depth]), AFTER);
             end = part_end(store, &firsts, depth, to);
         } else {
             let kind = place(store, row, KIND);

@@ -6,7 +6,7 @@ use mathlib.Core.Option.{Option, none, some}
 use mathlib.Core.Bool.{Bool, true, false, cond, not, _&&_, _||_}
 use lib.ListN.{length, getD}
 use lib.Dec.{ltb, leb, eqb}
-use Rattle.refusals.specs.Refusals.{Refusal, when}
+use Rattle.refusals.specs.Refusals.{Refusal, refuseIf}
 use Rattle.text.specs.declared.utf8.Checked.{Checked}
 use Rattle.text.specs.declared.utf8.Checked.the-variants.{WellFormed, Bad}
 use Rattle.text.specs.declared.utf8.Lead.{Lead}
@@ -97,7 +97,7 @@ wellFormed s = eqb (prefix s) (length s)
 
 -- refusal 2: "source not well-formed UTF-8", at the "first byte of the bad sequence"
 unfoldable pub illFormed : List ℕ → Option Refusal
-illFormed s = when (not (wellFormed s)) 2 (prefix s)
+illFormed s = refuseIf (not (wellFormed s)) 2 (prefix s)
 
 -- what `check` answers, case by case
 abbrev pub refusalOf : Checked → Option Refusal

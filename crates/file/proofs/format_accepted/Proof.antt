@@ -1,22 +1,24 @@
 -- One layout call and one rendering call, both from fresh, on rows and marks of its own.
 use mathlib.Core.Path.{sym, ap}
 use Prim.Native.Nat.{ℕ, _/_}
+use Rattle.rows.specs.Places.{PLACES}
+use Rattle.plain_run.specs.Demands.{closingAt}
 use Rattle.file.proofs.Steps.{layout-refused, drawn-starts, drawn-refused, drawn-formats}
 use borrow.Author.Needs.{needs}
 use Rattle.file.proofs.format_accepted.Statement.{statement}
 use Rattle.file.proofs.format_accepted.Tie as tie
 
 render-checked-requires : tie.Need-render-checked-requires
-render-checked-requires c κs = drawn-starts _ _ _ _ (c .before .before .before .before .before .before .before .before .before .before .before .before .before .before .before .before .before .args .out .now) (ap (λ (n : ℕ). n / 9) (sym (c .before .before .before .before .before .before .before .before .before .before .before .before .before .rows .ensures))) (sym (c .before .before .before .before .before .before .before .before .before .before .before .before .marks .ensures)) _ _ _ _ (c .before .before .before .before .before .before .before .before .before .layout-fresh .ensures) (c .before .before .before .before .before .before .before .before .before .before .before .count-declarations .ensures) (c .before .before .before .before .before .before .before .before .accepted .ensures) _ _ (c .before .before .before .before .before .state .given .1) _ (c .render-fresh .ensures)
+render-checked-requires c κs = drawn-starts _ _ _ _ (c .before .before .before .before .before .before .before .before .before .before .before .before .before .before .before .before .before .args .out .now) (ap (λ (n : ℕ). n / PLACES) (sym (c .before .before .before .before .before .before .before .before .before .before .before .before .before .rows .ensures))) (sym (c .before .before .before .before .before .before .before .before .before .before .before .before .marks .ensures)) _ _ _ _ (c .before .before .before .before .before .before .before .before .before .layout-fresh .ensures) (ap closingAt (c .before .before .before .before .before .before .before .before .before .before .before .count-declarations .ensures)) (c .before .before .before .before .before .before .before .before .layout-accepted .ensures) _ _ (c .before .before .before .before .before .state .given .1) _ (c .render-fresh .ensures)
 
 returns : tie.Need-returns
-returns c = layout-refused _ _ _ (c .before .before .before .before .before .before .before .before .marks .result) _ (ap (λ (n : ℕ). n / 9) (sym (c .before .before .before .before .before .before .before .before .before .rows .ensures))) (sym (c .before .before .before .before .before .before .before .before .marks .ensures)) _ _ _ _ (c .before .before .before .before .before .layout-fresh .ensures) (c .before .before .before .before .before .before .before .count-declarations .ensures) (c .before .before .before .before .accepted .ensures) _ _ (c .before .number .given .1)
+returns c = layout-refused _ _ _ (c .before .before .before .before .before .before .before .before .marks .result) _ (ap (λ (n : ℕ). n / PLACES) (sym (c .before .before .before .before .before .before .before .before .before .rows .ensures))) (sym (c .before .before .before .before .before .before .before .before .marks .ensures)) _ _ _ _ (c .before .before .before .before .before .layout-fresh .ensures) (ap closingAt (c .before .before .before .before .before .before .before .count-declarations .ensures)) (c .before .before .before .before .layout-accepted .ensures) _ _ (c .before .number .given .1)
 
 returns-2 : tie.Need-returns-2
-returns-2 c = drawn-refused _ _ _ _ _ (ap (λ (n : ℕ). n / 9) (sym (c .before .before .before .before .before .before .before .before .before .before .before .before .before .before .before .before .before .before .before .before .before .rows .ensures))) (sym (c .before .before .before .before .before .before .before .before .before .before .before .before .before .before .before .before .before .before .before .before .marks .ensures)) _ _ _ _ (c .before .before .before .before .before .before .before .before .before .before .before .before .before .before .before .before .before .layout-fresh .ensures) (c .before .before .before .before .before .before .before .before .before .before .before .before .before .before .before .before .before .before .before .count-declarations .ensures) (c .before .before .before .before .before .before .before .before .before .before .before .before .before .before .before .before .accepted .ensures) _ _ (c .before .before .before .before .before .before .before .before .before .before .before .before .before .state .given .1) _ (c .before .before .before .before .before .before .before .before .render-fresh .ensures) _ _ _ _ (c .before .before .before .before .before .before .before .render-checked .ensures) _ _ (c .before .number2 .given .1)
+returns-2 c = drawn-refused _ _ _ _ _ (ap (λ (n : ℕ). n / PLACES) (sym (c .before .before .before .before .before .before .before .before .before .before .before .before .before .before .before .before .before .before .before .before .before .rows .ensures))) (sym (c .before .before .before .before .before .before .before .before .before .before .before .before .before .before .before .before .before .before .before .before .marks .ensures)) _ _ _ _ (c .before .before .before .before .before .before .before .before .before .before .before .before .before .before .before .before .before .layout-fresh .ensures) (ap closingAt (c .before .before .before .before .before .before .before .before .before .before .before .before .before .before .before .before .before .before .before .count-declarations .ensures)) (c .before .before .before .before .before .before .before .before .before .before .before .before .before .before .before .before .layout-accepted .ensures) _ _ (c .before .before .before .before .before .before .before .before .before .before .before .before .before .state .given .1) _ (c .before .before .before .before .before .before .before .before .render-fresh .ensures) _ _ _ _ (c .before .before .before .before .before .before .before .render-checked .ensures) _ _ (c .before .number2 .given .1)
 
 returns-3 : tie.Need-returns-3
-returns-3 c = drawn-formats _ _ _ _ _ (ap (λ (n : ℕ). n / 9) (sym (c .before .before .before .before .before .before .before .before .before .before .before .before .before .before .before .before .before .before .before .before .before .rows .ensures))) (sym (c .before .before .before .before .before .before .before .before .before .before .before .before .before .before .before .before .before .before .before .before .marks .ensures)) _ _ _ _ (c .before .before .before .before .before .before .before .before .before .before .before .before .before .before .before .before .before .layout-fresh .ensures) (c .before .before .before .before .before .before .before .before .before .before .before .before .before .before .before .before .before .before .before .count-declarations .ensures) (c .before .before .before .before .before .before .before .before .before .before .before .before .before .before .before .before .accepted .ensures) _ _ (c .before .before .before .before .before .before .before .before .before .before .before .before .before .state .given .1) _ (c .before .before .before .before .before .before .before .before .render-fresh .ensures) _ _ _ _ (c .before .before .before .before .before .before .before .render-checked .ensures) _ _ (c .before .end .given .1)
+returns-3 c = drawn-formats _ _ _ _ _ (ap (λ (n : ℕ). n / PLACES) (sym (c .before .before .before .before .before .before .before .before .before .before .before .before .before .before .before .before .before .before .before .before .before .rows .ensures))) (sym (c .before .before .before .before .before .before .before .before .before .before .before .before .before .before .before .before .before .before .before .before .marks .ensures)) _ _ _ _ (c .before .before .before .before .before .before .before .before .before .before .before .before .before .before .before .before .before .layout-fresh .ensures) (ap closingAt (c .before .before .before .before .before .before .before .before .before .before .before .before .before .before .before .before .before .before .before .count-declarations .ensures)) (c .before .before .before .before .before .before .before .before .before .before .before .before .before .before .before .before .layout-accepted .ensures) _ _ (c .before .before .before .before .before .before .before .before .before .before .before .before .before .state .given .1) _ (c .before .before .before .before .before .before .before .before .render-fresh .ensures) _ _ _ _ (c .before .before .before .before .before .before .before .render-checked .ensures) _ _ (c .before .end .given .1)
 
 pub format-accepted-spec : {M : Type 1} → statement M
 format-accepted-spec =

@@ -1,16 +1,16 @@
 use Rattle.layout_call.proofs.Ends.{ends-unread}
-use mathlib.Core.Path.{_≡_, refl, sym, ap, _∙_}
+use mathlib.Core.Path.{_∙_}
 use borrow.Author.Needs.{needs}
 use Rattle.image.specs.Read.{readAll}
 use Rattle.image.proofs.Answers.{answer-told}
 use Rattle.layout_call.proofs.layout_call.Statement.{statement}
 use Rattle.layout_call.proofs.layout_call.Tie as tie
 
-accepted-requires : tie.Need-accepted-requires
-accepted-requires c κs = record { answer = answer-told (c .before .before .before .before .check .result) (readAll (c .before .before .before .before .before .before .before .before .args .source .now) (c .before .before .before .before .before .before .before .before .args .image .now)) (c .before .before .before .before .check .ensures) ∙ c .before .before .comments .given .1 }
+layout-accepted-requires : tie.Need-layout-accepted-requires
+layout-accepted-requires c κs = record { answer = answer-told (c .before .before .before .before .check .result) (readAll (c .before .before .before .before .before .before .before .before .args .source .now) (c .before .before .before .before .before .before .before .before .args .image .now)) (c .before .before .before .before .check .ensures) ∙ c .before .before .comments .given .1 }
 
 returns : tie.Need-returns
-returns c = ends-unread (c .before .before .before .before .before .before .before .args .source .now) (c .before .before .before .before .before .before .before .args .image .now) (c .before .before .before .before .before .before .before .args .state) (c .before .before .before .before .before .before .before .args .stop) (c .before .before .before .before .before .before .before .args .close) (c .before .before .before .before .before .before .before .args .store .now) _ _ (answer-told (c .before .before .before .check .result) (readAll (c .before .before .before .before .before .before .before .args .source .now) (c .before .before .before .before .before .before .before .args .image .now)) (c .before .before .before .check .ensures) ∙ c .before .number .given .1)
+returns c = ends-unread (c .before .before .before .before .before .before .before .args .source .now) (c .before .before .before .before .before .before .before .args .image .now) (c .before .before .before .before .before .before .before .args .state) (c .before .before .before .before .before .before .before .args .args) (c .before .before .before .before .before .before .before .args .store .now) _ _ (answer-told (c .before .before .before .check .result) (readAll (c .before .before .before .before .before .before .before .args .source .now) (c .before .before .before .before .before .before .before .args .image .now)) (c .before .before .before .check .ensures) ∙ c .before .number .given .1)
 
 pub layout-call-spec : {M : Type 1} → statement M
 layout-call-spec =
@@ -19,7 +19,7 @@ layout-call-spec =
     (λ c κs. search needs)
     (λ c. search needs)
     (λ c. search needs)
-    accepted-requires
+    layout-accepted-requires
     returns
     (λ c. search needs)
     (λ c. search needs))

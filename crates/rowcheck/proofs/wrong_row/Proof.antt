@@ -28,17 +28,17 @@ loop-holds c = check-start _ _ _ _ _ refl
 sub-depth : tie.Need-sub-depth Inv-loop μ-loop
 sub-depth c = omega (arith, leaves c)
 
-mul-wide : tie.Need-mul-wide Inv-loop μ-loop
-mul-wide c = omega (arith, c .before .before .loop .inv .deep)
+mul-to-usize : tie.Need-mul-to-usize Inv-loop μ-loop
+mul-to-usize c = omega (arith, c .before .before .loop .inv .deep)
 
-array-read-wide : tie.Need-array-read-wide Inv-loop μ-loop
-array-read-wide c = omega (arith, leaves c, c .before .before .loop .inv .deep)
+array-read-to-usize : tie.Need-array-read-to-usize Inv-loop μ-loop
+array-read-to-usize c = omega (arith, leaves c, c .before .before .loop .inv .deep)
 
 loop-less : tie.Need-loop-less Inv-loop μ-loop
 loop-less c = omega (arith, leaves (c .before))
 
 loop-again : tie.Need-loop-again Inv-loop μ-loop
-loop-again c = check-out-at _ _ _ _ _ _ _ _ (c .before .before .before .loop .inv) _ (c .wide .ensures) (leaves (c .before)) (c .before .if3 .taken)
+loop-again c = check-out-at _ _ _ _ _ _ _ _ (c .before .before .before .loop .inv) _ (c .to-usize .ensures) (leaves (c .before)) (c .before .if3 .taken)
 
 row-fits-requires : tie.Need-row-fits-requires Inv-loop μ-loop
 row-fits-requires c κs = (c .if3 .left, (omega (arith, c .before .before .loop .inv .low, c .before .before .before .before .before .before .pre .0), omega (arith, c .before .before .loop .inv .low, c .before .before .before .before .before .before .pre .1)))
@@ -89,8 +89,8 @@ wrong-row-spec =
     μ-loop
     loop-holds
     sub-depth
-    mul-wide
-    array-read-wide
+    mul-to-usize
+    array-read-to-usize
     (λ c κs. search needs)
     loop-less
     loop-again

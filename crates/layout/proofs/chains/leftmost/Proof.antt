@@ -12,7 +12,7 @@ use Rattle.layout.specs.Layout.{binopPrecedence}
 use Rattle.layout.specs.Forms.{four, Of}
 use Rattle.layout.specs.Chains.{Above, top, up}
 use Rattle.layout.proofs.Places.{expr-whole}
-use Rattle.layout.proofs.Spines.{down, stop-kind, stop-op, symbol-of, filled-more, room-left}
+use Rattle.layout.proofs.Operands.{down, stop-kind, stop-op, symbol-of, filled-more, room-left}
 use Rattle.layout.proofs.chains.leftmost.Statement.{statement}
 use Rattle.layout.proofs.chains.leftmost.Tie as tie
 

@@ -19,17 +19,17 @@ word-requires : tie.Need-word-requires
 unfolding DeclarationAt rules.declaration
 word-requires c κs = room-first _ (room-next (rw (← (import-start _ _ _ (c .before .before .before .before .before .before .before .before .before .pre .tree) (c .before .before .before .before .before .before .before .before .before .pre .held)), ← (c .before .before .before .before .start .ensures)) at (c .before .before .before .before .before .before .before .before .before .pre .room)) (lays (c .before .before .before .opening .ensures)))
 
-item-requires : tie.Need-item-requires
+import-path-requires : tie.Need-import-path-requires
 unfolding DeclarationAt rules.declaration
-item-requires c κs = record { accepted = c .before .before .before .before .before .before .before .before .before .before .before .before .before .pre .accepted; tree = c .before .before .before .before .before .before .before .before .before .before .before .before .before .pre .tree; held = c .before .before .before .before .before .before .before .before .before .before .before .before .before .pre .held; room = room-first _ (room-next (room-next (rw (← (import-start _ _ _ (c .before .before .before .before .before .before .before .before .before .before .before .before .before .pre .tree) (c .before .before .before .before .before .before .before .before .before .before .before .before .before .pre .held)), ← (c .before .before .before .before .before .before .before .before .start .ensures)) at (c .before .before .before .before .before .before .before .before .before .before .before .before .before .pre .room)) (lays (c .before .before .before .before .before .before .before .opening .ensures))) (lays (c .before .before .before .word .ensures))) }
+import-path-requires c κs = record { accepted = c .before .before .before .before .before .before .before .before .before .before .before .before .before .pre .accepted; tree = c .before .before .before .before .before .before .before .before .before .before .before .before .before .pre .tree; held = c .before .before .before .before .before .before .before .before .before .before .before .before .before .pre .held; room = room-first _ (room-next (room-next (rw (← (import-start _ _ _ (c .before .before .before .before .before .before .before .before .before .before .before .before .before .pre .tree) (c .before .before .before .before .before .before .before .before .before .before .before .before .before .pre .held)), ← (c .before .before .before .before .before .before .before .before .start .ensures)) at (c .before .before .before .before .before .before .before .before .before .before .before .before .before .pre .room)) (lays (c .before .before .before .before .before .before .before .opening .ensures))) (lays (c .before .before .before .word .ensures))) }
 
 word-requires-2 : tie.Need-word-requires-2
 unfolding DeclarationAt rules.declaration
-word-requires-2 c κs = room-next (room-next (room-next (rw (← (import-start _ _ _ (c .before .before .before .before .before .before .before .before .before .before .before .before .before .before .before .before .before .pre .tree) (c .before .before .before .before .before .before .before .before .before .before .before .before .before .before .before .before .before .pre .held)), ← (c .before .before .before .before .before .before .before .before .before .before .before .before .start .ensures)) at (c .before .before .before .before .before .before .before .before .before .before .before .before .before .before .before .before .before .pre .room)) (lays (c .before .before .before .before .before .before .before .before .before .before .before .opening .ensures))) (lays (c .before .before .before .before .before .before .before .word .ensures))) (lays-as (c .before .before .before .before .before .before .before .before .before .before .before .before .before .before .before .before .before .pre .accepted) (c .before .before .before .item .ensures) .of (c .before .before .before .before .before .before .before .before .before .before .before .before .before .before .before .before .before .pre .tree) (c .before .before .before .before .before .before .before .before .before .before .before .before .before .before .before .before .before .pre .held))
+word-requires-2 c κs = room-next (room-next (room-next (rw (← (import-start _ _ _ (c .before .before .before .before .before .before .before .before .before .before .before .before .before .before .before .before .before .pre .tree) (c .before .before .before .before .before .before .before .before .before .before .before .before .before .before .before .before .before .pre .held)), ← (c .before .before .before .before .before .before .before .before .before .before .before .before .start .ensures)) at (c .before .before .before .before .before .before .before .before .before .before .before .before .before .before .before .before .before .pre .room)) (lays (c .before .before .before .before .before .before .before .before .before .before .before .opening .ensures))) (lays (c .before .before .before .before .before .before .before .word .ensures))) (lays-as (c .before .before .before .before .before .before .before .before .before .before .before .before .before .before .before .before .before .pre .accepted) (c .before .before .before .import-path .ensures) .of (c .before .before .before .before .before .before .before .before .before .before .before .before .before .before .before .before .before .pre .tree) (c .before .before .before .before .before .before .before .before .before .before .before .before .before .before .before .before .before .pre .held))
 
 returns : tie.Need-returns
 unfolding DeclarationAt rules.declaration
-returns c = laid-as (record { of = λ x a. rw (← (import-start _ _ _ x a), ← (c .before .before .before .before .before .before .before .before .before .before .before .before .before .before .before .start .ensures)) (lays-then (lays (c .before .before .before .before .before .before .before .before .before .before .before .before .before .before .opening .ensures)) (lays-then (lays (c .before .before .before .before .before .before .before .before .before .before .word .ensures)) (lays-then (lays-as (c .before .before .before .before .before .before .before .before .before .before .before .before .before .before .before .before .before .before .before .before .pre .accepted) (c .before .before .before .before .before .before .item .ensures) .of x a) (lays (c .before .before .word2 .ensures))))) })
+returns c = laid-as (record { of = λ x a. rw (← (import-start _ _ _ x a), ← (c .before .before .before .before .before .before .before .before .before .before .before .before .before .before .before .start .ensures)) (lays-then (lays (c .before .before .before .before .before .before .before .before .before .before .before .before .before .before .opening .ensures)) (lays-then (lays (c .before .before .before .before .before .before .before .before .before .before .word .ensures)) (lays-then (lays-as (c .before .before .before .before .before .before .before .before .before .before .before .before .before .before .before .before .before .before .before .before .pre .accepted) (c .before .before .before .before .before .before .import-path .ensures) .of x a) (lays (c .before .before .word2 .ensures))))) })
 
 pub decl-import-spec : {M : Type 1} → statement M
 decl-import-spec =
@@ -38,7 +38,7 @@ decl-import-spec =
     start-requires
     opening-requires
     word-requires
-    item-requires
+    import-path-requires
     word-requires-2
     (λ c. search needs)
     returns)

@@ -3,8 +3,7 @@ use Rattle.state.proofs.Laws.{lays, room-first, room-next, lays-then}
 use Rattle.layout.specs.Layout as rules
 use Rattle.tree.specs.At.{DeclarationAt}
 use Rattle.layout.proofs.Places.{within, ident-whole, maybe-list}
-use Rattle.layout.proofs.Runs.{list-of, field-elems}
-use Rattle.layout.proofs.Lays.{lays-as, lays-list, laid-as}
+use Rattle.layout.proofs.Lays.{lays-as, laid-as}
 use Rattle.layout.proofs.declarations.decl_record.Statement.{statement}
 use Rattle.layout.proofs.declarations.decl_record.Tie as tie
 
@@ -17,24 +16,24 @@ unfolding DeclarationAt
 third-requires c κs = (within (ident-whole (c .before .before .before .before .pre .held .1)), maybe-list _ _ _ (c .before .before .before .before .pre .tree .1) (c .before .before .before .before .pre .held .2))
 
 declares-requires : tie.Need-declares-requires
-unfolding DeclarationAt rules.declaration rules.recordTypeRule
+unfolding DeclarationAt rules.declaration
 declares-requires c κs = record { accepted = c .before .before .before .before .before .before .pre .accepted; tree = c .before .before .before .before .before .before .pre .tree .0; held = c .before .before .before .before .before .before .pre .held .1; room = room-first _ (c .before .before .before .before .before .before .pre .room) }
 
-type-params-requires : tie.Need-type-params-requires
-unfolding DeclarationAt rules.declaration rules.recordTypeRule
-type-params-requires c κs = rw (c .before .before .before .before .before .before .second .ensures) (record { accepted = c .before .before .before .before .before .before .before .before .before .before .pre .accepted; tree = c .before .before .before .before .before .before .before .before .before .before .pre .tree .1; held = c .before .before .before .before .before .before .before .before .before .before .pre .held .2; room = room-first _ (room-next (c .before .before .before .before .before .before .before .before .before .before .pre .room) (lays-as (c .before .before .before .before .before .before .before .before .before .before .pre .accepted) (c .before .before .before .declares .ensures) .of (c .before .before .before .before .before .before .before .before .before .before .pre .tree .0) (c .before .before .before .before .before .before .before .before .before .before .pre .held .1))) })
+some-type-params-requires : tie.Need-some-type-params-requires
+unfolding DeclarationAt rules.declaration
+some-type-params-requires c κs = rw (c .before .before .before .before .before .before .second .ensures) (record { accepted = c .before .before .before .before .before .before .before .before .before .before .pre .accepted; tree = c .before .before .before .before .before .before .before .before .before .before .pre .tree .1; held = c .before .before .before .before .before .before .before .before .before .before .pre .held .2; room = room-first _ (room-next (c .before .before .before .before .before .before .before .before .before .before .pre .room) (lays-as (c .before .before .before .before .before .before .before .before .before .before .pre .accepted) (c .before .before .before .declares .ensures) .of (c .before .before .before .before .before .before .before .before .before .before .pre .tree .0) (c .before .before .before .before .before .before .before .before .before .before .pre .held .1))) })
 
 word-requires : tie.Need-word-requires
-unfolding DeclarationAt rules.declaration rules.recordTypeRule
-word-requires c κs = room-first _ (room-next (room-next (c .before .before .before .before .before .before .before .before .before .before .before .before .before .before .pre .room) (lays-as (c .before .before .before .before .before .before .before .before .before .before .before .before .before .before .pre .accepted) (c .before .before .before .before .before .before .before .declares .ensures) .of (c .before .before .before .before .before .before .before .before .before .before .before .before .before .before .pre .tree .0) (c .before .before .before .before .before .before .before .before .before .before .before .before .before .before .pre .held .1))) (lays-as (c .before .before .before .before .before .before .before .before .before .before .before .before .before .before .pre .accepted) (c .before .before .before .type-params .ensures) .of (c .before .before .before .before .before .before .before .before .before .before .before .before .before .before .pre .tree .1) (rw (c .before .before .before .before .before .before .before .before .before .before .second .ensures) (c .before .before .before .before .before .before .before .before .before .before .before .before .before .before .pre .held .2))))
+unfolding DeclarationAt rules.declaration
+word-requires c κs = room-first _ (room-next (room-next (c .before .before .before .before .before .before .before .before .before .before .before .before .before .before .pre .room) (lays-as (c .before .before .before .before .before .before .before .before .before .before .before .before .before .before .pre .accepted) (c .before .before .before .before .before .before .before .declares .ensures) .of (c .before .before .before .before .before .before .before .before .before .before .before .before .before .before .pre .tree .0) (c .before .before .before .before .before .before .before .before .before .before .before .before .before .before .pre .held .1))) (lays-as (c .before .before .before .before .before .before .before .before .before .before .before .before .before .before .pre .accepted) (c .before .before .before .some-type-params .ensures) .of (c .before .before .before .before .before .before .before .before .before .before .before .before .before .before .pre .tree .1) (rw (c .before .before .before .before .before .before .before .before .before .before .second .ensures) (c .before .before .before .before .before .before .before .before .before .before .before .before .before .before .pre .held .2))))
 
-seq-requires : tie.Need-seq-requires
-unfolding DeclarationAt rules.declaration rules.recordTypeRule
-seq-requires c κs = rw (c .before .before .before .before .before .before .before .before .before .before .before .before .before .third .ensures) (record { accepted = c .before .before .before .before .before .before .before .before .before .before .before .before .before .before .before .before .before .before .pre .accepted; tree = rules.fieldElems _ (c .before .before .before .before .before .before .before .before .before .before .before .before .before .before .before .before .before .before .pre .tree .3); held = list-of (c .before .before .before .before .before .before .before .before .before .before .before .before .before .before .before .before .before .before .pre .held .3) (field-elems _ _ _ _ (c .before .before .before .before .before .before .before .before .before .before .before .before .before .before .before .before .before .before .pre .tree .3) (c .before .before .before .before .before .before .before .before .before .before .before .before .before .before .before .before .before .before .pre .held .4)); span = c .before .before .before .before .before .before .before .before .before .before .before .before .before .before .before .before .before .before .pre .tree .2; ended = c .before .before .before .before .before .before .before .before .before .before .before .before .before .before .before .before .before .before .pre .held .3 .end; room = room-next (room-next (room-next (c .before .before .before .before .before .before .before .before .before .before .before .before .before .before .before .before .before .before .pre .room) (lays-as (c .before .before .before .before .before .before .before .before .before .before .before .before .before .before .before .before .before .before .pre .accepted) (c .before .before .before .before .before .before .before .before .before .before .before .declares .ensures) .of (c .before .before .before .before .before .before .before .before .before .before .before .before .before .before .before .before .before .before .pre .tree .0) (c .before .before .before .before .before .before .before .before .before .before .before .before .before .before .before .before .before .before .pre .held .1))) (lays-as (c .before .before .before .before .before .before .before .before .before .before .before .before .before .before .before .before .before .before .pre .accepted) (c .before .before .before .before .before .before .before .type-params .ensures) .of (c .before .before .before .before .before .before .before .before .before .before .before .before .before .before .before .before .before .before .pre .tree .1) (rw (c .before .before .before .before .before .before .before .before .before .before .before .before .before .before .second .ensures) (c .before .before .before .before .before .before .before .before .before .before .before .before .before .before .before .before .before .before .pre .held .2)))) (lays (c .before .before .before .word .ensures)) })
+record-type-requires : tie.Need-record-type-requires
+unfolding DeclarationAt rules.declaration
+record-type-requires c κs = rw (c .before .before .before .before .before .before .before .before .before .before .before .before .before .third .ensures) (record { accepted = c .before .before .before .before .before .before .before .before .before .before .before .before .before .before .before .before .before .before .pre .accepted; tree = (c .before .before .before .before .before .before .before .before .before .before .before .before .before .before .before .before .before .before .pre .tree .2, c .before .before .before .before .before .before .before .before .before .before .before .before .before .before .before .before .before .before .pre .tree .3); held = (c .before .before .before .before .before .before .before .before .before .before .before .before .before .before .before .before .before .before .pre .held .3, c .before .before .before .before .before .before .before .before .before .before .before .before .before .before .before .before .before .before .pre .held .4); room = room-next (room-next (room-next (c .before .before .before .before .before .before .before .before .before .before .before .before .before .before .before .before .before .before .pre .room) (lays-as (c .before .before .before .before .before .before .before .before .before .before .before .before .before .before .before .before .before .before .pre .accepted) (c .before .before .before .before .before .before .before .before .before .before .before .declares .ensures) .of (c .before .before .before .before .before .before .before .before .before .before .before .before .before .before .before .before .before .before .pre .tree .0) (c .before .before .before .before .before .before .before .before .before .before .before .before .before .before .before .before .before .before .pre .held .1))) (lays-as (c .before .before .before .before .before .before .before .before .before .before .before .before .before .before .before .before .before .before .pre .accepted) (c .before .before .before .before .before .before .before .some-type-params .ensures) .of (c .before .before .before .before .before .before .before .before .before .before .before .before .before .before .before .before .before .before .pre .tree .1) (rw (c .before .before .before .before .before .before .before .before .before .before .before .before .before .before .second .ensures) (c .before .before .before .before .before .before .before .before .before .before .before .before .before .before .before .before .before .before .pre .held .2)))) (lays (c .before .before .before .word .ensures)) })
 
 returns : tie.Need-returns
-unfolding DeclarationAt rules.declaration rules.recordTypeRule
-returns c = laid-as (record { of = λ x a. lays-then (lays-as (c .before .before .before .before .before .before .before .before .before .before .before .before .before .before .before .before .before .before .before .before .before .pre .accepted) (c .before .before .before .before .before .before .before .before .before .before .before .before .before .before .declares .ensures) .of (x .0) (a .1)) (lays-then (lays-as (c .before .before .before .before .before .before .before .before .before .before .before .before .before .before .before .before .before .before .before .before .before .pre .accepted) (c .before .before .before .before .before .before .before .before .before .before .type-params .ensures) .of (x .1) (rw (c .before .before .before .before .before .before .before .before .before .before .before .before .before .before .before .before .before .second .ensures) (a .2))) (lays-then (lays (c .before .before .before .before .before .before .word .ensures)) ((rw (c .before .before .before .before .before .before .before .before .before .before .before .before .before .before .before .before .third .ensures) at (lays-list (c .before .before .before .before .before .before .before .before .before .before .before .before .before .before .before .before .before .before .before .before .before .pre .accepted) (c .before .before .seq .ensures))) .of (rules.fieldElems _ (x .3)) (list-of (a .3) (field-elems _ _ _ _ (x .3) (a .4))) (x .2) (a .3 .end)))) })
+unfolding DeclarationAt rules.declaration
+returns c = laid-as (record { of = λ x a. lays-then (lays-as (c .before .before .before .before .before .before .before .before .before .before .before .before .before .before .before .before .before .before .before .before .before .pre .accepted) (c .before .before .before .before .before .before .before .before .before .before .before .before .before .before .declares .ensures) .of (x .0) (a .1)) (lays-then (lays-as (c .before .before .before .before .before .before .before .before .before .before .before .before .before .before .before .before .before .before .before .before .before .pre .accepted) (c .before .before .before .before .before .before .before .before .before .before .some-type-params .ensures) .of (x .1) (rw (c .before .before .before .before .before .before .before .before .before .before .before .before .before .before .before .before .before .second .ensures) (a .2))) (lays-then (lays (c .before .before .before .before .before .before .word .ensures)) ((rw (c .before .before .before .before .before .before .before .before .before .before .before .before .before .before .before .before .third .ensures) at (lays-as (c .before .before .before .before .before .before .before .before .before .before .before .before .before .before .before .before .before .before .before .before .before .pre .accepted) (c .before .before .record-type .ensures))) .of (x .2, x .3) (a .3, a .4)))) })
 
 pub decl-record-spec : {M : Type 1} → statement M
 decl-record-spec =
@@ -44,8 +43,8 @@ decl-record-spec =
     third-requires
     (λ c. search needs)
     declares-requires
-    type-params-requires
+    some-type-params-requires
     word-requires
-    seq-requires
+    record-type-requires
     (λ c. search needs)
     returns)

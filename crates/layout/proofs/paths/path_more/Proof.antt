@@ -9,7 +9,7 @@ use Rattle.tree.specs.At.{IdentsAt}
 use Rattle.state.specs.declared.Cursor.{Cursor}
 use Rattle.layout.specs.Layout.{pathMore}
 use Rattle.layout.specs.Contracts.{HasAll}
-use Rattle.layout.proofs.Idents.{idents-first, first-has, rest-has, idents-none, idents-more}
+use Rattle.layout.proofs.IdentLaws.{idents-first, first-has, rest-has, idents-none, idents-more}
 use Rattle.layout.proofs.Lays.{LaysAll, lays-as, laid-all}
 use Rattle.layout.proofs.paths.path_more.Statement.{statement}
 use Rattle.layout.proofs.paths.path_more.Tie as tie

@@ -1,19 +1,19 @@
-use Rattle.layout_call.proofs.Tests.{first-fails, second-fails, third-fails, none-fails}
+use Rattle.layout_call.proofs.Tests.{places-fail, limits-fail, begun-fails, stop-says}
 use borrow.Author.Needs.{needs}
 use Rattle.layout_call.proofs.fits.state_fits.Statement.{statement}
 use Rattle.layout_call.proofs.fits.state_fits.Tie as tie
 
 returns : tie.Need-returns
-returns c = first-fails (c .before .before .args .state) (c .before .before .args .stop) (c .before .before .args .close) (c .before .before .args .declarations) (c .before .before .args .comments) (c .before .before .args .size) (c .before .before .args .rows) (c .before .places-fit .result) (c .before .places-fit .ensures) (c .if1 .taken)
+returns c = places-fail (c .before .before .args .state) (c .before .before .args .args) (c .before .before .args .declarations) (c .before .before .args .comments) (c .before .before .args .size) (c .before .before .args .rows) (c .before .places-fit .result) (c .before .places-fit .ensures) (c .if1 .taken)
 
 returns-2 : tie.Need-returns-2
-returns-2 c = second-fails (c .before .before .before .before .args .state) (c .before .before .before .before .args .stop) (c .before .before .before .before .args .close) (c .before .before .before .before .args .declarations) (c .before .before .before .before .args .comments) (c .before .before .before .before .args .size) (c .before .before .before .before .args .rows) (c .before .numbers-fit .result) (c .before .numbers-fit .ensures) (c .if2 .taken)
+returns-2 c = limits-fail (c .before .before .before .before .args .state) (c .before .before .before .before .args .args) (c .before .before .before .before .args .declarations) (c .before .before .before .before .args .comments) (c .before .before .before .before .args .size) (c .before .before .before .before .args .rows) (c .before .before .before .places-fit .result) (c .before .before .before .places-fit .ensures) (c .before .before .if1 .left) (c .before .limits-fit .result) (c .before .limits-fit .ensures) (c .if2 .taken)
 
 returns-3 : tie.Need-returns-3
-returns-3 c = third-fails (c .before .before .before .before .before .before .args .state) (c .before .before .before .before .before .before .args .stop) (c .before .before .before .before .before .before .args .close) (c .before .before .before .before .before .before .args .declarations) (c .before .before .before .before .before .before .args .comments) (c .before .before .before .before .before .before .args .size) (c .before .before .before .before .before .before .args .rows) (c .before .begins-fresh .result) (c .before .begins-fresh .ensures) (c .if3 .taken)
+returns-3 c = begun-fails (c .before .before .before .before .before .before .args .state) (c .before .before .before .before .before .before .args .args) (c .before .before .before .before .before .before .args .declarations) (c .before .before .before .before .before .before .args .comments) (c .before .before .before .before .before .before .args .size) (c .before .before .before .before .before .before .args .rows) (c .before .before .before .before .before .places-fit .result) (c .before .before .before .before .before .places-fit .ensures) (c .before .before .before .before .if1 .left) (c .before .before .before .limits-fit .result) (c .before .before .before .limits-fit .ensures) (c .before .before .if2 .left) (c .before .begins-fresh .result) (c .before .begins-fresh .ensures) (c .if3 .taken)
 
 returns-4 : tie.Need-returns-4
-returns-4 c = none-fails (c .before .before .before .before .before .before .before .args .state) (c .before .before .before .before .before .before .before .args .stop) (c .before .before .before .before .before .before .before .args .close) (c .before .before .before .before .before .before .before .args .declarations) (c .before .before .before .before .before .before .before .args .comments) (c .before .before .before .before .before .before .before .args .size) (c .before .before .before .before .before .before .before .args .rows) (c .before .before .before .before .before .before .places-fit .result) (c .before .before .before .before .numbers-fit .result) (c .before .before .begins-fresh .result) (c .stop-fits .result) (c .before .before .before .before .before .before .places-fit .ensures) (c .before .before .before .before .before .if1 .left) (c .before .before .before .before .numbers-fit .ensures) (c .before .before .before .if2 .left) (c .before .before .begins-fresh .ensures) (c .before .if3 .left) (c .stop-fits .ensures)
+returns-4 c = stop-says (c .before .before .before .before .before .before .before .args .state) (c .before .before .before .before .before .before .before .args .args) (c .before .before .before .before .before .before .before .args .declarations) (c .before .before .before .before .before .before .before .args .comments) (c .before .before .before .before .before .before .before .args .size) (c .before .before .before .before .before .before .before .args .rows) (c .before .before .before .before .before .before .places-fit .result) (c .before .before .before .before .before .before .places-fit .ensures) (c .before .before .before .before .before .if1 .left) (c .before .before .before .before .limits-fit .result) (c .before .before .before .before .limits-fit .ensures) (c .before .before .before .if2 .left) (c .before .before .begins-fresh .result) (c .stop-fits .result) (c .before .before .begins-fresh .ensures) (c .before .if3 .left) (c .stop-fits .ensures)
 
 pub state-fits-spec : {M : Type 1} → statement M
 state-fits-spec =

@@ -1,19 +1,19 @@
 use Prim.Native.Nat.{ℕ}
-use Rattle.layout_call.proofs.Standing.{stands, first-in, tree-in, starts-first, another, no-more, record-in, goes-on, few-declarations}
+use Rattle.layout_call.proofs.Standing.{first-in, tree-in, starts-first, another, no-more, record-in, goes-on, few-declarations}
 use Rattle.layout_call.specs.Steps.{declared, startOf}
 use Rattle.image.specs.Read.{stopAt}
 use lib.ListN.{length}
 use native.Mathlib.Omega.{arith}
-use mathlib.Core.Path.{_≡_, refl, sym, ap, _∙_}
-use Prim.Native.Nat.{_-_, _≤_, _+_}
+use mathlib.Core.Path.{_≡_, sym, ap, _∙_}
+use Prim.Native.Nat.{_-_, _≤_}
 use Rattle.layout_call.proofs.steps.count_declarations.Statement.{statement}
 use Rattle.layout_call.proofs.steps.count_declarations.Tie as tie
 
 abbrev Inv-loop : tie.InvT-loop
-Inv-loop s b n at end p₀ count₀ p count = (count ≤ length (declared s b)) × (_≡_ {A = ℕ} p (startOf s b at count)) × (_≡_ {A = ℕ} end (stopAt b at))
+Inv-loop s b at end p₀ count₀ p count = (count ≤ length (declared s b)) × (_≡_ {A = ℕ} p (startOf s b at count)) × (_≡_ {A = ℕ} end (stopAt b at))
 
 abbrev μ-loop : tie.MeasureT-loop
-μ-loop s b n at end p₀ count₀ p count = length (declared s b) - count
+μ-loop s b at end p₀ count₀ p count = length (declared s b) - count
 
 past-requires : tie.Need-past-requires Inv-loop μ-loop
 past-requires c κs = tree-in (c .before .before .pre)

@@ -1,19 +1,18 @@
 use Prim.Native.Nat.{ℕ}
 use Rattle.layout_call.proofs.Standing.{first-in, starts-first, record-in, goes-on}
-use Rattle.layout_call.specs.Steps.{declared, startOf}
+use Rattle.layout_call.specs.Steps.{startOf}
 use Rattle.image.specs.Read.{stopAt}
-use lib.ListN.{length}
 use native.Mathlib.Omega.{arith}
-use mathlib.Core.Path.{_≡_, refl, sym, ap, _∙_}
-use Prim.Native.Nat.{_-_, _≤_, _+_}
+use mathlib.Core.Path.{_≡_, sym, ap, _∙_}
+use Prim.Native.Nat.{_-_, _≤_}
 use Rattle.layout_call.proofs.steps.declaration_at.Statement.{statement}
 use Rattle.layout_call.proofs.steps.declaration_at.Tie as tie
 
 abbrev Inv-loop : tie.InvT-loop
-Inv-loop s b n at k p₀ i₀ p i = (i ≤ k) × (_≡_ {A = ℕ} p (startOf s b at i))
+Inv-loop s b k at p₀ i₀ p i = (i ≤ k) × (_≡_ {A = ℕ} p (startOf s b at i))
 
 abbrev μ-loop : tie.MeasureT-loop
-μ-loop s b n at k p₀ i₀ p i = k - i
+μ-loop s b k at p₀ i₀ p i = k - i
 
 second-requires : tie.Need-second-requires Inv-loop μ-loop
 second-requires c κs = first-in (c .before .before .pre .0)

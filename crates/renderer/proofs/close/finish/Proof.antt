@@ -4,11 +4,11 @@ use Rattle.renderer.proofs.close.finish.Statement.{statement}
 use Rattle.renderer.proofs.close.finish.Tie as tie
 
 close-requires : tie.Need-close-requires
-close-requires c κs = backs-at (c .before .before .before .before .before .args .store .now) (c .before .before .before .before .before .args .r) (c .before .before .before .before .before .args .f) _ _ (c .before .before .before .wide .ensures) (c .before .before .place .ensures .0) (c .before .before .before .before .before .pre)
+close-requires c κs = backs-at (c .before .before .before .before .before .args .store .now) (c .before .before .before .before .before .args .r) (c .before .before .before .before .before .args .f) _ _ (c .before .before .before .to-usize .ensures) (c .before .before .place .ensures .0) (c .before .before .before .before .before .pre)
 
 returns : tie.Need-returns
 returns c =
-    finished (c .before .before .before .before .before .before .before .args .store .now) (c .before .before .before .before .before .before .before .args .r) (c .before .before .before .before .before .before .before .args .f) _ _ _ _ _ (c .before .before .before .before .before .wide .ensures) (c .before .before .before .before .place .ensures .0) (c .before .before .before .place2 .ensures .0) (c .before .close .ensures) (c .closed .ensures)
+    finished (c .before .before .before .before .before .before .before .args .store .now) (c .before .before .before .before .before .before .before .args .r) (c .before .before .before .before .before .before .before .args .f) _ _ _ _ _ (c .before .before .before .before .before .to-usize .ensures) (c .before .before .before .before .place .ensures .0) (c .before .before .before .place2 .ensures .0) (c .before .close .ensures) (c .closed .ensures)
 
 pub finish-spec : {M : Type 1} → statement M
 finish-spec =

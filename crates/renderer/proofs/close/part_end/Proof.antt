@@ -4,10 +4,10 @@ use Rattle.renderer.proofs.close.part_end.Statement.{statement}
 use Rattle.renderer.proofs.close.part_end.Tie as tie
 
 returns : tie.Need-returns
-returns c = part-early _ (c .before .before .before .before .args .f) _ _ (c .before .wide .ensures) (c .before .before .if1 .taken) (c .place .ensures .0)
+returns c = part-early _ (c .before .before .before .before .args .f) _ _ (c .before .to-usize .ensures) (c .before .before .if1 .taken) (c .place .ensures .0)
 
 returns-2 : tie.Need-returns-2
-returns-2 c = part-late _ (c .before .before .before .before .args .f) _ _ (c .before .wide2 .ensures) (c .before .before .if1 .left) (c .place2 .ensures .0)
+returns-2 c = part-late _ (c .before .before .before .before .args .f) _ _ (c .before .to-usize2 .ensures) (c .before .before .if1 .left) (c .place2 .ensures .0)
 
 pub part-end-spec : {M : Type 1} → statement M
 part-end-spec =

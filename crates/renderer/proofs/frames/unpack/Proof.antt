@@ -1,10 +1,10 @@
 use mathlib.Core.Path.{refl}
-use Rattle.renderer.specs.Run.{unpacked}
+use Rattle.renderer.specs.Run.{unpackedFrame}
 use Rattle.renderer.proofs.frames.unpack.Statement.{statement}
 use Rattle.renderer.proofs.frames.unpack.Tie as tie
 
 returns : tie.Need-returns
-unfolding unpacked
+unfolding unpackedFrame
 returns c = refl
 
 pub unpack-spec : {M : Type 1} → statement M

@@ -1,11 +1,9 @@
 use mathlib.Core.Path.{refl}
-use Rattle.renderer.specs.Lent.{broken}
 use borrow.Author.Needs.{needs}
 use Rattle.renderer.proofs.lent.broken.Statement.{statement}
 use Rattle.renderer.proofs.lent.broken.Tie as tie
 
 returns : tie.Need-returns
-unfolding broken
 returns c = refl
 
 pub broken-spec : {M : Type 1} → statement M

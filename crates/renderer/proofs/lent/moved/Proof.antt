@@ -1,10 +1,8 @@
 use mathlib.Core.Path.{refl}
-use Rattle.renderer.specs.Lent.{moved}
 use Rattle.renderer.proofs.lent.moved.Statement.{statement}
 use Rattle.renderer.proofs.lent.moved.Tie as tie
 
 returns : tie.Need-returns
-unfolding moved
 returns c = refl
 
 pub moved-spec : {M : Type 1} → statement M

@@ -9,16 +9,13 @@ use Rattle.renderer.proofs.open.enter_arguments.Tie as tie
 
 group-wraps-requires : tie.Need-group-wraps-requires
 group-wraps-requires c κs = (
-  nested-to _ _ _ _ (c .before .before .place .ensures .0 ∙ ap (λ (x : ℕ). cell (c .before .before .before .before .before .before .before .before .args .store .now) x 4) (c .before .before .before .wide .ensures)) (c .before .before .before .before .before .before .before .before .pre .1 .1 .1 .1 .0),
+  nested-to _ _ _ _ (c .before .before .place .ensures .0 ∙ ap (λ (x : ℕ). cell (c .before .before .before .before .before .before .before .before .args .store .now) x 4) (c .before .before .before .to-usize .ensures)) (c .before .before .before .before .before .before .before .before .pre .1 .1 .1 .1 .0),
   (c .before .before .before .before .before .before .before .before .pre .1 .1 .1 .1 .1 .0, c .before .before .before .before .before .before .before .before .pre .1 .1 .1 .1 .1 .1),
 )
 
-pack-requires : tie.Need-pack-requires
-pack-requires c κs = c .before .before .before .before .before .before .before .before .before .before .before .before .before .pre .1 .1 .1 .0
-
 returns : tie.Need-returns
 returns c =
-    arguments-opened _ _ _ _ _ _ (c .before .before .before .before .before .before .before .before .before .before .before .before .before .before .args .f) (c .before .before .before .before .before .before .before .before .before .wide .result) (c .before .before .before .before .before .before .before .before .place .result) (c .before .before .before .before .before .before .before .place2 .result) (c .before .before .before .before .before .group-wraps .result) (c .before .before .before .before .before .before .before .before .before .wide .ensures) (c .before .before .before .before .before .before .before .before .place .ensures .0) (c .before .before .before .before .before .before .before .place2 .ensures .0) (c .before .before .before .before .before .group-wraps .ensures) (c .before .before .before .insert .ensures) (stored-packed (c .before .before .before .before .before .before .before .before .before .before .before .before .before .before .args .frames .now) (c .before .before .before .before .before .before .before .before .before .before .before .before .before .before .args .r) _ (c .pack .result) _ (c .pack .ensures))
+    arguments-opened _ _ _ _ _ _ (c .before .before .before .before .before .before .before .before .before .before .before .before .before .before .args .f) (c .before .before .before .before .before .before .before .before .before .to-usize .result) (c .before .before .before .before .before .before .before .before .place .result) (c .before .before .before .before .before .before .before .place2 .result) (c .before .before .before .before .before .group-wraps .result) (c .before .before .before .before .before .before .before .before .before .to-usize .ensures) (c .before .before .before .before .before .before .before .before .place .ensures .0) (c .before .before .before .before .before .before .before .place2 .ensures .0) (c .before .before .before .before .before .group-wraps .ensures) (c .before .before .before .insert .ensures) (stored-packed (c .before .before .before .before .before .before .before .before .before .before .before .before .before .before .args .frames .now) (c .before .before .before .before .before .before .before .before .before .before .before .before .before .before .args .r) _ (c .pack .result) _ (c .pack .ensures))
 
 pub enter-arguments-spec : {M : Type 1} → statement M
 enter-arguments-spec =
@@ -30,7 +27,7 @@ enter-arguments-spec =
     (λ c κs. search needs)
     group-wraps-requires
     (λ c κs. search needs)
-    pack-requires
+    (λ c κs. search needs)
     (λ c. search needs)
     (λ c. search needs)
     (λ c. search needs)

@@ -17,11 +17,11 @@ callee-wraps-requires c κs = (
 )
 
 opened-requires : tie.Need-opened-requires
-opened-requires c κs = (c .before .before .before .before .before .before .before .before .before .before .before .before .before .before .before .before .before .pre .0 .depth, c .before .before .before .before .before .before .before .before .before .before .before .before .before .before .before .before .before .pre .0 .few)
+opened-requires c κs = (c .before .before .before .before .before .before .before .before .before .before .before .before .before .before .before .before .before .before .pre .0 .depth, c .before .before .before .before .before .before .before .before .before .before .before .before .before .before .before .before .before .before .pre .0 .few)
 
 returns : tie.Need-returns
 returns c =
-    call-opened _ _ _ _ _ _ (c .before .before .before .before .before .before .before .before .before .before .before .before .before .before .place .result) (c .before .before .before .before .before .before .before .before .before .before .before .before .before .place2 .result) (c .before .before .before .before .before .before .before .before .before .before .before .before .place3 .result) (c .before .before .before .before .before .before .before .before .before .before .trails .result) (c .before .before .before .before .before .before .before .before .callee-wraps .result) (c .before .before .before .made-up .result) (c .before .indent-next .result) (c .before .before .before .before .before .before .before .before .before .before .before .before .before .before .place .ensures .0) (c .before .before .before .before .before .before .before .before .before .before .before .before .before .place2 .ensures .0) (c .before .before .before .before .before .before .before .before .before .before .before .before .place3 .ensures .0) (c .before .before .before .before .before .before .before .before .before .before .trails .ensures) (c .before .before .before .before .before .before .before .before .callee-wraps .ensures) (c .before .before .before .made-up .ensures) (c .before .indent-next .ensures) (c .before .before .before .before .before .before .insert .ensures) (c .opened .ensures)
+    call-opened _ _ _ _ _ _ (c .before .before .before .before .before .before .before .before .before .before .before .before .before .before .before .place .result) (c .before .before .before .before .before .before .before .before .before .before .before .before .before .before .place2 .result) (c .before .before .before .before .before .before .before .before .before .before .before .before .before .place3 .result) (c .before .before .before .before .before .before .before .before .before .before .before .trails .result) (c .before .before .before .before .before .before .before .before .before .callee-wraps .result) (c .before .before .before .before .made-up .result) (c .before .before .indent-next .result) (c .before .set-pen .result) (c .before .before .before .before .before .before .before .before .before .before .before .before .before .before .before .place .ensures .0) (c .before .before .before .before .before .before .before .before .before .before .before .before .before .before .place2 .ensures .0) (c .before .before .before .before .before .before .before .before .before .before .before .before .before .place3 .ensures .0) (c .before .before .before .before .before .before .before .before .before .before .before .trails .ensures) (c .before .before .before .before .before .before .before .before .before .callee-wraps .ensures) (c .before .before .before .before .made-up .ensures) (c .before .before .indent-next .ensures) (c .before .set-pen .ensures) (c .before .before .before .before .before .before .before .insert .ensures) (c .opened .ensures)
 
 pub enter-call-spec : {M : Type 1} → statement M
 enter-call-spec =
@@ -38,6 +38,7 @@ enter-call-spec =
     (λ c κs. search needs)
     (λ c. search needs)
     (λ c. search needs)
+    (λ c κs. search needs)
     (λ c κs. search needs)
     opened-requires
     (λ c. search needs)

@@ -8,9 +8,6 @@ group-wraps-requires : tie.Need-group-wraps-requires
 group-wraps-requires c κs =
     (nested-to _ _ _ _ (c .before .before .place .ensures .0) (c .before .before .before .before .before .before .pre .1), (omega (arith, c .before .before .before .before .before .before .pre .0 .indent), c .before .before .before .before .before .before .pre .0 .column))
 
-opened-requires : tie.Need-opened-requires
-opened-requires c κs = (c .before .before .before .before .before .before .before .before .before .before .before .before .pre .0 .depth, c .before .before .before .before .before .before .before .before .before .before .before .before .pre .0 .few)
-
 returns : tie.Need-returns
 returns c =
     group-opened _ _ _ _ _ _ (c .before .before .before .before .before .before .before .before .before .place .result) (c .before .before .before .before .before .before .before .before .place2 .result) (c .before .before .before .before .before .before .group-wraps .result) (c .before .before .before .before .before .before .before .before .before .place .ensures .0) (c .before .before .before .before .before .before .before .before .place2 .ensures .0) (c .before .before .before .before .before .before .group-wraps .ensures) (c .before .before .before .before .insert .ensures) (c .opened .ensures)
@@ -26,6 +23,6 @@ enter-group-spec =
     (λ c κs. search needs)
     (λ c. search needs)
     (λ c. search needs)
-    opened-requires
+    (λ c κs. search needs)
     (λ c. search needs)
     returns)

@@ -1,5 +1,5 @@
 use native.Mathlib.Omega.{arith}
-use Rattle.renderer.proofs.Drawn.{remark-drawn-on, remark-drawn-new, room-margin, room-put}
+use Rattle.renderer.proofs.Writes.{comment-writes-on, comment-writes-new, room-margin, room-put}
 use borrow.Author.Needs.{needs}
 use Rattle.renderer.proofs.pen.comment.Statement.{statement}
 use Rattle.renderer.proofs.pen.comment.Tie as tie
@@ -8,13 +8,13 @@ end-line-requires : tie.Need-end-line-requires
 end-line-requires c κs = (room-put _ _ _ _ _ _ _ (c .before .before .before .before .before .before .before .before .before .pre .0) (c .before .before .before .put .ensures) (omega arith) (omega arith), search needs)
 
 returns : tie.Need-returns
-returns c = remark-drawn-on _ _ _ _ _ _ _ _ _ (c .before .before .before .before .before .before .before .before .if1 .taken) (c .before .before .before .before .before .before .put .ensures) (c .before .before .end-line .ensures)
+returns c = comment-writes-on _ _ _ _ _ _ _ _ _ (c .before .before .before .before .before .before .before .before .if1 .taken) (c .before .before .before .before .before .before .put .ensures) (c .before .before .end-line .ensures)
 
 end-line-requires-2 : tie.Need-end-line-requires-2
 end-line-requires-2 c κs = (room-margin _ _ _ _ _ (c .before .before .before .before .before .before .before .before .before .pre .0) (c .before .before .before .start-line .ensures), search needs)
 
 returns-2 : tie.Need-returns-2
-returns-2 c = remark-drawn-new _ _ _ _ _ _ _ _ (c .before .before .before .before .before .before .before .before .if1 .left) (c .before .before .before .before .before .before .start-line .ensures) (c .before .before .end-line2 .ensures)
+returns-2 c = comment-writes-new _ _ _ _ _ _ _ _ (c .before .before .before .before .before .before .before .before .if1 .left) (c .before .before .before .before .before .before .start-line .ensures) (c .before .before .end-line2 .ensures)
 
 pub comment-spec : {M : Type 1} → statement M
 comment-spec =

@@ -1,6 +1,6 @@
 use native.Mathlib.Omega.{arith}
 use Rattle.renderer.proofs.Written.{text-fits}
-use Rattle.renderer.proofs.Drawn.{ended}
+use Rattle.renderer.proofs.Writes.{ended}
 use borrow.Author.Needs.{needs}
 use Rattle.renderer.proofs.pen.end_line.Statement.{statement}
 use Rattle.renderer.proofs.pen.end_line.Tie as tie
@@ -24,7 +24,7 @@ add-t16 c =
     omega (arith, c .before .before .before .before .before .before .before .before .before .before .before .before .before .pre .0 .at, c .before .before .before .before .before .before .before .before .before .before .before .before .before .pre .1 .1)
 
 returns : tie.Need-returns
-returns c = ended _ _ _ _ _ _ _ (c .before .before .before .before .before .before .before .before .copy .ensures .1) (c .before .before .before .before .before .before .before .before .copy .ensures .0) (c .before .before .before .emit .ensures)
+returns c = ended _ _ _ _ _ _ _ _ (c .before .before .before .before .before .before .before .before .before .copy .ensures .1) (c .moved-to .ensures) (c .before .before .before .before .before .before .before .before .before .copy .ensures .0) (c .before .before .before .before .emit .ensures)
 
 pub end-line-spec : {M : Type 1} → statement M
 end-line-spec =
@@ -35,5 +35,6 @@ end-line-spec =
     (λ c κs. search needs)
     add-t14
     add-t16
+    (λ c κs. search needs)
     (λ c. search needs)
     returns)

@@ -1,11 +1,11 @@
 use mathlib.Core.Path.{refl}
-use Rattle.renderer.proofs.Drawn.{put-drawn}
+use Rattle.renderer.proofs.Writes.{put-writes}
 use borrow.Author.Needs.{needs}
 use Rattle.renderer.proofs.pen.put.Statement.{statement}
 use Rattle.renderer.proofs.pen.put.Tie as tie
 
 returns : tie.Need-returns
-returns c = put-drawn _ _ _ _ _ _ 1 refl (c .before .before .before .before .emit .ensures)
+returns c = put-writes _ _ _ _ _ _ _ 1 refl (c .moved-to .ensures) (c .before .before .before .before .before .emit .ensures)
 
 pub put-spec : {M : Type 1} → statement M
-put-spec = tie.close (tie.spec (λ c κs. search needs) (λ c. search needs) (λ c. search needs) (λ c. search needs) returns)
+put-spec = tie.close (tie.spec (λ c κs. search needs) (λ c. search needs) (λ c. search needs) (λ c κs. search needs) (λ c. search needs) returns)

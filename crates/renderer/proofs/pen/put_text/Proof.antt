@@ -1,6 +1,6 @@
 use native.Mathlib.Omega.{arith}
 use Rattle.renderer.proofs.Written.{text-fits}
-use Rattle.renderer.proofs.Drawn.{put-drawn}
+use Rattle.renderer.proofs.Writes.{put-writes}
 use borrow.Author.Needs.{needs}
 use Rattle.renderer.proofs.pen.put_text.Statement.{statement}
 use Rattle.renderer.proofs.pen.put_text.Tie as tie
@@ -12,14 +12,8 @@ add-t14 c =
     omega (arith, c .before .before .before .before .before .before .before .before .before .before .pre .0 .at, c .before .before .before .before .before .before .before .before .before .before .pre .1 .1 .0)
 
 returns : tie.Need-returns
-returns c = put-drawn _ _ _ _ _ _ (c .before .before .before .before .before .copy .result .0) (c .before .before .before .before .before .copy .ensures .1) (c .before .before .before .before .before .copy .ensures .0)
+returns c = put-writes _ _ _ _ _ _ _ (c .before .before .before .before .before .before .copy .result .0) (c .before .before .before .before .before .before .copy .ensures .1) (c .moved-to .ensures) (c .before .before .before .before .before .before .copy .ensures .0)
 
 pub put-text-spec : {M : Type 1} → statement M
 put-text-spec =
-    tie.close
-    (tie.spec
-    (λ c κs. search needs)
-    (λ c. search needs)
-    add-t14
-    (λ c. search needs)
-    returns)
+    tie.close (tie.spec (λ c κs. search needs) (λ c. search needs) add-t14 (λ c κs. search needs) (λ c. search needs) returns)

@@ -1,11 +1,11 @@
-use Rattle.renderer.proofs.Drawn.{margin-drawn}
+use Rattle.renderer.proofs.Writes.{margin-writes}
 use borrow.Author.Needs.{needs}
 use Rattle.renderer.proofs.pen.start_line.Statement.{statement}
 use Rattle.renderer.proofs.pen.start_line.Tie as tie
 
 returns : tie.Need-returns
 returns c =
-    margin-drawn _ _ _ _ (c .before .before .before .before .before .before .margin-bytes .result .0) (c .before .before .before .before .before .margin-columns .result .0) (c .before .before .before .before .before .before .margin-bytes .ensures) (c .before .before .before .before .before .margin-columns .ensures) (c .before .before .before .spaces .ensures)
+    margin-writes _ _ _ _ _ (c .before .before .before .before .before .before .before .margin-bytes .result .0) (c .before .before .before .before .before .before .margin-columns .result .0) (c .before .before .before .before .before .before .before .margin-bytes .ensures) (c .before .before .before .before .before .before .margin-columns .ensures) (c .moved-to .ensures) (c .before .before .before .before .spaces .ensures)
 
 pub start-line-spec : {M : Type 1} → statement M
 start-line-spec =
@@ -15,5 +15,6 @@ start-line-spec =
     (λ c κs. search needs)
     (λ c κs. search needs)
     (λ c. search needs)
+    (λ c κs. search needs)
     (λ c. search needs)
     returns)

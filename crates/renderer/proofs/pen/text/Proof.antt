@@ -1,16 +1,16 @@
-use Rattle.renderer.proofs.Drawn.{text-drawn-on, text-drawn-new, room-margin}
+use Rattle.renderer.proofs.Writes.{text-writes-on, text-writes-new, room-margin}
 use borrow.Author.Needs.{needs}
 use Rattle.renderer.proofs.pen.text.Statement.{statement}
 use Rattle.renderer.proofs.pen.text.Tie as tie
 
 returns : tie.Need-returns
-returns c = text-drawn-on _ _ _ _ _ _ _ (c .before .before .before .before .if1 .taken) (c .before .before .put-text .ensures)
+returns c = text-writes-on _ _ _ _ _ _ _ (c .before .before .before .before .if1 .taken) (c .before .before .put-text .ensures)
 
 put-text-requires-2 : tie.Need-put-text-requires-2
 put-text-requires-2 c κs = (room-margin _ _ _ _ _ (c .before .before .before .before .before .before .before .before .before .before .pre .0) (c .before .before .before .start-line .ensures), search needs)
 
 returns-2 : tie.Need-returns-2
-returns-2 c = text-drawn-new _ _ _ _ _ _ _ _ _ (c .before .before .before .before .before .before .before .before .if1 .left) (c .before .before .before .before .before .before .start-line .ensures) (c .before .before .put-text2 .ensures)
+returns-2 c = text-writes-new _ _ _ _ _ _ _ _ _ (c .before .before .before .before .before .before .before .before .if1 .left) (c .before .before .before .before .before .before .start-line .ensures) (c .before .before .put-text2 .ensures)
 
 pub text-spec : {M : Type 1} → statement M
 text-spec =

@@ -32,7 +32,7 @@ inside c = in-store _ _ _ _ _ _ _ _ _ (c .before .before .loop .inv) (entered c)
 
 -- the row after the one whose first part is left
 went : (c : tie.After-part-end Inv-loop μ-loop) → c .before .before .place .result ≡ cell (c .before .before .before .before .before .before .before .before .before .args .store .now) (getD (c .before .before .before .before .before .before .loop .firsts) (c .before .before .before .before .before .before .loop .depth - 1) 0) 4
-went c = c .before .before .place .ensures .0 ∙ ap (λ (q : ℕ). cell (c .before .before .before .before .before .before .before .before .before .args .store .now) q 4) (c .before .before .before .wide .ensures)
+went c = c .before .before .place .ensures .0 ∙ ap (λ (q : ℕ). cell (c .before .before .before .before .before .before .before .before .before .args .store .now) q 4) (c .before .before .before .to-usize .ensures)
 
 loop-holds : tie.Need-loop-holds Inv-loop μ-loop
 loop-holds c = started _ _ _ _ _ (c .before .before .pre) refl
@@ -40,16 +40,16 @@ loop-holds c = started _ _ _ _ _ (c .before .before .pre) refl
 sub-depth : tie.Need-sub-depth Inv-loop μ-loop
 sub-depth c = omega (arith, leaves c)
 
-mul-wide : tie.Need-mul-wide Inv-loop μ-loop
-mul-wide c = omega (arith, c .before .before .loop .inv .w .deep)
+mul-to-usize : tie.Need-mul-to-usize Inv-loop μ-loop
+mul-to-usize c = omega (arith, c .before .before .loop .inv .w .deep)
 
-array-read-wide : tie.Need-array-read-wide Inv-loop μ-loop
-array-read-wide c = omega (arith, leaves c, c .before .before .loop .inv .w .deep)
+array-read-to-usize : tie.Need-array-read-to-usize Inv-loop μ-loop
+array-read-to-usize c = omega (arith, leaves c, c .before .before .loop .inv .w .deep)
 
 place-requires : tie.Need-place-requires Inv-loop μ-loop
 place-requires c κs =
     let r = popped-row _ _ _ _ _ _ _ _ _ (c .before .before .before .loop .inv) (leaves (c .before)) in
-    let e = c .wide .ensures in
+    let e = c .to-usize .ensures in
     omega (arith, c .before .before .before .before .before .before .pre .room)
 
 part-end-requires : tie.Need-part-end-requires Inv-loop μ-loop
@@ -140,8 +140,8 @@ width-spec =
     μ-loop
     loop-holds
     sub-depth
-    mul-wide
-    array-read-wide
+    mul-to-usize
+    array-read-to-usize
     (λ c κs. search needs)
     place-requires
     part-end-requires

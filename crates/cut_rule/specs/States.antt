@@ -1,0 +1,49 @@
+-- Document 01's carried states, and what a call may choose.
+use mathlib.Core.Bool.{Bool, false}
+use Prim.Native.Nat.{ℕ}
+
+-- the numbers that a step of layout changes
+pub record Cursor : Type 0 where
+  pub row : ℕ
+  pub number : ℕ
+  pub placed : ℕ
+  pub position : ℕ
+
+-- "Layout state: begun, closed, next declaration, next row, next number, comments placed, position."
+pub record LayoutState : Type 0 where
+  pub begun : Bool
+  pub closed : Bool
+  pub declaration : ℕ
+  pub cursor : Cursor
+
+-- the numbers that rendering a row changes
+pub record Pen : Type 0 where
+  pub indent : ℕ
+  pub next-indent : ℕ
+  pub column : ℕ
+
+-- "Rendering state: `indent`, `next_indent`, `column`, marks in use, next row."
+pub record RenderState : Type 0 where
+  pub pen : Pen
+  pub in-use : ℕ
+  pub row : ℕ
+
+-- "Fresh is all 0."
+abbrev pub layoutFresh : LayoutState
+layoutFresh = record { begun = false; closed = false; declaration = 0; cursor = record { row = 0; number = 0; placed = 0; position = 0 } }
+
+abbrev pub renderFresh : RenderState
+renderFresh = record { pen = record { indent = 0; next-indent = 0; column = 0 }; in-use = 0; row = 0 }
+
+-- What a call may choose beside its stop: nothing yet, so each has one value. Later tickets add fields.
+abbrev pub LayoutChoice : Type 0
+LayoutChoice = Unit {0}
+
+abbrev pub onlyLayoutChoice : LayoutChoice
+onlyLayoutChoice = tt
+
+abbrev pub RenderChoice : Type 0
+RenderChoice = Unit {0}
+
+abbrev pub onlyRenderChoice : RenderChoice
+onlyRenderChoice = tt

@@ -1,0 +1,38 @@
+-- A text on its way, and what is written of it.
+use Prim.Native.Nat.{ℕ, _+_, _≤_, _<_}
+use mathlib.Core.Path.{_≡_}
+use mathlib.Core.List.{List}
+use lib.ListN.{length}
+use Rattle.renderer.specs.Limits.{MAX-MARGIN}
+use Rattle.renderer_rules.specs.declared.Pen.{Pen}
+use Rattle.renderer_rules.specs.Renderer.{Renderer, withColumn}
+use Rattle.renderer.specs.declared.pen.Writing.{Writing}
+use Rattle.renderer.specs.Output.{writtenOver}
+
+-- the same with another pen
+abbrev pub setPen : Pen → Writing → Writing
+setPen p w = record { pen = p; at = w .at }
+
+-- with a pen, once n bytes are written
+abbrev pub writing : Pen → ℕ → Writing
+writing p n = record { pen = p; at = record { 0 = n } }
+
+-- the pen at column c, once n bytes are written
+abbrev pub movedTo : ℕ → ℕ → Writing → Writing
+movedTo c n w = writing (withColumn c (w .pen)) n
+
+-- the same once s is rendered from there
+unfoldable pub writingAfter : Writing → Renderer → Writing
+writingAfter w s = writing (s .pen) (w .at .0 + length (s .buf))
+
+-- s, rendered from w, is what the output and w have become
+pub record Writes (limit : ℕ) (s : Renderer) (out : List ℕ) (w : Writing) (out2 : List ℕ) (q : Writing) : Type 0 where
+  pub after : q ≡ writingAfter w s
+  pub written : out2 ≡ writtenOver limit out (w .at .0) (s .buf)
+
+-- no sum of these numbers wraps, where `cap` leaves room
+pub record WritingRoom (cap limit : ℕ) (out : List ℕ) (w : Writing) : Type 0 where
+  pub fits : limit ≤ length out
+  pub indent : w .pen .indent + w .pen .«next_indent» ≤ MAX-MARGIN
+  pub column : w .pen .column .0 < cap
+  pub at : w .at .0 < cap
