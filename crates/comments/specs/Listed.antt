@@ -6,6 +6,7 @@ use mathlib.Core.List.{List, [], _∷_}
 use mathlib.Core.Option.{Option, none, some}
 use lib.ListN.{length}
 use Rattle.text.specs.Newlines.{isRange}
+use Rattle.image.specs.Limits.{MAX-COMMENTS}
 use Rattle.image.specs.Bytes.{be16, be32}
 use Rattle.tree.specs.Syntax.{Span}
 use Rattle.state.specs.Act.{Given}
@@ -38,7 +39,7 @@ ListFits b = 7 + 8 * be16 b 5 ≤ length b
 
 -- the comment list of an accepted image: 8,192 at most, within the image, each not empty and a range of the source
 pub record Listed (s b : List ℕ) : Type 0 where
-  pub few : be16 b 5 ≤ 8192
+  pub few : be16 b 5 ≤ MAX-COMMENTS
   pub within : ListFits b
   pub order : (k : ℕ) → k < be16 b 5 → be32 b (7 + 8 * k) < be32 b (7 + 8 * k + 4)
   pub range : (k : ℕ) → k < be16 b 5 → isRange s (be32 b (7 + 8 * k)) (be32 b (7 + 8 * k + 4)) ≡ true

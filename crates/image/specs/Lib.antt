@@ -1,4 +1,5 @@
 pub mod Bytes
+pub mod Limits
 pub mod Kinds
 pub mod Grammar
 pub mod Unpacked

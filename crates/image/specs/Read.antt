@@ -10,6 +10,7 @@ use Rattle.refusals.specs.Refusals.{Refusal, isOneOf}
 use Rattle.text.specs.Utf8.{prefix, wellFormed}
 use Rattle.text.specs.Newlines.{isRange}
 use Rattle.image.specs.Bytes.{be16, be32}
+use Rattle.image.specs.Limits.{MAX-SOURCE, MAX-BODY, MAX-COMMENTS, MAX-RECORDS-DEEP}
 use Rattle.image.specs.Grammar.{isOptional, bare, place, after, complete, rowUnder, kindFits, payloadFits, firstChild}
 use Rattle.image.specs.declared.records.Open.{Open}
 use Rattle.image.specs.declared.records.Open.the-variants.{Record, Wrong}
@@ -58,7 +59,7 @@ bind (bad n p) k = bad n p
 -- ---- refusal 3
 -- five bytes at least, version 1, the length of the bytes that follow, and no more of them than allowed
 unfoldable pub header : List ℕ → Bool
-header b = leb 5 (length b) && eqb (getD b 0 0) 1 && eqb (5 + be32 b 1) (length b) && leb (be32 b 1) 1048576
+header b = leb 5 (length b) && eqb (getD b 0 0) 1 && eqb (5 + be32 b 1) (length b) && leb (be32 b 1) MAX-BODY
 
 -- how many bytes a text's width has, by the image's version: two in version 1
 abbrev pub widthBytes : ℕ → ℕ
@@ -79,7 +80,7 @@ commentsFrom ordered s b (suc n) least at =
 -- the comment list, with its count tested first
 unfoldable pub comments : Bool → List ℕ → List ℕ → Read Unit
 comments ordered s b =
-    cond (leb 7 (length b) && leb (be16 b 5) 8192 && leb (7 + 8 * be16 b 5) (length b)) (commentsFrom ordered s b (be16 b 5) 0 7) (bad 7 5)
+    cond (leb 7 (length b) && leb (be16 b 5) MAX-COMMENTS && leb (7 + 8 * be16 b 5) (length b)) (commentsFrom ordered s b (be16 b 5) 0 7) (bad 7 5)
 
 -- ---- refusals 4, 5 and 6, in reading order
 -- where the record at `at` ends
@@ -148,7 +149,7 @@ childAt s b v left = childBy b (recordAt s b v left)
 
 -- the record at `at`, read as if it were the tree
 unfoldable pub treeAt : List ℕ → List ℕ → ℕ → ℕ → ℕ → Read Tree
-treeAt s b v p at = recordAt s b v 64 p at (length b)
+treeAt s b v p at = recordAt s b v MAX-RECORDS-DEEP p at (length b)
 
 -- ---- the whole
 -- the tree at `at`, and nothing after it
@@ -165,7 +166,7 @@ readImage ordered s b =
 
 -- no refusal 1
 unfoldable pub sourceFits : List ℕ → Bool
-sourceFits s = leb (length s) 65536
+sourceFits s = leb (length s) MAX-SOURCE
 
 -- refusals 1 to 7, in the table's order. Comments may overlap and run backwards.
 unfoldable pub readAll : List ℕ → List ℕ → Read Image

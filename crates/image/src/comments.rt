@@ -7,6 +7,7 @@ ghost use Rattle.image.specs.Bytes.{be32};
 ghost use Rattle.image.specs.Read.{commentFits, commentsFrom, comments, stepOf};
 use crate::bytes::num16;
 use crate::bytes::num32;
+use crate::limits::MAX_COMMENTS;
 use crate::records::Step;
 
 // Whether the pair at `at` is a comment that starts at `least` or after it.
@@ -62,7 +63,7 @@ pub(crate) fn read_comments(s: &[u8], b: &[u8], ordered: bool) -> Step
         return Step::Fault(7, 5);
     }
     let count = num16(b, 5);
-    if 8192 < count {
+    if MAX_COMMENTS < count {
         return Step::Fault(7, 5);
     }
     if b.len() < 7 + 8 * count {

@@ -3,6 +3,7 @@ pub mod bytes;
 mod comments;
 mod grammar;
 pub mod kinds;
+pub mod limits;
 mod records;
 
 ghost use mathlib.Core.Path.{_≡_};
@@ -13,6 +14,9 @@ use bytes::num16;
 use bytes::num32;
 use bytes::wide;
 use comments::read_comments;
+use limits::MAX_BODY;
+use limits::MAX_RECORDS_DEEP;
+use limits::MAX_SOURCE;
 use records::Step;
 use records::read_record;
 use text::utf8::Checked;
@@ -28,7 +32,7 @@ pub enum Answer {
 pub fn source_fits(s: &[u8]) -> bool
     ensures { λ r. ⌜ r ≡ sourceFits (now (s .entry)) ⌝ }
 {
-    s.len() <= 65536
+    s.len() <= MAX_SOURCE
 }
 
 // Whether the image has a header that is right: refusal 3 where it hasn't.
@@ -45,14 +49,14 @@ pub fn header_fits(b: &[u8]) -> bool
     if 5 + n != b.len() {
         return false;
     }
-    n <= 1048576
+    n <= MAX_BODY
 }
 
 fn read_tree(s: &[u8], b: &[u8], v: usize, at: usize) -> Answer
     requires { ⌜ (7 ≤ at) × (at ≤ length (now b)) ⌝ }
     ensures { λ r. ⌜ r ≡ answerOf (readTree (now (s .entry)) (now (b .entry)) v at) ⌝ }
 {
-    match read_record(s, b, v, 64, 1, at, b.len()) {
+    match read_record(s, b, v, MAX_RECORDS_DEEP, 1, at, b.len()) {
         Step::Fault(n, q) => Answer::Refused(n, q),
         Step::Next(next) => {
             if next < b.len() {

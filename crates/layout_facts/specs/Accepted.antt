@@ -4,6 +4,7 @@ use mathlib.Core.Path.{_≡_}
 use mathlib.Core.Bool.{Bool, true}
 use mathlib.Core.List.{List, _++_}
 use lib.ListN.{length}
+use Rattle.image.specs.Limits.{MAX-BODY, MAX-COMMENTS}
 use Rattle.tree.specs.Syntax.{Declaration, SyntaxTree}
 use Rattle.tree.specs.At.{TreeAt}
 use Rattle.rows.specs.Limits.{MAX-NUMBER}
@@ -19,9 +20,9 @@ pub record Stands (g : Given) (t : SyntaxTree) (at : ℕ) : Type 0 where
   pub tree : TreeAt (g .source) (g .image) t at
   pub high : treeHeight t ≤ 67
   pub comments : Commented g
-  pub count : length (g .comments) ≤ 8192
+  pub count : length (g .comments) ≤ MAX-COMMENTS
   pub place : at ≡ 7 + 8 * length (g .comments)
-  pub small : length (g .image) ≤ 1048581
+  pub small : length (g .image) ≤ 5 + MAX-BODY
 
 -- the state from which `fmt_parsed` starts
 abbrev pub fresh : St

@@ -9,6 +9,7 @@ use lib.ListN.{length, getD}
 use Rattle.text.specs.Newlines.{isRange}
 use Rattle.image.specs.Bytes.{be16, be32}
 use Rattle.image.specs.Read.{stopAt, kindAt}
+use Rattle.image.specs.Limits.{MAX-RECORDS-DEEP}
 use Rattle.image.specs.Kinds.{ACCESS, ARM, ASSIGN, BIN-OP, BLOCK, BLOCK-EXPR, COMPOUND-ASSIGN, CONST, ENUM, ENUM-VARIANT, EXPR-PART, EXPR-STMT}
 use Rattle.image.specs.Kinds.{F-STRING, FIELD, FILTER-MAP, FOR, FUNCTION, FUNCTION-CALL, IF-ELSE, IMPORT, IMPORT-STMT, LET, LIST, LIST-EXPR}
 use Rattle.image.specs.Kinds.{LITERAL, LITERAL-EXPR, MATCH, NAME-AND-TYPE, NEGATE, NEVER, NOT, OPERATOR, OPTION, PARENTHESES, PATH, PATH-EXPR}
@@ -273,7 +274,7 @@ module _ (s b : List ℕ) where
         × (o < 14)
         × ExprAt r (thirdAt at)
         × Ends (thirdAt at) at
-        × (1 + leftDepth l ≤ 64)
+        × (1 + leftDepth l ≤ MAX-RECORDS-DEEP)
     FormAt (negate e) at = ExprAt e (firstAt at) × Ends (firstAt at) at
     FormAt (ifElse c k e) at =
         ExprAt c (firstAt at)
