@@ -42,7 +42,7 @@ typedef char rrufthim_lengths_have_64_bits[sizeof(size_t) == 8 ? 1 : -1];
 
 /* Sizes. */
 #define RRUFTHIM_ROW 9               /* numbers of the store that a row takes; store_len / 9 rows, rounded down */
-#define RRUFTHIM_FILE_ROWS 1800      /* the rows, and the marks, that rrufthim_format has of its own */
+#define RRUFTHIM_MAX_FILE_ROWS 1800      /* the rows, and the marks, that rrufthim_format has of its own */
 #define RRUFTHIM_LAYOUT_STATE 7      /* places of a layout state */
 #define RRUFTHIM_RENDER_STATE 5      /* places of a rendering state */
 #define RRUFTHIM_CHECK_OUT 3         /* places of each function's out */

@@ -13,7 +13,7 @@ use crate::{
 pub const ROW: usize = 9;
 
 /// The rows, and the marks, that [`format_file`] has.
-pub const FILE_ROWS: u64 = 1_800;
+pub const MAX_FILE_ROWS: u64 = 1_800;
 
 /// What [`check`] says of an image that it accepts.
 #[derive(Clone, Copy, Debug, PartialEq, Eq)]
@@ -147,7 +147,7 @@ pub fn render(
     })
 }
 
-/// Lays out and renders a whole file of at most [`FILE_ROWS`] rows: refusals 1
+/// Lays out and renders a whole file of at most [`MAX_FILE_ROWS`] rows: refusals 1
 /// to 10, each of which leaves the output as it was. [`Formatter`] takes larger
 /// files.
 ///

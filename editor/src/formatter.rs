@@ -11,10 +11,10 @@ use crate::{
 ///
 /// A tree whose literals all span the whole source gives a text of
 /// gigabytes; no script comes near this bound.
-pub const MOST_OUTPUT: u64 = 64 << 20;
+pub const MAX_OUTPUT: u64 = 64 << 20;
 
 /// The most rows that are lent before a refusal asks for more: 18 MiB.
-const MOST_AT_FIRST: usize = 1 << 19;
+const MAX_AT_FIRST: usize = 1 << 19;
 
 /// Formats whole files of any size by two calls, [`layout`] and [`render`], in
 /// buffers that it owns and keeps from file to file.
@@ -23,7 +23,7 @@ pub struct Formatter {
     store: Vec<u32>,
     marks: Vec<u8>,
     output: Vec<u8>,
-    most_output: u64,
+    max_output: u64,
 }
 
 /// A formatted file, in the formatter's own buffer.
@@ -43,16 +43,16 @@ impl Default for Formatter {
 
 impl Formatter {
     pub fn new() -> Self {
-        Formatter::with_most_output(MOST_OUTPUT)
+        Formatter::with_max_output(MAX_OUTPUT)
     }
 
     /// A formatter for texts of at most so many bytes.
-    pub fn with_most_output(most_output: u64) -> Self {
+    pub fn with_max_output(max_output: u64) -> Self {
         Formatter {
             store: Vec::new(),
             marks: Vec::new(),
             output: Vec::new(),
-            most_output,
+            max_output,
         }
     }
 
@@ -113,12 +113,12 @@ impl Formatter {
     /// there, and many times the source and the image for the text. Neither
     /// layout nor rendering then has to count before it writes.
     fn prepare(&mut self, source: &[u8], image: &[u8]) {
-        let rows = (image.len() + image.len() / 4).min(MOST_AT_FIRST) as u64;
+        let rows = (image.len() + image.len() / 4).min(MAX_AT_FIRST) as u64;
         let lengths = source.len() as u64 * 2 + image.len() as u64;
         let bytes = lengths.saturating_mul(8).saturating_add(1 << 16);
         lengthen(&mut self.store, rows * ROW as u64);
         lengthen(&mut self.marks, rows);
-        lengthen(&mut self.output, bytes.min(self.most_output));
+        lengthen(&mut self.output, bytes.min(self.max_output));
     }
 
     /// Makes the room that a refusal asks for, or hands the refusal on.
@@ -132,7 +132,7 @@ impl Formatter {
                 lengthen(&mut self.marks, needed)
             }
             Refusal::MoreOutput { needed } => {
-                needed <= self.most_output
+                needed <= self.max_output
                     && lengthen(&mut self.output, needed)
             }
             _ => false,

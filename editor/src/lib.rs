@@ -10,6 +10,9 @@
 //!
 //! docs/01-scope.md of the repository has the rules.
 
+// By this name the files of plug/ find what they use.
+extern crate self as rrufthim;
+
 pub mod ast;
 mod calls;
 mod encode;
@@ -19,22 +22,25 @@ mod image;
 mod linked;
 mod refusal;
 mod states;
+mod writer;
 
+pub use ast::Span;
 pub use calls::{
-    Accepted, FILE_ROWS, FileWritten, Laid, ROW, Written, check, format_file,
-    layout, render,
+    Accepted, FileWritten, Laid, MAX_FILE_ROWS, ROW, Written, check,
+    format_file, layout, render,
 };
 pub use encode::{
-    EncodeError, MOST_BODY, MOST_COMMENTS, MOST_DEPTH, MOST_SOURCE,
-    MOST_WIDTH, encode, encode_with_widths, simple_width,
+    EncodeError, MAX_BODY, MAX_COMMENTS, MAX_DEPTH, MAX_SOURCE, MAX_WIDTH,
+    encode, encode_with_widths, simple_width,
 };
 pub use fmt::{
     CommentsLeft, FormatError, Formatted, fmt_parsed, fmt_parsed_with_widths,
 };
-pub use formatter::{FileText, Formatter, MOST_OUTPUT};
+pub use formatter::{FileText, Formatter, MAX_OUTPUT};
 pub use image::declarations;
 pub use refusal::Refusal;
 pub use states::{LayoutState, RenderState};
+pub use writer::{ImageWriter, NO_SPAN, OpenRecord, WriteResult};
 
 /// The example of README.md, run as a test.
 #[cfg(doctest)]

@@ -116,7 +116,7 @@ fn a_formatter_serves_file_after_file() {
 #[test]
 fn a_text_over_the_bound_is_refused() {
     let image = tariff_image();
-    let mut formatter = Formatter::with_most_output(10);
+    let mut formatter = Formatter::with_max_output(10);
     let refusal = formatter.format(SOURCE.as_bytes(), &image);
     let needed = TARIFF.len() as u64;
     assert_eq!(refusal, Err(Refusal::MoreOutput { needed }));

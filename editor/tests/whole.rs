@@ -4,8 +4,8 @@
 mod support;
 
 use rrufthim::{
-    FILE_ROWS, Formatter, LayoutState, Refusal, ast::*, check, declarations,
-    encode, format_file, layout,
+    Formatter, LayoutState, MAX_FILE_ROWS, Refusal, ast::*, check,
+    declarations, encode, format_file, layout,
 };
 use support::{
     Buffers, DECLARATIONS, JUNK, Random, SOURCE, constants, tariff_image,
@@ -63,7 +63,7 @@ fn files_of_more_rows() {
         let due = buffers.format(source, &image).expect("a text");
         let mut output = vec![JUNK; 20_000];
         let written = format_file(source, &image, &mut output);
-        if due.rows > FILE_ROWS {
+        if due.rows > MAX_FILE_ROWS {
             let needed = due.rows;
             assert_eq!(written, Err(Refusal::MoreRows { needed }));
             assert!(output.iter().all(|byte| *byte == JUNK));

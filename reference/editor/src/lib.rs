@@ -1,8 +1,15 @@
-//! Images back to the types of the editor's crate, so that its encoder can
-//! be held against the judge's images.
+//! The editor's crate held against the judge: images are read back to that
+//! crate's types for its encoder, and to the original's for its plug.
 
+pub mod beside;
 mod declarations;
 mod expressions;
+// The files that are copied into Roto, compiled for its real ast.rs.
+#[path = "../../../editor/plug/mod.rs"]
+pub mod plug;
+
+// Where the plug looks for them.
+use judge::{ast, parser};
 
 use std::{collections::VecDeque, ops::Range};
 

@@ -7,51 +7,29 @@ mod example;
 
 use std::thread;
 
-use editor::{as_written, decode};
+use editor::{
+    as_written,
+    beside::{self, Due},
+    decode,
+};
 use judge::{
     examples,
     frame::{self, Frame},
     generate::{self, Class},
-    program::{self, Widths},
-    reader, script,
+    reader, script, tree,
 };
-use rrufthim::{
-    Formatter, encode, encode_with_widths, fmt_parsed_with_widths,
-};
+use rrufthim::{Formatter, encode, encode_with_widths};
 use unicode_width::true_width;
 
 const SEED: u64 = 11;
 const FRAMES: u64 = 2_000;
 
-/// Holds the crate against the judge on one frame, with the widths that the
-/// image supplies. False if the reader refuses the frame.
+/// Holds the crate and its plug against the judge on one frame. False if the
+/// reader refuses it.
 fn compare(bytes: &[u8]) -> bool {
-    let frame = frame::split_any_size(bytes).expect("a frame");
-    let Ok(accepted) = reader::read(frame.source, frame.image) else {
-        return false;
-    };
-    let file = decode(&accepted);
-    let supply = || {
-        let mut widths = file.widths.clone();
-        move |_: &str| widths.pop_front().expect("one for each text")
-    };
-    let comments = &file.extras.comments;
-    let image = encode_with_widths(&file.tree, comments, supply());
-    let due = as_written(frame.image, &accepted.tree);
-    assert!(image == Ok(due), "the image differs");
-
-    let run = program::format(frame, Widths::Supplied).expect("accepted");
-    let formatted = fmt_parsed_with_widths(
-        &file.tree,
-        file.source,
-        &file.extras,
-        supply(),
-    )
-    .expect("accepted");
-    assert_eq!(formatted.text, run.text);
-    let placed = comments.len() - run.comments_left;
-    assert_eq!(formatted.comments_left, comments[placed..]);
-    true
+    let found = beside::differences(bytes);
+    assert!(found.as_ref().is_none_or(Vec::is_empty), "{found:?}");
+    found.is_some()
 }
 
 /// The image of a frame by true widths instead of the supplied ones.
@@ -63,6 +41,28 @@ fn compare_true_widths(bytes: &[u8]) {
     let comments = &file.extras.comments;
     let encoded = encode_with_widths(&file.tree, comments, true_width);
     assert!(encoded == Ok(as_written(image, &accepted.tree)));
+}
+
+/// Each thing that isn't as the original has it is found.
+#[test]
+fn differences_are_found() {
+    let bytes = script::frame(example::SOURCE).expect("it can be read");
+    let frame = frame::split_any_size(&bytes).expect("a frame");
+    let accepted = reader::read(frame.source, frame.image).expect("accepted");
+    let found = |change: fn(&mut Due)| {
+        let mut due = Due::of(frame, &accepted);
+        change(&mut due);
+        let input = tree::Input::new(&accepted, frame.image);
+        let plug = beside::of_the_plug(accepted.source, &input, &due);
+        [beside::of_the_crate(&decode(&accepted), &due), plug].concat()
+    };
+    assert_eq!(found(|_| ()), [""; 0]);
+    let image = found(|due| due.image[100] ^= 1);
+    assert_eq!(image, ["image", "the plug's image"]);
+    let text = found(|due| due.text.push(' '));
+    assert_eq!(text, ["text", "the plug's text"]);
+    let left = found(|due| due.comments_left.clear());
+    assert_eq!(left, ["comments left", "the plug's comments left"]);
 }
 
 #[test]

@@ -1,23 +1,31 @@
 //! From a syntax tree to the tree image of docs/01-scope.md.
 
-mod declarations;
-mod expressions;
-mod writer;
-
 use std::{error::Error, fmt};
 
-use crate::ast::{Span, SyntaxTree};
-use writer::Writer;
+use crate::{
+    ast::{self, Meta, Span, SyntaxTree},
+    writer::{ImageWriter, WriteResult},
+};
+
+#[path = "../plug/tree.rs"]
+mod tree;
+
+/// Here each node holds its own span.
+struct Spans;
+
+fn span<T>(_: &Spans, node: &Meta<T>) -> Span {
+    node.span.clone()
+}
 
 /// The longest source, and so the furthest end of a span.
-pub const MOST_SOURCE: usize = 65_536;
+pub const MAX_SOURCE: usize = 65_536;
 /// The longest body of an image, which is all but its first five bytes.
-pub const MOST_BODY: usize = 1_048_576;
-pub const MOST_COMMENTS: usize = 8_192;
+pub const MAX_BODY: usize = 1_048_576;
+pub const MAX_COMMENTS: usize = 8_192;
 /// The most columns that a text can be wide.
-pub const MOST_WIDTH: usize = u16::MAX as usize;
+pub const MAX_WIDTH: usize = u16::MAX as usize;
 /// How deep records may lie in each other, the tree being 1.
-pub const MOST_DEPTH: usize = 64;
+pub const MAX_DEPTH: usize = 64;
 
 /// Why a tree has no image.
 #[derive(Clone, Debug, PartialEq, Eq)]
@@ -43,31 +51,31 @@ impl fmt::Display for EncodeError {
     fn fmt(&self, f: &mut fmt::Formatter<'_>) -> fmt::Result {
         match self {
             Self::TooManyComments { count } => {
-                write!(f, "{count} comments are over {MOST_COMMENTS}")
+                write!(f, "{count} comments are over {MAX_COMMENTS}")
             }
             Self::BadComment { index, span } => write!(
                 f,
                 "comment {index} at {span:?} is empty, reversed or past \
-                 {MOST_SOURCE}"
+                 {MAX_SOURCE}"
             ),
             Self::BadSpan { span } => {
-                write!(f, "span {span:?} is reversed or past {MOST_SOURCE}")
+                write!(f, "span {span:?} is reversed or past {MAX_SOURCE}")
             }
             Self::TooWide { text, width } => write!(
                 f,
                 "the text {text:.20?} is {width} columns wide, over \
-                 {MOST_WIDTH}"
+                 {MAX_WIDTH}"
             ),
             Self::TooDeep { span } => write!(
                 f,
-                "what stands at {span:?} is more than {MOST_DEPTH} deep in \
+                "what stands at {span:?} is more than {MAX_DEPTH} deep in \
                  the tree"
             ),
             Self::EmptyPath { span } => {
                 write!(f, "the path at {span:?} has no name")
             }
             Self::TooLong => {
-                write!(f, "the image's body is over {MOST_BODY} bytes")
+                write!(f, "the image's body is over {MAX_BODY} bytes")
             }
         }
     }
@@ -94,12 +102,25 @@ pub fn encode(
 pub fn encode_with_widths(
     tree: &SyntaxTree,
     comments: &[Span],
-    mut width: impl FnMut(&str) -> usize,
+    width: impl FnMut(&str) -> usize,
 ) -> Result<Vec<u8>, EncodeError> {
-    let mut writer = Writer::new(&mut width);
-    writer.comments(comments)?;
-    writer.tree(tree)?;
-    Ok(writer.image())
+    let mut image = Vec::new();
+    let mut writer = ImageWriter::new(&mut image);
+    write(&mut writer, tree, comments, width)
+        .and_then(|()| writer.finish())
+        .map_err(|error| *error)?;
+    Ok(image)
+}
+
+/// All of an image but its own length.
+pub(crate) fn write(
+    out: &mut ImageWriter<'_>,
+    tree: &SyntaxTree,
+    comments: &[Span],
+    width: impl FnMut(&str) -> usize,
+) -> WriteResult {
+    out.comments(comments.iter().cloned())?;
+    tree::write(out, tree, &Spans, width)
 }
 
 /// A column for each character that isn't a control character.

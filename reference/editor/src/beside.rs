@@ -1,0 +1,99 @@
+//! The editor's crate and its plug beside the judge, on one frame.
+
+use judge::{
+    frame::{self, Frame},
+    program::{self, Widths},
+    reader::{self, Accepted},
+    tree,
+};
+use rrufthim::{
+    Formatter, ImageWriter, Span, encode_with_widths, fmt_parsed_with_widths,
+};
+
+use crate::{File, as_written, decode, plug};
+
+/// What the original makes of a file.
+pub struct Due {
+    pub image: Vec<u8>,
+    pub text: String,
+    pub comments_left: Vec<Span>,
+}
+
+impl Due {
+    /// Runs the original on an accepted frame.
+    pub fn of(frame: Frame, accepted: &Accepted) -> Self {
+        let run = program::format(frame, Widths::Supplied).expect("accepted");
+        let placed = accepted.comments.len() - run.comments_left;
+        Due {
+            image: as_written(frame.image, &accepted.tree),
+            text: run.text,
+            comments_left: accepted.comments[placed..].to_vec(),
+        }
+    }
+}
+
+/// What is not as the judge has it, with the widths that the image supplies;
+/// `None` if the reader refuses the frame.
+pub fn differences(bytes: &[u8]) -> Option<Vec<&'static str>> {
+    let frame = frame::split_any_size(bytes).expect("a frame");
+    let accepted = reader::read(frame.source, frame.image).ok()?;
+    let due = Due::of(frame, &accepted);
+    let mut found = of_the_crate(&decode(&accepted), &due);
+    let input = tree::Input::new(&accepted, frame.image);
+    found.extend(of_the_plug(accepted.source, &input, &due));
+    Some(found)
+}
+
+/// The encoder and `fmt_parsed` on a tree of the crate's own types.
+pub fn of_the_crate(file: &File, due: &Due) -> Vec<&'static str> {
+    let supply = || {
+        let mut widths = file.widths.clone();
+        move |_: &str| widths.pop_front().expect("one for each text")
+    };
+    let File { tree, extras, .. } = file;
+    let image = encode_with_widths(tree, &extras.comments, supply());
+    let formatted =
+        fmt_parsed_with_widths(tree, file.source, extras, supply());
+    let formatted = formatted.expect("accepted");
+    named([
+        ("image", image.as_ref() == Ok(&due.image)),
+        ("text", formatted.text == due.text),
+        (
+            "comments left",
+            formatted.comments_left == due.comments_left,
+        ),
+    ])
+}
+
+/// The plug on the original's own tree.
+pub fn of_the_plug(
+    source: &str,
+    input: &tree::Input,
+    due: &Due,
+) -> Vec<&'static str> {
+    let _held = input.supply_widths();
+    let mut image = Vec::new();
+    let mut writer = ImageWriter::new(&mut image);
+    plug::write(&mut writer, &input.ast, &input.spans, &input.extras)
+        .and_then(|()| writer.finish())
+        .expect("within the limits");
+    let mut formatter = Formatter::new();
+    let written = formatter.format(source.as_bytes(), &image);
+    let written = written.expect("accepted");
+    named([
+        ("the plug's image", image == due.image),
+        ("the plug's text", written.text == due.text.as_bytes()),
+        (
+            "the plug's comments left",
+            written.comments_left == due.comments_left.len() as u64,
+        ),
+    ])
+}
+
+/// The names of those that are not the same.
+fn named<const N: usize>(
+    tests: [(&'static str, bool); N],
+) -> Vec<&'static str> {
+    let differing = tests.into_iter().filter(|(_, same)| !same);
+    differing.map(|(name, _)| name).collect()
+}
