@@ -1,9 +1,10 @@
-//! The plug: Roto's own syntax tree as a tree image, with no tree between.
+//! The plug: Roto's own syntax tree for the proved formatter, with no tree
+//! between.
 //!
 //! This folder is copied into Roto as src/fmt/plug/. It needs Roto's src/ast.rs
 //! and src/parser/meta.rs as they are, and `unicode_width`.
 
-use rrufthim::{ImageWriter, Span, WriteResult};
+use rrufthim::{FormatError, Formatted, ImageWriter, Span, WriteResult};
 use unicode_width::UnicodeWidthStr;
 
 use crate::{
@@ -22,7 +23,22 @@ fn span<T>(spans: &Spans, node: &Meta<T>) -> Span {
     span.start..span.end
 }
 
-/// Writes a parsed file's comments and tree.
+/// Formats a parsed file: a text, and the comments that it doesn't hold.
+///
+/// # Errors
+///
+/// What is over a limit of the tree image, and refusals 1, 6, 7 and 10.
+pub fn fmt_parsed(
+    ast: &ast::SyntaxTree,
+    source: &str,
+    spans: &Spans,
+    extras: &Extras,
+) -> Result<Formatted, FormatError> {
+    rrufthim::fmt_written(source, |out| write(out, ast, spans, extras))
+}
+
+/// Writes a parsed file's comments and tree: for `format_written` of a
+/// `Formatter` that is kept elsewhere.
 ///
 /// # Errors
 ///

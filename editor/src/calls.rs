@@ -1,6 +1,7 @@
 //! The calls of the static library over slices that the caller lends.
 
 use crate::{
+    image::declarations,
     linked::{
         rrufthim_check, rrufthim_format, rrufthim_layout, rrufthim_render,
     },
@@ -18,7 +19,10 @@ pub const MAX_FILE_ROWS: u64 = 1_800;
 /// What [`check`] says of an image that it accepts.
 #[derive(Clone, Copy, Debug, PartialEq, Eq)]
 pub struct Accepted {
+    /// How many comments the image has.
     pub comments: u64,
+    /// How many declarations it has: where layout ends.
+    pub declarations: u64,
     /// The offset of the tree's record in the image.
     pub tree: u64,
 }
@@ -68,7 +72,11 @@ pub fn check(source: &[u8], image: &[u8]) -> Result<Accepted, Refusal> {
     }
     let [number, comments, tree] = out;
     refused(number, comments)?;
-    Ok(Accepted { comments, tree })
+    Ok(Accepted {
+        comments,
+        declarations: declarations(image),
+        tree,
+    })
 }
 
 /// Lays out the declarations up to the one to stop before, and the final

@@ -38,13 +38,27 @@ pub enum EncodeError {
     /// A span that is reversed or past 65,536.
     BadSpan { span: Span },
     /// A text over 65,535 columns.
-    TooWide { text: String, width: usize },
+    TooWide { span: Span, width: usize },
     /// Something more than 64 records deep.
     TooDeep { span: Span },
     /// A path without a name.
     EmptyPath { span: Span },
     /// An image with a body over 1,048,576 bytes.
     TooLong,
+}
+
+impl EncodeError {
+    /// The span that it is about, if it is about one.
+    pub fn span(&self) -> Option<Span> {
+        match self {
+            Self::BadComment { span, .. }
+            | Self::BadSpan { span }
+            | Self::TooWide { span, .. }
+            | Self::TooDeep { span }
+            | Self::EmptyPath { span } => Some(span.clone()),
+            Self::TooManyComments { .. } | Self::TooLong => None,
+        }
+    }
 }
 
 impl fmt::Display for EncodeError {
@@ -61,9 +75,9 @@ impl fmt::Display for EncodeError {
             Self::BadSpan { span } => {
                 write!(f, "span {span:?} is reversed or past {MAX_SOURCE}")
             }
-            Self::TooWide { text, width } => write!(
+            Self::TooWide { span, width } => write!(
                 f,
-                "the text {text:.20?} is {width} columns wide, over \
+                "the text at {span:?} is {width} columns wide, over \
                  {MAX_WIDTH}"
             ),
             Self::TooDeep { span } => write!(

@@ -16,10 +16,12 @@ extern crate self as rrufthim;
 pub mod ast;
 mod calls;
 mod encode;
+mod error;
 mod fmt;
 mod formatter;
 mod image;
 mod linked;
+mod place;
 mod refusal;
 mod states;
 mod writer;
@@ -33,11 +35,13 @@ pub use encode::{
     EncodeError, MAX_BODY, MAX_COMMENTS, MAX_DEPTH, MAX_SOURCE, MAX_WIDTH,
     encode, encode_with_widths, simple_width,
 };
+pub use error::{Cause, FormatError};
 pub use fmt::{
-    CommentsLeft, FormatError, Formatted, fmt_parsed, fmt_parsed_with_widths,
+    CommentsLeft, Formatted, fmt_parsed, fmt_parsed_with_widths, fmt_written,
 };
-pub use formatter::{FileText, Formatter, MAX_OUTPUT};
+pub use formatter::{Formatter, MAX_OUTPUT};
 pub use image::declarations;
+pub use place::Place;
 pub use refusal::Refusal;
 pub use states::{LayoutState, RenderState};
 pub use writer::{ImageWriter, NO_SPAN, OpenRecord, WriteResult};

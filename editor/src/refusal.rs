@@ -2,6 +2,11 @@
 
 use std::{error::Error, fmt};
 
+use crate::{
+    ast::Span,
+    image::{comment_at, span_at},
+};
+
 /// A refused call. The number and the place are all that comes back; each
 /// case names what its place is.
 #[derive(Clone, Copy, Debug, PartialEq, Eq, Hash)]
@@ -98,6 +103,18 @@ impl Refusal {
             | MoreOutput { needed } => needed,
             BadRow { row } => row,
             Unknown { place, .. } => place,
+        }
+    }
+
+    /// The span of the source that 5, 6 or 7 is about, as the refused image
+    /// has it; it need not lie in the source. `None` for other causes, and
+    /// where the count of comments is wrong. [`Place`](crate::Place) gives
+    /// its line and column.
+    pub fn span(&self, image: &[u8]) -> Option<Span> {
+        match *self {
+            TooDeep { at } | BadSpan { at } => span_at(image, at as usize),
+            BadComment { at } => comment_at(image, at as usize),
+            _ => None,
         }
     }
 }

@@ -141,8 +141,7 @@ impl<'b> ImageWriter<'b> {
         width: usize,
     ) -> WriteResult {
         let Ok(columns) = u16::try_from(width) else {
-            let text = text.to_owned();
-            return Err(EncodeError::TooWide { text, width }.into());
+            return Err(EncodeError::TooWide { span, width }.into());
         };
         self.room_for(text.len())?;
         self.head(HEAD - LENGTH + 2 + text.len(), 2, span)?;

@@ -72,8 +72,8 @@ fn widths() {
     assert!(accepted(SOURCE, &image.expect("as wide as may be")));
     for width in [MAX_WIDTH + 1, usize::MAX] {
         let error = encode_with_widths(&tree, &[], |_| width);
-        let text = "A".to_owned();
-        assert_eq!(error, Err(EncodeError::TooWide { text, width }));
+        let span = 6..7;
+        assert_eq!(error, Err(EncodeError::TooWide { span, width }));
     }
 }
 

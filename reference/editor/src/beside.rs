@@ -7,7 +7,7 @@ use judge::{
     tree,
 };
 use rrufthim::{
-    Formatter, ImageWriter, Span, encode_with_widths, fmt_parsed_with_widths,
+    ImageWriter, Span, encode_with_widths, fmt_parsed_with_widths,
 };
 
 use crate::{File, as_written, decode, plug};
@@ -72,20 +72,22 @@ pub fn of_the_plug(
     due: &Due,
 ) -> Vec<&'static str> {
     let _held = input.supply_widths();
+    let tree::Input {
+        ast, spans, extras, ..
+    } = input;
     let mut image = Vec::new();
     let mut writer = ImageWriter::new(&mut image);
-    plug::write(&mut writer, &input.ast, &input.spans, &input.extras)
+    plug::write(&mut writer, ast, spans, extras)
         .and_then(|()| writer.finish())
         .expect("within the limits");
-    let mut formatter = Formatter::new();
-    let written = formatter.format(source.as_bytes(), &image);
-    let written = written.expect("accepted");
+    let formatted = plug::fmt_parsed(ast, source, spans, extras);
+    let formatted = formatted.expect("accepted");
     named([
         ("the plug's image", image == due.image),
-        ("the plug's text", written.text == due.text.as_bytes()),
+        ("the plug's text", formatted.text == due.text),
         (
             "the plug's comments left",
-            written.comments_left == due.comments_left.len() as u64,
+            formatted.comments_left == due.comments_left,
         ),
     ])
 }

@@ -106,7 +106,7 @@ fn a_small_stack() {
         let mut formatter = Formatter::new();
         for bytes in frames {
             let frame = frame::split_any_size(&bytes).expect("a frame");
-            let _ = formatter.format(frame.source, frame.image);
+            let _ = formatter.format_image(frame.source, frame.image);
         }
     };
     let thread = thread::Builder::new().stack_size(256 << 10).spawn(run);

@@ -252,8 +252,8 @@ fn formatter(input: &Input, trees: &[tree::Input]) -> [f64; 2] {
     both(
         || {
             for File { source, image } in &input.files {
-                let text = formatter.format(source, image).expect("a text");
-                black_box(text.text);
+                let text = formatter.format_image(source, image);
+                black_box(text.expect("a text").text);
             }
         },
         || {
