@@ -21,6 +21,7 @@ fn span<T>(_: &Spans, node: &Meta<T>) -> Span {
 pub const MAX_SOURCE: usize = 65_536;
 /// The longest body of an image, which is all but its first five bytes.
 pub const MAX_BODY: usize = 1_048_576;
+/// The most comments that an image has.
 pub const MAX_COMMENTS: usize = 8_192;
 /// The most columns that a text can be wide.
 pub const MAX_WIDTH: usize = u16::MAX as usize;
@@ -32,17 +33,39 @@ pub const MAX_DEPTH: usize = 64;
 #[non_exhaustive]
 pub enum EncodeError {
     /// More than 8,192 comments.
-    TooManyComments { count: usize },
+    TooManyComments {
+        /// How many there are.
+        count: usize,
+    },
     /// A comment that is empty, reversed or past 65,536.
-    BadComment { index: usize, span: Span },
+    BadComment {
+        /// Its place in the list.
+        index: usize,
+        /// The comment.
+        span: Span,
+    },
     /// A span that is reversed or past 65,536.
-    BadSpan { span: Span },
+    BadSpan {
+        /// The span.
+        span: Span,
+    },
     /// A text over 65,535 columns.
-    TooWide { span: Span, width: usize },
+    TooWide {
+        /// Where it stands.
+        span: Span,
+        /// How wide it is.
+        width: usize,
+    },
     /// Something more than 64 records deep.
-    TooDeep { span: Span },
+    TooDeep {
+        /// Where it stands.
+        span: Span,
+    },
     /// A path without a name.
-    EmptyPath { span: Span },
+    EmptyPath {
+        /// Where it should stand.
+        span: Span,
+    },
     /// An image with a body over 1,048,576 bytes.
     TooLong,
 }
@@ -101,6 +124,10 @@ impl Error for EncodeError {}
 ///
 /// It doesn't see the source: whether spans lie in it, and on boundaries of
 /// characters, is for [`check`](crate::check) to say (refusals 6 and 7).
+///
+/// # Errors
+///
+/// What is over a limit, and a path without a name.
 pub fn encode(
     tree: &SyntaxTree,
     comments: &[Span],
@@ -113,6 +140,10 @@ pub fn encode(
 /// The function is asked once for each text in the image's order: the
 /// shebang, trimmed at its end, then names as they come. The text equals the
 /// original's if it gives what the crate `unicode_width` does.
+///
+/// # Errors
+///
+/// As [`encode`].
 pub fn encode_with_widths(
     tree: &SyntaxTree,
     comments: &[Span],

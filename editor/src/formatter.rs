@@ -1,16 +1,14 @@
-//! Formatting with buffers that are kept, and grow as refusals 8, 9 and 10
-//! ask.
+//! Formatting of whole files with buffers that are kept.
 
 use std::fmt;
 
 use crate::{
     ast::{Extras, SyntaxTree},
-    calls::{Laid, ROW, Written, layout, render},
+    buffers::{Buffers, File},
     encode::{self, simple_width},
     error::FormatError,
     fmt::Formatted,
-    image::{comments, comments_from, declarations},
-    refusal::Refusal,
+    image::{comments_from, declarations},
     states::{LayoutState, RenderState},
     writer::{ImageWriter, WriteResult},
 };
@@ -21,11 +19,9 @@ use crate::{
 /// gigabytes; no script comes near this bound.
 pub const MAX_OUTPUT: u64 = 64 << 20;
 
-/// The most rows that are lent before a refusal asks for more: 18 MiB.
-const MAX_AT_FIRST: u64 = 1 << 19;
-
-/// Formats whole files of any size by two calls, [`layout`] and [`render`],
-/// in buffers that it owns and keeps from file to file.
+/// Formats whole files of any size by two calls, [`layout`](crate::layout)
+/// and [`render`](crate::render), in buffers that it owns and keeps from file
+/// to file.
 ///
 /// Keep one for all saves of a thread. A new one has no buffers; the first
 /// file gets what it may need, and later ones cost no memory until one is
@@ -34,14 +30,6 @@ pub struct Formatter {
     /// The image of a tree, or what a plug writes.
     image: Vec<u8>,
     buffers: Buffers,
-}
-
-/// What the calls are lent.
-struct Buffers {
-    store: Vec<u32>,
-    marks: Vec<u8>,
-    output: Vec<u8>,
-    max_output: u64,
 }
 
 impl Default for Formatter {
@@ -55,10 +43,7 @@ impl fmt::Debug for Formatter {
     fn fmt(&self, f: &mut fmt::Formatter<'_>) -> fmt::Result {
         f.debug_struct("Formatter")
             .field("image", &self.image.len())
-            .field("rows", &(self.buffers.store.len() / ROW))
-            .field("marks", &self.buffers.marks.len())
-            .field("output", &self.buffers.output.len())
-            .field("max_output", &self.buffers.max_output)
+            .field("buffers", &self.buffers)
             .finish()
     }
 }
@@ -73,12 +58,7 @@ impl Formatter {
     pub fn with_max_output(max_output: u64) -> Self {
         Formatter {
             image: Vec::new(),
-            buffers: Buffers {
-                store: Vec::new(),
-                marks: Vec::new(),
-                output: Vec::new(),
-                max_output,
-            },
+            buffers: Buffers::new(max_output),
         }
     }
 
@@ -131,7 +111,8 @@ impl Formatter {
         write(&mut out)
             .and_then(|()| out.finish())
             .map_err(|error| FormatError::encode(*error, source))?;
-        self.buffers.format(source, &self.image)
+        let image = &self.image;
+        format(&mut self.buffers, File { source, image })
     }
 
     /// Formats an image with its source.
@@ -145,123 +126,22 @@ impl Formatter {
         source: &[u8],
         image: &[u8],
     ) -> Result<Formatted<&str>, FormatError> {
-        self.buffers.format(source, image)
+        format(&mut self.buffers, File { source, image })
     }
 }
 
-impl Buffers {
-    fn format(
-        &mut self,
-        source: &[u8],
-        image: &[u8],
-    ) -> Result<Formatted<&str>, FormatError> {
-        let refused = |refusal| FormatError::refused(refusal, source, image);
-        self.prepare(source, image);
-        let laid = self.lay_out(source, image).map_err(refused)?;
-        let rows = laid.state.next_row;
-        let written = self.render(source, image, rows).map_err(refused)?;
-        let text = std::str::from_utf8(&self.output[..written.bytes]);
-        let text = text.map_err(FormatError::not_utf8)?;
-        let placed = laid.state.comments_placed;
-        Ok(Formatted::new(text, comments_from(image, placed)))
-    }
-
-    /// All declarations and the final line, in one round for most files. Where
-    /// the store is too short it grows once, to what the file needs.
-    fn lay_out(
-        &mut self,
-        source: &[u8],
-        image: &[u8],
-    ) -> Result<Laid, Refusal> {
-        let (fresh, stop) = (LayoutState::default(), declarations(image));
-        loop {
-            let store = &mut self.store;
-            match layout(source, image, store, &fresh, stop, true) {
-                Ok(laid) => return Ok(laid),
-                Err(refusal) => self.grow(refusal)?,
-            }
-        }
-    }
-
-    /// All rows, in one round for most files. Marks and output grow once each
-    /// where they are too short.
-    fn render(
-        &mut self,
-        source: &[u8],
-        image: &[u8],
-        rows: u64,
-    ) -> Result<Written, Refusal> {
-        let fresh = RenderState::default();
-        loop {
-            let (store, marks) = (&mut self.store, &mut self.marks);
-            let output = &mut self.output;
-            match render(source, image, store, marks, output, &fresh, rows) {
-                Ok(written) => return Ok(written),
-                Err(refusal) => self.grow(refusal)?,
-            }
-        }
-    }
-
-    /// Room to spare, as far as there is memory: a row and a mark for each
-    /// byte of the image and two for each comment, and many times the source
-    /// and the image for the text. Neither layout nor rendering then has to
-    /// count before it writes.
-    fn prepare(&mut self, source: &[u8], image: &[u8]) {
-        let rows = image.len() as u64 + 2 * comments(image);
-        let rows = rows.min(MAX_AT_FIRST);
-        let lengths = source.len() as u64 * 2 + image.len() as u64;
-        let bytes = lengths.saturating_mul(8).saturating_add(1 << 16);
-        let bytes = bytes.min(self.max_output);
-        lengthen(&mut self.store, rows * ROW as u64, u64::MAX);
-        lengthen(&mut self.marks, rows, u64::MAX);
-        lengthen(&mut self.output, bytes, self.max_output);
-    }
-
-    /// Makes the room that a refusal asks for, or hands the refusal on.
-    fn grow(&mut self, refusal: Refusal) -> Result<(), Refusal> {
-        let grown = match refusal {
-            Refusal::MoreRows { needed } => {
-                let numbers = needed.saturating_mul(ROW as u64);
-                lengthen(&mut self.store, numbers, u64::MAX)
-            }
-            Refusal::MoreMarks { needed } => {
-                lengthen(&mut self.marks, needed, u64::MAX)
-            }
-            Refusal::MoreOutput { needed } => {
-                lengthen(&mut self.output, needed, self.max_output)
-            }
-            _ => false,
-        };
-        if grown { Ok(()) } else { Err(refusal) }
-    }
-}
-
-/// Puts a longer buffer in the place of one that is too short: twice as long,
-/// if there is memory, so that a file that grows with each save doesn't ask
-/// each time. What the old one held is dropped. False if it is long enough,
-/// so that no loop goes on for ever; if too much is asked; or if there is no
-/// memory.
-fn lengthen<T>(buffer: &mut Vec<T>, length: u64, most: u64) -> bool
-where
-    T: Clone + Default,
-{
-    let now = buffer.len() as u64;
-    if length <= now || length > most {
-        return false;
-    }
-    let ample = length.max(2 * now).min(most);
-    match zeros(ample).or_else(|| zeros(length)) {
-        Some(longer) => *buffer = longer,
-        None => return false,
-    }
-    true
-}
-
-/// Zeros, if there is memory for them. The system hands large ones out
-/// cleared, so that what is never written costs no time.
-fn zeros<T: Clone + Default>(length: u64) -> Option<Vec<T>> {
-    let length = usize::try_from(length).ok()?;
-    // `vec!` ends the program if there is none, so ask before.
-    Vec::<T>::new().try_reserve_exact(length).ok()?;
-    Some(vec![T::default(); length])
+/// All declarations and the final line, then all rows.
+fn format<'b>(
+    buffers: &'b mut Buffers,
+    file: File<'_>,
+) -> Result<Formatted<&'b str>, FormatError> {
+    let refused = |refusal| file.error(refusal);
+    buffers.prepare(file);
+    let (fresh, all) = (LayoutState::default(), declarations(file.image));
+    let laid = buffers.lay_out(file, &fresh, all, true).map_err(refused)?;
+    let (fresh, rows) = (RenderState::default(), laid.state.next_row);
+    let written = buffers.render(file, &fresh, rows).map_err(refused)?;
+    let text = buffers.text(written.bytes)?;
+    let left = comments_from(file.image, laid.state.comments_placed);
+    Ok(Formatted::new(text, left))
 }

@@ -10,10 +10,13 @@
 //!
 //! docs/01-scope.md of the repository has the rules.
 
+#![deny(missing_docs)]
+
 // By this name the files of plug/ find what they use.
 extern crate self as rrufthim;
 
 pub mod ast;
+mod buffers;
 mod calls;
 mod encode;
 mod error;
@@ -24,6 +27,7 @@ mod linked;
 mod place;
 mod refusal;
 mod states;
+mod steps;
 mod writer;
 
 pub use ast::Span;
@@ -44,6 +48,7 @@ pub use image::declarations;
 pub use place::Place;
 pub use refusal::Refusal;
 pub use states::{LayoutState, RenderState};
+pub use steps::Steps;
 pub use writer::{ImageWriter, NO_SPAN, OpenRecord, WriteResult};
 
 /// The example of README.md, run as a test.
