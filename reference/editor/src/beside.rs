@@ -10,7 +10,7 @@ use rrufthim::{
     ImageWriter, Span, encode_with_widths, fmt_parsed_with_widths,
 };
 
-use crate::{File, as_written, decode, plug};
+use crate::{File, as_written, convert, decode, plug};
 
 /// What the original makes of a file.
 pub struct Due {
@@ -38,22 +38,20 @@ pub fn differences(bytes: &[u8]) -> Option<Vec<&'static str>> {
     let frame = frame::split_any_size(bytes).expect("a frame");
     let accepted = reader::read(frame.source, frame.image).ok()?;
     let due = Due::of(frame, &accepted);
-    let mut found = of_the_crate(&decode(&accepted), &due);
+    let file = decode(&accepted);
     let input = tree::Input::new(&accepted, frame.image);
-    found.extend(of_the_plug(accepted.source, &input, &due));
+    let mut found = of_the_crate(&file, &due);
+    found.extend(of_the_conversion(&file, &input, &due));
+    found.extend(of_the_plug(file.source, &input, &due));
     Some(found)
 }
 
 /// The encoder and `fmt_parsed` on a tree of the crate's own types.
 pub fn of_the_crate(file: &File, due: &Due) -> Vec<&'static str> {
-    let supply = || {
-        let mut widths = file.widths.clone();
-        move |_: &str| widths.pop_front().expect("one for each text")
-    };
     let File { tree, extras, .. } = file;
-    let image = encode_with_widths(tree, &extras.comments, supply());
+    let image = encode_with_widths(tree, &extras.comments, supply(file));
     let formatted =
-        fmt_parsed_with_widths(tree, file.source, extras, supply());
+        fmt_parsed_with_widths(tree, file.source, extras, supply(file));
     let formatted = formatted.expect("accepted");
     named([
         ("image", image.as_ref() == Ok(&due.image)),
@@ -63,6 +61,24 @@ pub fn of_the_crate(file: &File, due: &Due) -> Vec<&'static str> {
             formatted.comments_left == due.comments_left,
         ),
     ])
+}
+
+/// The widths that the image supplies, one for each text.
+fn supply(file: &File) -> impl FnMut(&str) -> usize {
+    let mut widths = file.widths.clone();
+    move |_| widths.pop_front().expect("one for each text")
+}
+
+/// The original's own tree, turned into one of the crate's.
+pub fn of_the_conversion(
+    file: &File,
+    input: &tree::Input,
+    due: &Due,
+) -> Vec<&'static str> {
+    let tree = convert::tree(&input.ast, &input.spans);
+    let extras = convert::extras(&input.extras);
+    let image = encode_with_widths(&tree, &extras.comments, supply(file));
+    named([("the converted image", image.as_ref() == Ok(&due.image))])
 }
 
 /// The plug on the original's own tree.

@@ -2,6 +2,7 @@
 //! crate's types for its encoder, and to the original's for its plug.
 
 pub mod beside;
+pub mod convert;
 mod declarations;
 mod expressions;
 // The files that are copied into Roto, compiled for its real ast.rs.

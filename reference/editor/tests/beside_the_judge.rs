@@ -53,12 +53,18 @@ fn differences_are_found() {
         let mut due = Due::of(frame, &accepted);
         change(&mut due);
         let input = tree::Input::new(&accepted, frame.image);
-        let plug = beside::of_the_plug(accepted.source, &input, &due);
-        [beside::of_the_crate(&decode(&accepted), &due), plug].concat()
+        let file = decode(&accepted);
+        [
+            beside::of_the_crate(&file, &due),
+            beside::of_the_conversion(&file, &input, &due),
+            beside::of_the_plug(file.source, &input, &due),
+        ]
+        .concat()
     };
     assert_eq!(found(|_| ()), [""; 0]);
     let image = found(|due| due.image[100] ^= 1);
-    assert_eq!(image, ["image", "the plug's image"]);
+    let images = ["image", "the converted image", "the plug's image"];
+    assert_eq!(image, images);
     let text = found(|due| due.text.push(' '));
     assert_eq!(text, ["text", "the plug's text"]);
     let left = found(|due| due.comments_left.clear());

@@ -13,6 +13,8 @@ use judge::{
     tree,
 };
 
+#[cfg(feature = "formatter")]
+use super::saves;
 use super::{
     Line, both,
     documents::{self, Document, Empty},
@@ -93,10 +95,10 @@ fn rows_lent(file: &File) -> usize {
     file.image.len() + 2 * comments + 16
 }
 
-/// The steps on all files of an input: layout and rendering apart; the whole
-/// run, on those files that it has rows for; the two calls with no more room
-/// than they need, where both count before they write; and the editor's
-/// formatter.
+/// The steps on all files of an input: layout and rendering apart; the two
+/// calls with room to spare, and with no more than they need, where both count
+/// before they write; saves by the editor's crate; and the whole run, on those
+/// files that it has rows for.
 pub fn of_files(input: &Input) -> Vec<Line> {
     let files = input.files.iter();
     let accepted: Vec<_> = files
@@ -133,10 +135,13 @@ pub fn of_files(input: &Input) -> Vec<Line> {
     let mut lines = vec![
         line("layout", rows, "row", layout(&mut ported, &trees)),
         line("rendering", rows, "row", rendered(&mut ported, &trees)),
+        line("calls", bytes, "byte", calls(&mut ported, &trees)),
         line("tight calls", bytes, "byte", calls(&mut tight, &trees)),
     ];
     #[cfg(feature = "formatter")]
-    lines.push(line("Formatter", bytes, "byte", formatter(input, &trees)));
+    for (step, seconds) in saves::of_files(input, &trees) {
+        lines.push(line(step, bytes, "byte", seconds));
+    }
     lines.extend(small_files(input, &mut ported, &trees, &lengths));
     lines
 }
@@ -236,26 +241,6 @@ fn whole(files: &mut [(&mut Ported, &tree::Input)]) -> [f64; 2] {
 fn calls(ported: &mut [Ported], trees: &[tree::Input]) -> [f64; 2] {
     both(
         || ported.iter_mut().map(Ported::calls).sum::<usize>(),
-        || {
-            for tree in trees {
-                black_box(driver::format(tree));
-            }
-        },
-    )
-}
-
-/// The editor's formatter, its buffers kept from file to file, and
-/// `fmt_parsed`.
-#[cfg(feature = "formatter")]
-fn formatter(input: &Input, trees: &[tree::Input]) -> [f64; 2] {
-    let mut formatter = rrufthim::Formatter::new();
-    both(
-        || {
-            for File { source, image } in &input.files {
-                let text = formatter.format_image(source, image);
-                black_box(text.expect("a text").text);
-            }
-        },
         || {
             for tree in trees {
                 black_box(driver::format(tree));
