@@ -12,6 +12,11 @@ const HEADER: usize = 5;
 const LENGTH: usize = 4;
 /// Length, kind and span of a record.
 const HEAD: usize = 13;
+/// The length of a record without payload and children.
+const EMPTY: usize = HEAD - LENGTH;
+/// What stands for the length of a record until it is closed. It outgrows every
+/// image, so that one that is never closed is refused.
+const OPEN: usize = u32::MAX as usize;
 
 /// The span of a record for which Roto's tree has no `Meta`.
 pub const NO_SPAN: Span = 0..0;
@@ -35,7 +40,7 @@ pub struct ImageWriter<'b> {
 
 /// A record that was opened, for [`ImageWriter::close`].
 #[derive(Debug)]
-#[must_use = "a record that isn't closed has no length"]
+#[must_use = "an image with a record that isn't closed is refused"]
 pub struct OpenRecord {
     at: usize,
     /// How many records were open before it.
@@ -80,9 +85,10 @@ impl<'b> ImageWriter<'b> {
     /// # Errors
     ///
     /// `TooDeep`, `BadSpan`, `TooLong`.
+    #[inline]
     pub fn open(&mut self, kind: u8, span: Span) -> WriteResult<OpenRecord> {
         let (at, depth) = (self.out.len(), self.depth);
-        self.head(0, kind, span)?;
+        self.head(OPEN, kind, span, [])?;
         self.depth += 1;
         Ok(OpenRecord { at, depth })
     }
@@ -96,6 +102,7 @@ impl<'b> ImageWriter<'b> {
     /// # Panics
     ///
     /// If the record is another writer's and lies past this one's bytes.
+    #[inline]
     pub fn close(&mut self, record: OpenRecord) -> WriteResult {
         self.depth = record.depth;
         self.room_for(0)?;
@@ -109,8 +116,9 @@ impl<'b> ImageWriter<'b> {
     /// # Errors
     ///
     /// As [`open`](Self::open).
+    #[inline]
     pub fn leaf(&mut self, kind: u8, span: Span) -> WriteResult {
-        self.head(HEAD - LENGTH, kind, span)
+        self.head(EMPTY, kind, span, [])
     }
 
     /// A record with a payload byte and no children.
@@ -118,15 +126,14 @@ impl<'b> ImageWriter<'b> {
     /// # Errors
     ///
     /// As [`open`](Self::open).
+    #[inline]
     pub fn choice(
         &mut self,
         kind: u8,
         span: Span,
         payload: u8,
     ) -> WriteResult {
-        self.head(HEAD - LENGTH + 1, kind, span)?;
-        self.byte(payload);
-        Ok(())
+        self.head(EMPTY + 1, kind, span, [payload])
     }
 
     /// A text record: a name or the shebang, with its width in columns.
@@ -134,6 +141,7 @@ impl<'b> ImageWriter<'b> {
     /// # Errors
     ///
     /// `TooWide`, and as [`open`](Self::open).
+    #[inline]
     pub fn text(
         &mut self,
         span: Span,
@@ -144,18 +152,20 @@ impl<'b> ImageWriter<'b> {
             return Err(EncodeError::TooWide { span, width }.into());
         };
         self.room_for(text.len())?;
-        self.head(HEAD - LENGTH + 2 + text.len(), 2, span)?;
-        self.out.extend_from_slice(&columns.to_be_bytes());
+        let length = EMPTY + 2 + text.len();
+        self.head(length, 2, span, columns.to_be_bytes())?;
         self.out.extend_from_slice(text.as_bytes());
         Ok(())
     }
 
     /// A payload byte of the open record, before its children.
+    #[inline]
     pub fn byte(&mut self, payload: u8) {
         self.out.push(payload);
     }
 
     /// The place of a child that is absent.
+    #[inline]
     pub fn absent(&mut self) {
         self.out.extend_from_slice(&[0; LENGTH]);
     }
@@ -171,13 +181,21 @@ impl<'b> ImageWriter<'b> {
         Ok(())
     }
 
-    /// Length, kind and span of a record, after the tests of all records.
-    fn head(&mut self, length: usize, kind: u8, span: Span) -> WriteResult {
+    /// Length, kind, span and payload of a record, after the tests of all
+    /// records.
+    #[inline]
+    fn head<const P: usize>(
+        &mut self,
+        length: usize,
+        kind: u8,
+        span: Span,
+        payload: [u8; P],
+    ) -> WriteResult {
         if self.depth == MAX_DEPTH {
-            return Err(EncodeError::TooDeep { span }.into());
+            return too_deep(span);
         }
         if !in_bounds(&span) {
-            return Err(EncodeError::BadSpan { span }.into());
+            return bad_span(span);
         }
         self.room_for(0)?;
         let mut head = [kind; HEAD];
@@ -185,29 +203,51 @@ impl<'b> ImageWriter<'b> {
         head[5..9].copy_from_slice(&number(span.start));
         head[9..].copy_from_slice(&number(span.end));
         self.out.extend_from_slice(&head);
+        self.out.extend_from_slice(&payload);
         Ok(())
     }
 
     /// Whether the body may have so many bytes more.
+    #[inline]
     fn room_for(&self, more: usize) -> WriteResult {
         match self.out.len() + more <= HEADER + MAX_BODY {
             true => Ok(()),
-            false => Err(EncodeError::TooLong.into()),
+            false => too_long(),
         }
     }
 
     /// Writes a length at its place.
+    #[inline]
     fn put_length(&mut self, at: usize, length: usize) {
         self.out[at..at + LENGTH].copy_from_slice(&number(length));
     }
 }
 
+#[inline]
 fn in_bounds(span: &Span) -> bool {
     span.start <= span.end && span.end <= MAX_SOURCE
 }
 
 /// The numbers of an image are at most the body's length, so four bytes hold
 /// them.
+#[inline]
 fn number(value: usize) -> [u8; 4] {
     (value as u32).to_be_bytes()
+}
+
+// Apart, so that the good case stays short.
+
+#[cold]
+fn too_deep(span: Span) -> WriteResult {
+    Err(EncodeError::TooDeep { span }.into())
+}
+
+#[cold]
+fn bad_span(span: Span) -> WriteResult {
+    Err(EncodeError::BadSpan { span }.into())
+}
+
+#[cold]
+fn too_long() -> WriteResult {
+    Err(EncodeError::TooLong.into())
 }

@@ -2,7 +2,7 @@
 
 use rrufthim::{
     EncodeError, ImageWriter, MAX_BODY, MAX_COMMENTS, MAX_DEPTH, MAX_SOURCE,
-    MAX_WIDTH, NO_SPAN, WriteResult, check,
+    MAX_WIDTH, NO_SPAN, Refusal, WriteResult, check,
 };
 
 /// What is written, or the first error.
@@ -108,6 +108,35 @@ fn depth_is_counted() {
     assert!(nested(MAX_DEPTH).is_ok());
     let error = nested(MAX_DEPTH + 1).expect_err("too deep");
     assert_eq!(error, EncodeError::TooDeep { span: 3..4 });
+}
+
+/// Wherever a record is left open, the image is refused at it.
+#[test]
+fn a_record_left_open_is_refused() {
+    for left_open in 0..3 {
+        let image = written(|out| {
+            out.comments([].into_iter())?;
+            let mut open = Vec::new();
+            for (kind, place) in [(1, 0), (16, 1), (3, 2)] {
+                if place == 2 {
+                    out.absent();
+                }
+                open.push(out.open(kind, NO_SPAN)?);
+                if place == 0 {
+                    out.absent();
+                }
+            }
+            while let Some(record) = open.pop() {
+                if open.len() != left_open {
+                    out.close(record)?;
+                }
+            }
+            Ok(())
+        });
+        let at = [7, 7 + 17, 7 + 17 + 17][left_open];
+        let refusal = check(b"", &image.expect("an image"));
+        assert_eq!(refusal, Err(Refusal::BadRecord { at }));
+    }
 }
 
 #[test]
