@@ -5,12 +5,13 @@ pub mod beside;
 pub mod convert;
 mod declarations;
 mod expressions;
+pub mod patched;
 // The files that are copied into Roto, compiled for its real ast.rs.
 #[path = "../../../editor/plug/mod.rs"]
 pub mod plug;
 
-// Where the plug looks for them.
-use judge::{ast, parser};
+// Where the plug and the patch look for them.
+use judge::{RotoError, RotoReport, ast, load, parser};
 
 use std::{collections::VecDeque, ops::Range};
 

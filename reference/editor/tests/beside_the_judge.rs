@@ -10,10 +10,10 @@ use std::thread;
 use editor::{
     as_written,
     beside::{self, Due},
-    decode,
+    decode, patched,
 };
 use judge::{
-    examples,
+    RotoError, driver, examples,
     frame::{self, Frame},
     generate::{self, Class},
     reader, script, tree,
@@ -99,6 +99,59 @@ fn sizes() {
     let frames = generate::frames(Class::Sizes, SEED, count);
     let accepted = frames.filter(|bytes| compare(bytes)).count();
     assert!(accepted > 10, "{accepted}");
+}
+
+/// The patched `fmt_parsed` gives the original's text, or an error where that
+/// text lacks a comment.
+#[test]
+fn the_patch() {
+    let (mut whole, mut held) = (0, 0);
+    for bytes in generate::frames(Class::Realistic, SEED, FRAMES / 10) {
+        let frame = frame::split_any_size(&bytes).expect("a frame");
+        let accepted = reader::read(frame.source, frame.image);
+        let accepted = accepted.expect("accepted");
+        let input = tree::Input::new(&accepted, frame.image);
+        let due = driver::run(&input);
+        let tree::Input {
+            ast,
+            files,
+            spans,
+            extras,
+            ..
+        } = input;
+        match patched::fmt_parsed(&ast, files, spans, &extras) {
+            Ok(text) => {
+                whole += 1;
+                assert_eq!(text, due.text);
+                assert_eq!(due.comments_left, 0);
+            }
+            Err(report) => {
+                held += 1;
+                let [RotoError::Custom(error)] = &report.errors[..] else {
+                    panic!("one error");
+                };
+                assert!(error.contains("drops the comments"), "{error}");
+                assert!(due.comments_left > 0);
+            }
+        }
+    }
+    assert!(whole > 10 && held > 10, "{whole}, {held}");
+}
+
+/// What README.md shows of the patch is what is compiled here.
+#[test]
+fn the_patch_is_shown() {
+    const README: &str = include_str!("../../../editor/README.md");
+    const PATCHED: &str = include_str!("../src/patched.rs");
+    let (_, diff) = README.split_once("```diff\n").expect("a patch");
+    let (diff, _) = diff.split_once("```").expect("its end");
+    let (_, function) = diff.split_once(" fn fmt_parsed(").expect("there");
+    let after = function.lines().filter_map(|line| {
+        line.strip_prefix('+').or_else(|| line.strip_prefix(' '))
+    });
+    let after: Vec<&str> = after.collect();
+    let (_, due) = PATCHED.split_once("fn fmt_parsed(\n").expect("there");
+    assert_eq!(after.join("\n"), due.trim_end());
 }
 
 /// The deepest records, and trees of all shapes, on 256 KB of stack.

@@ -8,12 +8,12 @@
 #[allow(dead_code)]
 pub mod ast;
 #[path = "shim/load.rs"]
-mod load;
+pub mod load;
 #[path = "shim/parser.rs"]
 pub mod parser;
 #[path = "shim/report.rs"]
 mod report;
-use report::{RotoError, RotoReport};
+pub use report::{RotoError, RotoReport};
 
 include!(concat!(env!("OUT_DIR"), "/declare_fmt.rs"));
 

@@ -17,7 +17,7 @@ mod expressions;
 /// point into the image: they must not be kept longer than this.
 pub struct Input<'i> {
     pub ast: ast::SyntaxTree,
-    pub(crate) files: FileTree,
+    pub files: FileTree,
     pub spans: Spans,
     pub extras: Extras,
     pub(crate) image: &'i [u8],
