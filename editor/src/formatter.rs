@@ -136,7 +136,7 @@ fn format<'b>(
     file: File<'_>,
 ) -> Result<Formatted<&'b str>, FormatError> {
     let refused = |refusal| file.error(refusal);
-    buffers.prepare(file);
+    buffers.prepare(file, 1);
     let (fresh, all) = (LayoutState::default(), declarations(file.image));
     let laid = buffers.lay_out(file, &fresh, all, true).map_err(refused)?;
     let (fresh, rows) = (RenderState::default(), laid.state.next_row);

@@ -52,7 +52,8 @@ impl<'f> Steps<'f> {
         let accepted = check(source, image);
         let accepted = accepted.map_err(|refusal| file.error(refusal))?;
         let mut buffers = Buffers::new(MAX_OUTPUT);
-        buffers.prepare(file);
+        // Once more for the rows of the steps before.
+        buffers.prepare(file, 2);
         Ok(Steps {
             file,
             declarations: accepted.declarations,
