@@ -165,6 +165,21 @@ fn an_outgrown_text_says_so() {
     }
 }
 
+/// The limit to the byte: a shebang is followed by two newlines.
+#[test]
+fn a_text_at_the_limit_is_not_outgrown() {
+    for (length, outgrown) in [(65_534, false), (65_535, true)] {
+        let tree = SyntaxTree {
+            shebang: Some("x".repeat(length)),
+            declarations: vec![],
+        };
+        let formatted = fmt_parsed(&tree, "", &Extras::default());
+        let formatted = formatted.expect("a text");
+        assert_eq!(formatted.text.len(), length + 2);
+        assert_eq!(formatted.outgrown, outgrown);
+    }
+}
+
 /// Puts a constant where its line `const A:u32 = 1;` starts.
 fn shift(constant: &mut ConstantDeclaration, start: usize) {
     let value = literal(start + 14..start + 15);
