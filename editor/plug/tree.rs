@@ -247,10 +247,7 @@ impl<W: FnMut(&str) -> usize> TreeWriter<'_, '_, W> {
     /// Payload and children of an expression's record.
     fn parts(&mut self, expr: &Expr) -> WriteResult {
         match expr {
-            Expr::Return(kind, value) => {
-                self.out.byte(place(kind));
-                self.maybe(value.as_deref(), Self::expr)
-            }
+            Expr::Return(kind, x) => self.r#return(kind, x.as_deref()),
             Expr::Literal(x) => self.literal(x),
             Expr::Block(x) => self.block(x),
             Expr::Match(x) => self.r#match(x),
@@ -285,6 +282,19 @@ impl<W: FnMut(&str) -> usize> TreeWriter<'_, '_, W> {
             Expr::Not(x) | Expr::Negate(x) => self.expr(x),
             Expr::QuestionMark(x) | Expr::Parentheses(x) => self.expr(x),
         }
+    }
+
+    fn r#return(
+        &mut self,
+        kind: &ReturnKind,
+        value: Option<&Meta<Expr>>,
+    ) -> WriteResult {
+        self.out.byte(match kind {
+            ReturnKind::Return => 0,
+            ReturnKind::Accept => 1,
+            ReturnKind::Reject => 2,
+        });
+        self.maybe(value, Self::expr)
     }
 
     fn binary(
@@ -379,14 +389,6 @@ impl<W: FnMut(&str) -> usize> TreeWriter<'_, '_, W> {
                 self.record(85, span, |w| w.expr(expr))
             }
         }
-    }
-}
-
-fn place(kind: &ReturnKind) -> u8 {
-    match kind {
-        ReturnKind::Return => 0,
-        ReturnKind::Accept => 1,
-        ReturnKind::Reject => 2,
     }
 }
 

@@ -1,12 +1,16 @@
 //! The proved formatter for Roto scripts, as a Rust library.
 //!
 //! [`fmt_parsed`] takes the place of Roto's own: a syntax tree with its
-//! source and comments in, text out. Below it stand [`encode`], which writes
-//! a tree as the bytes that the formatter reads, and [`Formatter`], which
-//! owns the buffers. Below that are the calls themselves, [`check`],
-//! [`layout`], [`render`] and [`format_file`], over slices that the caller
-//! lends; what they promise is proved, and any arguments that safe Rust can
-//! give them end in an answer or a [`Refusal`].
+//! source and comments in, text out. [`fmt_written`] does the same for trees
+//! of other types, Roto's own among them, which a plug writes by an
+//! [`ImageWriter`] (README.md, "Plugging in"). Below both stands
+//! [`Formatter`], which owns the buffers and keeps them, and beside it
+//! [`Steps`], which formats a file a part at a time.
+//!
+//! Below that are the calls themselves, [`check`], [`layout`], [`render`] and
+//! [`format_file`], over slices that the caller lends; what they promise is
+//! proved, and any arguments that safe Rust can give them end in an answer or
+//! a [`Refusal`].
 //!
 //! docs/01-scope.md of the repository has the rules.
 

@@ -110,17 +110,11 @@ pub fn of_files(input: &Input) -> Vec<Line> {
         .zip(&input.files)
         .map(|(accepted, file)| tree::Input::new(accepted, &file.image))
         .collect();
-    let [mut ported, mut tight] = [const { Vec::new() }; 2];
-    let mut lengths = Vec::new();
-    for (tree, file) in trees.iter().zip(&input.files) {
-        let run = driver::run(tree);
-        lengths.push(run.text.len());
-        let mut one =
-            of_file(file, &run, rows_lent(file), roomy(run.text.len()));
-        let text = one.calls();
-        ported.push(one);
-        tight.push(of_file(file, &run, run.rows.len(), text));
-    }
+    let Lent {
+        mut ported,
+        mut tight,
+        lengths,
+    } = Lent::to(input, &trees);
     let rows = ported.iter().map(|one| one.rows).sum();
     let bytes = lengths.iter().sum();
     let line =
@@ -144,6 +138,35 @@ pub fn of_files(input: &Input) -> Vec<Line> {
     }
     lines.extend(small_files(input, &mut ported, &trees, &lengths));
     lines
+}
+
+/// The files of an input with their buffers: with room to spare, and with no
+/// more than the calls need; and how long the original's texts are.
+struct Lent<'f> {
+    ported: Vec<Ported<'f>>,
+    tight: Vec<Ported<'f>>,
+    lengths: Vec<usize>,
+}
+
+impl<'f> Lent<'f> {
+    fn to(input: &'f Input, trees: &[tree::Input]) -> Self {
+        let [mut ported, mut tight] = [const { Vec::new() }; 2];
+        let mut lengths = Vec::new();
+        for (tree, file) in trees.iter().zip(&input.files) {
+            let run = driver::run(tree);
+            lengths.push(run.text.len());
+            let mut one =
+                of_file(file, &run, rows_lent(file), roomy(run.text.len()));
+            let text = one.calls();
+            ported.push(one);
+            tight.push(of_file(file, &run, run.rows.len(), text));
+        }
+        Lent {
+            ported,
+            tight,
+            lengths,
+        }
+    }
 }
 
 /// The whole run on the files of an input that it has rows for.
