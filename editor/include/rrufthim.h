@@ -13,6 +13,9 @@
  * lies behind the rows, marks and bytes that it writes as it was.
  *
  * Flags. In state and close every number but 0 means yes; in out a flag is 0 or 1.
+ *
+ * For people. The span that a refusal is about stands in the image, start and end as four bytes each, the highest first: for 5 and 6 behind
+ * the length and the kind of the record, at image[out[1] + 5]; for 7 at image[out[1]], unless out[1] is 5, the place of their count.
  */
 #ifndef RRUFTHIM_H
 #define RRUFTHIM_H
