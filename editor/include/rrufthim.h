@@ -1,6 +1,7 @@
 /*
- * The proved formatter for Roto scripts, as C calls it. The functions are those of libexports.a, which `rt staticlib exports` writes
- * (x86-64 Linux). docs/01-scope.md has the rules: the tree image, rows, marks, states and refusals.
+ * The proved formatter for Roto scripts, as C calls it. The functions are those of librrufthim.a: target/staticlib/libexports.a, which
+ * `rt staticlib exports` writes (x86-64 Linux), under a name that no other library has. docs/01-scope.md has the rules: the tree image,
+ * rows, marks, states and refusals.
  *
  * Buffers. A pointer to bytes or rows goes with the number of its elements; state and out have a fixed number of places. No pointer may be
  * NULL, even where the number is 0. store must be aligned for uint32_t, state and out for uint64_t. What a call may change (store, marks,
@@ -12,6 +13,9 @@
  * lies behind the rows, marks and bytes that it writes as it was.
  *
  * Flags. In state and close every number but 0 means yes; in out a flag is 0 or 1.
+ *
+ * For people. The span that a refusal is about stands in the image, start and end as four bytes each, the highest first: for 5 and 6 behind
+ * the length and the kind of the record, at image[out[1] + 5]; for 7 at image[out[1]], unless out[1] is 5, the place of their count.
  */
 #ifndef RRUFTHIM_H
 #define RRUFTHIM_H
@@ -40,9 +44,16 @@ typedef char rrufthim_lengths_have_64_bits[sizeof(size_t) == 8 ? 1 : -1];
 #define RRUFTHIM_BAD_ROW 11         /* a row can't be rendered: that row; or the stop is past the store or 2,097,152: 0 */
 #define RRUFTHIM_BAD_STATE 12       /* the state, the marks in use or the stop don't fit: 0 */
 
+/* Limits: past them a file is refused. A text may be longer than a source: such a text can't be formatted again. */
+#define RRUFTHIM_MAX_SOURCE 65536    /* bytes of a source */
+#define RRUFTHIM_MAX_BODY 1048576    /* bytes of an image behind its first five */
+#define RRUFTHIM_MAX_COMMENTS 8192
+#define RRUFTHIM_MAX_DEPTH 64        /* records in each other, the tree being 1 */
+#define RRUFTHIM_MAX_WIDTH 65535     /* columns of a text */
+
 /* Sizes. */
 #define RRUFTHIM_ROW 9               /* numbers of the store that a row takes; store_len / 9 rows, rounded down */
-#define RRUFTHIM_FILE_ROWS 1800      /* the rows, and the marks, that rrufthim_format has of its own */
+#define RRUFTHIM_MAX_FILE_ROWS 1800  /* the rows, and the marks, that rrufthim_format has of its own */
 #define RRUFTHIM_LAYOUT_STATE 7      /* places of a layout state */
 #define RRUFTHIM_RENDER_STATE 5      /* places of a rendering state */
 #define RRUFTHIM_CHECK_OUT 3         /* places of each function's out */

@@ -1,6 +1,7 @@
 //! The calls of the static library over slices that the caller lends.
 
 use crate::{
+    image::declarations,
     linked::{
         rrufthim_check, rrufthim_format, rrufthim_layout, rrufthim_render,
     },
@@ -13,12 +14,15 @@ use crate::{
 pub const ROW: usize = 9;
 
 /// The rows, and the marks, that [`format_file`] has.
-pub const FILE_ROWS: u64 = 1_800;
+pub const MAX_FILE_ROWS: u64 = 1_800;
 
 /// What [`check`] says of an image that it accepts.
 #[derive(Clone, Copy, Debug, PartialEq, Eq)]
 pub struct Accepted {
+    /// How many comments the image has.
     pub comments: u64,
+    /// How many declarations it has: where layout ends.
+    pub declarations: u64,
     /// The offset of the tree's record in the image.
     pub tree: u64,
 }
@@ -26,6 +30,7 @@ pub struct Accepted {
 /// What [`layout`] answers.
 #[derive(Clone, Copy, Debug, PartialEq, Eq)]
 pub struct Laid {
+    /// How far layout came.
     pub state: LayoutState,
     /// Comments that no row holds yet; after closing, none ever will.
     pub comments_left: u64,
@@ -34,6 +39,7 @@ pub struct Laid {
 /// What [`render`] answers.
 #[derive(Clone, Copy, Debug, PartialEq, Eq)]
 pub struct Written {
+    /// How far rendering came.
     pub state: RenderState,
     /// How many bytes of the output were written, from its start on.
     pub bytes: usize,
@@ -52,7 +58,11 @@ pub struct FileWritten {
     pub numbers: u64,
 }
 
-/// Whether a source and its tree image are accepted: refusals 1 to 7.
+/// Whether a source and its tree image are accepted.
+///
+/// # Errors
+///
+/// Refusals 1 to 7.
 pub fn check(source: &[u8], image: &[u8]) -> Result<Accepted, Refusal> {
     let mut out = [0; 3];
     // Safety: each pointer comes from a slice and goes with its length; the
@@ -68,12 +78,19 @@ pub fn check(source: &[u8], image: &[u8]) -> Result<Accepted, Refusal> {
     }
     let [number, comments, tree] = out;
     refused(number, comments)?;
-    Ok(Accepted { comments, tree })
+    Ok(Accepted {
+        comments,
+        declarations: declarations(image),
+        tree,
+    })
 }
 
 /// Lays out the declarations up to the one to stop before, and the final
-/// line if it closes: refusals 1 to 7, 12, 8. A refused call leaves the store
-/// as it was.
+/// line if it closes.
+///
+/// # Errors
+///
+/// Refusals 1 to 7, 12, 8. A refused call leaves the store as it was.
 pub fn layout(
     source: &[u8],
     image: &[u8],
@@ -107,9 +124,13 @@ pub fn layout(
     })
 }
 
-/// Renders the rows up to the one to stop before: refusals 1, 3, 11, 12, 9,
-/// 10. The store is lent for the time of the call and is the same after it; a
-/// refused call leaves marks and output as they were too.
+/// Renders the rows up to the one to stop before. The store is lent for the
+/// time of the call and is the same after it.
+///
+/// # Errors
+///
+/// Refusals 1, 3, 11, 12, 9, 10. A refused call leaves marks and output as
+/// they were.
 pub fn render(
     source: &[u8],
     image: &[u8],
@@ -147,11 +168,12 @@ pub fn render(
     })
 }
 
-/// Lays out and renders a whole file of at most [`FILE_ROWS`] rows: refusals 1
-/// to 10, each of which leaves the output as it was. [`Formatter`] takes larger
-/// files.
+/// Lays out and renders a whole file of at most [`MAX_FILE_ROWS`] rows.
+/// [`Formatter`](crate::Formatter) takes larger files.
 ///
-/// [`Formatter`]: crate::Formatter
+/// # Errors
+///
+/// Refusals 1 to 10, each of which leaves the output as it was.
 pub fn format_file(
     source: &[u8],
     image: &[u8],

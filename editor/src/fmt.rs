@@ -1,32 +1,60 @@
 //! The place of `fmt_parsed` in an editor.
 
-use std::{error::Error, fmt, string::FromUtf8Error};
+use std::{cell::RefCell, error::Error, fmt};
 
 use crate::{
     ast::{Extras, Span, SyntaxTree},
-    encode::{EncodeError, encode_with_widths, simple_width},
+    encode::{self, MAX_SOURCE, simple_width},
+    error::FormatError,
     formatter::Formatter,
-    refusal::Refusal,
+    writer::{ImageWriter, WriteResult},
 };
 
-/// A formatted file.
+/// A formatted file: `Formatted<String>` with a text of its own,
+/// `Formatted<&str>` with one in the buffers of a [`Formatter`].
 #[derive(Clone, Debug, PartialEq, Eq)]
 #[must_use = "comments may be left that the text doesn't hold"]
-pub struct Formatted {
-    pub text: String,
+pub struct Formatted<Text = String> {
+    /// The text, which may lack comments.
+    pub text: Text,
     /// The comments that the text doesn't hold, in their order: those after
     /// the last place of the last declaration where a comment can stand.
     /// Saving the text alone drops them.
     pub comments_left: Vec<Span>,
+    /// Whether the text is over [`MAX_SOURCE`] bytes. Nothing is wrong with
+    /// it, but once it is saved, the file can't be formatted again: the next
+    /// save is refused by 1.
+    pub outgrown: bool,
 }
 
-impl Formatted {
-    /// The text, if it holds every comment; else the comments that it would
-    /// drop.
-    pub fn complete(self) -> Result<String, CommentsLeft> {
+impl<Text: AsRef<str>> Formatted<Text> {
+    pub(crate) fn new(text: Text, comments_left: Vec<Span>) -> Self {
+        let outgrown = text.as_ref().len() > MAX_SOURCE;
+        Formatted {
+            text,
+            comments_left,
+            outgrown,
+        }
+    }
+
+    /// The text, if it holds every comment.
+    ///
+    /// # Errors
+    ///
+    /// The comments that the text would drop.
+    pub fn complete(self) -> Result<Text, CommentsLeft> {
         match self.comments_left.is_empty() {
             true => Ok(self.text),
             false => Err(CommentsLeft(self.comments_left)),
+        }
+    }
+
+    /// The same with a text of its own.
+    pub fn into_owned(self) -> Formatted {
+        Formatted {
+            text: self.text.as_ref().to_owned(),
+            comments_left: self.comments_left,
+            outgrown: self.outgrown,
         }
     }
 }
@@ -43,50 +71,6 @@ impl fmt::Display for CommentsLeft {
 
 impl Error for CommentsLeft {}
 
-/// Why a tree can't be formatted.
-#[derive(Clone, Debug, PartialEq, Eq)]
-#[non_exhaustive]
-pub enum FormatError {
-    /// The tree has no image.
-    Encode(EncodeError),
-    /// The image and the source are refused.
-    Refused(Refusal),
-    /// The text isn't UTF-8, which can't come of a source that is.
-    NotUtf8(FromUtf8Error),
-}
-
-impl fmt::Display for FormatError {
-    fn fmt(&self, f: &mut fmt::Formatter<'_>) -> fmt::Result {
-        match self {
-            Self::Encode(error) => error.fmt(f),
-            Self::Refused(refusal) => refusal.fmt(f),
-            Self::NotUtf8(error) => error.fmt(f),
-        }
-    }
-}
-
-impl Error for FormatError {
-    fn source(&self) -> Option<&(dyn Error + 'static)> {
-        Some(match self {
-            Self::Encode(error) => error,
-            Self::Refused(refusal) => refusal,
-            Self::NotUtf8(error) => error,
-        })
-    }
-}
-
-impl From<EncodeError> for FormatError {
-    fn from(error: EncodeError) -> Self {
-        FormatError::Encode(error)
-    }
-}
-
-impl From<Refusal> for FormatError {
-    fn from(refusal: Refusal) -> Self {
-        FormatError::Refused(refusal)
-    }
-}
-
 /// Formats a parsed file, as `fmt_parsed` of Roto's src/fmt.rs does.
 ///
 /// What differs from `fmt_parsed(&ast, &files, &spans, &extras) -> String`:
@@ -101,6 +85,12 @@ impl From<Refusal> for FormatError {
 ///   an error.
 /// - Widths are [`simple_width`]'s; for the original's, give `unicode_width`
 ///   to [`fmt_parsed_with_widths`].
+///
+/// Each thread keeps a [`Formatter`] for these calls, with its buffers.
+///
+/// # Errors
+///
+/// As [`Formatter::format_written`].
 pub fn fmt_parsed(
     ast: &SyntaxTree,
     source: &str,
@@ -110,22 +100,42 @@ pub fn fmt_parsed(
 }
 
 /// As [`fmt_parsed`], with widths of the caller's own: see
-/// [`encode_with_widths`].
+/// [`encode_with_widths`](crate::encode_with_widths).
+///
+/// # Errors
+///
+/// As [`Formatter::format_written`].
 pub fn fmt_parsed_with_widths(
     ast: &SyntaxTree,
     source: &str,
     extras: &Extras,
     width: impl FnMut(&str) -> usize,
 ) -> Result<Formatted, FormatError> {
-    let image = encode_with_widths(ast, &extras.comments, width)?;
-    let mut formatter = Formatter::new();
-    let written = formatter.format(source.as_bytes(), &image)?;
-    let text = String::from_utf8(written.text.to_vec())
-        .map_err(FormatError::NotUtf8)?;
-    let left = written.comments_left as usize;
-    let placed = extras.comments.len().saturating_sub(left);
-    Ok(Formatted {
-        text,
-        comments_left: extras.comments[placed..].to_vec(),
+    fmt_written(source, |out| {
+        encode::write(out, ast, &extras.comments, width)
     })
+}
+
+thread_local! {
+    static KEPT: RefCell<Formatter> = RefCell::default();
+}
+
+/// Formats what the caller writes as an image, by the formatter that the
+/// thread keeps: [`Formatter::format_written`] with a text of its own.
+///
+/// # Errors
+///
+/// As [`Formatter::format_written`].
+pub fn fmt_written(
+    source: &str,
+    write: impl FnOnce(&mut ImageWriter<'_>) -> WriteResult,
+) -> Result<Formatted, FormatError> {
+    // It is taken out, so that `write` may itself come here, and a thread
+    // that is ending has a new one.
+    let kept = KEPT.try_with(RefCell::take);
+    let mut formatter = kept.unwrap_or_default();
+    let formatted = formatter.format_written(source, write);
+    let formatted = formatted.map(Formatted::into_owned);
+    let _ = KEPT.try_with(|kept| kept.replace(formatter));
+    formatted
 }

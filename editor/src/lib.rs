@@ -1,40 +1,59 @@
 //! The proved formatter for Roto scripts, as a Rust library.
 //!
 //! [`fmt_parsed`] takes the place of Roto's own: a syntax tree with its
-//! source and comments in, text out. Below it stand [`encode`], which writes
-//! a tree as the bytes that the formatter reads, and [`Formatter`], which
-//! owns the buffers. Below that are the calls themselves, [`check`],
-//! [`layout`], [`render`] and [`format_file`], over slices that the caller
-//! lends; what they promise is proved, and any arguments that safe Rust can
-//! give them end in an answer or a [`Refusal`].
+//! source and comments in, text out. [`fmt_written`] does the same for trees
+//! of other types, Roto's own among them, which a plug writes by an
+//! [`ImageWriter`] (README.md, "Plugging in"). Below both stands
+//! [`Formatter`], which owns the buffers and keeps them, and beside it
+//! [`Steps`], which formats a file a part at a time.
+//!
+//! Below that are the calls themselves, [`check`], [`layout`], [`render`] and
+//! [`format_file`], over slices that the caller lends; what they promise is
+//! proved, and any arguments that safe Rust can give them end in an answer or
+//! a [`Refusal`].
 //!
 //! docs/01-scope.md of the repository has the rules.
 
+#![deny(missing_docs)]
+
+// By this name the files of plug/ find what they use.
+extern crate self as rrufthim;
+
 pub mod ast;
+mod buffers;
 mod calls;
 mod encode;
+mod error;
 mod fmt;
 mod formatter;
 mod image;
 mod linked;
+mod place;
 mod refusal;
 mod states;
+mod steps;
+mod writer;
 
+pub use ast::Span;
 pub use calls::{
-    Accepted, FILE_ROWS, FileWritten, Laid, ROW, Written, check, format_file,
-    layout, render,
+    Accepted, FileWritten, Laid, MAX_FILE_ROWS, ROW, Written, check,
+    format_file, layout, render,
 };
 pub use encode::{
-    EncodeError, MOST_BODY, MOST_COMMENTS, MOST_DEPTH, MOST_SOURCE,
-    MOST_WIDTH, encode, encode_with_widths, simple_width,
+    EncodeError, MAX_BODY, MAX_COMMENTS, MAX_DEPTH, MAX_SOURCE, MAX_WIDTH,
+    encode, encode_with_widths, simple_width,
 };
+pub use error::{Cause, FormatError};
 pub use fmt::{
-    CommentsLeft, FormatError, Formatted, fmt_parsed, fmt_parsed_with_widths,
+    CommentsLeft, Formatted, fmt_parsed, fmt_parsed_with_widths, fmt_written,
 };
-pub use formatter::{FileText, Formatter, MOST_OUTPUT};
+pub use formatter::{Formatter, MAX_OUTPUT};
 pub use image::declarations;
+pub use place::Place;
 pub use refusal::Refusal;
 pub use states::{LayoutState, RenderState};
+pub use steps::Steps;
+pub use writer::{ImageWriter, NO_SPAN, OpenRecord, WriteResult};
 
 /// The example of README.md, run as a test.
 #[cfg(doctest)]

@@ -2,6 +2,11 @@
 
 use std::{error::Error, fmt};
 
+use crate::{
+    ast::Span,
+    image::{comment_at, span_at},
+};
+
 /// A refused call. The number and the place are all that comes back; each
 /// case names what its place is.
 #[derive(Clone, Copy, Debug, PartialEq, Eq, Hash)]
@@ -9,28 +14,53 @@ use std::{error::Error, fmt};
 pub enum Refusal {
     /// 1: the source is over 65,536 bytes.
     SourceTooLong,
-    /// 2: the source isn't well-formed UTF-8 from this byte on.
-    SourceNotUtf8 { at: u64 },
+    /// 2: the source isn't well-formed UTF-8.
+    SourceNotUtf8 {
+        /// The first byte of the bad sequence.
+        at: u64,
+    },
     /// 3: the image's version or length is wrong, or its body too long.
     NoImage,
-    /// 4: a record of the image is malformed, at this offset of the image.
-    BadRecord { at: u64 },
-    /// 5: the record at this offset of the image is 65 deep.
-    TooDeep { at: u64 },
-    /// 6: the record at this offset of the image has a span that isn't one
-    /// of the source.
-    BadSpan { at: u64 },
-    /// 7: the comment list is wrong at this offset of the image.
-    BadComment { at: u64 },
-    /// 8: so many rows are needed in all.
-    MoreRows { needed: u64 },
-    /// 9: so many marks are needed.
-    MoreMarks { needed: u64 },
-    /// 10: so many bytes of output are needed.
-    MoreOutput { needed: u64 },
-    /// 11: this row of the store can't be rendered, or the stop is out of
-    /// range (row 0).
-    BadRow { row: u64 },
+    /// 4: a record of the image is malformed.
+    BadRecord {
+        /// An offset in the image.
+        at: u64,
+    },
+    /// 5: a record of the image is 65 deep.
+    TooDeep {
+        /// Its offset in the image.
+        at: u64,
+    },
+    /// 6: a record of the image has a span that isn't one of the source.
+    BadSpan {
+        /// The record's offset in the image.
+        at: u64,
+    },
+    /// 7: the comment list is wrong.
+    BadComment {
+        /// The offset in the image of the count, or of the comment.
+        at: u64,
+    },
+    /// 8: the store has too few rows.
+    MoreRows {
+        /// Rows needed in all.
+        needed: u64,
+    },
+    /// 9: there are too few marks.
+    MoreMarks {
+        /// Marks needed.
+        needed: u64,
+    },
+    /// 10: the output is too short.
+    MoreOutput {
+        /// Bytes needed.
+        needed: u64,
+    },
+    /// 11: a row of the store can't be rendered, or the stop is out of range.
+    BadRow {
+        /// The row; 0 for the stop.
+        row: u64,
+    },
     /// 12: the state, the marks in use or the stop don't fit the file.
     BadState,
     /// 13: the program's frame is too long or cut off. No function of this
@@ -38,7 +68,12 @@ pub enum Refusal {
     BadFrame,
     /// A number that the table doesn't have: the static library isn't the
     /// one this crate was written for.
-    Unknown { number: u64, place: u64 },
+    Unknown {
+        /// The number.
+        number: u64,
+        /// Its place.
+        place: u64,
+    },
 }
 
 use Refusal::*;
@@ -98,6 +133,18 @@ impl Refusal {
             | MoreOutput { needed } => needed,
             BadRow { row } => row,
             Unknown { place, .. } => place,
+        }
+    }
+
+    /// The span of the source that 5, 6 or 7 is about, as the refused image
+    /// has it; it need not lie in the source. `None` for other causes, and
+    /// where the count of comments is wrong. [`Place`](crate::Place) gives
+    /// its line and column.
+    pub fn span(&self, image: &[u8]) -> Option<Span> {
+        match *self {
+            TooDeep { at } | BadSpan { at } => span_at(image, at as usize),
+            BadComment { at } => comment_at(image, at as usize),
+            _ => None,
         }
     }
 }

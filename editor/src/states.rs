@@ -3,12 +3,19 @@
 /// How far layout came.
 #[derive(Clone, Copy, Debug, Default, PartialEq, Eq, Hash)]
 pub struct LayoutState {
+    /// Whether a call was made, and so the shebang laid.
     pub begun: bool,
+    /// Whether the final line was added.
     pub closed: bool,
+    /// The declaration that comes next.
     pub next_declaration: u64,
+    /// The row of the store that is written next.
     pub next_row: u64,
+    /// The number that the next group gets.
     pub next_number: u64,
+    /// How many comments are in rows.
     pub comments_placed: u64,
+    /// How far the source was looked through for comments and empty lines.
     pub position: u64,
 }
 
@@ -43,10 +50,15 @@ impl LayoutState {
 /// How far rendering came.
 #[derive(Clone, Copy, Debug, Default, PartialEq, Eq, Hash)]
 pub struct RenderState {
+    /// How many steps of four columns lines start in.
     pub indent: u64,
+    /// How many more the lines after this one do.
     pub next_indent: u64,
+    /// The column that was reached.
     pub column: u64,
+    /// How many marks are in use.
     pub marks_in_use: u64,
+    /// The row of the store that is rendered next.
     pub next_row: u64,
 }
 

@@ -75,10 +75,11 @@ fn rendering_follows_layout() {
 }
 
 #[test]
-fn the_reader_counts_comments() {
+fn the_reader_counts() {
     let image = tariff_image();
     let accepted = check(SOURCE.as_bytes(), &image).expect("accepted");
     assert_eq!((accepted.comments, accepted.tree), (3, 7 + 3 * 8));
+    assert_eq!(accepted.declarations, DECLARATIONS);
 }
 
 /// A row and a mark for each byte of the image are always enough.

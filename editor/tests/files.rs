@@ -3,8 +3,8 @@
 mod support;
 
 use rrufthim::{
-    CommentsLeft, EncodeError, FormatError, Formatter, Refusal, ast::*,
-    encode, encode_with_widths, fmt_parsed, simple_width,
+    Cause, CommentsLeft, EncodeError, Formatter, Refusal, ast::*, encode,
+    encode_with_widths, fmt_parsed, simple_width,
 };
 use support::{SOURCE, constants, tariff, tariff_image};
 
@@ -80,8 +80,8 @@ fn the_worked_image_is_written() {
     ];
     assert_eq!(image, due.concat());
     let mut formatter = Formatter::new();
-    let written = formatter.format(b"", &image).expect("a text");
-    assert_eq!(written.text, b"#!/x\n\n");
+    let written = formatter.format_image(b"", &image).expect("a text");
+    assert_eq!(written.text, "#!/x\n\n");
 }
 
 #[test]
@@ -104,22 +104,23 @@ fn a_formatter_serves_file_after_file() {
     let small = encode(&SyntaxTree::default(), &[]).expect("an image");
     let mut formatter = Formatter::default();
     for _ in 0..2 {
-        let written = formatter.format(SOURCE.as_bytes(), &image);
+        let written = formatter.format_image(SOURCE.as_bytes(), &image);
         let written = written.expect("a text");
-        assert_eq!(written.text, TARIFF.as_bytes());
-        assert_eq!(written.comments_left, 1);
-        let written = formatter.format(b"", &small).expect("a text");
-        assert_eq!(written.text, b"");
+        assert_eq!(written.text, TARIFF);
+        assert_eq!(written.comments_left.len(), 1);
+        let written = formatter.format_image(b"", &small).expect("a text");
+        assert_eq!(written.text, "");
     }
 }
 
 #[test]
 fn a_text_over_the_bound_is_refused() {
     let image = tariff_image();
-    let mut formatter = Formatter::with_most_output(10);
-    let refusal = formatter.format(SOURCE.as_bytes(), &image);
+    let mut formatter = Formatter::with_max_output(10);
+    let refusal = formatter.format_image(SOURCE.as_bytes(), &image);
     let needed = TARIFF.len() as u64;
-    assert_eq!(refusal, Err(Refusal::MoreOutput { needed }));
+    let cause = Cause::Refused(Refusal::MoreOutput { needed });
+    assert_eq!(refusal.expect_err("too long").cause, cause);
 }
 
 /// Each literal of a list spans the whole source: over a gigabyte of text.
@@ -134,9 +135,10 @@ fn a_text_of_gigabytes_is_refused() {
     };
     constant.expr = Meta::new(Expr::List(vec![literal; 20_000]), 0..0);
     let error = fmt_parsed(&tree, &source, &Extras::default());
-    let Err(FormatError::Refused(Refusal::MoreOutput { needed })) = error
+    let Cause::Refused(Refusal::MoreOutput { needed }) =
+        error.expect_err("too long").cause
     else {
-        panic!("it is refused");
+        panic!("it is refused by 10");
     };
     assert!(needed > 20_000 * 65_536);
 }
@@ -147,8 +149,8 @@ fn trees_that_do_not_fit_their_source_are_refused() {
     let error = fmt_parsed(&tree, "const", &Extras::default());
     let error = error.expect_err("spans past the source");
     assert!(matches!(
-        error,
-        FormatError::Refused(Refusal::BadSpan { .. })
+        error.cause,
+        Cause::Refused(Refusal::BadSpan { .. })
     ));
     // é takes two bytes: 15 is in its middle.
     let error = fmt_parsed(&tree, "const A: u32 =é1;", &Extras::default());
@@ -157,10 +159,11 @@ fn trees_that_do_not_fit_their_source_are_refused() {
 
     let error = fmt_parsed(&tree, "const A: u32 = 1;", &extras(&[3..3]));
     assert!(matches!(
-        error,
-        Err(FormatError::Encode(EncodeError::BadComment { .. }))
+        error.expect_err("an empty comment").cause,
+        Cause::Encode(EncodeError::BadComment { .. })
     ));
     let long = " ".repeat(65_537);
     let error = fmt_parsed(&tree, &long, &Extras::default());
-    assert_eq!(error, Err(FormatError::Refused(Refusal::SourceTooLong)));
+    let cause = Cause::Refused(Refusal::SourceTooLong);
+    assert_eq!(error.expect_err("too long").cause, cause);
 }

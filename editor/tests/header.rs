@@ -1,7 +1,10 @@
 //! The header for C and src/linked.rs declare what crates/exports has: the
 //! same functions, parameters in the same order, kinds and sizes.
 
-use rrufthim::{FILE_ROWS, ROW, Refusal};
+use rrufthim::{
+    MAX_BODY, MAX_COMMENTS, MAX_DEPTH, MAX_FILE_ROWS, MAX_SOURCE, MAX_WIDTH,
+    ROW, Refusal,
+};
 
 const HEADER: &str = include_str!("../include/rrufthim.h");
 const LINKED: &str = include_str!("../src/linked.rs");
@@ -168,5 +171,10 @@ fn refusals_and_sizes_have_their_names() {
         found.unwrap_or_else(|| panic!("{name}")).1
     };
     assert_eq!(value("RRUFTHIM_ROW"), ROW as u64);
-    assert_eq!(value("RRUFTHIM_FILE_ROWS"), FILE_ROWS);
+    assert_eq!(value("RRUFTHIM_MAX_FILE_ROWS"), MAX_FILE_ROWS);
+    assert_eq!(value("RRUFTHIM_MAX_SOURCE"), MAX_SOURCE as u64);
+    assert_eq!(value("RRUFTHIM_MAX_BODY"), MAX_BODY as u64);
+    assert_eq!(value("RRUFTHIM_MAX_COMMENTS"), MAX_COMMENTS as u64);
+    assert_eq!(value("RRUFTHIM_MAX_DEPTH"), MAX_DEPTH as u64);
+    assert_eq!(value("RRUFTHIM_MAX_WIDTH"), MAX_WIDTH as u64);
 }

@@ -6,9 +6,8 @@ mod support;
 use std::thread;
 
 use rrufthim::{
-    EncodeError, MOST_BODY, MOST_COMMENTS, MOST_DEPTH, MOST_SOURCE,
-    MOST_WIDTH, Refusal, ast::*, check, encode, encode_with_widths,
-    format_file,
+    EncodeError, MAX_BODY, MAX_COMMENTS, MAX_DEPTH, MAX_SOURCE, MAX_WIDTH,
+    Refusal, ast::*, check, encode, encode_with_widths, format_file,
 };
 use support::{Buffers, constants, path};
 
@@ -17,9 +16,9 @@ const SOURCE: &str = "const A: u32 = 1;";
 /// The sizes of docs/01-scope.md.
 #[test]
 fn the_limits_are_those_of_the_document() {
-    assert_eq!((MOST_SOURCE, MOST_BODY), (65_536, 1_048_576));
-    assert_eq!((MOST_COMMENTS, MOST_DEPTH), (8_192, 64));
-    assert_eq!(MOST_WIDTH, 65_535);
+    assert_eq!((MAX_SOURCE, MAX_BODY), (65_536, 1_048_576));
+    assert_eq!((MAX_COMMENTS, MAX_DEPTH), (8_192, 64));
+    assert_eq!(MAX_WIDTH, 65_535);
 }
 
 fn accepted(source: &str, image: &[u8]) -> bool {
@@ -29,11 +28,11 @@ fn accepted(source: &str, image: &[u8]) -> bool {
 #[test]
 fn comments() {
     let tree = constants(SOURCE);
-    let most = vec![0..1; MOST_COMMENTS];
+    let most = vec![0..1; MAX_COMMENTS];
     let image = encode(&tree, &most).expect("as many as there may be");
     assert!(accepted(SOURCE, &image));
 
-    let more = vec![0..1; MOST_COMMENTS + 1];
+    let more = vec![0..1; MAX_COMMENTS + 1];
     let count = more.len();
     let error = EncodeError::TooManyComments { count };
     assert_eq!(encode(&tree, &more), Err(error));
@@ -43,18 +42,18 @@ fn comments() {
 #[allow(clippy::reversed_empty_ranges)]
 fn spans_of_comments() {
     let tree = SyntaxTree::default();
-    for span in [1..1, 2..1, 0..MOST_SOURCE + 1, usize::MAX - 1..usize::MAX] {
+    for span in [1..1, 2..1, 0..MAX_SOURCE + 1, usize::MAX - 1..usize::MAX] {
         let comments = [0..1, span.clone()];
         let error = EncodeError::BadComment { index: 1, span };
         assert_eq!(encode(&tree, &comments), Err(error));
     }
-    assert!(encode(&tree, &[0..MOST_SOURCE]).is_ok());
+    assert!(encode(&tree, &[0..MAX_SOURCE]).is_ok());
 }
 
 #[test]
 #[allow(clippy::reversed_empty_ranges)]
 fn spans_of_nodes() {
-    for span in [2..1, 0..MOST_SOURCE + 1, usize::MAX..usize::MAX] {
+    for span in [2..1, 0..MAX_SOURCE + 1, usize::MAX..usize::MAX] {
         let mut tree = constants(SOURCE);
         let [Declaration::Const(constant)] = &mut tree.declarations[..]
         else {
@@ -69,12 +68,12 @@ fn spans_of_nodes() {
 #[test]
 fn widths() {
     let tree = constants(SOURCE);
-    let image = encode_with_widths(&tree, &[], |_| MOST_WIDTH);
+    let image = encode_with_widths(&tree, &[], |_| MAX_WIDTH);
     assert!(accepted(SOURCE, &image.expect("as wide as may be")));
-    for width in [MOST_WIDTH + 1, usize::MAX] {
+    for width in [MAX_WIDTH + 1, usize::MAX] {
         let error = encode_with_widths(&tree, &[], |_| width);
-        let text = "A".to_owned();
-        assert_eq!(error, Err(EncodeError::TooWide { text, width }));
+        let span = 6..7;
+        assert_eq!(error, Err(EncodeError::TooWide { span, width }));
     }
 }
 
@@ -95,7 +94,7 @@ fn nested(parentheses: usize) -> SyntaxTree {
 #[test]
 fn depth() {
     // Tree, constant, expression, path, name.
-    let most = MOST_DEPTH - 5;
+    let most = MAX_DEPTH - 5;
     let image = encode(&nested(most), &[]).expect("as deep as may be");
     assert!(accepted(SOURCE, &image));
     for parentheses in [most + 1, 10 * most, 5_000] {
@@ -107,7 +106,7 @@ fn depth() {
 /// The deepest trees need a quarter of a megabyte of stack at most.
 #[test]
 fn a_small_stack() {
-    let image = encode(&nested(MOST_DEPTH - 5), &[]).expect("an image");
+    let image = encode(&nested(MAX_DEPTH - 5), &[]).expect("an image");
     let run = move || {
         let mut buffers = Buffers::ample();
         let source = SOURCE.as_bytes();
@@ -128,12 +127,12 @@ fn shebang(length: usize) -> SyntaxTree {
 
 #[test]
 fn length() {
-    let most = MOST_BODY - 30;
+    let most = MAX_BODY - 30;
     let image = encode_with_widths(&shebang(most), &[], |_| 1);
     let image = image.expect("as long as may be");
-    assert_eq!(image.len(), MOST_BODY + 5);
+    assert_eq!(image.len(), MAX_BODY + 5);
     assert!(accepted("", &image));
-    for length in [most + 1, most + 3, most + 4, 4 * MOST_BODY] {
+    for length in [most + 1, most + 3, most + 4, 4 * MAX_BODY] {
         let error = encode_with_widths(&shebang(length), &[], |_| 1);
         assert_eq!(error, Err(EncodeError::TooLong));
     }
@@ -153,7 +152,7 @@ fn length_with_many_children() {
         shebang: None,
         declarations: vec![Declaration::Import(import.clone()); count],
     };
-    let most = (MOST_BODY - 2 - 17) / 21;
+    let most = (MAX_BODY - 2 - 17) / 21;
     let image = encode(&tree(most), &[]).expect("as many as may be");
     assert!(accepted("", &image));
     assert_eq!(encode(&tree(most + 1), &[]), Err(EncodeError::TooLong));

@@ -4,8 +4,8 @@
 mod support;
 
 use rrufthim::{
-    FileWritten, Formatter, LayoutState, ROW, Refusal, RenderState, check,
-    format_file, layout, render,
+    Cause, FileWritten, Formatter, LayoutState, ROW, Refusal, RenderState,
+    check, format_file, layout, render,
 };
 use support::{
     Buffers, DECLARATIONS, JUNK, JUNK_NUMBER, Random, SOURCE, tariff_image,
@@ -264,7 +264,9 @@ fn changed_images_and_sources() {
             let output = &mut buffers.output;
             assert_eq!(format_file(&source, &image, output), Err(refusal));
             assert_eq!(buffers, Buffers::ample());
-            assert_eq!(formatter.format(&source, &image), Err(refusal));
+            let error = formatter.format_image(&source, &image);
+            let cause = error.expect_err("refused").cause;
+            assert_eq!(cause, Cause::Refused(refusal));
         }
     }
     assert!(refused > 0 && refused < TRIES);

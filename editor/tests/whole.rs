@@ -4,8 +4,8 @@
 mod support;
 
 use rrufthim::{
-    FILE_ROWS, Formatter, LayoutState, Refusal, ast::*, check, declarations,
-    encode, format_file, layout,
+    Formatter, LayoutState, MAX_FILE_ROWS, Refusal, ast::*, check,
+    declarations, encode, format_file, layout,
 };
 use support::{
     Buffers, DECLARATIONS, JUNK, Random, SOURCE, constants, tariff_image,
@@ -21,10 +21,10 @@ fn one_call_gives_what_two_give() {
     assert_eq!(written, Ok(due));
     assert_eq!(output, buffers.output);
     let mut formatter = Formatter::new();
-    let written = formatter.format(SOURCE.as_bytes(), &image);
+    let written = formatter.format_image(SOURCE.as_bytes(), &image);
     let written = written.expect("a text");
-    assert_eq!(written.text, &output[..due.bytes]);
-    assert_eq!(written.comments_left, due.comments_left);
+    assert_eq!(written.text.as_bytes(), &output[..due.bytes]);
+    assert_eq!(written.comments_left.len() as u64, due.comments_left);
 }
 
 /// Each output that is too short stays as it was.
@@ -63,12 +63,14 @@ fn files_of_more_rows() {
         let due = buffers.format(source, &image).expect("a text");
         let mut output = vec![JUNK; 20_000];
         let written = format_file(source, &image, &mut output);
-        if due.rows > FILE_ROWS {
+        if due.rows > MAX_FILE_ROWS {
             let needed = due.rows;
             assert_eq!(written, Err(Refusal::MoreRows { needed }));
             assert!(output.iter().all(|byte| *byte == JUNK));
-            let text = formatter.format(source, &image).expect("a text");
-            assert_eq!(text.text, &buffers.output[..due.bytes]);
+            let text =
+                formatter.format_image(source, &image).expect("a text");
+            let text = text.text.as_bytes();
+            assert_eq!(text, &buffers.output[..due.bytes]);
             refused = Some(count);
             break;
         }
@@ -84,8 +86,8 @@ fn a_formatter_grows() {
     let mut formatter = Formatter::new();
     for count in [1, 3_000, 1] {
         let (source, image) = lines(count);
-        let text = formatter.format(source.as_bytes(), &image);
-        assert_eq!(text.expect("a text").text, source.as_bytes());
+        let text = formatter.format_image(source.as_bytes(), &image);
+        assert_eq!(text.expect("a text").text, source);
     }
 }
 

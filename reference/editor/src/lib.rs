@@ -1,8 +1,17 @@
-//! Images back to the types of the editor's crate, so that its encoder can
-//! be held against the judge's images.
+//! The editor's crate held against the judge: images are read back to that
+//! crate's types for its encoder, and to the original's for its plug.
 
+pub mod beside;
+pub mod convert;
 mod declarations;
 mod expressions;
+pub mod patched;
+// The files that are copied into Roto, compiled for its real ast.rs.
+#[path = "../../../editor/plug/mod.rs"]
+pub mod plug;
+
+// Where the plug and the patch look for them.
+use judge::{RotoError, RotoReport, ast, load, parser};
 
 use std::{collections::VecDeque, ops::Range};
 

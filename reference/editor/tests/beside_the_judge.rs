@@ -7,51 +7,29 @@ mod example;
 
 use std::thread;
 
-use editor::{as_written, decode};
+use editor::{
+    as_written,
+    beside::{self, Due},
+    decode, patched,
+};
 use judge::{
-    examples,
+    RotoError, driver, examples,
     frame::{self, Frame},
     generate::{self, Class},
-    program::{self, Widths},
-    reader, script,
+    reader, script, tree,
 };
-use rrufthim::{
-    Formatter, encode, encode_with_widths, fmt_parsed_with_widths,
-};
+use rrufthim::{Formatter, encode, encode_with_widths};
 use unicode_width::true_width;
 
 const SEED: u64 = 11;
 const FRAMES: u64 = 2_000;
 
-/// Holds the crate against the judge on one frame, with the widths that the
-/// image supplies. False if the reader refuses the frame.
+/// Holds the crate and its plug against the judge on one frame. False if the
+/// reader refuses it.
 fn compare(bytes: &[u8]) -> bool {
-    let frame = frame::split_any_size(bytes).expect("a frame");
-    let Ok(accepted) = reader::read(frame.source, frame.image) else {
-        return false;
-    };
-    let file = decode(&accepted);
-    let supply = || {
-        let mut widths = file.widths.clone();
-        move |_: &str| widths.pop_front().expect("one for each text")
-    };
-    let comments = &file.extras.comments;
-    let image = encode_with_widths(&file.tree, comments, supply());
-    let due = as_written(frame.image, &accepted.tree);
-    assert!(image == Ok(due), "the image differs");
-
-    let run = program::format(frame, Widths::Supplied).expect("accepted");
-    let formatted = fmt_parsed_with_widths(
-        &file.tree,
-        file.source,
-        &file.extras,
-        supply(),
-    )
-    .expect("accepted");
-    assert_eq!(formatted.text, run.text);
-    let placed = comments.len() - run.comments_left;
-    assert_eq!(formatted.comments_left, comments[placed..]);
-    true
+    let found = beside::differences(bytes);
+    assert!(found.as_ref().is_none_or(Vec::is_empty), "{found:?}");
+    found.is_some()
 }
 
 /// The image of a frame by true widths instead of the supplied ones.
@@ -63,6 +41,34 @@ fn compare_true_widths(bytes: &[u8]) {
     let comments = &file.extras.comments;
     let encoded = encode_with_widths(&file.tree, comments, true_width);
     assert!(encoded == Ok(as_written(image, &accepted.tree)));
+}
+
+/// Each thing that isn't as the original has it is found.
+#[test]
+fn differences_are_found() {
+    let bytes = script::frame(example::SOURCE).expect("it can be read");
+    let frame = frame::split_any_size(&bytes).expect("a frame");
+    let accepted = reader::read(frame.source, frame.image).expect("accepted");
+    let found = |change: fn(&mut Due)| {
+        let mut due = Due::of(frame, &accepted);
+        change(&mut due);
+        let input = tree::Input::new(&accepted, frame.image);
+        let file = decode(&accepted);
+        [
+            beside::of_the_crate(&file, &due),
+            beside::of_the_conversion(&file, &input, &due),
+            beside::of_the_plug(file.source, &input, &due),
+        ]
+        .concat()
+    };
+    assert_eq!(found(|_| ()), [""; 0]);
+    let image = found(|due| due.image[100] ^= 1);
+    let images = ["image", "the converted image", "the plug's image"];
+    assert_eq!(image, images);
+    let text = found(|due| due.text.push(' '));
+    assert_eq!(text, ["text", "the plug's text"]);
+    let left = found(|due| due.comments_left.clear());
+    assert_eq!(left, ["comments left", "the plug's comments left"]);
 }
 
 #[test]
@@ -95,6 +101,59 @@ fn sizes() {
     assert!(accepted > 10, "{accepted}");
 }
 
+/// The patched `fmt_parsed` gives the original's text, or an error where that
+/// text lacks a comment.
+#[test]
+fn the_patch() {
+    let (mut whole, mut held) = (0, 0);
+    for bytes in generate::frames(Class::Realistic, SEED, FRAMES / 10) {
+        let frame = frame::split_any_size(&bytes).expect("a frame");
+        let accepted = reader::read(frame.source, frame.image);
+        let accepted = accepted.expect("accepted");
+        let input = tree::Input::new(&accepted, frame.image);
+        let due = driver::run(&input);
+        let tree::Input {
+            ast,
+            files,
+            spans,
+            extras,
+            ..
+        } = input;
+        match patched::fmt_parsed(&ast, files, spans, &extras) {
+            Ok(text) => {
+                whole += 1;
+                assert_eq!(text, due.text);
+                assert_eq!(due.comments_left, 0);
+            }
+            Err(report) => {
+                held += 1;
+                let [RotoError::Custom(error)] = &report.errors[..] else {
+                    panic!("one error");
+                };
+                assert!(error.contains("drops the comments"), "{error}");
+                assert!(due.comments_left > 0);
+            }
+        }
+    }
+    assert!(whole > 10 && held > 10, "{whole}, {held}");
+}
+
+/// What README.md shows of the patch is what is compiled here.
+#[test]
+fn the_patch_is_shown() {
+    const README: &str = include_str!("../../../editor/README.md");
+    const PATCHED: &str = include_str!("../src/patched.rs");
+    let (_, diff) = README.split_once("```diff\n").expect("a patch");
+    let (diff, _) = diff.split_once("```").expect("its end");
+    let (_, function) = diff.split_once(" fn fmt_parsed(").expect("there");
+    let after = function.lines().filter_map(|line| {
+        line.strip_prefix('+').or_else(|| line.strip_prefix(' '))
+    });
+    let after: Vec<&str> = after.collect();
+    let (_, due) = PATCHED.split_once("fn fmt_parsed(\n").expect("there");
+    assert_eq!(after.join("\n"), due.trim_end());
+}
+
 /// The deepest records, and trees of all shapes, on 256 KB of stack.
 #[test]
 fn a_small_stack() {
@@ -106,7 +165,7 @@ fn a_small_stack() {
         let mut formatter = Formatter::new();
         for bytes in frames {
             let frame = frame::split_any_size(&bytes).expect("a frame");
-            let _ = formatter.format(frame.source, frame.image);
+            let _ = formatter.format_image(frame.source, frame.image);
         }
     };
     let thread = thread::Builder::new().stack_size(256 << 10).spawn(run);

@@ -6,14 +6,14 @@
 // The original's own modules, at the paths it imports them by.
 #[path = "../../roto/src/ast.rs"]
 #[allow(dead_code)]
-mod ast;
+pub mod ast;
 #[path = "shim/load.rs"]
-mod load;
+pub mod load;
 #[path = "shim/parser.rs"]
-mod parser;
+pub mod parser;
 #[path = "shim/report.rs"]
 mod report;
-use report::{RotoError, RotoReport};
+pub use report::{RotoError, RotoReport};
 
 include!(concat!(env!("OUT_DIR"), "/declare_fmt.rs"));
 

@@ -13,12 +13,13 @@ use crate::{
 mod declarations;
 mod expressions;
 
-/// All that the formatter takes, and where its texts lie.
+/// All that the formatter takes, and where its texts lie. Names in the tree
+/// point into the image: they must not be kept longer than this.
 pub struct Input<'i> {
-    pub(crate) ast: ast::SyntaxTree,
-    pub(crate) files: FileTree,
-    pub(crate) spans: Spans,
-    pub(crate) extras: Extras,
+    pub ast: ast::SyntaxTree,
+    pub files: FileTree,
+    pub spans: Spans,
+    pub extras: Extras,
     pub(crate) image: &'i [u8],
     /// Offset in the image of the shebang's text, which the tree copies.
     shebang_at: usize,

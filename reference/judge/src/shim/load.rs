@@ -25,7 +25,7 @@ pub struct SourceFile {
 
 #[derive(Clone, Debug)]
 pub struct FileTree {
-    pub(crate) files: Vec<SourceFile>,
+    pub files: Vec<SourceFile>,
 }
 
 impl FileTree {

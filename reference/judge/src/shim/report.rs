@@ -8,6 +8,7 @@ use crate::{
 #[derive(Debug)]
 pub enum RotoError {
     Parse(#[allow(dead_code)] ParseError),
+    Custom(String),
 }
 
 #[allow(dead_code)]

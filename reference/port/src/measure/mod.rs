@@ -3,6 +3,8 @@
 #[cfg(feature = "calls")]
 pub mod documents;
 pub mod inputs;
+#[cfg(feature = "formatter")]
+mod saves;
 #[cfg(feature = "calls")]
 mod stack;
 #[cfg(feature = "calls")]

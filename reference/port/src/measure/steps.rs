@@ -13,6 +13,8 @@ use judge::{
     tree,
 };
 
+#[cfg(feature = "formatter")]
+use super::saves;
 use super::{
     Line, both,
     documents::{self, Document, Empty},
@@ -93,10 +95,10 @@ fn rows_lent(file: &File) -> usize {
     file.image.len() + 2 * comments + 16
 }
 
-/// The steps on all files of an input: layout and rendering apart; the whole
-/// run, on those files that it has rows for; the two calls with no more room
-/// than they need, where both count before they write; and the editor's
-/// formatter.
+/// The steps on all files of an input: layout and rendering apart; the two
+/// calls with room to spare, and with no more than they need, where both count
+/// before they write; saves by the editor's crate; and the whole run, on those
+/// files that it has rows for.
 pub fn of_files(input: &Input) -> Vec<Line> {
     let files = input.files.iter();
     let accepted: Vec<_> = files
@@ -108,17 +110,11 @@ pub fn of_files(input: &Input) -> Vec<Line> {
         .zip(&input.files)
         .map(|(accepted, file)| tree::Input::new(accepted, &file.image))
         .collect();
-    let [mut ported, mut tight] = [const { Vec::new() }; 2];
-    let mut lengths = Vec::new();
-    for (tree, file) in trees.iter().zip(&input.files) {
-        let run = driver::run(tree);
-        lengths.push(run.text.len());
-        let mut one =
-            of_file(file, &run, rows_lent(file), roomy(run.text.len()));
-        let text = one.calls();
-        ported.push(one);
-        tight.push(of_file(file, &run, run.rows.len(), text));
-    }
+    let Lent {
+        mut ported,
+        mut tight,
+        lengths,
+    } = Lent::to(input, &trees);
     let rows = ported.iter().map(|one| one.rows).sum();
     let bytes = lengths.iter().sum();
     let line =
@@ -133,12 +129,44 @@ pub fn of_files(input: &Input) -> Vec<Line> {
     let mut lines = vec![
         line("layout", rows, "row", layout(&mut ported, &trees)),
         line("rendering", rows, "row", rendered(&mut ported, &trees)),
+        line("calls", bytes, "byte", calls(&mut ported, &trees)),
         line("tight calls", bytes, "byte", calls(&mut tight, &trees)),
     ];
     #[cfg(feature = "formatter")]
-    lines.push(line("Formatter", bytes, "byte", formatter(input, &trees)));
+    for (step, seconds) in saves::of_files(input, &trees) {
+        lines.push(line(step, bytes, "byte", seconds));
+    }
     lines.extend(small_files(input, &mut ported, &trees, &lengths));
     lines
+}
+
+/// The files of an input with their buffers: with room to spare, and with no
+/// more than the calls need; and how long the original's texts are.
+struct Lent<'f> {
+    ported: Vec<Ported<'f>>,
+    tight: Vec<Ported<'f>>,
+    lengths: Vec<usize>,
+}
+
+impl<'f> Lent<'f> {
+    fn to(input: &'f Input, trees: &[tree::Input]) -> Self {
+        let [mut ported, mut tight] = [const { Vec::new() }; 2];
+        let mut lengths = Vec::new();
+        for (tree, file) in trees.iter().zip(&input.files) {
+            let run = driver::run(tree);
+            lengths.push(run.text.len());
+            let mut one =
+                of_file(file, &run, rows_lent(file), roomy(run.text.len()));
+            let text = one.calls();
+            ported.push(one);
+            tight.push(of_file(file, &run, run.rows.len(), text));
+        }
+        Lent {
+            ported,
+            tight,
+            lengths,
+        }
+    }
 }
 
 /// The whole run on the files of an input that it has rows for.
@@ -236,26 +264,6 @@ fn whole(files: &mut [(&mut Ported, &tree::Input)]) -> [f64; 2] {
 fn calls(ported: &mut [Ported], trees: &[tree::Input]) -> [f64; 2] {
     both(
         || ported.iter_mut().map(Ported::calls).sum::<usize>(),
-        || {
-            for tree in trees {
-                black_box(driver::format(tree));
-            }
-        },
-    )
-}
-
-/// The editor's formatter, its buffers kept from file to file, and
-/// `fmt_parsed`.
-#[cfg(feature = "formatter")]
-fn formatter(input: &Input, trees: &[tree::Input]) -> [f64; 2] {
-    let mut formatter = rrufthim::Formatter::new();
-    both(
-        || {
-            for File { source, image } in &input.files {
-                let text = formatter.format(source, image).expect("a text");
-                black_box(text.text);
-            }
-        },
         || {
             for tree in trees {
                 black_box(driver::format(tree));

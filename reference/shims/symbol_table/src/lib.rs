@@ -20,8 +20,9 @@ impl From<&str> for GlobalSymbol {
     /// Borrows the text, without a copy.
     fn from(text: &str) -> Self {
         // SAFETY: ast.rs asks for `'static`, which only a leak for each text
-        // would give. The judge, the one user, makes symbols in its module
-        // `tree` alone, and drops them there before the image they point to.
+        // would give. The judge makes symbols in its module `tree` alone, and
+        // drops them there before the image they point to. Who reads such a
+        // tree (the editor's plug) copies the texts and keeps no symbol.
         GlobalSymbol(unsafe { &*std::ptr::from_ref(text) })
     }
 }

@@ -1,73 +1,118 @@
 //! From a syntax tree to the tree image of docs/01-scope.md.
 
-mod declarations;
-mod expressions;
-mod writer;
-
 use std::{error::Error, fmt};
 
-use crate::ast::{Span, SyntaxTree};
-use writer::Writer;
+use crate::{
+    ast::{self, Meta, Span, SyntaxTree},
+    writer::{ImageWriter, WriteResult},
+};
+
+#[path = "../plug/tree.rs"]
+mod tree;
+
+/// Here each node holds its own span.
+struct Spans;
+
+fn span<T>(_: &Spans, node: &Meta<T>) -> Span {
+    node.span.clone()
+}
 
 /// The longest source, and so the furthest end of a span.
-pub const MOST_SOURCE: usize = 65_536;
+pub const MAX_SOURCE: usize = 65_536;
 /// The longest body of an image, which is all but its first five bytes.
-pub const MOST_BODY: usize = 1_048_576;
-pub const MOST_COMMENTS: usize = 8_192;
+pub const MAX_BODY: usize = 1_048_576;
+/// The most comments that an image has.
+pub const MAX_COMMENTS: usize = 8_192;
 /// The most columns that a text can be wide.
-pub const MOST_WIDTH: usize = u16::MAX as usize;
+pub const MAX_WIDTH: usize = u16::MAX as usize;
 /// How deep records may lie in each other, the tree being 1.
-pub const MOST_DEPTH: usize = 64;
+pub const MAX_DEPTH: usize = 64;
 
 /// Why a tree has no image.
 #[derive(Clone, Debug, PartialEq, Eq)]
 #[non_exhaustive]
 pub enum EncodeError {
     /// More than 8,192 comments.
-    TooManyComments { count: usize },
+    TooManyComments {
+        /// How many there are.
+        count: usize,
+    },
     /// A comment that is empty, reversed or past 65,536.
-    BadComment { index: usize, span: Span },
+    BadComment {
+        /// Its place in the list.
+        index: usize,
+        /// The comment.
+        span: Span,
+    },
     /// A span that is reversed or past 65,536.
-    BadSpan { span: Span },
+    BadSpan {
+        /// The span.
+        span: Span,
+    },
     /// A text over 65,535 columns.
-    TooWide { text: String, width: usize },
+    TooWide {
+        /// Where it stands.
+        span: Span,
+        /// How wide it is.
+        width: usize,
+    },
     /// Something more than 64 records deep.
-    TooDeep { span: Span },
+    TooDeep {
+        /// Where it stands.
+        span: Span,
+    },
     /// A path without a name.
-    EmptyPath { span: Span },
+    EmptyPath {
+        /// Where it should stand.
+        span: Span,
+    },
     /// An image with a body over 1,048,576 bytes.
     TooLong,
+}
+
+impl EncodeError {
+    /// The span that it is about, if it is about one.
+    pub fn span(&self) -> Option<Span> {
+        match self {
+            Self::BadComment { span, .. }
+            | Self::BadSpan { span }
+            | Self::TooWide { span, .. }
+            | Self::TooDeep { span }
+            | Self::EmptyPath { span } => Some(span.clone()),
+            Self::TooManyComments { .. } | Self::TooLong => None,
+        }
+    }
 }
 
 impl fmt::Display for EncodeError {
     fn fmt(&self, f: &mut fmt::Formatter<'_>) -> fmt::Result {
         match self {
             Self::TooManyComments { count } => {
-                write!(f, "{count} comments are over {MOST_COMMENTS}")
+                write!(f, "{count} comments are over {MAX_COMMENTS}")
             }
             Self::BadComment { index, span } => write!(
                 f,
                 "comment {index} at {span:?} is empty, reversed or past \
-                 {MOST_SOURCE}"
+                 {MAX_SOURCE}"
             ),
             Self::BadSpan { span } => {
-                write!(f, "span {span:?} is reversed or past {MOST_SOURCE}")
+                write!(f, "span {span:?} is reversed or past {MAX_SOURCE}")
             }
-            Self::TooWide { text, width } => write!(
+            Self::TooWide { span, width } => write!(
                 f,
-                "the text {text:.20?} is {width} columns wide, over \
-                 {MOST_WIDTH}"
+                "the text at {span:?} is {width} columns wide, over \
+                 {MAX_WIDTH}"
             ),
             Self::TooDeep { span } => write!(
                 f,
-                "what stands at {span:?} is more than {MOST_DEPTH} deep in \
+                "what stands at {span:?} is more than {MAX_DEPTH} deep in \
                  the tree"
             ),
             Self::EmptyPath { span } => {
                 write!(f, "the path at {span:?} has no name")
             }
             Self::TooLong => {
-                write!(f, "the image's body is over {MOST_BODY} bytes")
+                write!(f, "the image's body is over {MAX_BODY} bytes")
             }
         }
     }
@@ -79,6 +124,10 @@ impl Error for EncodeError {}
 ///
 /// It doesn't see the source: whether spans lie in it, and on boundaries of
 /// characters, is for [`check`](crate::check) to say (refusals 6 and 7).
+///
+/// # Errors
+///
+/// What is over a limit, and a path without a name.
 pub fn encode(
     tree: &SyntaxTree,
     comments: &[Span],
@@ -91,15 +140,32 @@ pub fn encode(
 /// The function is asked once for each text in the image's order: the
 /// shebang, trimmed at its end, then names as they come. The text equals the
 /// original's if it gives what the crate `unicode_width` does.
+///
+/// # Errors
+///
+/// As [`encode`].
 pub fn encode_with_widths(
     tree: &SyntaxTree,
     comments: &[Span],
-    mut width: impl FnMut(&str) -> usize,
+    width: impl FnMut(&str) -> usize,
 ) -> Result<Vec<u8>, EncodeError> {
-    let mut writer = Writer::new(&mut width);
-    writer.comments(comments)?;
-    writer.tree(tree)?;
-    Ok(writer.image())
+    let mut image = Vec::new();
+    let mut writer = ImageWriter::new(&mut image);
+    write(&mut writer, tree, comments, width)
+        .and_then(|()| writer.finish())
+        .map_err(|error| *error)?;
+    Ok(image)
+}
+
+/// All of an image but its own length.
+pub(crate) fn write(
+    out: &mut ImageWriter<'_>,
+    tree: &SyntaxTree,
+    comments: &[Span],
+    width: impl FnMut(&str) -> usize,
+) -> WriteResult {
+    out.comments(comments.iter().cloned())?;
+    tree::write(out, tree, &Spans, width)
 }
 
 /// A column for each character that isn't a control character.

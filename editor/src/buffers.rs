@@ -1,0 +1,254 @@
+//! What the calls are lent, growing as refusals 8, 9 and 10 ask.
+
+use std::fmt;
+
+use crate::{
+    calls::{Laid, ROW, Written, layout, render},
+    error::FormatError,
+    image::comments,
+    refusal::Refusal,
+    states::{LayoutState, RenderState},
+};
+
+/// The most rows that are lent before a refusal asks for more: 18 MiB.
+const MAX_AT_FIRST: u64 = 1 << 19;
+
+/// What all calls on a file are given.
+#[derive(Clone, Copy, Debug)]
+pub struct File<'f> {
+    pub source: &'f [u8],
+    pub image: &'f [u8],
+}
+
+impl File<'_> {
+    pub fn error(&self, refusal: Refusal) -> FormatError {
+        FormatError::refused(refusal, self.source, self.image)
+    }
+}
+
+/// Rows, marks and the place of the text.
+pub struct Buffers {
+    store: Vec<u32>,
+    marks: Vec<u8>,
+    output: Vec<u8>,
+    max_output: u64,
+}
+
+/// By their lengths alone.
+impl fmt::Debug for Buffers {
+    fn fmt(&self, f: &mut fmt::Formatter<'_>) -> fmt::Result {
+        f.debug_struct("Buffers")
+            .field("rows", &(self.store.len() / ROW))
+            .field("marks", &self.marks.len())
+            .field("output", &self.output.len())
+            .field("max_output", &self.max_output)
+            .finish()
+    }
+}
+
+impl Buffers {
+    /// Empty ones, for texts of at most so many bytes.
+    pub fn new(max_output: u64) -> Self {
+        Buffers {
+            store: Vec::new(),
+            marks: Vec::new(),
+            output: Vec::new(),
+            max_output,
+        }
+    }
+
+    /// Room to spare, as far as there is memory: a row and a mark for each
+    /// byte of the image and two for each comment, so many `times`, and many
+    /// times the source and the image for the text. Neither layout nor
+    /// rendering then has to count before it writes. What was in the buffers
+    /// is dropped.
+    pub fn prepare(&mut self, file: File<'_>, times: u64) {
+        let image = file.image.len() as u64;
+        let rows = times * (image + 2 * comments(file.image));
+        let rows = rows.min(MAX_AT_FIRST);
+        let lengths = file.source.len() as u64 * 2 + image;
+        let bytes = lengths.saturating_mul(8).saturating_add(1 << 16);
+        let bytes = bytes.min(self.max_output);
+        lengthen(&mut self.store, 0, rows * ROW as u64, u64::MAX);
+        lengthen(&mut self.marks, 0, rows, u64::MAX);
+        lengthen(&mut self.output, 0, bytes, self.max_output);
+    }
+
+    /// A layout call, made again with more rows if it asks for them.
+    pub fn lay_out(
+        &mut self,
+        file: File<'_>,
+        state: &LayoutState,
+        stop: u64,
+        close: bool,
+    ) -> Result<Laid, Refusal> {
+        let File { source, image } = file;
+        let kept = state.next_row.saturating_mul(ROW as u64);
+        loop {
+            let store = &mut self.store;
+            let answer = layout(source, image, store, state, stop, close);
+            let Err(Refusal::MoreRows { needed }) = answer else {
+                return answer;
+            };
+            let numbers = needed.saturating_mul(ROW as u64);
+            if !lengthen(store, kept, numbers, u64::MAX) {
+                return answer;
+            }
+        }
+    }
+
+    /// A rendering call, made again with more marks or bytes if it asks for
+    /// them.
+    pub fn render(
+        &mut self,
+        file: File<'_>,
+        state: &RenderState,
+        stop: u64,
+    ) -> Result<Written, Refusal> {
+        let File { source, image } = file;
+        loop {
+            let (store, marks) = (&mut self.store, &mut self.marks);
+            let output = &mut self.output;
+            let answer =
+                render(source, image, store, marks, output, state, stop);
+            let grown = match answer {
+                Err(Refusal::MoreMarks { needed }) => {
+                    lengthen(marks, state.marks_in_use, needed, u64::MAX)
+                }
+                Err(Refusal::MoreOutput { needed }) => {
+                    lengthen(output, 0, needed, self.max_output)
+                }
+                _ => false,
+            };
+            if !grown {
+                return answer;
+            }
+        }
+    }
+
+    /// The text that a rendering call wrote.
+    pub fn text(&self, bytes: usize) -> Result<&str, FormatError> {
+        let text = std::str::from_utf8(&self.output[..bytes]);
+        text.map_err(FormatError::not_utf8)
+    }
+}
+
+/// Lengthens a buffer and keeps what it holds first: to twice its length if
+/// there is memory, so that a file that grows with each save doesn't ask each
+/// time. False if it is long enough, so that no loop goes on for ever; if too
+/// much is asked; or if there is no memory.
+fn lengthen<T>(buffer: &mut Vec<T>, kept: u64, length: u64, most: u64) -> bool
+where
+    T: Copy + Default,
+{
+    let now = buffer.len() as u64;
+    if length <= now || length > most {
+        return false;
+    }
+    let ample = length.max(2 * now).min(most);
+    let Some(mut longer) = zeros(ample).or_else(|| zeros(length)) else {
+        return false;
+    };
+    let kept = kept.min(now) as usize;
+    longer[..kept].copy_from_slice(&buffer[..kept]);
+    *buffer = longer;
+    true
+}
+
+/// Zeros, if there is memory for them. The system hands large ones out
+/// cleared, so that what is never written costs no time.
+fn zeros<T: Copy + Default>(length: u64) -> Option<Vec<T>> {
+    let length = usize::try_from(length).ok()?;
+    // `vec!` ends the program if there is none, so ask before.
+    Vec::<T>::new().try_reserve_exact(length).ok()?;
+    Some(vec![T::default(); length])
+}
+
+#[cfg(test)]
+mod tests {
+    use super::*;
+    use crate::{ast::*, encode::encode};
+
+    const SOURCE: &str = "import a.b.{c.d, e};\n";
+
+    /// A group in an import takes a mark.
+    fn image() -> Vec<u8> {
+        let path = |starts: &[usize]| {
+            let name = |at: &usize| {
+                let span = *at..at + 1;
+                Meta::new(SOURCE[span.clone()].into(), span)
+            };
+            let idents: Vec<_> = starts.iter().map(name).collect();
+            let span = starts[0]..starts[starts.len() - 1] + 1;
+            Meta::new(Path { idents }, span)
+        };
+        let import = |starts: &[usize], group| {
+            let (path, span) = (path(starts), starts[0]..19);
+            let path = Some(path);
+            Meta::new(ImportPath { path, group }, span)
+        };
+        let group = vec![import(&[12, 14], None), import(&[17], None)];
+        let group = Some(Meta::new(group, 11..19));
+        let tree = SyntaxTree {
+            shebang: None,
+            declarations: vec![Declaration::Import(import(&[7, 9], group))],
+        };
+        encode(&tree, &[]).expect("within the limits")
+    }
+
+    fn whole(buffers: &mut Buffers) -> Result<String, Refusal> {
+        let (source, image) = (SOURCE.as_bytes(), &image()[..]);
+        let file = File { source, image };
+        let fresh = LayoutState::default();
+        let laid = buffers.lay_out(file, &fresh, 1, true)?;
+        let (fresh, rows) = (RenderState::default(), laid.state.next_row);
+        let written = buffers.render(file, &fresh, rows)?;
+        Ok(buffers.text(written.bytes).expect("UTF-8").to_owned())
+    }
+
+    /// From nothing, each buffer grows to just what is asked for.
+    #[test]
+    fn buffers_grow_by_the_place_of_a_refusal() {
+        let mut buffers = Buffers::new(100);
+        assert_eq!(whole(&mut buffers).as_deref(), Ok(SOURCE));
+        let Buffers {
+            store,
+            marks,
+            output,
+            ..
+        } = &buffers;
+        assert!(store.len() % ROW == 0 && store.len() > 10 * ROW);
+        assert!(!marks.is_empty() && marks.len() < 10);
+        assert_eq!(output.len(), SOURCE.len());
+    }
+
+    /// A text that is longer than allowed is refused, one as long is not.
+    #[test]
+    fn the_output_has_a_bound() {
+        let needed = SOURCE.len() as u64;
+        let mut exact = Buffers::new(needed);
+        assert!(whole(&mut exact).is_ok());
+        let mut short = Buffers::new(needed - 1);
+        assert_eq!(whole(&mut short), Err(Refusal::MoreOutput { needed }));
+    }
+
+    #[test]
+    fn what_is_kept_comes_along() {
+        let mut buffer = vec![1, 2, 3];
+        assert!(!lengthen(&mut buffer, 3, 3, 9));
+        assert!(!lengthen(&mut buffer, 3, 10, 9));
+        assert!(lengthen(&mut buffer, 2, 4, 9));
+        assert_eq!(buffer, [1, 2, 0, 0, 0, 0]);
+        assert!(lengthen(&mut buffer, u64::MAX, 7, 9));
+        assert_eq!(buffer, [1, 2, 0, 0, 0, 0, 0, 0, 0]);
+    }
+
+    /// What no memory holds is said, not tried.
+    #[test]
+    fn no_memory_is_no_end() {
+        let mut buffer = vec![7];
+        assert!(!lengthen(&mut buffer, 1, u64::MAX, u64::MAX));
+        assert!(!lengthen(&mut buffer, 1, 1 << 62, u64::MAX));
+        assert_eq!(buffer, [7]);
+    }
+}

@@ -1,0 +1,136 @@
+//! A file formatted a part at a time.
+
+use crate::{
+    ast::Span,
+    buffers::{Buffers, File},
+    calls::check,
+    error::FormatError,
+    formatter::MAX_OUTPUT,
+    image::comments_from,
+    states::{LayoutState, RenderState},
+};
+
+/// A file that is laid out and rendered a part at a time: what
+/// [`layout`](crate::layout) and [`render`](crate::render) carry from call to
+/// call, states and buffers of both.
+///
+/// The joined texts are those of one run. For an editor that must answer
+/// while a long file is formatted:
+///
+/// ```
+/// # let source = "const A: u32 = 1;\n";
+/// # let image = rrufthim::encode(&Default::default(), &[])?;
+/// let mut steps = rrufthim::Steps::new(source.as_bytes(), &image)?;
+/// let mut text = String::new();
+/// while let Some(part) = steps.advance(100)? {
+///     text.push_str(part);
+/// }
+/// let left = steps.comments_left();
+/// # assert!(text.is_empty() && left.is_empty());
+/// # Ok::<(), Box<dyn std::error::Error>>(())
+/// ```
+#[derive(Debug)]
+pub struct Steps<'f> {
+    file: File<'f>,
+    declarations: u64,
+    buffers: Buffers,
+    layout: LayoutState,
+    rendering: RenderState,
+}
+
+impl<'f> Steps<'f> {
+    /// A file of which nothing is laid out yet.
+    ///
+    /// # Errors
+    ///
+    /// Refusals 1 to 7.
+    pub fn new(
+        source: &'f [u8],
+        image: &'f [u8],
+    ) -> Result<Self, FormatError> {
+        let file = File { source, image };
+        let accepted = check(source, image);
+        let accepted = accepted.map_err(|refusal| file.error(refusal))?;
+        let mut buffers = Buffers::new(MAX_OUTPUT);
+        // Once more for the rows of the steps before.
+        buffers.prepare(file, 2);
+        Ok(Steps {
+            file,
+            declarations: accepted.declarations,
+            buffers,
+            layout: LayoutState::default(),
+            rendering: RenderState::default(),
+        })
+    }
+
+    /// How many declarations the file has.
+    pub fn declarations(&self) -> u64 {
+        self.declarations
+    }
+
+    /// How far layout came.
+    pub fn layout_state(&self) -> &LayoutState {
+        &self.layout
+    }
+
+    /// How far rendering came.
+    pub fn render_state(&self) -> &RenderState {
+        &self.rendering
+    }
+
+    /// The comments that no row holds yet; once the layout is closed, those
+    /// that the text doesn't hold.
+    pub fn comments_left(&self) -> Vec<Span> {
+        comments_from(self.file.image, self.layout.comments_placed)
+    }
+
+    /// Lays out and renders so many declarations more, but at least one, and
+    /// gives their text; the final line comes with the last. `None` if the
+    /// text is whole.
+    ///
+    /// # Errors
+    ///
+    /// As [`lay_out`](Self::lay_out) and [`render`](Self::render).
+    pub fn advance(
+        &mut self,
+        declarations: u64,
+    ) -> Result<Option<&str>, FormatError> {
+        if !self.layout.closed {
+            let next = self.layout.next_declaration;
+            let stop = next.saturating_add(declarations.max(1));
+            self.lay_out(stop.min(self.declarations))?;
+        } else if self.rendering.next_row == self.layout.next_row {
+            return Ok(None);
+        }
+        self.render().map(Some)
+    }
+
+    /// Lays out up to a declaration, that one not included. At their number
+    /// it closes: the final line is added.
+    ///
+    /// # Errors
+    ///
+    /// Refusal 12 if the stop lies before the next declaration or past their
+    /// number, or if the layout is closed; 8 if there is no memory for what
+    /// it asks. What was laid out stays.
+    pub fn lay_out(&mut self, stop: u64) -> Result<(), FormatError> {
+        let (file, close) = (self.file, stop == self.declarations);
+        let laid = self.buffers.lay_out(file, &self.layout, stop, close);
+        self.layout = laid.map_err(|refusal| file.error(refusal))?.state;
+        Ok(())
+    }
+
+    /// Renders what was laid out since the last call, and gives its text.
+    ///
+    /// # Errors
+    ///
+    /// Refusal 10 if the text is over [`MAX_OUTPUT`] bytes, 9 or 10 if there
+    /// is no memory for what they ask. What was rendered stays.
+    pub fn render(&mut self) -> Result<&str, FormatError> {
+        let (file, rows) = (self.file, self.layout.next_row);
+        let written = self.buffers.render(file, &self.rendering, rows);
+        let written = written.map_err(|refusal| file.error(refusal))?;
+        self.rendering = written.state;
+        self.buffers.text(written.bytes)
+    }
+}

@@ -1,0 +1,117 @@
+//! The editor's crate and its plug beside the judge, on one frame.
+
+use judge::{
+    frame::{self, Frame},
+    program::{self, Widths},
+    reader::{self, Accepted},
+    tree,
+};
+use rrufthim::{
+    ImageWriter, Span, encode_with_widths, fmt_parsed_with_widths,
+};
+
+use crate::{File, as_written, convert, decode, plug};
+
+/// What the original makes of a file.
+pub struct Due {
+    pub image: Vec<u8>,
+    pub text: String,
+    pub comments_left: Vec<Span>,
+}
+
+impl Due {
+    /// Runs the original on an accepted frame.
+    pub fn of(frame: Frame, accepted: &Accepted) -> Self {
+        let run = program::format(frame, Widths::Supplied).expect("accepted");
+        let placed = accepted.comments.len() - run.comments_left;
+        Due {
+            image: as_written(frame.image, &accepted.tree),
+            text: run.text,
+            comments_left: accepted.comments[placed..].to_vec(),
+        }
+    }
+}
+
+/// What is not as the judge has it, with the widths that the image supplies;
+/// `None` if the reader refuses the frame.
+pub fn differences(bytes: &[u8]) -> Option<Vec<&'static str>> {
+    let frame = frame::split_any_size(bytes).expect("a frame");
+    let accepted = reader::read(frame.source, frame.image).ok()?;
+    let due = Due::of(frame, &accepted);
+    let file = decode(&accepted);
+    let input = tree::Input::new(&accepted, frame.image);
+    let mut found = of_the_crate(&file, &due);
+    found.extend(of_the_conversion(&file, &input, &due));
+    found.extend(of_the_plug(file.source, &input, &due));
+    Some(found)
+}
+
+/// The encoder and `fmt_parsed` on a tree of the crate's own types.
+pub fn of_the_crate(file: &File, due: &Due) -> Vec<&'static str> {
+    let File { tree, extras, .. } = file;
+    let image = encode_with_widths(tree, &extras.comments, supply(file));
+    let formatted =
+        fmt_parsed_with_widths(tree, file.source, extras, supply(file));
+    let formatted = formatted.expect("accepted");
+    named([
+        ("image", image.as_ref() == Ok(&due.image)),
+        ("text", formatted.text == due.text),
+        (
+            "comments left",
+            formatted.comments_left == due.comments_left,
+        ),
+    ])
+}
+
+/// The widths that the image supplies, one for each text.
+fn supply(file: &File) -> impl FnMut(&str) -> usize {
+    let mut widths = file.widths.clone();
+    move |_| widths.pop_front().expect("one for each text")
+}
+
+/// The original's own tree, turned into one of the crate's.
+pub fn of_the_conversion(
+    file: &File,
+    input: &tree::Input,
+    due: &Due,
+) -> Vec<&'static str> {
+    let tree = convert::tree(&input.ast, &input.spans);
+    let extras = convert::extras(&input.extras);
+    let image = encode_with_widths(&tree, &extras.comments, supply(file));
+    named([("the converted image", image.as_ref() == Ok(&due.image))])
+}
+
+/// The plug on the original's own tree.
+pub fn of_the_plug(
+    source: &str,
+    input: &tree::Input,
+    due: &Due,
+) -> Vec<&'static str> {
+    let _held = input.supply_widths();
+    let tree::Input {
+        ast, spans, extras, ..
+    } = input;
+    let mut image = Vec::new();
+    let mut writer = ImageWriter::new(&mut image);
+    plug::write(&mut writer, ast, spans, extras)
+        .and_then(|()| writer.finish())
+        .expect("within the limits");
+    let formatted = plug::fmt_parsed(ast, source, spans, extras);
+    let formatted = formatted.expect("accepted");
+    named([
+        ("the plug's image", image == due.image),
+        ("the plug's text", formatted.text == due.text),
+        (
+            "the plug's comments left",
+            formatted.comments_left == due.comments_left,
+        ),
+    ])
+}
+
+/// The names of those that are not the same.
+fn named<const N: usize>(
+    tests: [(&'static str, bool); N],
+) -> Vec<&'static str> {
+    let differing = tests.into_iter().filter(|(_, same)| !same);
+    differing.map(|(name, _)| name).collect()
+}
