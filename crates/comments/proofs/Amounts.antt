@@ -15,7 +15,7 @@ use Rattle.rows.specs.Node.{comment, line, emptyLine}
 use Rattle.rows.specs.Rows.{size}
 use Rattle.state.specs.Act.{Given, St, _⨟_, skip, push, moveTo, pop, told}
 use Rattle.state.proofs.Few.{FewAt, Few, few-more, few-skip, few-moveTo, few-push, few-pop, few-then, few-cond, few-answers}
-use Rattle.comments.specs.Comments.{nth, remark, newlines, ignoreNewlines, popComment, waits, popComments, popWhitespace, popTrailingComment}
+use Rattle.comments.specs.Comments.{nth, pushComment, newlines, ignoreNewlines, popComment, waits, popComments, popWhitespace, popTrailingComment}
 use Rattle.comments.proofs.Pops.{ending}
 
 module _ (g : Given) where
@@ -33,7 +33,7 @@ module _ (g : Given) where
   unfolding ignoreNewlines
   few-ignored position = record { at = λ s. few-moveTo (ignoreNewlines g position s .pos) .at s }
 
-  few-remark : (c : Span) → Few 1 0 (remark g c)
+  few-remark : (c : Span) → Few 1 0 (pushComment g c)
   unfolding size
   few-remark c = few-push (comment (record { origin = 0; start = c .start; size = trimEnd (g .source) (c .start) (c .end) - c .start }))
 
@@ -78,13 +78,13 @@ module _ (g : Given) where
   unfolding popTrailingComment
   few-trailing = record { at = λ s. go s (something (g .source) (s .pos)) (nth (g .comments) (s .placed)) }
     where
-      one : (c : Span) → Few 0 0 (pop ⨟ remark g c ⨟ moveTo (c .end))
+      one : (c : Span) → Few 0 0 (pop ⨟ pushComment g c ⨟ moveTo (c .end))
       one c = few-pop (few-more (omega arith) (omega arith) (few-then (few-remark c) (few-moveTo (c .end))))
 
       go : (s : St) (f : Found) (o : Option Span) → FewAt 0 0 s
           (elim f [
             | Nowhere ↦ skip s
-            | At place ↦ elim o [ none ↦ skip s | some c ↦ cond (eqb (c .start) place) (pop ⨟ remark g c ⨟ moveTo (c .end)) skip s ]
+            | At place ↦ elim o [ none ↦ skip s | some c ↦ cond (eqb (c .start) place) (pop ⨟ pushComment g c ⨟ moveTo (c .end)) skip s ]
           ])
       go s Nowhere o = few-skip .at s
       go s (At place) none = few-skip .at s

@@ -17,7 +17,7 @@ use Rattle.tree.specs.Syntax.{Span}
 use Rattle.rows.specs.Node.{comment, line, emptyLine}
 use Rattle.state.specs.Act.{St, Out, Act, next, _⨟_, skip, push, moveTo, pop, told}
 use Rattle.state.proofs.Keeps.{Keeps, KeepsAt, keeps-at, keeps-of, keeps-skip, keeps-push, keeps-moveTo, keeps-then, keeps-after, keeps-cond, keeps-answers}
-use Rattle.comments.specs.Comments.{nth, front, remark, newlines, ignoreNewlines, popComment, waits, popComments, popWhitespace, popTrailingComment}
+use Rattle.comments.specs.Comments.{nth, front, pushComment, newlines, ignoreNewlines, popComment, waits, popComments, popWhitespace, popTrailingComment}
 use Rattle.comments.specs.Listed.{commentsOf, given, Listed}
 use Rattle.comments.proofs.Pops.{ending}
 use Rattle.comments.proofs.Fronts.{count-of, inside, good}
@@ -123,7 +123,7 @@ module _ {s b : List ℕ} (l : Listed s b) where
   trailing-within = keeps-of (λ t. go t (something s (t .pos)) (nth (commentsOf b) (t .placed)) refl)
     where
       pick : (t : St) (c : Span) (x : Bool) → nth (commentsOf b) (t .placed) ≡ some c
-          → KeepsAt (length (commentsOf b)) (length s) t (cond x (pop ⨟ remark (given s b) c ⨟ moveTo (c .end)) skip t)
+          → KeepsAt (length (commentsOf b)) (length s) t (cond x (pop ⨟ pushComment (given s b) c ⨟ moveTo (c .end)) skip t)
       pick t c true e = popped t c e _ (keeps-then (keeps-push _) (keeps-moveTo (c .end) (ends (t .placed) c e .1)))
       pick t c false e = keeps-at keeps-skip t
 
@@ -132,7 +132,7 @@ module _ {s b : List ℕ} (l : Listed s b) where
           (elim f [
             | Nowhere ↦ skip t
             | At place ↦
-                elim o [ none ↦ skip t | some c ↦ cond (eqb (c .start) place) (pop ⨟ remark (given s b) c ⨟ moveTo (c .end)) skip t ]
+                elim o [ none ↦ skip t | some c ↦ cond (eqb (c .start) place) (pop ⨟ pushComment (given s b) c ⨟ moveTo (c .end)) skip t ]
           ])
       go t Nowhere o e = keeps-at keeps-skip t
       go t (At place) none e = keeps-at keeps-skip t

@@ -21,7 +21,7 @@ use Rattle.state.specs.declared.Asked.{Asked}
 use Rattle.state.specs.Laid.{cursor, st, Room, Laid, LaidAsking}
 use Rattle.state.proofs.Laws.{room-same, room-first, room-past, room-else, laid-same, laid-then, laid-skip, laid-moveTo, laid-pop, asking-same, laid-answering, laid-answers}
 use Rattle.comments.specs.Listed.{given}
-use Rattle.comments.specs.Comments.{nth, front, remark, newlines, ignoreNewlines, popComment, waits, popComments, popWhitespace, popTrailingComment}
+use Rattle.comments.specs.Comments.{nth, front, pushComment, newlines, ignoreNewlines, popComment, waits, popComments, popWhitespace, popTrailingComment}
 
 module _ (g : Given) where
   -- ---- by what waits at the front
@@ -91,7 +91,7 @@ module _ (g : Given) where
 
   pub laid-comment : (leading : Bool) (p : Span) {s s₁ s₂ : List ℕ} {c c₁ c₂ c₃ c₄ : Cursor}
       → c₁ ≡ cursor (c .row) (c .number) (c .pos) (c .placed + 1) → Laid (gap leading (p .start)) s c₁ s₁ c₂
-      → c₃ ≡ cursor (c₂ .row) (c₂ .number) (p .end - 1) (c₂ .placed) → Laid (remark g p) s₁ c₃ s₂ c₄ → Laid (popComment g leading p) s c s₂ c₄
+      → c₃ ≡ cursor (c₂ .row) (c₂ .number) (p .end - 1) (c₂ .placed) → Laid (pushComment g p) s₁ c₃ s₂ c₄ → Laid (popComment g leading p) s c s₂ c₄
   unfolding popComment
   laid-comment leading p e l f m = laid-then (laid-pop e) (laid-then l (laid-then (laid-moveTo f) m))
 
@@ -103,7 +103,7 @@ module _ (g : Given) where
 
   pub room-remark : (leading : Bool) (p : Span) {s s₁ : List ℕ} {c c₁ c₂ c₃ : Cursor}
       → c₁ ≡ cursor (c .row) (c .number) (c .pos) (c .placed + 1) → Laid (gap leading (p .start)) s c₁ s₁ c₂
-      → c₃ ≡ cursor (c₂ .row) (c₂ .number) (p .end - 1) (c₂ .placed) → Room (popComment g leading p) c → Room (remark g p) c₃
+      → c₃ ≡ cursor (c₂ .row) (c₂ .number) (p .end - 1) (c₂ .placed) → Room (popComment g leading p) c → Room (pushComment g p) c₃
   unfolding popComment
   room-remark leading p {s} {s₁} e l f room = room-past (room-past (room-past room (laid-pop {s = s} e)) l) (laid-moveTo {s = s₁} f)
 
@@ -313,7 +313,7 @@ module _ (g : Given) where
   elsewhere s place p e f h = rw (e, popTrailingComment) (rw (f, popTrailingComment) (rw (ne-eqb (p .start) place h)))
 
   pub trailing-one : (s : St) (place : ℕ) (p : Span) → something (g .source) (s .pos) ≡ At place → nth (g .comments) (s .placed) ≡ some p
-      → p .start ≡ place → popTrailingComment g s ≡ (pop ⨟ remark g p ⨟ moveTo (p .end)) s
+      → p .start ≡ place → popTrailingComment g s ≡ (pop ⨟ pushComment g p ⨟ moveTo (p .end)) s
   unfolding popTrailingComment
   trailing-one s place p e f h = rw (e, popTrailingComment) (rw (f, popTrailingComment) (rw (eq-eqb (p .start) place h)))
 

@@ -24,8 +24,8 @@ module _ (g : Given) where
   front s = nth (g .comments) (s .placed)
 
   -- `Node::Comment`: a comment's text, trimmed at the end
-  abbrev pub remark : Span → Act
-  remark c = push (comment (record { origin = 0; start = c .start; size = trimEnd (g .source) (c .start) (c .end) - c .start }))
+  abbrev pub pushComment : Span → Act
+  pushComment c = push (comment (record { origin = 0; start = c .start; size = trimEnd (g .source) (c .start) (c .end) - c .start }))
 
   -- `newlines`: a line for one newline before the position, an empty line for more; it answers whether there is any
   unfoldable pub newlines : ℕ → Asking
@@ -40,7 +40,7 @@ module _ (g : Given) where
   -- one comment of `pop_whitespace`; the position is then its end less 1
   unfoldable pub popComment : Bool → Span → Act
   popComment leading c =
-      pop ⨟ cond leading (told (newlines (c .start))) (ignoreNewlines (c .start)) ⨟ moveTo (c .end - 1) ⨟ remark c
+      pop ⨟ cond leading (told (newlines (c .start))) (ignoreNewlines (c .start)) ⨟ moveTo (c .end - 1) ⨟ pushComment c
 
   -- a comment waits before the position
   abbrev pub waits : ℕ → St → Bool
@@ -70,5 +70,5 @@ module _ (g : Given) where
       elim (something (g .source) (s .pos)) [
         | Nowhere ↦ skip s
         | At place ↦
-            elim (front s) [ none ↦ skip s | some c ↦ cond (eqb (c .start) place) (pop ⨟ remark c ⨟ moveTo (c .end)) skip s ]
+            elim (front s) [ none ↦ skip s | some c ↦ cond (eqb (c .start) place) (pop ⨟ pushComment c ⨟ moveTo (c .end)) skip s ]
       ]

@@ -10,7 +10,7 @@ ghost use lib.Dec.{eqb};
 ghost use Rattle.rows.specs.Node.{line, emptyLine};
 ghost use Rattle.state.specs.Act.{skip, push, told};
 ghost use Rattle.state.specs.Laid.{cursor, st, Room, Laid, LaidAsking};
-ghost use Rattle.comments.specs.Comments.{nth, remark, newlines, ignoreNewlines, popComment, waits, popComments, popWhitespace};
+ghost use Rattle.comments.specs.Comments.{nth, pushComment, newlines, ignoreNewlines, popComment, waits, popComments, popWhitespace};
 ghost use Rattle.comments.specs.Comments.{popTrailingComment};
 ghost use Rattle.comments.specs.Listed.{span, commentsOf, given, ListFits, Listed, pendingOf};
 
@@ -63,10 +63,10 @@ fn is_waiting(image: &[u8], c: Cursor, position: u32) -> bool
 }
 
 // `Node::Comment` of a comment without the white space at its end.
-fn remark(store: &mut [u32], c: Cursor, source: &[u8], start: u32, end: u32) -> Cursor
+fn push_comment(store: &mut [u32], c: Cursor, source: &[u8], start: u32, end: u32) -> Cursor
     requires { ⌜ start ≤ end ⌝ }
-    requires { ⌜ Room (remark (given (now source) []) (span start end)) c ⌝ }
-    ensures { λ r. ⌜ ((b : List ℕ) → Laid (remark (given (now (source .entry)) b) (span start end)) (now (store .entry)) c (now (store .exit)) r) ⌝ }
+    requires { ⌜ Room (pushComment (given (now source) []) (span start end)) c ⌝ }
+    ensures { λ r. ⌜ ((b : List ℕ) → Laid (pushComment (given (now (source .entry)) b) (span start end)) (now (store .entry)) c (now (store .exit)) r) ⌝ }
 {
     let trimmed = trim_end(source, start as usize, end as usize);
     let size = Bytes(trimmed - start as usize);
@@ -153,7 +153,7 @@ fn pop_comment(
 {
     let popped = with_placed(c, c.placed + 1);
     let d = before_comment(store, popped, source, image, leading, start);
-    remark(store, move_to(d, end - 1), source, start, end)
+    push_comment(store, move_to(d, end - 1), source, start, end)
 }
 
 // The loop of `pop_whitespace`: the comments that start before the position.
@@ -262,7 +262,7 @@ pub fn pop_trailing_comment(store: &mut [u32], c: Cursor, source: &[u8], image: 
                     return c;
                 }
                 let popped = with_placed(c, c.placed + 1);
-                let d = remark(store, popped, source, start, end);
+                let d = push_comment(store, popped, source, start, end);
                 move_to(d, end)
             }
         },

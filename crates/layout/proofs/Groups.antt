@@ -1,7 +1,7 @@
 -- Laws of imports: which parts are there by their lengths, and a group of one item.
 -- Assumes nothing.
-use mathlib.Core.Path.{_≡_, refl, sym, ap, subst, _∙_}
-use mathlib.Core.Bool.{Bool, true, false, cond, not, _&&_}
+use mathlib.Core.Path.{_≡_, refl, sym, subst, _∙_}
+use mathlib.Core.Bool.{Bool, true, false, not, _&&_}
 use mathlib.Core.List.{List, [], _∷_}
 use mathlib.Core.Option.{Option, none, some}
 use Prim.Native.Nat.{ℕ, _+_, _≤_, _<_}
@@ -9,6 +9,7 @@ use native.Mathlib.Omega.{arith}
 use lib.ListN.{length}
 use lib.Dec.{eqb}
 use borrow.Author.Tests.{eq-eqb, ne-eqb, eqb-true, eqb-false}
+use Rattle.laws.proofs.Booleans.{true-false, false-true}
 use Rattle.image.specs.Bytes.{be32}
 use Rattle.image.specs.Read.{stopAt}
 use Rattle.tree.specs.Syntax.{Span, Path, Import, import, ImportGroup, noGroup, group, Imports, noImports, _∷ⁱ_}
@@ -119,14 +120,11 @@ module _ {s b : List ℕ} {at : ℕ} where
           (lays-then (subst (λ (r : Bool). Lays (when r (says ".")) y d z e) (dotted s b at q g (a .1) (a .2)) m) (n .of g (a .2)))
 
 -- ---- a group of one item
-true-false : true ≡ false → ⊥
-true-false e = let z : _≡_ {A = ℕ} 0 1 = ap (λ (t : Bool). cond t 0 1) e in omega arith
-
 pub single-true : {r : Bool} {m n j k : ℕ} → r ≡ (not (eqb m n) && eqb j k) → r ≡ true → (m ≡ n → ⊥) × (j ≡ k)
 single-true {r} {m} {n} {j} {k} p q = go (eqb m n) refl (sym p ∙ q)
   where
     go : (t : Bool) → eqb m n ≡ t → (not (eqb m n) && eqb j k) ≡ true → (m ≡ n → ⊥) × (j ≡ k)
-    go true e h = let z : false ≡ true = rw e at h in absurd (true-false (sym z))
+    go true e h = let z : false ≡ true = rw e at h in false-true z
     go false e h = (eqb-false m n e, eqb-true j k (rw e at h))
 
 pub single-false : {r : Bool} {m n j k : ℕ} → r ≡ (not (eqb m n) && eqb j k) → r ≡ false → (m ≡ n → ⊥) → j ≡ k → ⊥

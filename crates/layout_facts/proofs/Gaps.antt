@@ -13,9 +13,9 @@ use Rattle.text.specs.Space.{something}
 use Rattle.text.specs.declared.space.Found.{Found}
 use Rattle.text.specs.declared.space.Found.the-variants.{At, Nowhere}
 use Rattle.tree.specs.Syntax.{Span}
-use Rattle.rows.specs.Node.{line, emptyLine, none}
-use Rattle.state.specs.Act.{Given, St, Act, next, join, _⨟_, _⨟!_, skip, push, moveTo, pop, told, answering}
-use Rattle.comments.specs.Comments.{front, remark, newlines, ignoreNewlines, popComment, waits, popComments, popWhitespace, popTrailingComment}
+use Rattle.rows.specs.Node.{line, emptyLine, none, join}
+use Rattle.state.specs.Act.{Given, St, Act, next, _⨟_, _⨟!_, skip, push, moveTo, pop, told, answering}
+use Rattle.comments.specs.Comments.{front, pushComment, newlines, ignoreNewlines, popComment, waits, popComments, popWhitespace, popTrailingComment}
 use Rattle.layout_facts.specs.Placing.{trimmed}
 use Rattle.layout_facts.specs.Sound.{Inside, Ranged, Commented, Sound, Sounds}
 use Rattle.layout_facts.proofs.Steps.{sound-then, _⨾_, fewer, sound-skip, sound-moveTo, sound-line, sound-emptyLine, sound-comment, sound-cond}
@@ -66,12 +66,12 @@ module _ {g : Given} (commented : Commented g) where
 
   -- the comment in front is taken: two rows for it
   sound-popped : {d : ℕ} (c : Span) (q : Act) (p : ℕ) (s : St) → Ranged (g .source) c → p ≤ length (g .source) → Sounds g 1 d q
-      → ((s : St) → q s .taken ≡ 0) → Sound g 0 d s ((pop ⨟ q ⨟ moveTo p ⨟ remark g c) s)
+      → ((s : St) → q s .taken ≡ 0) → Sound g 0 d s ((pop ⨟ q ⨟ moveTo p ⨟ pushComment g c) s)
   unfolding _⨟_ join
   sound-popped {d} c q p s r h k free =
       let s′ : St = next s (pop s) in
-      let two : Sounds g 2 d (q ⨟ moveTo p ⨟ remark g c) = fewer (k ⨾ sound-moveTo h ⨾ sound-comment (inside-comment r)) (omega arith) in
-      let x : Sound g 2 d s′ ((q ⨟ moveTo p ⨟ remark g c) s′) = two .from s′ in
+      let two : Sounds g 2 d (q ⨟ moveTo p ⨟ pushComment g c) = fewer (k ⨾ sound-moveTo h ⨾ sound-comment (inside-comment r)) (omega arith) in
+      let x : Sound g 2 d s′ ((q ⨟ moveTo p ⨟ pushComment g c) s′) = two .from s′ in
       record {
         more = omega (arith, x .more);
         rows = omega (arith, x .rows, x .more);
@@ -121,11 +121,11 @@ module _ {g : Given} (commented : Commented g) where
   unfolding popTrailingComment _⨟_ join
   sound-trailing {d} = record { from = λ s. found s (something (g .source) (s .pos)) }
     where
-      taken : (s : St) (c : Span) → Ranged (g .source) c → (t : Bool) → Sound g 0 d s (cond t (pop ⨟ remark g c ⨟ moveTo (c .end)) skip s)
+      taken : (s : St) (c : Span) → Ranged (g .source) c → (t : Bool) → Sound g 0 d s (cond t (pop ⨟ pushComment g c ⨟ moveTo (c .end)) skip s)
       taken s c r true =
           let s′ : St = next s (pop s) in
-          let one : Sounds g 1 d (remark g c ⨟ moveTo (c .end)) = fewer (sound-comment (inside-comment r) ⨾ sound-moveTo (r .fits)) (omega arith) in
-          let x : Sound g 1 d s′ ((remark g c ⨟ moveTo (c .end)) s′) = one .from s′ in
+          let one : Sounds g 1 d (pushComment g c ⨟ moveTo (c .end)) = fewer (sound-comment (inside-comment r) ⨾ sound-moveTo (r .fits)) (omega arith) in
+          let x : Sound g 1 d s′ ((pushComment g c ⨟ moveTo (c .end)) s′) = one .from s′ in
           record {
             more = omega (arith, x .more);
             rows = omega (arith, x .rows, x .more);
@@ -138,7 +138,7 @@ module _ {g : Given} (commented : Commented g) where
 
       turn : (s : St) (place : ℕ) (f : Option Span) → front g s ≡ f
           → Sound g 0 d s
-          (elim f [ nothing ↦ skip s | some c ↦ cond (eqb (c .start) place) (pop ⨟ remark g c ⨟ moveTo (c .end)) skip s ])
+          (elim f [ nothing ↦ skip s | some c ↦ cond (eqb (c .start) place) (pop ⨟ pushComment g c ⨟ moveTo (c .end)) skip s ])
       turn s place nothing e = sound-skip .from s
       turn s place (some c) e = taken s c (commented .ranged (s .placed) c e) (eqb (c .start) place)
 
@@ -147,7 +147,7 @@ module _ {g : Given} (commented : Commented g) where
           (elim f [
             | Nowhere ↦ skip s
             | At place ↦
-                elim (front g s) [ nothing ↦ skip s | some c ↦ cond (eqb (c .start) place) (pop ⨟ remark g c ⨟ moveTo (c .end)) skip s ]
+                elim (front g s) [ nothing ↦ skip s | some c ↦ cond (eqb (c .start) place) (pop ⨟ pushComment g c ⨟ moveTo (c .end)) skip s ]
           ])
       found s Nowhere = sound-skip .from s
       found s (At place) = turn s place (front g s) refl

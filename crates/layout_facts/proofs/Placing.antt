@@ -15,10 +15,10 @@ use Rattle.text.specs.Space.{something}
 use Rattle.text.specs.declared.space.Found.{Found}
 use Rattle.text.specs.declared.space.Found.the-variants.{At, Nowhere}
 use Rattle.tree.specs.Syntax.{Span}
-use Rattle.rows.specs.Node.{Text, Node, Nodes, group, indent, indentNext, comment, line, emptyLine, none, _then_}
-use Rattle.state.specs.Act.{Given, St, Out, Act, Asking, next, join, _⨟_, _⨟?_, _⨟!_, skip, when, push, moveTo, pop, told, answering, grouped}
+use Rattle.rows.specs.Node.{Text, Node, Nodes, group, indent, indentNext, comment, line, emptyLine, none, _then_, join}
+use Rattle.state.specs.Act.{Given, St, Out, Act, Asking, next, _⨟_, _⨟?_, _⨟!_, skip, when, push, moveTo, pop, told, answering, grouped}
 use Rattle.state.specs.Act.{indented, indentedNext, called}
-use Rattle.comments.specs.Comments.{nth, front, remark, newlines, ignoreNewlines, popComment, waits, popComments, popWhitespace, popTrailingComment}
+use Rattle.comments.specs.Comments.{nth, front, pushComment, newlines, ignoreNewlines, popComment, waits, popComments, popWhitespace, popTrailingComment}
 use Rattle.layout_facts.specs.Placing.{commentsOfNode, commentsInNodes, trimmed, between, Placed, Places}
 
 commentsInNodes-join : (ns ms : Nodes) → commentsInNodes (join ns ms) ≡ commentsInNodes ns ++ commentsInNodes ms
@@ -216,11 +216,11 @@ quiet-ignoreNewlines g p = record { none = λ s. refl; same = λ s. refl }
 
 -- the step between `pop` and the comment's node
 popped : (g : Given) (c : Span) (q : Act) (p : ℕ) (s : St) → Quiet q → front g s ≡ some c
-    → Placed g (s .placed) ((pop ⨟ q ⨟ moveTo p ⨟ remark g c) s)
+    → Placed g (s .placed) ((pop ⨟ q ⨟ moveTo p ⨟ pushComment g c) s)
 unfolding _⨟_ join commentsInNodes
 popped g c q p s k f =
     let s′ : St = next s (pop s) in
-    placed-one g (s .placed) c ((pop ⨟ q ⨟ moveTo p ⨟ remark g c) s) f (k .same s′)
+    placed-one g (s .placed) c ((pop ⨟ q ⨟ moveTo p ⨟ pushComment g c) s) f (k .same s′)
     (commentsInNodes-join (q s′ .nodes) (comment (trimmed g c) then none) ∙ ap (λ (l : List Text). l ++ (trimmed g c ∷ [])) (k .none s′))
 
 places-popComments : (g : Given) (n p : ℕ) (leading : Bool) → Places g (popComments g n p leading)
@@ -261,13 +261,13 @@ unfolding popTrailingComment _⨟_ join commentsInNodes
 places-trailing {g} = record { from = λ s h. found s h (something (g .source) (s .pos)) }
   where
     taken : (s : St) (c : Span) → s .placed ≤ length (g .comments) → front g s ≡ some c → (t : Bool)
-        → Placed g (s .placed) (cond t (pop ⨟ remark g c ⨟ moveTo (c .end)) skip s)
-    taken s c h e true = placed-one g (s .placed) c ((pop ⨟ remark g c ⨟ moveTo (c .end)) s) e refl refl
+        → Placed g (s .placed) (cond t (pop ⨟ pushComment g c ⨟ moveTo (c .end)) skip s)
+    taken s c h e true = placed-one g (s .placed) c ((pop ⨟ pushComment g c ⨟ moveTo (c .end)) s) e refl refl
     taken s c h e false = places-skip .from s h
 
     turn : (s : St) → s .placed ≤ length (g .comments) → (place : ℕ) (f : Option Span) → front g s ≡ f
         → Placed g (s .placed)
-        (elim f [ nothing ↦ skip s | some c ↦ cond (eqb (c .start) place) (pop ⨟ remark g c ⨟ moveTo (c .end)) skip s ])
+        (elim f [ nothing ↦ skip s | some c ↦ cond (eqb (c .start) place) (pop ⨟ pushComment g c ⨟ moveTo (c .end)) skip s ])
     turn s h place nothing e = places-skip .from s h
     turn s h place (some c) e = taken s c h e (eqb (c .start) place)
 
@@ -276,7 +276,7 @@ places-trailing {g} = record { from = λ s h. found s h (something (g .source) (
         (elim f [
           | Nowhere ↦ skip s
           | At place ↦
-              elim (front g s) [ nothing ↦ skip s | some c ↦ cond (eqb (c .start) place) (pop ⨟ remark g c ⨟ moveTo (c .end)) skip s ]
+              elim (front g s) [ nothing ↦ skip s | some c ↦ cond (eqb (c .start) place) (pop ⨟ pushComment g c ⨟ moveTo (c .end)) skip s ]
         ])
     found s h Nowhere = places-skip .from s h
     found s h (At place) = turn s h place (front g s) refl

@@ -5,9 +5,9 @@ use mathlib.Core.Path.{_≡_, refl}
 use mathlib.Core.Bool.{Bool, true, false, cond}
 use native.Mathlib.Omega.{arith}
 use lib.ListN.{length}
-use Rattle.rows.specs.Node.{Text, Node, Nodes, wrapParent, comment, str, ascii, line, emptyLine, lineOrSpace, ifWrap, none, _then_}
+use Rattle.rows.specs.Node.{Text, Node, Nodes, wrapParent, comment, str, ascii, line, emptyLine, lineOrSpace, ifWrap, none, _then_, join}
 use Rattle.rows.specs.Rows.{size, sizes, depth, depths}
-use Rattle.state.specs.Act.{Given, St, Out, Act, Asking, next, join, _⨟_, _⨟?_, skip, when, push, moveTo, told, grouped, indented, indentedNext}
+use Rattle.state.specs.Act.{Given, St, Out, Act, Asking, next, _⨟_, _⨟?_, skip, when, push, moveTo, told, grouped, indented, indentedNext}
 use Rattle.state.specs.Act.{called}
 use Rattle.state.proofs.Joins.{sizes-join}
 use Rattle.layout_facts.specs.Sound.{Inside, TextsOf, TextsIn, Sound, Sounds}

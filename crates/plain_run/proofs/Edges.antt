@@ -10,12 +10,12 @@ use Rattle.image.specs.Write.{written}
 use Rattle.text.specs.Utf8.{within, rowIn, followed, sequence, run as runs, prefix, wellFormed, boundary}
 use Rattle.tree.specs.Records.{views, syntaxTree}
 use Rattle.rows.specs.Ascii.{bytes}
-use Rattle.rows.specs.Node.{mustWrap, mustWraps, width, widths}
+use Rattle.rows.specs.Node.{mustWrap, mustWraps, width, widths, join}
 use Rattle.rows.specs.Rows.{size, sizes, rowsOf, rows}
 use Rattle.rows.specs.View.{viewOf, nodeOf, decode, nodesAt}
 use Rattle.comments.specs.Listed.{commentsOf, pairsAt}
 use Rattle.rows.specs.Words.{placeIn, word, joined, words}
-use Rattle.state.specs.Act.{_⨟_, _⨟?_, _⨟!_, join, grouped, indented as indents}
+use Rattle.state.specs.Act.{_⨟_, _⨟?_, _⨟!_, grouped, indented as indents}
 use Rattle.text.specs.Newlines.{countNewlines, newlines}
 use Rattle.text.specs.Utf8.{charAt, decoded, scalar, charBefore, ending, ends}
 use Rattle.text.specs.Space.{something, seek, oneOf, trimEnd, trim}

@@ -14,11 +14,11 @@ use lib.ListN.{length, take, drop, length-drop}
 use lib.Seq.{take-length}
 use Rattle.image.specs.Read.{Read, Image}
 use Rattle.tree.specs.Syntax.{Declaration, SyntaxTree}
-use Rattle.rows.specs.Node.{Nodes, line}
+use Rattle.rows.specs.Node.{Nodes, line, join}
 use Rattle.rows.specs.Rows.{sizes, rows}
 use Rattle.rows.specs.View.{viewOf, nodesAt}
 use Rattle.rows.proofs.Flatten.{flattened}
-use Rattle.state.specs.Act.{Given, St, Act, _⨟_, when, skip, push, next, join}
+use Rattle.state.specs.Act.{Given, St, Act, _⨟_, when, skip, push, next}
 use Rattle.state.proofs.Joins.{sizes-join, rows-join}
 use Rattle.comments.specs.Comments.{nth}
 use Rattle.comments.specs.Listed.{commentsOf, given}

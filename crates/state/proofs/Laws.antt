@@ -9,9 +9,9 @@ use Prim.Native.Nat.{ℕ, _+_, _*_, _≤_, _<_}
 use native.Mathlib.Nat.{add-zero}
 use native.Mathlib.Omega.{arith}
 use lib.Seq.{sets}
-use Rattle.rows.specs.Node.{Text, Node, Nodes}
+use Rattle.rows.specs.Node.{Text, Node, Nodes, join}
 use Rattle.rows.specs.Rows.{size, sizes, row, rowsOf, rows}
-use Rattle.state.specs.Act.{St, Out, Act, Asking, next, join, _⨟_, skip, when, push, moveTo, pop, told, answering, _⨟!_, _⨟?_}
+use Rattle.state.specs.Act.{St, Out, Act, Asking, next, _⨟_, skip, when, push, moveTo, pop, told, answering, _⨟!_, _⨟?_}
 use Rattle.state.specs.declared.Cursor.{Cursor}
 use Rattle.state.specs.declared.Asked.{Asked}
 use Rattle.state.specs.Laid.{cursor, st, after, top, Room, Laid, LaidAsking, Written}

@@ -4,7 +4,7 @@ use Prim.Native.String.{String}
 use mathlib.Core.Bool.{Bool, true, false, cond}
 use mathlib.Core.List.{List}
 use Rattle.tree.specs.Syntax.{Span}
-use Rattle.rows.specs.Node.{Text, Node, Nodes, group, indent, indentNext, str, ascii, call, none, _then_}
+use Rattle.rows.specs.Node.{Text, Node, Nodes, group, indent, indentNext, str, ascii, call, none, _then_, join}
 use Rattle.rows.specs.Words.{word}
 
 -- What `State` only reads: the source, the image with its texts, the comments in the image's order, and what a text of a row measures, by the
@@ -34,10 +34,6 @@ Act = St → Out
 -- the state after a step
 abbrev pub next : St → Out → St
 next s o = record { number = s .number + o .taken; pos = o .pos; placed = o .placed }
-
-unfoldable pub join : Nodes → Nodes → Nodes
-join none ms = ms
-join (n then ns) ms = n then join ns ms
 
 -- one step after the other
 unfoldable pub _⨟_ : Act → Act → Act

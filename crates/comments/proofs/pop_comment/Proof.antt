@@ -17,11 +17,11 @@ before-comment-requires c κs = (c .before .before .before .before .before .befo
 sub-move-to : tie.Need-sub-move-to
 sub-move-to c = omega (arith, good (c .before .before .before .before .before .before .before .before .before .before .pre .0) _ _ (c .before .before .before .before .before .before .before .before .before .before .pre .1 .0) .order)
 
-remark-requires : tie.Need-remark-requires
-remark-requires c κs = (omega (arith, good (c .before .before .before .before .before .before .before .before .before .before .before .pre .0) _ _ (c .before .before .before .before .before .before .before .before .before .before .before .pre .1 .0) .order), room-remark (given (c .before .before .before .before .before .before .before .before .before .before .before .args .source .now) (c .before .before .before .before .before .before .before .before .before .before .before .args .image .now)) (c .before .before .before .before .before .before .before .before .before .before .before .args .leading) (span (c .before .before .before .before .before .before .before .before .before .before .before .args .start) (c .before .before .before .before .before .before .before .before .before .before .before .args .end)) (c .before .before .before .before .before .before .with-placed .ensures) (c .before .before .before .before .before-comment .ensures) (c .move-to .ensures) (c .before .before .before .before .before .before .before .before .before .before .before .pre .1 .1))
+push-comment-requires : tie.Need-push-comment-requires
+push-comment-requires c κs = (omega (arith, good (c .before .before .before .before .before .before .before .before .before .before .before .pre .0) _ _ (c .before .before .before .before .before .before .before .before .before .before .before .pre .1 .0) .order), room-remark (given (c .before .before .before .before .before .before .before .before .before .before .before .args .source .now) (c .before .before .before .before .before .before .before .before .before .before .before .args .image .now)) (c .before .before .before .before .before .before .before .before .before .before .before .args .leading) (span (c .before .before .before .before .before .before .before .before .before .before .before .args .start) (c .before .before .before .before .before .before .before .before .before .before .before .args .end)) (c .before .before .before .before .before .before .with-placed .ensures) (c .before .before .before .before .before-comment .ensures) (c .move-to .ensures) (c .before .before .before .before .before .before .before .before .before .before .before .pre .1 .1))
 
 returns : tie.Need-returns
-returns c = laid-comment (given (c .before .before .before .before .before .before .before .before .before .before .before .before .before .before .args .source .now) (c .before .before .before .before .before .before .before .before .before .before .before .before .before .before .args .image .now)) (c .before .before .before .before .before .before .before .before .before .before .before .before .before .before .args .leading) (span (c .before .before .before .before .before .before .before .before .before .before .before .before .before .before .args .start) (c .before .before .before .before .before .before .before .before .before .before .before .before .before .before .args .end)) (c .before .before .before .before .before .before .before .before .before .with-placed .ensures) (c .before .before .before .before .before .before .before .before-comment .ensures) (c .before .before .before .move-to .ensures) (c .before .before .remark .ensures (c .before .before .before .before .before .before .before .before .before .before .before .before .before .before .args .image .now))
+returns c = laid-comment (given (c .before .before .before .before .before .before .before .before .before .before .before .before .before .before .args .source .now) (c .before .before .before .before .before .before .before .before .before .before .before .before .before .before .args .image .now)) (c .before .before .before .before .before .before .before .before .before .before .before .before .before .before .args .leading) (span (c .before .before .before .before .before .before .before .before .before .before .before .before .before .before .args .start) (c .before .before .before .before .before .before .before .before .before .before .before .before .before .before .args .end)) (c .before .before .before .before .before .before .before .before .before .with-placed .ensures) (c .before .before .before .before .before .before .before .before-comment .ensures) (c .before .before .before .move-to .ensures) (c .before .before .push-comment .ensures (c .before .before .before .before .before .before .before .before .before .before .before .before .before .before .args .image .now))
 
 pub pop-comment-spec : {M : Type 1} → statement M
 pop-comment-spec =
@@ -32,6 +32,6 @@ pop-comment-spec =
     before-comment-requires
     sub-move-to
     (λ c κs. search needs)
-    remark-requires
+    push-comment-requires
     (λ c. search needs)
     returns)

@@ -3,8 +3,8 @@
 use borrow.Author.Needs.{needs}
 use native.Mathlib.Omega.{arith}
 use Rattle.text.proofs.Trims.{trim-before, trim-after}
-use Rattle.comments.proofs.remark.Statement.{statement}
-use Rattle.comments.proofs.remark.Tie as tie
+use Rattle.comments.proofs.push_comment.Statement.{statement}
+use Rattle.comments.proofs.push_comment.Tie as tie
 
 sub-t9 : tie.Need-sub-t9
 sub-t9 c = omega (arith, c .trim-end .ensures, trim-after (c .before .before .before .args .source .now) (c .before .before .before .args .start) (c .before .before .before .args .end) (c .before .before .before .pre .0))
@@ -15,5 +15,5 @@ comment-requires c κs = (rw (c .before .trim-end .ensures) (c .before .before .
 returns : tie.Need-returns
 returns c = λ b. rw (c .before .before .before .before .trim-end .ensures) at (c .before .before .comment .ensures)
 
-pub remark-spec : {M : Type 1} → statement M
-remark-spec = tie.close (tie.spec (λ c κs. search needs) sub-t9 comment-requires (λ c. search needs) returns)
+pub push-comment-spec : {M : Type 1} → statement M
+push-comment-spec = tie.close (tie.spec (λ c κs. search needs) sub-t9 comment-requires (λ c. search needs) returns)
