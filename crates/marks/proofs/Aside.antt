@@ -10,10 +10,12 @@ use lib.ListN.{length, getD, set, length-set, List·getD-eq-default}
 use lib.Seq.{set-out}
 use lib.Dec.{ltb}
 use borrow.Author.Tests.{lt-ltb, le-ltb, ne-eqb}
+use Rattle.rows.specs.Kinds.{GROUP, IF-WRAP, CALL}
+use Rattle.rows.specs.Places.{KIND, NUMBER, SECOND-NUMBER, WIDTH, PLACES}
 use Rattle.laws.proofs.Numbers.{one-more}
 use Rattle.rows.specs.View.{cell}
 use Rattle.marks.proofs.Restored.{clear-length, restore-length}
-use Rattle.marks.specs.Marks.{clear, saved, cleared, restore, clearFrom, numbersOf, packed, unpacked, Held, held, rowAside, putAside, rowBack, putBack}
+use Rattle.marks.specs.Marks.{clear, saved, clearedAll, restore, clearFrom, numbersOf, packedMarks, unpackedMarks, Held, held, rowAside, putAside, rowBack, putBack}
 
 none-left : (stop row : ℕ) → stop ≤ row → stop - row ≡ 0
 none-left stop row h = omega arith
@@ -65,75 +67,75 @@ pub clear-old : (u : ℕ) (m : List ℕ) (n : ℕ) → n < u → m ≡ clear u n
 clear-old u m n h = rw (lt-ltb n u h)
 
 -- the numbers of a row, by what the code tests
-pub numbers-call : (s : List ℕ) (i kind a b : ℕ) → kind ≡ cell s i 0 → a ≡ cell s i 1 → b ≡ cell s i 2 → kind ≡ 11 → a ∷ b ∷ [] ≡ numbersOf s i
+pub numbers-call : (s : List ℕ) (i kind a b : ℕ) → kind ≡ cell s i KIND → a ≡ cell s i NUMBER → b ≡ cell s i SECOND-NUMBER → kind ≡ CALL → a ∷ b ∷ [] ≡ numbersOf s i
 numbers-call s i kind a b e f g k = rw (← e, k, f, g)
 
-pub numbers-group : (s : List ℕ) (i kind a : ℕ) → kind ≡ cell s i 0 → a ≡ cell s i 1 → kind ≡ 0 → a ∷ [] ≡ numbersOf s i
+pub numbers-group : (s : List ℕ) (i kind a : ℕ) → kind ≡ cell s i KIND → a ≡ cell s i NUMBER → kind ≡ GROUP → a ∷ [] ≡ numbersOf s i
 numbers-group s i kind a e f k = rw (← e, k, f)
 
-pub numbers-if : (s : List ℕ) (i kind a : ℕ) → kind ≡ cell s i 0 → a ≡ cell s i 1 → kind ≡ 10 → a ∷ [] ≡ numbersOf s i
+pub numbers-if : (s : List ℕ) (i kind a : ℕ) → kind ≡ cell s i KIND → a ≡ cell s i NUMBER → kind ≡ IF-WRAP → a ∷ [] ≡ numbersOf s i
 numbers-if s i kind a e f k = rw (← e, k, f)
 
-pub numbers-none : (s : List ℕ) (i kind : ℕ) → kind ≡ cell s i 0 → (kind ≡ 11 → ⊥) → (kind ≡ 0 → ⊥) → (kind ≡ 10 → ⊥) → [] ≡ numbersOf s i
+pub numbers-none : (s : List ℕ) (i kind : ℕ) → kind ≡ cell s i KIND → (kind ≡ CALL → ⊥) → (kind ≡ GROUP → ⊥) → (kind ≡ IF-WRAP → ⊥) → [] ≡ numbersOf s i
 numbers-none s i kind e a b c = rw (← e, ne-eqb kind 11 a, ne-eqb kind 0 b, ne-eqb kind 10 c)
 
-pack-two : (x y : ℕ) → x + 256 * y ≡ packed (x ∷ y ∷ [])
-unfolding packed
+pack-two : (x y : ℕ) → x + 256 * y ≡ packedMarks (x ∷ y ∷ [])
+unfolding packedMarks
 pack-two x y = omega arith
 
-pack-one : (x : ℕ) → x ≡ packed (x ∷ [])
-unfolding packed
+pack-one : (x : ℕ) → x ≡ packedMarks (x ∷ [])
+unfolding packedMarks
 pack-one x = omega arith
 
 pub aside-two : (u : ℕ) (s m : List ℕ) (i a b x y : ℕ) (m1 m2 ns : List ℕ) → a ∷ b ∷ [] ≡ ns → x ≡ getD m a 0 → m1 ≡ clear u a m → y ≡ getD m1 b 0 → m2 ≡ clear u b m1
-    → held (set s (i * 9 + 8) (x + 256 * y)) m2 ≡ rowAside u ns (held s m) i
-unfolding rowAside saved cleared
+    → held (set s (i * PLACES + WIDTH) (x + 256 * y)) m2 ≡ rowAside u ns (held s m) i
+unfolding rowAside saved clearedAll
 aside-two u s m i a b x y m1 m2 ns n e f g h =
-    ap₂ (λ (v : ℕ) (w : List ℕ). held (set s (i * 9 + 8) v) w)
-    (pack-two x y ∙ ap₂ (λ (p : ℕ) (q : ℕ). packed (p ∷ q ∷ [])) e (g ∙ ap (λ (w : List ℕ). getD w b 0) f))
+    ap₂ (λ (v : ℕ) (w : List ℕ). held (set s (i * PLACES + WIDTH) v) w)
+    (pack-two x y ∙ ap₂ (λ (p : ℕ) (q : ℕ). packedMarks (p ∷ q ∷ [])) e (g ∙ ap (λ (w : List ℕ). getD w b 0) f))
     (h ∙ ap (λ (w : List ℕ). clear u b w) f)
     ∙ ap (λ (l : List ℕ). rowAside u l (held s m) i) n
 
 pub aside-one : (u : ℕ) (s m : List ℕ) (i a x : ℕ) (m1 ns : List ℕ) → a ∷ [] ≡ ns → x ≡ getD m a 0 → m1 ≡ clear u a m
-    → held (set s (i * 9 + 8) x) m1 ≡ rowAside u ns (held s m) i
-unfolding rowAside saved cleared
+    → held (set s (i * PLACES + WIDTH) x) m1 ≡ rowAside u ns (held s m) i
+unfolding rowAside saved clearedAll
 aside-one u s m i a x m1 ns n e f =
-    ap₂ (λ (v : ℕ) (w : List ℕ). held (set s (i * 9 + 8) v) w) (pack-one x ∙ ap (λ (p : ℕ). packed (p ∷ [])) e) f
+    ap₂ (λ (v : ℕ) (w : List ℕ). held (set s (i * PLACES + WIDTH) v) w) (pack-one x ∙ ap (λ (p : ℕ). packedMarks (p ∷ [])) e) f
     ∙ ap (λ (l : List ℕ). rowAside u l (held s m) i) n
 
 pub aside-none : (u : ℕ) (h : Held) (i : ℕ) (ns : List ℕ) → [] ≡ ns → h ≡ rowAside u ns h i
 unfolding rowAside
 aside-none u h i ns n = ap (λ (l : List ℕ). rowAside u l h i) n
 
-pub back-two : (s m : List ℕ) (i a b v x y : ℕ) (m1 m2 ns : List ℕ) → a ∷ b ∷ [] ≡ ns → v ≡ cell s i 8 → y ≡ v / 256 % 256 → m1 ≡ set m b y → x ≡ v % 256 → m2 ≡ set m1 a x
-    → held (set s (i * 9 + 8) 0) m2 ≡ rowBack ns (held s m) i
+pub back-two : (s m : List ℕ) (i a b v x y : ℕ) (m1 m2 ns : List ℕ) → a ∷ b ∷ [] ≡ ns → v ≡ cell s i WIDTH → y ≡ v / 256 % 256 → m1 ≡ set m b y → x ≡ v % 256 → m2 ≡ set m1 a x
+    → held (set s (i * PLACES + WIDTH) 0) m2 ≡ rowBack ns (held s m) i
 unfolding rowBack restore
 back-two s m i a b v x y m1 m2 ns n c e f g h =
-    ap (λ (w : List ℕ). held (set s (i * 9 + 8) 0) w)
+    ap (λ (w : List ℕ). held (set s (i * PLACES + WIDTH) 0) w)
     (h
     ∙ ap₂ (λ (w : List ℕ) (z : ℕ). set w a z) (f ∙ ap (λ (z : ℕ). set m b z) (e ∙ ap (λ (z : ℕ). z / 256 % 256) c)) (g ∙ ap (λ (z : ℕ). z % 256) c))
     ∙ ap (λ (l : List ℕ). rowBack l (held s m) i) n
 
-pub back-one : (s m : List ℕ) (i a v x : ℕ) (m1 ns : List ℕ) → a ∷ [] ≡ ns → v ≡ cell s i 8 → x ≡ v % 256 → m1 ≡ set m a x
-    → held (set s (i * 9 + 8) 0) m1 ≡ rowBack ns (held s m) i
+pub back-one : (s m : List ℕ) (i a v x : ℕ) (m1 ns : List ℕ) → a ∷ [] ≡ ns → v ≡ cell s i WIDTH → x ≡ v % 256 → m1 ≡ set m a x
+    → held (set s (i * PLACES + WIDTH) 0) m1 ≡ rowBack ns (held s m) i
 unfolding rowBack restore
 back-one s m i a v x m1 ns n c e f =
-    ap (λ (w : List ℕ). held (set s (i * 9 + 8) 0) w) (f ∙ ap (λ (z : ℕ). set m a z) (e ∙ ap (λ (z : ℕ). z % 256) c))
+    ap (λ (w : List ℕ). held (set s (i * PLACES + WIDTH) 0) w) (f ∙ ap (λ (z : ℕ). set m a z) (e ∙ ap (λ (z : ℕ). z % 256) c))
     ∙ ap (λ (l : List ℕ). rowBack l (held s m) i) n
 
 pub back-none : (h : Held) (i : ℕ) (ns : List ℕ) → [] ≡ ns → h ≡ rowBack ns h i
 unfolding rowBack
 back-none h i ns n = ap (λ (l : List ℕ). rowBack l h i) n
 
-cleared-length : (u : ℕ) (ns m : List ℕ) → length (cleared u ns m) ≡ length m
-unfolding cleared
+cleared-length : (u : ℕ) (ns m : List ℕ) → length (clearedAll u ns m) ≡ length m
+unfolding clearedAll
 cleared-length u [] m = refl
 cleared-length u (n ∷ ns) m = cleared-length u ns (clear u n m) ∙ clear-length u n m
 
 pub aside-rows : (u : ℕ) (ns : List ℕ) (h : Held) (i : ℕ) → length (rowAside u ns h i .rows) ≡ length (h .rows)
 unfolding rowAside
 aside-rows u [] h i = refl
-aside-rows u (n ∷ ns) h i = length-set (h .rows) (i * 9 + 8) (packed (saved u (n ∷ ns) (h .marks)))
+aside-rows u (n ∷ ns) h i = length-set (h .rows) (i * PLACES + WIDTH) (packedMarks (saved u (n ∷ ns) (h .marks)))
 
 pub aside-marks : (u : ℕ) (ns : List ℕ) (h : Held) (i : ℕ) → length (rowAside u ns h i .marks) ≡ length (h .marks)
 unfolding rowAside
@@ -143,12 +145,12 @@ aside-marks u (n ∷ ns) h i = cleared-length u (n ∷ ns) (h .marks)
 pub back-rows : (ns : List ℕ) (h : Held) (i : ℕ) → length (rowBack ns h i .rows) ≡ length (h .rows)
 unfolding rowBack
 back-rows [] h i = refl
-back-rows (n ∷ ns) h i = length-set (h .rows) (i * 9 + 8) 0
+back-rows (n ∷ ns) h i = length-set (h .rows) (i * PLACES + WIDTH) 0
 
 pub back-marks : (ns : List ℕ) (h : Held) (i : ℕ) → length (rowBack ns h i .marks) ≡ length (h .marks)
 unfolding rowBack
 back-marks [] h i = refl
-back-marks (n ∷ ns) h i = restore-length (n ∷ ns) (unpacked (cell (h .rows) i 8)) (h .marks)
+back-marks (n ∷ ns) h i = restore-length (n ∷ ns) (unpackedMarks (cell (h .rows) i WIDTH)) (h .marks)
 
 pub aside-some : (n u : ℕ) (h : Held) (i : ℕ) → putAside (suc n) u h i ≡ putAside n u (rowAside u (numbersOf (h .rows) i) h i) (suc i)
 unfolding putAside

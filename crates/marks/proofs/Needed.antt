@@ -6,20 +6,22 @@ use native.Mathlib.Omega.{arith}
 use native.Mathlib.Numerals.{add-one}
 use mathlib.Core.List.{List}
 use borrow.Author.Tests.{ne-eqb}
+use Rattle.rows.specs.Kinds.{GROUP, IF-WRAP, CALL}
+use Rattle.rows.specs.Places.{KIND, NUMBER, SECOND-NUMBER}
 use Rattle.laws.proofs.Numbers.{one-more}
 use Rattle.rows.specs.View.{cell}
 use Rattle.marks.specs.Marks.{rowMarks, marksNeeded}
 
-pub row-call : (s : List ℕ) (i kind a b m : ℕ) → kind ≡ cell s i 0 → a ≡ cell s i 1 → b ≡ cell s i 2 → m ≡ max a b → kind ≡ 11 → 1 + m ≡ rowMarks s i
+pub row-call : (s : List ℕ) (i kind a b m : ℕ) → kind ≡ cell s i KIND → a ≡ cell s i NUMBER → b ≡ cell s i SECOND-NUMBER → m ≡ max a b → kind ≡ CALL → 1 + m ≡ rowMarks s i
 row-call s i kind a b m e f g h k = rw (← e, k, h, f, g)
 
-pub row-group : (s : List ℕ) (i kind a : ℕ) → kind ≡ cell s i 0 → a ≡ cell s i 1 → kind ≡ 0 → 1 + a ≡ rowMarks s i
+pub row-group : (s : List ℕ) (i kind a : ℕ) → kind ≡ cell s i KIND → a ≡ cell s i NUMBER → kind ≡ GROUP → 1 + a ≡ rowMarks s i
 row-group s i kind a e f k = rw (← e, k, f)
 
-pub row-if : (s : List ℕ) (i kind a : ℕ) → kind ≡ cell s i 0 → a ≡ cell s i 1 → kind ≡ 10 → 1 + a ≡ rowMarks s i
+pub row-if : (s : List ℕ) (i kind a : ℕ) → kind ≡ cell s i KIND → a ≡ cell s i NUMBER → kind ≡ IF-WRAP → 1 + a ≡ rowMarks s i
 row-if s i kind a e f k = rw (← e, k, f)
 
-pub row-none : (s : List ℕ) (i kind : ℕ) → kind ≡ cell s i 0 → (kind ≡ 11 → ⊥) → (kind ≡ 0 → ⊥) → (kind ≡ 10 → ⊥) → 0 ≡ rowMarks s i
+pub row-none : (s : List ℕ) (i kind : ℕ) → kind ≡ cell s i KIND → (kind ≡ CALL → ⊥) → (kind ≡ GROUP → ⊥) → (kind ≡ IF-WRAP → ⊥) → 0 ≡ rowMarks s i
 row-none s i kind e a b c = rw (← e, ne-eqb kind 11 a, ne-eqb kind 0 b, ne-eqb kind 10 c)
 
 pub record Needing (s : List ℕ) (from stop most row : ℕ) : Type 0 where

@@ -6,7 +6,7 @@ use native.Mathlib.Omega.{arith}
 use mathlib.Core.Bool.{Bool, true, false, cond, _||_}
 use mathlib.Core.List.{List, [], _∷_}
 use lib.ListN.{length, getD, set, length-set}
-use lib.Seq.{getD-set-same, getD-set-other, ext-getD, set-set, set-getD}
+use lib.Seq.{getD-set-same, getD-set-other, set-set, set-getD}
 use lib.Dec.{ltb, eqb}
 use borrow.Author.Tests.{eqb-true, eqb-false}
 use Rattle.marks.specs.Marks.{clear, saved, restore}
@@ -67,11 +67,6 @@ put-back u x [] m c l h q = q refl
 put-back u x (n ∷ ns) m c l h q =
     put-step u x n ns m c (eqb x n) refl l h q
     (λ r. put-back u x ns (clear u n m) c (l ∙ sym (clear-length u n m)) (let z = clear-length u n m in omega arith) r)
-
--- so all marks are back, if the run changed none but those of the log
-pub restored : (u : ℕ) (ns m c : List ℕ) → length c ≡ length m → ((x : ℕ) → has x ns ≡ false → getD c x 0 ≡ getD m x 0) → restore ns (saved u ns m) c ≡ m
-restored u ns m c l q =
-    ext-getD 0 (restore ns (saved u ns m) c) m (restore-length ns (saved u ns m) c ∙ l) (λ i h. put-back u i ns m c l (let z = restore-length ns (saved u ns m) c in omega arith) (q i))
 
 -- a place that was 0 and held the log for a while
 pub rubbed : (s : List ℕ) (k l : ℕ) → getD s k 0 ≡ 0 → set (set s k l) k 0 ≡ s

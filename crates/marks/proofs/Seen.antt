@@ -9,18 +9,20 @@ use lib.ListN.{length, getD, set, take, drop, replicate, length-set, take-append
 use lib.Seq.{getD-set-other, take-suc-set, drop-set-lt}
 use lib.Dec.{ltb, eqb}
 use borrow.Author.Tests.{eqb-true, eqb-false, ltb-true, ltb-false, lt-ltb, le-ltb}
+use Rattle.rows.specs.Kinds.{GROUP, IF-WRAP, CALL}
+use Rattle.rows.specs.Places.{KIND, NUMBER, SECOND-NUMBER}
 use Rattle.rows.specs.View.{cell, viewOf}
 use Rattle.rows.specs.Nesting.{Nests, Nested}
 use Rattle.marks.proofs.Restored.{has, set-zero, clear-other}
 use Rattle.marks.proofs.Scratch.{scratched}
 use Rattle.marks.proofs.Aside.{aside-rows, aside-marks}
 use Rattle.marks.proofs.Undone.{owns, owns-same, not-str}
-use Rattle.marks.specs.Marks.{rowMarks, marksNeeded, clear, cleared, saved, clearFrom, numbersOf, packed, Held, rowAside, putAside}
+use Rattle.marks.specs.Marks.{rowMarks, marksNeeded, clear, clearedAll, saved, clearFrom, numbersOf, packedMarks, Held, rowAside, putAside}
 
 row-view : (u : ℕ) (ns : List ℕ) (h : Held) (i : ℕ) → numbersOf (h .rows) i ≡ ns → viewOf (rowAside u ns h i .rows) ≡ viewOf (h .rows)
 unfolding rowAside
 row-view u [] h i e = refl
-row-view u (n ∷ ns) h i e = scratched (h .rows) i (packed (saved u (n ∷ ns) (h .marks))) (not-str (h .rows) i n ns e)
+row-view u (n ∷ ns) h i e = scratched (h .rows) i (packedMarks (saved u (n ∷ ns) (h .marks))) (not-str (h .rows) i n ns e)
 
 -- the document is the same
 pub aside-view : (n u : ℕ) (h : Held) (i : ℕ) → viewOf (putAside n u h i .rows) ≡ viewOf (h .rows)
@@ -52,8 +54,8 @@ clear-used u x n m h = go (eqb x n) refl
     go true e = let q = eqb-true x n e in rw (lt-ltb n u (omega arith))
     go false e = clear-other u n x m (eqb-false x n e)
 
-cleared-used : (u x : ℕ) (ns m : List ℕ) → x < u → getD (cleared u ns m) x 0 ≡ getD m x 0
-unfolding cleared
+cleared-used : (u x : ℕ) (ns m : List ℕ) → x < u → getD (clearedAll u ns m) x 0 ≡ getD m x 0
+unfolding clearedAll
 cleared-used u x [] m h = refl
 cleared-used u x (n ∷ ns) m h = cleared-used u x ns (clear u n m) h ∙ clear-used u x n m h
 
@@ -82,8 +84,8 @@ clear-zero u x n m z = go (ltb n u)
     go true = z
     go false = zero-set x n m z
 
-cleared-zero : (u x : ℕ) (ns m : List ℕ) → getD m x 0 ≡ 0 → getD (cleared u ns m) x 0 ≡ 0
-unfolding cleared
+cleared-zero : (u x : ℕ) (ns m : List ℕ) → getD m x 0 ≡ 0 → getD (clearedAll u ns m) x 0 ≡ 0
+unfolding clearedAll
 cleared-zero u x [] m z = z
 cleared-zero u x (n ∷ ns) m z = cleared-zero u x ns (clear u n m) (clear-zero u x n m z)
 
@@ -104,13 +106,13 @@ no-false : false ≡ true → ⊥
 no-false e = let z : _≡_ {A = ℕ} 0 1 = cc in omega arith
 
 own-step : (u x n : ℕ) (ns m : List ℕ) (b : Bool) → eqb x n ≡ b → u ≤ x → eqb x n || has x ns ≡ true
-    → (has x ns ≡ true → getD (cleared u ns (clear u n m)) x 0 ≡ 0)
-    → getD (cleared u ns (clear u n m)) x 0 ≡ 0
+    → (has x ns ≡ true → getD (clearedAll u ns (clear u n m)) x 0 ≡ 0)
+    → getD (clearedAll u ns (clear u n m)) x 0 ≡ 0
 own-step u x n ns m true f h e rec = cleared-zero u x ns (clear u n m) (clear-own u x n m h f)
 own-step u x n ns m false f h e rec = rec (sym (ap (λ (b : Bool). b || has x ns) f) ∙ e)
 
-cleared-own : (u x : ℕ) (ns m : List ℕ) → u ≤ x → has x ns ≡ true → getD (cleared u ns m) x 0 ≡ 0
-unfolding cleared has
+cleared-own : (u x : ℕ) (ns m : List ℕ) → u ≤ x → has x ns ≡ true → getD (clearedAll u ns m) x 0 ≡ 0
+unfolding clearedAll has
 cleared-own u x [] m h e = absurd (no-false e)
 cleared-own u x (n ∷ ns) m h e = own-step u x n ns m (eqb x n) refl h e (λ f. cleared-own u x ns (clear u n m) h f)
 
@@ -178,7 +180,7 @@ clear-parts (suc n) i m h =
 -- A row's number is below the marks needed.
 row-needed : (x : ℕ) (s : List ℕ) (i : ℕ) → has x (numbersOf s i) ≡ true → x < rowMarks s i
 unfolding has
-row-needed x s i e = go (eqb (cell s i 0) 11) (eqb (cell s i 0) 0 || eqb (cell s i 0) 10) (cell s i 1) (cell s i 2) e
+row-needed x s i e = go (eqb (cell s i KIND) CALL) (eqb (cell s i KIND) GROUP || eqb (cell s i KIND) IF-WRAP) (cell s i NUMBER) (cell s i SECOND-NUMBER) e
   where
     one : (a : ℕ) (b : Bool) → eqb x a ≡ b → has x (a ∷ []) ≡ true → x < 1 + a
     one a true f e = let q = eqb-true x a f in omega arith

@@ -10,11 +10,13 @@ use lib.ListN.{length, getD, set}
 use lib.Seq.{getD-set-same, getD-set-other, ext-getD}
 use lib.Dec.{ltb, eqb}
 use borrow.Author.Tests.{eqb-true, eqb-false}
+use Rattle.rows.specs.Kinds.{GROUP, STR, IF-WRAP, CALL}
+use Rattle.rows.specs.Places.{KIND, NUMBER, SECOND-NUMBER, WIDTH, PLACES}
 use Rattle.rows.specs.View.{cell}
 use Rattle.marks.proofs.Restored.{has, set-zero, clear-other, put-back, rubbed}
 use Rattle.marks.proofs.Scratch.{other}
 use Rattle.marks.proofs.Aside.{aside-rows, aside-marks, back-marks}
-use Rattle.marks.specs.Marks.{clear, saved, cleared, restore, numbersOf, packed, unpacked, Held, held, rowAside, putAside, rowBack, putBack}
+use Rattle.marks.specs.Marks.{clear, saved, clearedAll, restore, numbersOf, packedMarks, unpackedMarks, Held, held, rowAside, putAside, rowBack, putBack}
 
 -- x is a number of one of the n rows from i on
 unfoldable pub owns : ℕ → ℕ → List ℕ → ℕ → Bool
@@ -27,16 +29,16 @@ pub record Bytes (m : List ℕ) : Type 0 where
 
 -- none of the n rows from i on but a `Str` uses its width place
 pub record Unused (n : ℕ) (s : List ℕ) (i : ℕ) : Type 0 where
-  pub at : (k : ℕ) → i ≤ k → k < i + n → (cell s k 0 ≡ 5 → ⊥) → cell s k 8 ≡ 0
+  pub at : (k : ℕ) → i ≤ k → k < i + n → (cell s k KIND ≡ STR → ⊥) → cell s k WIDTH ≡ 0
 
 -- A number in a width place changes no row's numbers.
-numbers-set : (s : List ℕ) (i x k : ℕ) → numbersOf (set s (i * 9 + 8) x) k ≡ numbersOf s k
+numbers-set : (s : List ℕ) (i x k : ℕ) → numbersOf (set s (i * PLACES + WIDTH) x) k ≡ numbersOf s k
 numbers-set s i x k = rw (other s i x k 0 (omega arith), other s i x k 1 (omega arith), other s i x k 2 (omega arith))
 
 numbers-same : (u : ℕ) (ns : List ℕ) (h : Held) (i k : ℕ) → numbersOf (rowAside u ns h i .rows) k ≡ numbersOf (h .rows) k
 unfolding rowAside
 numbers-same u [] h i k = refl
-numbers-same u (n ∷ ns) h i k = numbers-set (h .rows) i (packed (saved u (n ∷ ns) (h .marks))) k
+numbers-same u (n ∷ ns) h i k = numbers-set (h .rows) i (packedMarks (saved u (n ∷ ns) (h .marks))) k
 
 numbers-back : (u : ℕ) (h p : Held) (i : ℕ) → p .rows ≡ rowAside u (numbersOf (h .rows) i) h i .rows → numbersOf (p .rows) i ≡ numbersOf (h .rows) i
 numbers-back u h p i e = ap (λ (s : List ℕ). numbersOf s i) e ∙ numbers-same u (numbersOf (h .rows) i) h i i
@@ -51,7 +53,7 @@ unfolding owns
 owns-next x n s i e f = rw (e, f)
 
 two-numbers : (s : List ℕ) (i : ℕ) → length (numbersOf s i) ≤ 2
-two-numbers s i = go (eqb (cell s i 0) 11) (eqb (cell s i 0) 0 || eqb (cell s i 0) 10) (cell s i 1) (cell s i 2)
+two-numbers s i = go (eqb (cell s i KIND) CALL) (eqb (cell s i KIND) GROUP || eqb (cell s i KIND) IF-WRAP) (cell s i NUMBER) (cell s i SECOND-NUMBER)
   where
     go : (p q : Bool) (a b : ℕ) → length (cond p (a ∷ b ∷ []) (cond q (a ∷ []) [])) ≤ 2
     go true q a b = omega arith
@@ -65,12 +67,12 @@ low x y h = omega arith
 high : (x y : ℕ) → x < 256 → y < 256 → (x + 256 * y) / 256 % 256 ≡ y
 high x y h k = omega arith
 
-pack-low : (x : ℕ) → x < 256 → packed (x ∷ []) % 256 ≡ x
-unfolding packed
+pack-low : (x : ℕ) → x < 256 → packedMarks (x ∷ []) % 256 ≡ x
+unfolding packedMarks
 pack-low x h = low x 0 h
 
-pack-both : (x y : ℕ) → packed (x ∷ y ∷ []) ≡ x + 256 * y
-unfolding packed
+pack-both : (x y : ℕ) → packedMarks (x ∷ y ∷ []) ≡ x + 256 * y
+unfolding packedMarks
 pack-both x y = omega arith
 
 clear-bytes : (u n : ℕ) (m : List ℕ) → Bytes m → Bytes (clear u n m)
@@ -87,8 +89,8 @@ clear-bytes u n m b = record { at = λ k. go k (eqb k n) refl }
         each true = b .at k
         each false = zeroed k c e
 
-cleared-bytes : (u : ℕ) (ns m : List ℕ) → Bytes m → Bytes (cleared u ns m)
-unfolding cleared
+cleared-bytes : (u : ℕ) (ns m : List ℕ) → Bytes m → Bytes (clearedAll u ns m)
+unfolding clearedAll
 cleared-bytes u [] m b = b
 cleared-bytes u (n ∷ ns) m b = cleared-bytes u ns (clear u n m) (clear-bytes u n m b)
 
@@ -97,7 +99,7 @@ unfolding rowAside
 aside-bytes u [] h i b = b
 aside-bytes u (n ∷ ns) h i b = cleared-bytes u (n ∷ ns) (h .marks) b
 
-unpack-row : (u : ℕ) (ns m c : List ℕ) → length ns ≤ 2 → Bytes m → restore ns (unpacked (packed (saved u ns m))) c ≡ restore ns (saved u ns m) c
+unpack-row : (u : ℕ) (ns m c : List ℕ) → length ns ≤ 2 → Bytes m → restore ns (unpackedMarks (packedMarks (saved u ns m))) c ≡ restore ns (saved u ns m) c
 unfolding restore saved
 unpack-row u [] m c l b = refl
 unpack-row u (x ∷ []) m c l b = ap (λ (z : ℕ). set c x z) (pack-low (getD m x 0) (b .at x))
@@ -118,8 +120,8 @@ has-first true q e = absurd (no-true e)
     no-true : true ≡ false → ⊥
     no-true e = let z : _≡_ {A = ℕ} 0 1 = cc in omega arith
 
-cleared-other : (u x : ℕ) (ns m : List ℕ) → has x ns ≡ false → getD (cleared u ns m) x 0 ≡ getD m x 0
-unfolding cleared has
+cleared-other : (u x : ℕ) (ns m : List ℕ) → has x ns ≡ false → getD (clearedAll u ns m) x 0 ≡ getD m x 0
+unfolding clearedAll has
 cleared-other u x [] m e = refl
 cleared-other u x (n ∷ ns) m e =
     let f = has-first (eqb x n) (has x ns) e in
@@ -139,27 +141,27 @@ aside-other x (suc n) u h i e =
     aside-other x n u (rowAside u ns h i) (suc i) (owns-same x n u ns h i (suc i) ∙ f .1) ∙ row-other u x ns h i (f .0)
 
 -- One row undone: its store.
-pub not-str : (s : List ℕ) (i n : ℕ) (ns : List ℕ) → numbersOf s i ≡ n ∷ ns → cell s i 0 ≡ 5 → ⊥
+pub not-str : (s : List ℕ) (i n : ℕ) (ns : List ℕ) → numbersOf s i ≡ n ∷ ns → cell s i KIND ≡ STR → ⊥
 not-str s i n ns e k = some n ns (sym (none s i k) ∙ e)
   where
-    none : (s : List ℕ) (i : ℕ) → cell s i 0 ≡ 5 → numbersOf s i ≡ []
+    none : (s : List ℕ) (i : ℕ) → cell s i KIND ≡ STR → numbersOf s i ≡ []
     none s i k = rw k
 
     some : (n : ℕ) (ns : List ℕ) → [] ≡ n ∷ ns → ⊥
     some n ns e = let z : _≡_ {A = ℕ} 0 1 = cc in omega arith
 
-row-undone : (u : ℕ) (ns : List ℕ) (h p : Held) (i : ℕ) → numbersOf (h .rows) i ≡ ns → p .rows ≡ rowAside u ns h i .rows → ((cell (h .rows) i 0 ≡ 5 → ⊥) → cell (h .rows) i 8 ≡ 0)
+row-undone : (u : ℕ) (ns : List ℕ) (h p : Held) (i : ℕ) → numbersOf (h .rows) i ≡ ns → p .rows ≡ rowAside u ns h i .rows → ((cell (h .rows) i KIND ≡ STR → ⊥) → cell (h .rows) i WIDTH ≡ 0)
     → rowBack ns p i .rows ≡ h .rows
 unfolding rowAside rowBack
 row-undone u [] h p i e f z = f
 row-undone u (n ∷ ns) h p i e f z =
-    ap (λ (r : List ℕ). set r (i * 9 + 8) 0) f
-    ∙ rubbed (h .rows) (i * 9 + 8) (packed (saved u (n ∷ ns) (h .marks))) (z (not-str (h .rows) i n ns e))
+    ap (λ (r : List ℕ). set r (i * PLACES + WIDTH) 0) f
+    ∙ rubbed (h .rows) (i * PLACES + WIDTH) (packedMarks (saved u (n ∷ ns) (h .marks))) (z (not-str (h .rows) i n ns e))
 
-unused-set : (n : ℕ) (s : List ℕ) (i x : ℕ) → Unused (suc n) s i → Unused n (set s (i * 9 + 8) x) (suc i)
+unused-set : (n : ℕ) (s : List ℕ) (i x : ℕ) → Unused (suc n) s i → Unused n (set s (i * PLACES + WIDTH) x) (suc i)
 unused-set n s i x z =
     record {
-      at = λ k a b f. getD-set-other s (i * 9 + 8) (k * 9 + 8) x 0 (λ e. omega arith) ∙ z .at k (omega arith) (omega arith) (λ e. f (other s i x k 0 (omega arith) ∙ e));
+      at = λ k a b f. getD-set-other s (i * PLACES + WIDTH) (k * PLACES + WIDTH) x 0 (λ e. omega arith) ∙ z .at k (omega arith) (omega arith) (λ e. f (other s i x k 0 (omega arith) ∙ e));
     }
 
 unused-less : (n : ℕ) (s : List ℕ) (i : ℕ) → Unused (suc n) s i → Unused n s (suc i)
@@ -168,7 +170,7 @@ unused-less n s i z = record { at = λ k a b f. z .at k (omega arith) (omega ari
 unused-row : (n u : ℕ) (ns : List ℕ) (h : Held) (i : ℕ) → Unused (suc n) (h .rows) i → Unused n (rowAside u ns h i .rows) (suc i)
 unfolding rowAside
 unused-row n u [] h i z = unused-less n (h .rows) i z
-unused-row n u (x ∷ ns) h i z = unused-set n (h .rows) i (packed (saved u (x ∷ ns) (h .marks))) z
+unused-row n u (x ∷ ns) h i z = unused-set n (h .rows) i (packedMarks (saved u (x ∷ ns) (h .marks))) z
 
 -- The store is as it was.
 rows-step : (n u : ℕ) (h p : Held) (i : ℕ) → Unused (suc n) (h .rows) i → p .rows ≡ rowAside u (numbersOf (h .rows) i) h i .rows
@@ -186,7 +188,7 @@ rows-undone (suc n) u h c i z =
     (rows-undone n u h1 c (suc i) (unused-row n u (numbersOf (h .rows) i) h i z))
 
 -- One row undone: its numbers' marks.
-row-marked : (u x : ℕ) (ns : List ℕ) (h p : Held) (i : ℕ) → length ns ≤ 2 → Bytes (h .marks) → i * 9 + 8 < length (h .rows) → p .rows ≡ rowAside u ns h i .rows
+row-marked : (u x : ℕ) (ns : List ℕ) (h p : Held) (i : ℕ) → length ns ≤ 2 → Bytes (h .marks) → i * PLACES + WIDTH < length (h .rows) → p .rows ≡ rowAside u ns h i .rows
     → length (p .marks) ≡ length (h .marks)
     → x < length (h .marks)
     → (has x ns ≡ false → getD (p .marks) x 0 ≡ getD (h .marks) x 0)
@@ -194,8 +196,8 @@ row-marked : (u x : ℕ) (ns : List ℕ) (h p : Held) (i : ℕ) → length ns �
 unfolding rowAside rowBack has
 row-marked u x [] h p i t b r e l k q = q refl
 row-marked u x (n ∷ ns) h p i t b r e l k q =
-    let v = packed (saved u (n ∷ ns) (h .marks)) in
-    ap (λ (w : ℕ). getD (restore (n ∷ ns) (unpacked w) (p .marks)) x 0) (ap (λ (s : List ℕ). cell s i 8) e ∙ getD-set-same (h .rows) (i * 9 + 8) v 0 r)
+    let v = packedMarks (saved u (n ∷ ns) (h .marks)) in
+    ap (λ (w : ℕ). getD (restore (n ∷ ns) (unpackedMarks w) (p .marks)) x 0) (ap (λ (s : List ℕ). cell s i WIDTH) e ∙ getD-set-same (h .rows) (i * PLACES + WIDTH) v 0 r)
     ∙ ap (λ (w : List ℕ). getD w x 0) (unpack-row u (n ∷ ns) (h .marks) (p .marks) t b)
     ∙ put-back u x (n ∷ ns) (h .marks) (p .marks) l k q
 
@@ -204,7 +206,7 @@ unfolding putBack
 back-size zero h i = refl
 back-size (suc n) h i = back-marks (numbersOf (putBack n h (suc i) .rows) i) (putBack n h (suc i)) i ∙ back-size n h (suc i)
 
-marks-step : (u x : ℕ) (h p : Held) (i : ℕ) → Bytes (h .marks) → i * 9 + 8 < length (h .rows) → p .rows ≡ rowAside u (numbersOf (h .rows) i) h i .rows
+marks-step : (u x : ℕ) (h p : Held) (i : ℕ) → Bytes (h .marks) → i * PLACES + WIDTH < length (h .rows) → p .rows ≡ rowAside u (numbersOf (h .rows) i) h i .rows
     → length (p .marks) ≡ length (h .marks)
     → x < length (h .marks)
     → (has x (numbersOf (h .rows) i) ≡ false → getD (p .marks) x 0 ≡ getD (h .marks) x 0)

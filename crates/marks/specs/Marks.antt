@@ -29,9 +29,9 @@ unfoldable pub saved : ℕ → List ℕ → List ℕ → List ℕ
 saved used [] marks = []
 saved used (n ∷ ns) marks = getD marks n 0 ∷ saved used ns (clear used n marks)
 
-unfoldable pub cleared : ℕ → List ℕ → List ℕ → List ℕ
-cleared used [] marks = marks
-cleared used (n ∷ ns) marks = cleared used ns (clear used n marks)
+unfoldable pub clearedAll : ℕ → List ℕ → List ℕ → List ℕ
+clearedAll used [] marks = marks
+clearedAll used (n ∷ ns) marks = clearedAll used ns (clear used n marks)
 
 -- put back, the last number first
 unfoldable pub restore : List ℕ → List ℕ → List ℕ → List ℕ
@@ -56,12 +56,12 @@ abbrev pub BYTE : ℕ
 BYTE = 256
 
 -- what a row keeps of the old marks of its numbers, the first in the low byte; and the marks read back
-unfoldable pub packed : List ℕ → ℕ
-packed [] = 0
-packed (x ∷ xs) = x + BYTE * packed xs
+unfoldable pub packedMarks : List ℕ → ℕ
+packedMarks [] = 0
+packedMarks (x ∷ xs) = x + BYTE * packedMarks xs
 
-abbrev pub unpacked : ℕ → List ℕ
-unpacked x = x % BYTE ∷ x / BYTE % BYTE ∷ []
+abbrev pub unpackedMarks : ℕ → List ℕ
+unpackedMarks x = x % BYTE ∷ x / BYTE % BYTE ∷ []
 
 -- a store and the marks
 pub record Held : Type 0 where
@@ -75,7 +75,7 @@ held store marks = record { rows = store; marks = marks }
 unfoldable pub rowAside : ℕ → List ℕ → Held → ℕ → Held
 rowAside used [] h i = h
 rowAside used (n ∷ ns) h i =
-    held (set (h .rows) (i * PLACES + WIDTH) (packed (saved used (n ∷ ns) (h .marks)))) (cleared used (n ∷ ns) (h .marks))
+    held (set (h .rows) (i * PLACES + WIDTH) (packedMarks (saved used (n ∷ ns) (h .marks)))) (clearedAll used (n ∷ ns) (h .marks))
 
 -- the n rows from i on, the first row first
 unfoldable pub putAside : ℕ → ℕ → Held → ℕ → Held
@@ -85,7 +85,7 @@ putAside (suc n) used h i = putAside n used (rowAside used (numbersOf (h .rows) 
 -- row i, with these numbers, gives their old marks back
 unfoldable pub rowBack : List ℕ → Held → ℕ → Held
 rowBack [] h i = h
-rowBack (n ∷ ns) h i = held (set (h .rows) (i * PLACES + WIDTH) 0) (restore (n ∷ ns) (unpacked (cell (h .rows) i WIDTH)) (h .marks))
+rowBack (n ∷ ns) h i = held (set (h .rows) (i * PLACES + WIDTH) 0) (restore (n ∷ ns) (unpackedMarks (cell (h .rows) i WIDTH)) (h .marks))
 
 -- the n rows from i on, the last row first
 unfoldable pub putBack : ℕ → Held → ℕ → Held

@@ -22,8 +22,8 @@ use Rattle.text.specs.Space.{something, seek, oneOf, trimEnd, trim}
 use Rattle.comments.specs.Comments as comments
 use Rattle.layout.specs.Layout.{shebangRule, declaration, declares, opening, typeExpr, typeForm, typeArgs, pathRule, pathMore, exprWithPrecedence}
 use Rattle.layout.specs.Layout.{literalRule}
-use Rattle.renderer_rules.specs.Renderer.{pushStr, atColumn, newLine, margin, comment, text, virtualColumn, insert, indented, outdented, nextIndented}
-use Rattle.renderer_rules.specs.Renderer.{nextOutdented, wraps, groupWraps, trailingCall, calleeWraps, renderNode, renderNodes}
+use Rattle.renderer_rules.specs.Renderer.{pushStr, atColumn, newLine, margin, comment, text, virtualColumn, insert, indentMore, indentLess, nextIndentMore}
+use Rattle.renderer_rules.specs.Renderer.{nextIndentLess, wraps, groupWraps, trailingCall, calleeWraps, renderNode, renderNodes}
 use Rattle.rows.specs.Texts.{originText}
 use Rattle.renderer_rules.specs.Page.{textBytes}
 use Rattle.renderer_rules.specs.Check.{reaches, partsFit, rowFits, firstWrong, wrongRow, placesFit, wrongPlace}
@@ -34,7 +34,7 @@ pub edges-hold : EdgesHold
 unfolding header commentFits commentsFrom commentList shape opens childrenAt skips recordAt treeAt readTree readImage sourceFits readAll be16 be32 rowOf
     rowUnder kindFits payloadFits firstChild written within rowIn followed sequence runs prefix wellFormed boundary isRange views syntaxTree bytes
     mustWrap mustWraps width widths size sizes rowsOf rows viewOf nodeOf decode nodesAt commentsOf pairsAt pushStr atColumn newLine margin comment text
-    virtualColumn insert indented outdented nextIndented nextOutdented wraps groupWraps trailingCall calleeWraps renderNode renderNodes originText textBytes
+    virtualColumn insert indentMore indentLess nextIndentMore nextIndentLess wraps groupWraps trailingCall calleeWraps renderNode renderNodes originText textBytes
     reaches partsFit rowFits firstWrong wrongRow placesFit wrongPlace marksNeeded placeIn word
     joined words _⨟_ _⨟?_ _⨟!_ join grouped indents countNewlines newlines charAt decoded scalar something seek oneOf trimEnd trim charBefore ending ends shebangRule declaration declares
     opening typeExpr typeForm typeArgs pathRule pathMore exprWithPrecedence literalRule comments.nth comments.newlines comments.ignoreNewlines

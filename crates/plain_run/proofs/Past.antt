@@ -10,8 +10,9 @@ use lib.ListN.{length, replicate, length-set, List·getD-append}
 use lib.Seq.{set-append-left}
 use Rattle.rows.specs.Node.{Text, Node, Nodes, group, indent, indentNext, wrapParent, comment as commentNode, str, ascii, line, emptyLine, lineOrSpace, ifWrap, call}
 use Rattle.rows.specs.Node.{none, _then_, wrapped, width, widths, mustWraps}
-use Rattle.renderer_rules.specs.Renderer.{Page, Renderer, withBuf, withMarks, onPen, pushStr, atColumn, newLine, margin, comment, text, virtualColumn, insert, indented, outdented}
-use Rattle.renderer_rules.specs.Renderer.{nextIndented, nextOutdented, wraps, groupWraps, trailingCall, calleeWraps, renderNode, renderNodes}
+use Rattle.renderer_rules.specs.Renderer.{Page, Renderer, withBuf, withMarks, onPen, pushStr, atColumn, newLine, margin, comment, text, virtualColumn, insert, indentMore, indentLess}
+use Rattle.renderer_rules.proofs.Choices.{grouped, callee, called}
+use Rattle.renderer_rules.specs.Renderer.{nextIndentMore, nextIndentLess, wraps, groupWraps, trailingCall, calleeWraps, renderNode, renderNodes}
 
 -- the numbers of a node and of nodes are under b
 abbrev mutual
@@ -60,12 +61,12 @@ text-length t w r = cond-length (ltb 0 (r .pen .column .0)) r (margin r) (marksI
 
 module _ (p : Page) where
   mutual
-    unfolding renderNode renderNodes newLine pushStr indented outdented nextIndented
+    unfolding renderNode renderNodes newLine pushStr indentMore indentLess nextIndentMore
 
     render-length : (n : Node) (w : Bool) (r : Renderer) → marksIn (renderNode p n w r) ≡ marksIn r
     render-length (group n ns) w r = renders-length ns _ _ ∙ insert-length _ n r
-    render-length (indent ns) w r = renders-length ns w (onPen (indented w) r)
-    render-length (indentNext ns) w r = renders-length ns w (onPen (nextIndented w) r)
+    render-length (indent ns) w r = renders-length ns w (onPen (indentMore w) r)
+    render-length (indentNext ns) w r = renders-length ns w (onPen (nextIndentMore w) r)
     render-length wrapParent w r = refl
     render-length (commentNode t) w r = comment-length (p .bytes t) r
     render-length (str k t) w r = text-length (p .bytes t) k r
@@ -189,45 +190,36 @@ module _ (ahead past : List ℕ) where
         ∙ ap (renderNodes p ns w) (insert-ext w n r h)
         ∙ ih w (insert w n r) (subst (λ (b : ℕ). Unders b ns) (sym (insert-length w n r)) u)
 
-    -- a `Call`'s callee, and the whole of it, by what was decided of it
-    callee : Bool → Bool → ℕ → Nodes → Renderer → Renderer
-    callee t w n e r = renderNodes p e w (onPen (nextIndented (not t && w)) (insert w n r))
-
-    wholeCall : Bool → Bool → ℕ → Nodes → ℕ → Nodes → Renderer → Renderer
-    wholeCall t w n e k a r =
-        onPen (nextOutdented (not t && w))
-        (renderNodes p a (groupWraps p a (callee t w n e r)) (insert (groupWraps p a (callee t w n e r)) k (callee t w n e r)))
-
-    callee-length : (t w : Bool) (n : ℕ) (e : Nodes) (r : Renderer) → length (r .marks) ≡ length (callee t w n e r .marks)
-    unfolding callee nextIndented
-    callee-length t w n e r = sym (renders-length p e w (onPen (nextIndented (not t && w)) (insert w n r)) ∙ insert-length w n r)
+    callee-length : (t w : Bool) (n : ℕ) (e : Nodes) (r : Renderer) → length (r .marks) ≡ length (callee p t w n e r .marks)
+    unfolding callee nextIndentMore
+    callee-length t w n e r = sym (renders-length p e w (onPen (nextIndentMore (not t && w)) (insert w n r)) ∙ insert-length w n r)
 
     callee-ext : (t w : Bool) (n : ℕ) (e : Nodes) (r : Renderer) → Ih e → n < length (r .marks) → Unders (length (r .marks)) e
-        → callee t w n e (ext r) ≡ ext (callee t w n e r)
-    unfolding callee nextIndented
+        → callee p t w n e (ext r) ≡ ext (callee p t w n e r)
+    unfolding callee nextIndentMore
     callee-ext t w n e r ih h u =
-        ap (λ (x : Renderer). renderNodes p e w (onPen (nextIndented (not t && w)) x)) (insert-ext w n r h)
-        ∙ ih w (onPen (nextIndented (not t && w)) (insert w n r)) (subst (λ (b : ℕ). Unders b e) (sym (insert-length w n r)) u)
+        ap (λ (x : Renderer). renderNodes p e w (onPen (nextIndentMore (not t && w)) x)) (insert-ext w n r h)
+        ∙ ih w (onPen (nextIndentMore (not t && w)) (insert w n r)) (subst (λ (b : ℕ). Unders b e) (sym (insert-length w n r)) u)
 
     call-ext : (t w : Bool) (n : ℕ) (e : Nodes) (k : ℕ) (a : Nodes) (r : Renderer) → Ih e → Ih a → Under (length (r .marks)) (call n e k a)
-        → wholeCall t w n e k a (ext r) ≡ ext (wholeCall t w n e k a r)
-    unfolding wholeCall
+        → called p t w n e k a (ext r) ≡ ext (called p t w n e k a r)
+    unfolding called grouped
     call-ext t w n e k a r ihe iha u =
-        let x = callee t w n e r in
+        let x = callee p t w n e r in
         let l = callee-length t w n e r in
         ap
-        (λ (y : Renderer). onPen (nextOutdented (not t && w)) (renderNodes p a (groupWraps p a y) (insert (groupWraps p a y) k y)))
+        (λ (y : Renderer). onPen (nextIndentLess (not t && w)) (renderNodes p a (groupWraps p a y) (insert (groupWraps p a y) k y)))
         (callee-ext t w n e r ihe (u .0) (u .2))
-        ∙ ap (onPen (nextOutdented (not t && w)))
+        ∙ ap (onPen (nextIndentLess (not t && w)))
         (group-ext k a x iha (subst (λ (z : ℕ). k < z) l (u .1)) (subst (λ (b : ℕ). Unders b a) l (u .3)))
 
     mutual
-      unfolding renderNode renderNodes callee wholeCall indented outdented nextIndented
+      unfolding renderNode renderNodes callee called grouped indentMore indentLess nextIndentMore
 
       render-ext : (n : Node) (w : Bool) (r : Renderer) → Under (length (r .marks)) n → renderNode p n w (ext r) ≡ ext (renderNode p n w r)
       render-ext (group n ns) w r u = group-ext n ns r (λ w′ r′ u′. renders-ext ns w′ r′ u′) (u .0) (u .1)
-      render-ext (indent ns) w r u = ap (onPen (outdented w)) (renders-ext ns w (onPen (indented w) r) u)
-      render-ext (indentNext ns) w r u = ap (onPen (nextOutdented w)) (renders-ext ns w (onPen (nextIndented w) r) u)
+      render-ext (indent ns) w r u = ap (onPen (indentLess w)) (renders-ext ns w (onPen (indentMore w) r) u)
+      render-ext (indentNext ns) w r u = ap (onPen (nextIndentLess w)) (renders-ext ns w (onPen (nextIndentMore w) r) u)
       render-ext wrapParent w r u = refl
       render-ext (commentNode t) w r u = comment-ext (p .bytes t) r
       render-ext (str k t) w r u = text-ext (p .bytes t) k r
@@ -241,8 +233,8 @@ module _ (ahead past : List ℕ) where
           ∙ ap₂ (cond (wrapped (r .marks) n)) (render-ext x w r (u .1)) (render-ext y w r (u .2))
           ∙ cond-ext (wrapped (r .marks) n) (renderNode p x w r) (renderNode p y w r)
       render-ext (call n e k a) w r u =
-          ap (λ (t : Bool). wholeCall t (calleeWraps p t e a (ext r)) n e k a (ext r)) (trailing-ext e a r (u .2) (u .3))
-          ∙ ap (λ (c : Bool). wholeCall (trailingCall p e a r) c n e k a (ext r)) (calleeWraps-ext (trailingCall p e a r) e a r (u .2) (u .3))
+          ap (λ (t : Bool). called p t (calleeWraps p t e a (ext r)) n e k a (ext r)) (trailing-ext e a r (u .2) (u .3))
+          ∙ ap (λ (c : Bool). called p (trailingCall p e a r) c n e k a (ext r)) (calleeWraps-ext (trailingCall p e a r) e a r (u .2) (u .3))
           ∙ call-ext (trailingCall p e a r) (calleeWraps p (trailingCall p e a r) e a r) n e k a r (λ w′ r′ u′. renders-ext e w′ r′ u′)
           (λ w′ r′ u′. renders-ext a w′ r′ u′)
           u

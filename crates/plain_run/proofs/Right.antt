@@ -19,13 +19,9 @@ use Rattle.rows.specs.Nesting.{RangeIn, Nests, over}
 use Rattle.rows.proofs.Nested.{nests-join}
 use Rattle.renderer_rules.specs.Check.{rowFits, orLater, firstWrong, wrongRow, placesFit, wrongPlace}
 use Rattle.laws.proofs.Booleans.{both}
-use Rattle.renderer_rules.proofs.Checked.{fits-row, accepted-nests, nested-accepted}
+use Rattle.renderer_rules.proofs.Checked.{no-wrong, fits-row, accepted-nests, nested-accepted}
 use Rattle.cut_rule.specs.Laws.{SameBefore}
 use Rattle.plain_run.proofs.Local.{nests-local, rows-same, places-same}
-
-neither : (a b : Option ℕ) → orLater a b ≡ none → (a ≡ none) × (b ≡ none)
-neither none b e = (refl, e)
-neither (some i) b e = absurd (never i e)
 
 -- ---- the places of rows with nothing wrong are right
 module _ (places : ℕ → Bool) (v : View) where
@@ -37,7 +33,7 @@ module _ (places : ℕ → Bool) (v : View) where
       → (RangeIn v i end → t ≡ none → v .after i ≤ k → places k ≡ true)
       → places k ≡ true
   fit-row end d i k true true r t p q e l h f g =
-      let x = neither r t e in
+      let x = no-wrong r t e in
       let y = fits-row places v end d i q in
       go (y .within) (y .fit) (x .0) (x .1) (decLt i k) (decLt k (v .after i))
     where

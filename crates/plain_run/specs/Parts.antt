@@ -18,7 +18,7 @@ use Rattle.state.specs.Act.{Act, skip, push}
 use Rattle.comments.specs.Comments.{nth}
 use Rattle.comments.specs.Listed.{commentsOf, given}
 use Rattle.layout.specs.Layout.{shebangRule, declaration}
-use Rattle.renderer_rules.specs.Renderer.{Page, Renderer, fresh, renderNodes}
+use Rattle.renderer_rules.specs.Renderer.{Page, Renderer, freshRenderer, renderNodes}
 use Rattle.renderer_rules.specs.Page.{pageOf}
 use Rattle.renderer_rules.specs.Check.{wrongPlace}
 use Rattle.refusals.specs.Refusals.{Refusal, first, refuseIf}
@@ -63,7 +63,7 @@ declarationAct s b n (some d) = declaration (given s b) d (eqb n 0)
 -- ---- rendering
 -- `Renderer` as a call makes it, and what a call takes from it
 abbrev pub rendererOf : Pen → List ℕ → Renderer
-rendererOf z marks = fresh (record { indent = z .indent; «next_indent» = z .next-indent; column = record { 0 = z .column } }) marks
+rendererOf z marks = freshRenderer (record { indent = z .indent; «next_indent» = z .next-indent; column = record { 0 = z .column } }) marks
 
 abbrev pub drawnBy : Renderer → Drawn
 drawnBy r = record { pen = record { indent = r .pen .indent; next-indent = r .pen .«next_indent»; column = r .pen .column .0 }; marks = r .marks; text = r .buf }

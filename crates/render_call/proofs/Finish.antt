@@ -9,10 +9,10 @@ use native.Mathlib.Omega.{arith}
 use lib.ListN.{length, drop}
 use Rattle.rows.specs.View.{viewOf, nodesAt}
 use Rattle.rows.specs.declared.units.Bytes.{Bytes}
-use Rattle.renderer_rules.specs.Renderer.{Renderer, fresh, renderNodes}
+use Rattle.renderer_rules.specs.Renderer.{Renderer, freshRenderer, renderNodes}
 use Rattle.renderer_rules.specs.Page.{pageOf}
 use Rattle.renderer.specs.Run.{Ended}
-use Rattle.renderer.specs.declared.pen.Writing.{Writing}
+use Rattle.renderer.specs.declared.writing.Writing.{Writing}
 use Rattle.renderer.proofs.Outcome.{over-full}
 use Rattle.cut_rule.specs.Run.{writeFront}
 use Rattle.cut_rule.specs.States as states
@@ -51,7 +51,7 @@ module _ (source image : List ℕ) (state : RenderState) (args : RenderArgs) (st
   rendered r = renderNodes (pageOf 80 source image) (nodesAt (viewOf store) (state .row) (args .stop)) true r
 
   module _ (p : Writing) (k : Takes state p) (past : List ℕ) where
-    pub same : drawnBy (rendered (fresh (p .pen) (taken ++ past))) ≡ withPast given past
+    pub same : drawnBy (rendered (freshRenderer (p .pen) (taken ++ past))) ≡ withPast given past
     same =
         ap (λ (r : Renderer). drawnBy (rendered r))
         (started source image state args store marks ahead p (taken ++ past) (k .indent) (k .next) (k .column))
@@ -59,12 +59,12 @@ module _ (source image : List ℕ) (state : RenderState) (args : RenderArgs) (st
 
   -- the run with room enough, over the buffer in which the new marks are cleared
   module _ (p : Writing) (k : Takes state p) (marks2 out2 : List ℕ) (q : Writing)
-      (r : Ended (length out) (rendered (fresh (p .pen) (taken ++ drop (length taken) marks))) out marks2 out2 q) where
+      (r : Ended (length out) (rendered (freshRenderer (p .pen) (taken ++ drop (length taken) marks))) out marks2 out2 q) where
     abbrev behind : List ℕ
     behind = drop (length taken) marks
 
     abbrev after : Renderer
-    after = rendered (fresh (p .pen) (taken ++ behind))
+    after = rendered (freshRenderer (p .pen) (taken ++ behind))
 
     end : drawnBy after ≡ withPast given behind
     end = same p k behind

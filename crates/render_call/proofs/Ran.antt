@@ -7,9 +7,9 @@ use Prim.Native.Nat.{ℕ, _+_, _-_, _≤_}
 use native.Mathlib.Omega.{arith}
 use lib.ListN.{length, take, drop, replicate, length-append, length-replicate}
 use Rattle.rows.specs.View.{viewOf, nodesAt}
-use Rattle.renderer_rules.specs.Renderer.{Renderer, fresh, renderNodes}
+use Rattle.renderer_rules.specs.Renderer.{Renderer, freshRenderer, renderNodes}
 use Rattle.renderer_rules.specs.Page.{pageOf}
-use Rattle.renderer.specs.declared.pen.Writing.{Writing}
+use Rattle.renderer.specs.declared.writing.Writing.{Writing}
 use Rattle.cut_rule.specs.Run.{writeFront}
 use Rattle.cut_rule.specs.Parts.{Drawn, withCleared, drawnOf}
 use Rattle.cut_rule.specs.PartLaws.{withPast}
@@ -62,5 +62,5 @@ module _ (source image : List ℕ) (state : RenderState) (args : RenderArgs) (st
 
   -- the renderer that a pen with the state's numbers starts as
   pub started : (p : Writing) (m : List ℕ) → p .pen .indent ≡ state .indent → p .pen .«next_indent» ≡ state .«next_indent» → p .pen .column .0 ≡ state .column .0
-      → fresh (p .pen) m ≡ rendererOf (toState state .pen) m
+      → freshRenderer (p .pen) m ≡ rendererOf (toState state .pen) m
   started p m e f g = rw (e, f, g)

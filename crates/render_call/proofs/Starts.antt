@@ -11,7 +11,7 @@ use Rattle.renderer_rules.specs.Check.{placesFit}
 use Rattle.renderer_rules.proofs.Checked.{accepted-nests}
 use Rattle.rowcheck.proofs.Pending.{stop-fits}
 use Rattle.renderer.specs.Run.{Starting}
-use Rattle.renderer.specs.declared.pen.Writing.{Writing}
+use Rattle.renderer.specs.declared.writing.Writing.{Writing}
 use Rattle.render_call.specs.Whole.{Takes}
 use Rattle.render_call.specs.declared.RenderState.{RenderState}
 use Rattle.render_call.specs.declared.RenderArgs.{RenderArgs}

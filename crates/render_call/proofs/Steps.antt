@@ -9,11 +9,11 @@ use lib.ListN.{length, getD, drop}
 use Rattle.rows.specs.Places.{PLACES}
 use Rattle.rows.specs.View.{viewOf, nodesAt}
 use Rattle.rows.specs.declared.units.Bytes.{Bytes}
-use Rattle.renderer_rules.specs.Renderer.{fresh, renderNodes}
+use Rattle.renderer_rules.specs.Renderer.{freshRenderer, renderNodes}
 use Rattle.renderer_rules.specs.Page.{pageOf}
 use Rattle.renderer_rules.proofs.Most.{text-most}
 use Rattle.renderer.specs.Run.{Starting, Ended}
-use Rattle.renderer.specs.declared.pen.Writing.{Writing}
+use Rattle.renderer.specs.declared.writing.Writing.{Writing}
 use Rattle.cut_rule.specs.Parts as cut
 use Rattle.marks.specs.Marks.{marksNeeded, clearFrom, held, putAside, putBack}
 use Rattle.plain_run.specs.Parts.{rendererOf}
@@ -69,7 +69,7 @@ module _ (source image : List ℕ) (state : RenderState) (args : RenderArgs) (st
         (may .ahead, omega arith)
 
     pub dry-ends : (p q : Writing) → Takes state p → ((k : ℕ) → getD marks k 0 < 256) → (out marks3 out3 rows4 marks4 : List ℕ)
-        → Ended 0 (renderNodes (pageOf 80 source image) (nodesAt (viewOf rows2) (state .row) (args .stop)) true (fresh (p .pen) marks2)) out marks3 out3 q
+        → Ended 0 (renderNodes (pageOf 80 source image) (nodesAt (viewOf rows2) (state .row) (args .stop)) true (freshRenderer (p .pen) marks2)) out marks3 out3 q
         → held rows4 marks4 ≡ putBack ((args .stop) - state .row) (held rows2 marks3) (state .row)
         → Counted source image state args store marks out (q .at) rows4 marks4 out3
     dry-ends p q k b out marks3 out3 rows4 marks4 r f =
@@ -112,7 +112,7 @@ module _ (source image : List ℕ) (state : RenderState) (args : RenderArgs) (st
   pub run-ends : (p q : Writing) → Takes state p → (n : ℕ) → n ≡ marksNeeded ((args .stop) - state .row) store (state .row) → (marks2 : List ℕ)
       → marks2 ≡ clearFrom (n - state .«in_use») (state .«in_use») marks
       → (marks3 out3 : List ℕ)
-      → Ended (length out) (renderNodes (pageOf 80 source image) (nodesAt (viewOf store) (state .row) (args .stop)) true (fresh (p .pen) marks2)) out marks3 out3 q
+      → Ended (length out) (renderNodes (pageOf 80 source image) (nodesAt (viewOf store) (state .row) (args .stop)) true (freshRenderer (p .pen) marks2)) out marks3 out3 q
       → (used : ℕ)
       → used ≡ max (state .«in_use») n
       → RenderCalled source image state args store marks out
@@ -125,7 +125,7 @@ module _ (source image : List ℕ) (state : RenderState) (args : RenderArgs) (st
       let run =
       subst
       (λ (m : List ℕ).
-      Ended (length out) (renderNodes (pageOf 80 source image) (nodesAt (viewOf store) (state .row) (args .stop)) true (fresh (p .pen) m)) out marks3 out3 q)
+      Ended (length out) (renderNodes (pageOf 80 source image) (nodesAt (viewOf store) (state .row) (args .stop)) true (freshRenderer (p .pen) m)) out marks3 out3 q)
       over
       r
       in

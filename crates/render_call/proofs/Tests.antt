@@ -11,7 +11,7 @@ use lib.ListN.{length, getD, take, drop}
 use lib.Dec.{ltb, leb}
 use borrow.Author.Tests.{lt-ltb, le-ltb, leb-true}
 use Rattle.renderer_rules.specs.Check.{wrongPlace}
-use Rattle.rowcheck.specs.Found.{refusalOf}
+use Rattle.rowcheck.specs.Found.{foundRefusal}
 use Rattle.rowcheck.specs.declared.Found.{Found}
 use Rattle.rowcheck.specs.declared.Found.the-variants.{Right, Wrong}
 use Rattle.rows.specs.Limits.{MAX-ROWS}
@@ -73,16 +73,16 @@ abbrev placeOf : Option Refusal → ℕ
 placeOf none = 0
 placeOf (some r) = r .place
 
-module _ (o : Option ℕ) (f : Found) (e : refusalOf f ≡ refuseAt o 11) where
+module _ (o : Option ℕ) (f : Found) (e : foundRefusal f ≡ refuseAt o 11) where
   pub found-wrong : (row : ℕ) → f ≡ Wrong row → o ≡ some row
-  found-wrong row g = go o (sym (ap refusalOf g) ∙ e)
+  found-wrong row g = go o (sym (ap foundRefusal g) ∙ e)
     where
       go : (x : Option ℕ) → some (record { number = 11; place = row }) ≡ refuseAt x 11 → x ≡ some row
       go none h = let z : _≡_ {A = ℕ} 0 1 = cc in absurd (omega arith)
       go (some x) h = ap some (sym (ap placeOf h))
 
   pub found-right : f ≡ Right → o ≡ none
-  found-right g = go o (sym (ap refusalOf g) ∙ e)
+  found-right g = go o (sym (ap foundRefusal g) ∙ e)
     where
       go : (x : Option ℕ) → none ≡ refuseAt x 11 → x ≡ none
       go none h = refl

@@ -10,7 +10,7 @@ ghost use Rattle.marks.specs.Marks.{marksNeeded};
 ghost use Rattle.renderer_rules.specs.Most.{rowMost, rowsMost};
 use marks::count::larger;
 use marks::count::row_marks;
-use renderer::pen::margin_bytes;
+use renderer::writing::margin_bytes;
 use rows::kinds::ASCII;
 use rows::kinds::CALL;
 use rows::kinds::COMMENT;

@@ -11,7 +11,7 @@ use crate::room::Needs;
 use marks::count::clear_marks;
 use marks::count::larger;
 use renderer::machine::run_rows;
-use renderer::pen::Writing;
+use renderer::writing::Writing;
 use renderer::run::Bounds;
 use renderer::run::RowRange;
 use renderer_rules::Pen;

@@ -6,20 +6,22 @@ use native.Mathlib.Omega.{arith}
 use native.Mathlib.Numerals.{add-one}
 use mathlib.Core.Bool.{Bool, true, false, cond, not, _&&_}
 use mathlib.Core.List.{List, [], _++_}
-use lib.ListN.{length, set, length-append}
-use lib.Dec.{ltb, eqb}
+use lib.ListN.{length, length-append}
+use lib.Dec.{eqb}
+use Rattle.rows.specs.Kinds.{GROUP, INDENT, INDENT-NEXT, WRAP-PARENT, LINE-OR-SPACE, IF-WRAP, CALL}
+use Rattle.rows.specs.Places.{KIND, NUMBER, SECOND-NUMBER, SECOND}
 use Rattle.rows.specs.Node.{Nodes, wrapped}
 use Rattle.rows.specs.View.{View, viewOf, cell, nodesAt, nodeAt}
 use Rattle.renderer_rules.specs.declared.Frame.{Frame}
 use Rattle.renderer_rules.specs.Page.{pageOf}
-use Rattle.renderer_rules.specs.Renderer.{Page, Renderer, fresh, onPen, renderNode, wraps, virtualColumn, groupWraps, trailingCall, calleeWraps, insert, indented}
-use Rattle.renderer_rules.specs.Renderer.{nextIndented}
+use Rattle.renderer_rules.specs.Renderer.{Page, Renderer, freshRenderer, onPen, renderNode, wraps, virtualColumn, groupWraps, trailingCall, calleeWraps, insert, indentMore}
+use Rattle.renderer_rules.specs.Renderer.{nextIndentMore}
 use Rattle.renderer_rules.specs.Frames.{frameAt, partEnd, wrapAt}
 use Rattle.renderer_rules.specs.Machine.{closing}
-use Rattle.renderer_rules.specs.Machine.{Machine, opened, passed, reopened, closed, frame, enter, enterGroup, enterIndent, enterNext, enterLeaf, enterIf, enterCall, leave, turn}
+use Rattle.renderer_rules.specs.Machine.{Machine, opened, passed, reopened, closedTo, frameOf, enter, enterGroup, enterIndent, enterNext, enterLeaf, enterIf, enterCall, leave, turn}
 use Rattle.renderer_rules.proofs.Machine.{enter-0, enter-1, enter-2, enter-leaf, enter-10, enter-11, turn-leave}
 use Rattle.renderer_rules.specs.declared.Pen.{Pen}
-use Rattle.renderer.specs.declared.pen.Writing.{Writing}
+use Rattle.renderer.specs.declared.writing.Writing.{Writing}
 use Rattle.renderer.specs.Output.{writtenOver}
 use Rattle.renderer.specs.Writing.{setPen, writingAfter, Writes}
 use Rattle.renderer.specs.Run.{Running, withFrames, bareRun, stateOf, machineOf, Wrote, Shows, Follows, openedRun, passedRun, closedAt, inserted, GroupOpened, CallOpened, ArgumentsOpened}
@@ -45,17 +47,17 @@ shows-as limit o marks out r m m2 e s = subst (λ (x : Machine). Shows limit o m
 
 -- what groups and calls decide by is the pen and the marks
 group-same : (max : ℕ) (source image : List ℕ) (ns : Nodes) (p : Pen) (marks b : List ℕ)
-    → groupWraps (pageOf max source image) ns (stateOf p marks b) ≡ groupWraps (pageOf max [] []) ns (fresh p marks)
+    → groupWraps (pageOf max source image) ns (stateOf p marks b) ≡ groupWraps (pageOf max [] []) ns (freshRenderer p marks)
 unfolding groupWraps wraps virtualColumn
 group-same max source image ns p marks b = refl
 
 trailing-same : (max : ℕ) (source image : List ℕ) (e a : Nodes) (p : Pen) (marks b : List ℕ)
-    → trailingCall (pageOf max source image) e a (stateOf p marks b) ≡ trailingCall (pageOf max [] []) e a (fresh p marks)
+    → trailingCall (pageOf max source image) e a (stateOf p marks b) ≡ trailingCall (pageOf max [] []) e a (freshRenderer p marks)
 unfolding trailingCall virtualColumn
 trailing-same max source image e a p marks b = refl
 
 callee-same : (max : ℕ) (source image : List ℕ) (t : Bool) (e a : Nodes) (p : Pen) (marks b : List ℕ)
-    → calleeWraps (pageOf max source image) t e a (stateOf p marks b) ≡ calleeWraps (pageOf max [] []) t e a (fresh p marks)
+    → calleeWraps (pageOf max source image) t e a (stateOf p marks b) ≡ calleeWraps (pageOf max [] []) t e a (freshRenderer p marks)
 unfolding calleeWraps groupWraps wraps virtualColumn
 callee-same max source image t e a p marks b = refl
 
@@ -75,7 +77,7 @@ unfolding machineOf
 opened-shows limit o out b n r marks marks2 q f k k2 p t w e i s a =
     rw (e, i, s)
     (record {
-      same = ap (λ (d : ℕ). closed (opened (machineOf r marks b n) f k2 (stateOf (p .pen) marks2 b)) d k2 (stateOf (p .pen) marks2 b)) (sym (add-one (r .depth)));
+      same = ap (λ (d : ℕ). closedTo (opened (machineOf r marks b n) f k2 (stateOf (p .pen) marks2 b)) d k2 (stateOf (p .pen) marks2 b)) (sym (add-one (r .depth)));
       wrote = rw a w;
     })
 
@@ -96,50 +98,50 @@ module _ (store source image : List ℕ) (max limit : ℕ) (marks out : List ℕ
   group-goes marks2 q g o b n w =
       let c : groupWraps pg (nodesAt v (suc (r .next)) (v .after (r .next))) (stateOf (r .writing .pen) marks b) ≡ g .wraps =
       group-same max source image (nodesAt v (suc (r .next)) (v .after (r .next))) (r .writing .pen) marks b
-      ∙ sym (g .isWraps ∙ ap (λ (k : ℕ). groupWraps (pageOf max [] []) (nodesAt v k (v .after (r .next))) (fresh (r .writing .pen) marks)) (add-one (r .next))) in
+      ∙ sym (g .isWraps ∙ ap (λ (k : ℕ). groupWraps (pageOf max [] []) (nodesAt v k (v .after (r .next))) (freshRenderer (r .writing .pen) marks)) (add-one (r .next))) in
       rw c
-      (opened-shows limit o out b n r marks marks2 q (frame (r .next) (g .wraps) false false) (suc (r .next)) (r .next + 1) (r .writing) _ w (g .run)
+      (opened-shows limit o out b n r marks marks2 q (frameOf (r .next) (g .wraps) false false) (suc (r .next)) (r .next + 1) (r .writing) _ w (g .run)
       (sym (add-one (r .next)))
       (insert-same (g .wraps) (v .number (r .next)) (r .writing .pen) marks b ∙ ap (λ (m : List ℕ). stateOf (r .writing .pen) m b) (sym (g .marked)))
       refl)
 
-  pub group-follows : (marks2 : List ℕ) (q : Running) → cell store (r .next) 0 ≡ 0 → GroupOpened store max marks r marks2 q
+  pub group-follows : (marks2 : List ℕ) (q : Running) → cell store (r .next) KIND ≡ GROUP → GroupOpened store max marks r marks2 q
       → Follows limit (enter v pg) marks out r marks2 out q
   unfolding machineOf viewOf
   group-follows marks2 q k g =
       record { goes = λ o b n w. shows-as limit o marks2 out q _ _ (enter-0 v pg (machineOf r marks b n) k) (group-goes marks2 q g o b n w) }
 
   indent-goes : (q : Running) (x : Bool) → x ≡ wrap
-      → q ≡ openedRun r (frame (r .next) x false false) (r .next + 1) (setPen (indented x (r .writing .pen)) (r .writing))
+      → q ≡ openedRun r (frameOf (r .next) x false false) (r .next + 1) (setPen (indentMore x (r .writing .pen)) (r .writing))
       → (o b : List ℕ) (n : ℕ) → Wrote limit o out (r .writing .at .0) b → Shows limit o marks out q (enterIndent v pg (machineOf r marks b n))
   unfolding enterIndent machineOf
   indent-goes q x e g o b n w =
       rw (← e)
-      (opened-shows limit o out b n r marks marks q (frame (r .next) x false false) (suc (r .next)) (r .next + 1) (setPen (indented x (r .writing .pen)) (r .writing)) _ w g
+      (opened-shows limit o out b n r marks marks q (frameOf (r .next) x false false) (suc (r .next)) (r .next + 1) (setPen (indentMore x (r .writing .pen)) (r .writing)) _ w g
       (sym (add-one (r .next)))
       refl
       refl)
 
-  pub indent-follows : (q : Running) (x : Bool) → cell store (r .next) 0 ≡ 1 → x ≡ wrap
-      → q ≡ openedRun r (frame (r .next) x false false) (r .next + 1) (setPen (indented x (r .writing .pen)) (r .writing))
+  pub indent-follows : (q : Running) (x : Bool) → cell store (r .next) KIND ≡ INDENT → x ≡ wrap
+      → q ≡ openedRun r (frameOf (r .next) x false false) (r .next + 1) (setPen (indentMore x (r .writing .pen)) (r .writing))
       → Follows limit (enter v pg) marks out r marks out q
   unfolding machineOf viewOf
   indent-follows q x k e g =
       record { goes = λ o b n w. shows-as limit o marks out q _ _ (enter-1 v pg (machineOf r marks b n) k) (indent-goes q x e g o b n w) }
 
   next-goes : (q : Running) (x : Bool) → x ≡ wrap
-      → q ≡ openedRun r (frame (r .next) x false false) (r .next + 1) (setPen (nextIndented x (r .writing .pen)) (r .writing))
+      → q ≡ openedRun r (frameOf (r .next) x false false) (r .next + 1) (setPen (nextIndentMore x (r .writing .pen)) (r .writing))
       → (o b : List ℕ) (n : ℕ) → Wrote limit o out (r .writing .at .0) b → Shows limit o marks out q (enterNext v pg (machineOf r marks b n))
   unfolding enterNext machineOf
   next-goes q x e g o b n w =
       rw (← e)
-      (opened-shows limit o out b n r marks marks q (frame (r .next) x false false) (suc (r .next)) (r .next + 1) (setPen (nextIndented x (r .writing .pen)) (r .writing)) _ w g
+      (opened-shows limit o out b n r marks marks q (frameOf (r .next) x false false) (suc (r .next)) (r .next + 1) (setPen (nextIndentMore x (r .writing .pen)) (r .writing)) _ w g
       (sym (add-one (r .next)))
       refl
       refl)
 
-  pub next-follows : (q : Running) (x : Bool) → cell store (r .next) 0 ≡ 2 → x ≡ wrap
-      → q ≡ openedRun r (frame (r .next) x false false) (r .next + 1) (setPen (nextIndented x (r .writing .pen)) (r .writing))
+  pub next-follows : (q : Running) (x : Bool) → cell store (r .next) KIND ≡ INDENT-NEXT → x ≡ wrap
+      → q ≡ openedRun r (frameOf (r .next) x false false) (r .next + 1) (setPen (nextIndentMore x (r .writing .pen)) (r .writing))
       → Follows limit (enter v pg) marks out r marks out q
   unfolding machineOf viewOf
   next-follows q x k e g =
@@ -147,32 +149,32 @@ module _ (store source image : List ℕ) (max limit : ℕ) (marks out : List ℕ
 
   if-goes : (q : Running) (x : Bool) → x ≡ wrap
       → q
-      ≡ cond (wrapped marks (cell store (r .next) 1))
-      (openedRun r (frame (r .next) x true false) (r .next + 1) (r .writing))
-      (openedRun r (frame (r .next) x false false) (cell store (r .next) 3) (r .writing))
+      ≡ cond (wrapped marks (cell store (r .next) NUMBER))
+      (openedRun r (frameOf (r .next) x true false) (r .next + 1) (r .writing))
+      (openedRun r (frameOf (r .next) x false false) (cell store (r .next) SECOND) (r .writing))
       → (o b : List ℕ) (n : ℕ) → Wrote limit o out (r .writing .at .0) b → Shows limit o marks out q (enterIf v pg (machineOf r marks b n))
   unfolding enterIf machineOf viewOf
-  if-goes q x e g o b n w = rw (← e) (go (wrapped marks (cell store (r .next) 1)) g)
+  if-goes q x e g o b n w = rw (← e) (go (wrapped marks (cell store (r .next) NUMBER)) g)
     where
       m : Machine
       m = machineOf r marks b n
 
       go : (t : Bool)
-          → q ≡ cond t (openedRun r (frame (r .next) x true false) (r .next + 1) (r .writing)) (openedRun r (frame (r .next) x false false) (cell store (r .next) 3) (r .writing))
+          → q ≡ cond t (openedRun r (frameOf (r .next) x true false) (r .next + 1) (r .writing)) (openedRun r (frameOf (r .next) x false false) (cell store (r .next) SECOND) (r .writing))
           → Shows limit o marks out q
           (cond t
-          (opened m (frame (r .next) x true false) (suc (r .next)) (stateOf (r .writing .pen) marks b))
-          (opened m (frame (r .next) x false false) (cell store (r .next) 3) (stateOf (r .writing .pen) marks b)))
+          (opened m (frameOf (r .next) x true false) (suc (r .next)) (stateOf (r .writing .pen) marks b))
+          (opened m (frameOf (r .next) x false false) (cell store (r .next) SECOND) (stateOf (r .writing .pen) marks b)))
       go true h =
-          opened-shows limit o out b n r marks marks q (frame (r .next) x true false) (suc (r .next)) (r .next + 1) (r .writing) _ w h (sym (add-one (r .next))) refl refl
+          opened-shows limit o out b n r marks marks q (frameOf (r .next) x true false) (suc (r .next)) (r .next + 1) (r .writing) _ w h (sym (add-one (r .next))) refl refl
       go false h =
-          opened-shows limit o out b n r marks marks q (frame (r .next) x false false) (cell store (r .next) 3) (cell store (r .next) 3) (r .writing) _ w h refl refl refl
+          opened-shows limit o out b n r marks marks q (frameOf (r .next) x false false) (cell store (r .next) SECOND) (cell store (r .next) SECOND) (r .writing) _ w h refl refl refl
 
-  pub if-follows : (q : Running) (x : Bool) → cell store (r .next) 0 ≡ 10 → x ≡ wrap
+  pub if-follows : (q : Running) (x : Bool) → cell store (r .next) KIND ≡ IF-WRAP → x ≡ wrap
       → q
-      ≡ cond (wrapped marks (cell store (r .next) 1))
-      (openedRun r (frame (r .next) x true false) (r .next + 1) (r .writing))
-      (openedRun r (frame (r .next) x false false) (cell store (r .next) 3) (r .writing))
+      ≡ cond (wrapped marks (cell store (r .next) NUMBER))
+      (openedRun r (frameOf (r .next) x true false) (r .next + 1) (r .writing))
+      (openedRun r (frameOf (r .next) x false false) (cell store (r .next) SECOND) (r .writing))
       → Follows limit (enter v pg) marks out r marks out q
   unfolding machineOf viewOf
   if-follows q x k e g =
@@ -186,32 +188,32 @@ module _ (store source image : List ℕ) (max limit : ℕ) (marks out : List ℕ
       let a = nodesAt v (v .second (r .next)) (v .after (r .next)) in
       let t : trailingCall pg e a (stateOf (r .writing .pen) marks b) ≡ g .trails =
       trailing-same max source image e a (r .writing .pen) marks b
-      ∙ sym (g .isTrails ∙ ap (λ (k : ℕ). trailingCall (pageOf max [] []) (nodesAt v k (v .second (r .next))) a (fresh (r .writing .pen) marks)) (add-one (r .next))) in
+      ∙ sym (g .isTrails ∙ ap (λ (k : ℕ). trailingCall (pageOf max [] []) (nodesAt v k (v .second (r .next))) a (freshRenderer (r .writing .pen) marks)) (add-one (r .next))) in
       let c : calleeWraps pg (g .trails) e a (stateOf (r .writing .pen) marks b) ≡ g .wraps =
       callee-same max source image (g .trails) e a (r .writing .pen) marks b
-      ∙ sym (g .isWraps ∙ ap (λ (k : ℕ). calleeWraps (pageOf max [] []) (g .trails) (nodesAt v k (v .second (r .next))) a (fresh (r .writing .pen) marks)) (add-one (r .next))) in
+      ∙ sym (g .isWraps ∙ ap (λ (k : ℕ). calleeWraps (pageOf max [] []) (g .trails) (nodesAt v k (v .second (r .next))) a (freshRenderer (r .writing .pen) marks)) (add-one (r .next))) in
       rw (t, c)
-      (opened-shows limit o out b n r marks marks2 q (frame (r .next) (g .wraps) true (not (g .trails) && g .wraps)) (suc (r .next)) (r .next + 1)
-      (setPen (nextIndented (not (g .trails) && g .wraps) (r .writing .pen)) (r .writing))
+      (opened-shows limit o out b n r marks marks2 q (frameOf (r .next) (g .wraps) true (not (g .trails) && g .wraps)) (suc (r .next)) (r .next + 1)
+      (setPen (nextIndentMore (not (g .trails) && g .wraps) (r .writing .pen)) (r .writing))
       _
       w
       (g .run)
       (sym (add-one (r .next)))
-      (ap (onPen (nextIndented (not (g .trails) && g .wraps))) (insert-same (g .wraps) (v .number (r .next)) (r .writing .pen) marks b ∙ ap (λ (m : List ℕ). stateOf (r .writing .pen) m b) (sym (g .marked))))
+      (ap (onPen (nextIndentMore (not (g .trails) && g .wraps))) (insert-same (g .wraps) (v .number (r .next)) (r .writing .pen) marks b ∙ ap (λ (m : List ℕ). stateOf (r .writing .pen) m b) (sym (g .marked))))
       refl)
 
-  pub call-follows : (marks2 : List ℕ) (q : Running) → cell store (r .next) 0 ≡ 11 → CallOpened store max marks r marks2 q
+  pub call-follows : (marks2 : List ℕ) (q : Running) → cell store (r .next) KIND ≡ CALL → CallOpened store max marks r marks2 q
       → Follows limit (enter v pg) marks out r marks2 out q
   unfolding machineOf viewOf
   call-follows marks2 q k g =
       record { goes = λ o b n w. shows-as limit o marks2 out q _ _ (enter-11 v pg (machineOf r marks b n) k) (call-goes marks2 q g o b n w) }
 
   -- a row without parts
-  leaf-state : (x : Bool) → 3 ≤ v .kind (r .next) → v .kind (r .next) ≤ 9 → (b : List ℕ)
-      → renderNode pg (nodeAt v (r .next)) x (stateOf (r .writing .pen) marks b) ≡ under b marks (renderNode pg (nodeAt v (r .next)) x (fresh (r .writing .pen) []))
+  leaf-state : (x : Bool) → WRAP-PARENT ≤ v .kind (r .next) → v .kind (r .next) ≤ LINE-OR-SPACE → (b : List ℕ)
+      → renderNode pg (nodeAt v (r .next)) x (stateOf (r .writing .pen) marks b) ≡ under b marks (renderNode pg (nodeAt v (r .next)) x (freshRenderer (r .writing .pen) []))
   leaf-state x k l b =
       ap (renderNode pg (nodeAt v (r .next)) x) (fresh-under (r .writing .pen) marks b)
-      ∙ leaf-under v pg (r .next) x (v .kind (r .next)) refl k l b marks (fresh (r .writing .pen) [])
+      ∙ leaf-under v pg (r .next) x (v .kind (r .next)) refl k l b marks (freshRenderer (r .writing .pen) [])
 
   leaf-shows : (s : Renderer) (out2 : List ℕ) (p : Writing) → Writes limit s out (r .writing) out2 p → (o b : List ℕ) (n : ℕ)
       → Wrote limit o out (r .writing .at .0) b
@@ -221,27 +223,27 @@ module _ (store source image : List ℕ) (max limit : ℕ) (marks out : List ℕ
   leaf-shows s out2 p d o b n w =
       rw (d .after)
       (record {
-        same = ap (λ (k : ℕ). closed (passed (machineOf r marks b n) (under b marks s)) (r .depth) k (under b marks s)) (sym (add-one (r .next)));
+        same = ap (λ (k : ℕ). closedTo (passed (machineOf r marks b n) (under b marks s)) (r .depth) k (under b marks s)) (sym (add-one (r .next)));
         wrote = wrote-more limit o out (r .writing .at .0) b (s .buf) out2 (r .writing .at .0 + length (s .buf)) w (d .written) refl;
       })
 
-  leaf-goes : (x : Bool) (out2 : List ℕ) (p : Writing) → x ≡ wrap → 3 ≤ v .kind (r .next) → v .kind (r .next) ≤ 9
-      → Writes limit (renderNode pg (nodeAt v (r .next)) x (fresh (r .writing .pen) [])) out (r .writing) out2 p
+  leaf-goes : (x : Bool) (out2 : List ℕ) (p : Writing) → x ≡ wrap → WRAP-PARENT ≤ v .kind (r .next) → v .kind (r .next) ≤ LINE-OR-SPACE
+      → Writes limit (renderNode pg (nodeAt v (r .next)) x (freshRenderer (r .writing .pen) [])) out (r .writing) out2 p
       → (o b : List ℕ) (n : ℕ) → Wrote limit o out (r .writing .at .0) b
       → Shows limit o marks out2 (passedRun r p) (enterLeaf v pg (machineOf r marks b n))
   unfolding enterLeaf machineOf
   leaf-goes x out2 p e k l d o b n w =
-      rw (← e, leaf-state x k l b) (leaf-shows (renderNode pg (nodeAt v (r .next)) x (fresh (r .writing .pen) [])) out2 p d o b n w)
+      rw (← e, leaf-state x k l b) (leaf-shows (renderNode pg (nodeAt v (r .next)) x (freshRenderer (r .writing .pen) [])) out2 p d o b n w)
 
-  pub leaf-follows : (x : Bool) (out2 : List ℕ) (p : Writing) → 3 ≤ cell store (r .next) 0 → cell store (r .next) 0 ≤ 9 → x ≡ wrap
-      → Writes limit (renderNode pg (nodeAt v (r .next)) x (fresh (r .writing .pen) [])) out (r .writing) out2 p
+  pub leaf-follows : (x : Bool) (out2 : List ℕ) (p : Writing) → WRAP-PARENT ≤ cell store (r .next) KIND → cell store (r .next) KIND ≤ LINE-OR-SPACE → x ≡ wrap
+      → Writes limit (renderNode pg (nodeAt v (r .next)) x (freshRenderer (r .writing .pen) [])) out (r .writing) out2 p
       → Follows limit (enter v pg) marks out r marks out2 (passedRun r p)
   unfolding machineOf viewOf
   leaf-follows x out2 p k l e d =
       record {
         goes =
             λ o b n w.
-            shows-as limit o marks out2 _ _ _ (enter-leaf v pg (machineOf r marks b n) (cell store (r .next) 0) refl k l)
+            shows-as limit o marks out2 _ _ _ (enter-leaf v pg (machineOf r marks b n) (cell store (r .next) KIND) refl k l)
             (leaf-goes x out2 p e k l d o b n w);
       }
 
@@ -254,7 +256,7 @@ module _ (store source image : List ℕ) (max limit : ℕ) (marks out : List ℕ
     unfolding machineOf
     turned b n = turn-leave v pg (machineOf r marks b n) (r .depth - 1) deep (z ∙ ap (partEnd v) i)
 
-    on-goes : (marks2 : List ℕ) (q : Running) → cell store (f .row) 0 ≡ 11 → f .early ≡ true → ArgumentsOpened store max marks r f marks2 q
+    on-goes : (marks2 : List ℕ) (q : Running) → cell store (f .row) KIND ≡ CALL → f .early ≡ true → ArgumentsOpened store max marks r f marks2 q
         → (o b : List ℕ) (n : ℕ) → Wrote limit o out (r .writing .at .0) b
         → Shows limit o marks2 out q (leave v pg (machineOf r marks b n) (r .depth - 1))
     unfolding leave machineOf viewOf insert
@@ -266,18 +268,18 @@ module _ (store source image : List ℕ) (max limit : ℕ) (marks out : List ℕ
           same =
               ap
               (λ (d : ℕ).
-              closed (reopened (machineOf r marks b n) (r .depth - 1) (frame (f .row) (g .wraps) false (f .deep)) (stateOf (r .writing .pen) (inserted (g .wraps) (cell store (f .row) 2) marks) b)) d (r .next)
-              (stateOf (r .writing .pen) (inserted (g .wraps) (cell store (f .row) 2) marks) b))
+              closedTo (reopened (machineOf r marks b n) (r .depth - 1) (frameOf (f .row) (g .wraps) false (f .deep)) (stateOf (r .writing .pen) (inserted (g .wraps) (cell store (f .row) SECOND-NUMBER) marks) b)) d (r .next)
+              (stateOf (r .writing .pen) (inserted (g .wraps) (cell store (f .row) SECOND-NUMBER) marks) b))
               (sym deep);
           wrote = w;
         })
 
-    pub arguments-follows : (marks2 : List ℕ) (q : Running) → cell store (f .row) 0 ≡ 11 → f .early ≡ true → ArgumentsOpened store max marks r f marks2 q
+    pub arguments-follows : (marks2 : List ℕ) (q : Running) → cell store (f .row) KIND ≡ CALL → f .early ≡ true → ArgumentsOpened store max marks r f marks2 q
         → Follows limit (turn v pg) marks out r marks2 out q
     arguments-follows marks2 q k y g = record { goes = λ o b n w. shows-as limit o marks2 out q _ _ (turned b n) (on-goes marks2 q k y g o b n w) }
 
     -- the row is closed, its last step being s
-    off-goes : (s : Pen → Pen) (q : Running) → (eqb (v .kind (f .row)) 11 && f .early) ≡ false
+    off-goes : (s : Pen → Pen) (q : Running) → (eqb (v .kind (f .row)) CALL && f .early) ≡ false
         → ((t : Renderer) → closing v pg f t ≡ onPen s t)
         → q ≡ withFrames (r .frames) (closedAt (bareRun r) (v .after (f .row)) (s (r .writing .pen)))
         → (o b : List ℕ) (n : ℕ) → Wrote limit o out (r .writing .at .0) b
@@ -285,7 +287,7 @@ module _ (store source image : List ℕ) (max limit : ℕ) (marks out : List ℕ
     unfolding leave machineOf
     off-goes s q e c g o b n w = rw (← i, e, c (stateOf (r .writing .pen) marks b), g) (record { same = refl; wrote = w })
 
-    pub closed-follows : (s : Pen → Pen) (q : Running) → (eqb (v .kind (f .row)) 11 && f .early) ≡ false
+    pub closed-follows : (s : Pen → Pen) (q : Running) → (eqb (v .kind (f .row)) CALL && f .early) ≡ false
         → ((t : Renderer) → closing v pg f t ≡ onPen s t)
         → q ≡ withFrames (r .frames) (closedAt (bareRun r) (v .after (f .row)) (s (r .writing .pen)))
         → Follows limit (turn v pg) marks out r marks out q

@@ -10,14 +10,14 @@ use lib.Dec.{ltb}
 use Rattle.rows.specs.View.{View, nodeAt}
 use Rattle.rows.proofs.Decode.{node-parent, node-comment, node-str, node-ascii, node-line, node-empty, node-space}
 use Rattle.renderer_rules.specs.declared.Pen.{Pen}
-use Rattle.renderer_rules.specs.Renderer.{Page, Renderer, fresh, withBuf, withMarks, renderNode, pushStr, atColumn, newLine, margin, comment, text}
+use Rattle.renderer_rules.specs.Renderer.{Page, Renderer, freshRenderer, withBuf, withMarks, renderNode, pushStr, atColumn, newLine, margin, comment, text}
 use Rattle.renderer.specs.Run.{stateOf}
 
 -- s behind a text, with other marks
 unfoldable pub under : List ℕ → List ℕ → Renderer → Renderer
 under b m s = withBuf (b ++ s .buf) (withMarks m s)
 
-pub fresh-under : (p : Pen) (m b : List ℕ) → stateOf p m b ≡ under b m (fresh p [])
+pub fresh-under : (p : Pen) (m b : List ℕ) → stateOf p m b ≡ under b m (freshRenderer p [])
 unfolding under
 fresh-under p m b = rw (append-nil b)
 

@@ -5,11 +5,13 @@ use Prim.Native.Nat.{ℕ, _+_}
 use native.Mathlib.Omega.{arith}
 use mathlib.Core.Bool.{Bool, true, false, cond}
 use mathlib.Core.List.{List, [], _∷_}
+use Rattle.rows.specs.Kinds.{WRAP-PARENT, COMMENT, STR, ASCII, LINE, EMPTY-LINE, LINE-OR-SPACE}
+use Rattle.rows.specs.Places.{KIND, ORIGIN, START, SIZE, WIDTH}
 use Rattle.rows.specs.View.{viewOf, cell, nodeAt}
 use Rattle.rows.proofs.Decode.{node-parent, node-comment, node-str, node-ascii, node-line, node-empty, node-space}
 use Rattle.renderer_rules.specs.Page.{pageOf, textBytes, textOf}
-use Rattle.renderer_rules.specs.Renderer.{Renderer, fresh, renderNode, pushStr, newLine, comment, text}
-use Rattle.renderer.specs.declared.pen.Writing.{Writing}
+use Rattle.renderer_rules.specs.Renderer.{Renderer, freshRenderer, renderNode, pushStr, newLine, comment, text}
+use Rattle.renderer.specs.declared.writing.Writing.{Writing}
 use Rattle.renderer.specs.Output.{writtenOver}
 use Rattle.renderer.specs.Writing.{writing, writingAfter, Writes}
 
@@ -17,7 +19,7 @@ pub writes-as : (limit : ℕ) (s t : Renderer) (out : List ℕ) (p : Writing) (o
 writes-as limit s t out p out2 q e d = rw e d
 
 -- nothing is written
-pub writes-none : (limit : ℕ) (out : List ℕ) (p : Writing) → Writes limit (fresh (p .pen) []) out p out p
+pub writes-none : (limit : ℕ) (out : List ℕ) (p : Writing) → Writes limit (freshRenderer (p .pen) []) out p out p
 unfolding writingAfter writtenOver
 writes-none limit out p =
     record {
@@ -34,53 +36,53 @@ on-true w s t e = rw e
 pub on-false : (w : Bool) (s t : Renderer) → w ≡ false → cond w s t ≡ t
 on-false w s t e = rw e
 
-module _ (max : ℕ) (source image store : List ℕ) (row kind : ℕ) (w : Bool) (s : Renderer) (e : kind ≡ cell store row 0) where
+module _ (max : ℕ) (source image store : List ℕ) (row kind : ℕ) (w : Bool) (s : Renderer) (e : kind ≡ cell store row KIND) where
   abbrev bytes : List ℕ
-  bytes = textBytes source image (textOf (cell store row 5) (cell store row 6) (cell store row 7))
+  bytes = textBytes source image (textOf (cell store row ORIGIN) (cell store row START) (cell store row SIZE))
 
-  pub render-parent : kind ≡ 3 → renderNode (pageOf max source image) (nodeAt (viewOf store) row) w s ≡ s
+  pub render-parent : kind ≡ WRAP-PARENT → renderNode (pageOf max source image) (nodeAt (viewOf store) row) w s ≡ s
   unfolding renderNode viewOf
   render-parent k = rw (node-parent (viewOf store) row (sym e ∙ k))
 
-  pub render-comment : kind ≡ 4 → renderNode (pageOf max source image) (nodeAt (viewOf store) row) w s ≡ comment bytes s
+  pub render-comment : kind ≡ COMMENT → renderNode (pageOf max source image) (nodeAt (viewOf store) row) w s ≡ comment bytes s
   unfolding renderNode viewOf
   render-comment k = rw (node-comment (viewOf store) row (sym e ∙ k))
 
-  pub render-str : kind ≡ 5 → renderNode (pageOf max source image) (nodeAt (viewOf store) row) w s ≡ text bytes (cell store row 8) s
+  pub render-str : kind ≡ STR → renderNode (pageOf max source image) (nodeAt (viewOf store) row) w s ≡ text bytes (cell store row WIDTH) s
   unfolding renderNode viewOf
   render-str k = rw (node-str (viewOf store) row (sym e ∙ k), sym e ∙ k)
 
-  pub render-ascii : kind ≡ 6 → renderNode (pageOf max source image) (nodeAt (viewOf store) row) w s ≡ text bytes (cell store row 7) s
+  pub render-ascii : kind ≡ ASCII → renderNode (pageOf max source image) (nodeAt (viewOf store) row) w s ≡ text bytes (cell store row SIZE) s
   unfolding renderNode viewOf
   render-ascii k = rw (node-ascii (viewOf store) row (sym e ∙ k))
 
-  pub render-line : kind ≡ 7 → renderNode (pageOf max source image) (nodeAt (viewOf store) row) w s ≡ cond w (newLine s) s
+  pub render-line : kind ≡ LINE → renderNode (pageOf max source image) (nodeAt (viewOf store) row) w s ≡ cond w (newLine s) s
   unfolding renderNode viewOf
   render-line k = rw (node-line (viewOf store) row (sym e ∙ k))
 
-  pub render-empty : kind ≡ 8 → renderNode (pageOf max source image) (nodeAt (viewOf store) row) w s ≡ newLine (pushStr (0x0A ∷ []) s)
+  pub render-empty : kind ≡ EMPTY-LINE → renderNode (pageOf max source image) (nodeAt (viewOf store) row) w s ≡ newLine (pushStr (0x0A ∷ []) s)
   unfolding renderNode viewOf
   render-empty k = rw (node-empty (viewOf store) row (sym e ∙ k))
 
-  pub render-space : kind ≡ 9 → renderNode (pageOf max source image) (nodeAt (viewOf store) row) w s ≡ cond w (newLine s) (text (0x20 ∷ []) 1 s)
+  pub render-space : kind ≡ LINE-OR-SPACE → renderNode (pageOf max source image) (nodeAt (viewOf store) row) w s ≡ cond w (newLine s) (text (0x20 ∷ []) 1 s)
   unfolding renderNode viewOf
   render-space k = rw (node-space (viewOf store) row (sym e ∙ k))
 
 -- a `Comment`, a `Str` and an `Ascii`, from the places that the code read
 module _ (max limit : ℕ) (source image store : List ℕ) (row kind : ℕ) (w : Bool) (out : List ℕ) (p : Writing) (out2 : List ℕ) (q : Writing) (origin start size : ℕ)
-    (e : kind ≡ cell store row 0)
-    (a : origin ≡ cell store row 5)
-    (b : start ≡ cell store row 6)
-    (c : size ≡ cell store row 7)
+    (e : kind ≡ cell store row KIND)
+    (a : origin ≡ cell store row ORIGIN)
+    (b : start ≡ cell store row START)
+    (c : size ≡ cell store row SIZE)
   where
-    pub comment-leaf : kind ≡ 4 → Writes limit (comment (textBytes source image (textOf origin start size)) (fresh (p .pen) [])) out p out2 q
-        → Writes limit (renderNode (pageOf max source image) (nodeAt (viewOf store) row) w (fresh (p .pen) [])) out p out2 q
-    comment-leaf k d = writes-as limit _ _ out p out2 q (render-comment max source image store row kind w (fresh (p .pen) []) e k ∙ rw (a, b, c)) d
+    pub comment-leaf : kind ≡ COMMENT → Writes limit (comment (textBytes source image (textOf origin start size)) (freshRenderer (p .pen) [])) out p out2 q
+        → Writes limit (renderNode (pageOf max source image) (nodeAt (viewOf store) row) w (freshRenderer (p .pen) [])) out p out2 q
+    comment-leaf k d = writes-as limit _ _ out p out2 q (render-comment max source image store row kind w (freshRenderer (p .pen) []) e k ∙ rw (a, b, c)) d
 
-    pub str-leaf : (x : ℕ) → x ≡ cell store row 8 → kind ≡ 5 → Writes limit (text (textBytes source image (textOf origin start size)) x (fresh (p .pen) [])) out p out2 q
-        → Writes limit (renderNode (pageOf max source image) (nodeAt (viewOf store) row) w (fresh (p .pen) [])) out p out2 q
-    str-leaf x h k d = writes-as limit _ _ out p out2 q (render-str max source image store row kind w (fresh (p .pen) []) e k ∙ rw (a, b, c, h)) d
+    pub str-leaf : (x : ℕ) → x ≡ cell store row WIDTH → kind ≡ STR → Writes limit (text (textBytes source image (textOf origin start size)) x (freshRenderer (p .pen) [])) out p out2 q
+        → Writes limit (renderNode (pageOf max source image) (nodeAt (viewOf store) row) w (freshRenderer (p .pen) [])) out p out2 q
+    str-leaf x h k d = writes-as limit _ _ out p out2 q (render-str max source image store row kind w (freshRenderer (p .pen) []) e k ∙ rw (a, b, c, h)) d
 
-    pub ascii-leaf : (x : ℕ) → x ≡ size → kind ≡ 6 → Writes limit (text (textBytes source image (textOf origin start size)) x (fresh (p .pen) [])) out p out2 q
-        → Writes limit (renderNode (pageOf max source image) (nodeAt (viewOf store) row) w (fresh (p .pen) [])) out p out2 q
-    ascii-leaf x h k d = writes-as limit _ _ out p out2 q (render-ascii max source image store row kind w (fresh (p .pen) []) e k ∙ rw (h, a, b, c)) d
+    pub ascii-leaf : (x : ℕ) → x ≡ size → kind ≡ ASCII → Writes limit (text (textBytes source image (textOf origin start size)) x (freshRenderer (p .pen) [])) out p out2 q
+        → Writes limit (renderNode (pageOf max source image) (nodeAt (viewOf store) row) w (freshRenderer (p .pen) [])) out p out2 q
+    ascii-leaf x h k d = writes-as limit _ _ out p out2 q (render-ascii max source image store row kind w (freshRenderer (p .pen) []) e k ∙ rw (h, a, b, c)) d

@@ -4,15 +4,16 @@ use mathlib.Core.Path.{_≡_, ap, _∙_}
 use Prim.Native.Nat.{ℕ, _+_}
 use mathlib.Core.Bool.{Bool, true, false, cond, not, _&&_}
 use mathlib.Core.List.{List, []}
+use Rattle.rows.specs.Places.{NUMBER, SECOND-NUMBER, SECOND, AFTER}
 use Rattle.rows.specs.Node.{wrapped}
 use Rattle.rows.specs.View.{viewOf, cell, nodesAt}
 use Rattle.rows.specs.Nesting.{Nested}
 use Rattle.renderer_rules.specs.declared.Frame.{Frame}
 use Rattle.renderer_rules.specs.Page.{pageOf}
-use Rattle.renderer_rules.specs.Renderer.{fresh, groupWraps, trailingCall, calleeWraps, nextIndented}
-use Rattle.renderer_rules.specs.Machine.{frame}
+use Rattle.renderer_rules.specs.Renderer.{freshRenderer, groupWraps, trailingCall, calleeWraps, nextIndentMore}
+use Rattle.renderer_rules.specs.Machine.{frameOf}
 use Rattle.renderer_rules.specs.declared.Pen.{Pen}
-use Rattle.renderer.specs.declared.pen.Writing.{Writing}
+use Rattle.renderer.specs.declared.writing.Writing.{Writing}
 use Rattle.renderer.specs.Writing.{setPen}
 use Rattle.renderer.specs.Run.{Running, openedRun, reopenedRun, inserted, GroupOpened, CallOpened, ArgumentsOpened}
 
@@ -23,28 +24,28 @@ pub nested-at : (store : List ℕ) (from to from2 to2 : ℕ) → from ≡ from2 
 nested-at store from to from2 to2 e f n = rw (e, f) n
 
 module _ (store : List ℕ) (max : ℕ) (marks : List ℕ) (r : Running) (marks2 : List ℕ) (q : Running) where
-  pub group-opened : (end number : ℕ) (w : Bool) → end ≡ cell store (r .next) 4 → number ≡ cell store (r .next) 1
-      → w ≡ groupWraps (pageOf max [] []) (nodesAt (viewOf store) (r .next + 1) end) (fresh (r .writing .pen) marks)
+  pub group-opened : (end number : ℕ) (w : Bool) → end ≡ cell store (r .next) AFTER → number ≡ cell store (r .next) NUMBER
+      → w ≡ groupWraps (pageOf max [] []) (nodesAt (viewOf store) (r .next + 1) end) (freshRenderer (r .writing .pen) marks)
       → marks2 ≡ inserted w number marks
-      → q ≡ openedRun r (frame (r .next) w false false) (r .next + 1) (r .writing)
+      → q ≡ openedRun r (frameOf (r .next) w false false) (r .next + 1) (r .writing)
       → GroupOpened store max marks r marks2 q
   group-opened end number w e n g m o =
       record {
         wraps = w;
-        isWraps = g ∙ ap (λ (x : ℕ). groupWraps (pageOf max [] []) (nodesAt (viewOf store) (r .next + 1) x) (fresh (r .writing .pen) marks)) e;
+        isWraps = g ∙ ap (λ (x : ℕ). groupWraps (pageOf max [] []) (nodesAt (viewOf store) (r .next + 1) x) (freshRenderer (r .writing .pen) marks)) e;
         run = o;
         marked = m ∙ ap (λ (x : ℕ). inserted w x marks) n;
       }
 
-  pub call-opened : (mid end number : ℕ) (t w deep : Bool) (p : Pen) (x : Writing) → mid ≡ cell store (r .next) 3 → end ≡ cell store (r .next) 4
-      → number ≡ cell store (r .next) 1
-      → t ≡ trailingCall (pageOf max [] []) (nodesAt (viewOf store) (r .next + 1) mid) (nodesAt (viewOf store) mid end) (fresh (r .writing .pen) marks)
-      → w ≡ calleeWraps (pageOf max [] []) t (nodesAt (viewOf store) (r .next + 1) mid) (nodesAt (viewOf store) mid end) (fresh (r .writing .pen) marks)
+  pub call-opened : (mid end number : ℕ) (t w deep : Bool) (p : Pen) (x : Writing) → mid ≡ cell store (r .next) SECOND → end ≡ cell store (r .next) AFTER
+      → number ≡ cell store (r .next) NUMBER
+      → t ≡ trailingCall (pageOf max [] []) (nodesAt (viewOf store) (r .next + 1) mid) (nodesAt (viewOf store) mid end) (freshRenderer (r .writing .pen) marks)
+      → w ≡ calleeWraps (pageOf max [] []) t (nodesAt (viewOf store) (r .next + 1) mid) (nodesAt (viewOf store) mid end) (freshRenderer (r .writing .pen) marks)
       → deep ≡ (not t && w)
-      → p ≡ nextIndented deep (r .writing .pen)
+      → p ≡ nextIndentMore deep (r .writing .pen)
       → x ≡ setPen p (r .writing)
       → marks2 ≡ inserted w number marks
-      → q ≡ openedRun r (frame (r .next) w true deep) (r .next + 1) x
+      → q ≡ openedRun r (frameOf (r .next) w true deep) (r .next + 1) x
       → CallOpened store max marks r marks2 q
   call-opened mid end number t w deep p x a b n g h d k s m o =
       record {
@@ -56,32 +57,32 @@ module _ (store : List ℕ) (max : ℕ) (marks : List ℕ) (r : Running) (marks2
         marked = m ∙ ap (λ (x : ℕ). inserted w x marks) n;
       }
 
-  pub arguments-opened : (f : Frame) (row end number : ℕ) (w : Bool) → row ≡ f .row → end ≡ cell store row 4 → number ≡ cell store row 2
-      → w ≡ groupWraps (pageOf max [] []) (nodesAt (viewOf store) (r .next) end) (fresh (r .writing .pen) marks)
+  pub arguments-opened : (f : Frame) (row end number : ℕ) (w : Bool) → row ≡ f .row → end ≡ cell store row AFTER → number ≡ cell store row SECOND-NUMBER
+      → w ≡ groupWraps (pageOf max [] []) (nodesAt (viewOf store) (r .next) end) (freshRenderer (r .writing .pen) marks)
       → marks2 ≡ inserted w number marks
-      → q ≡ reopenedRun r (frame (f .row) w false (f .deep))
+      → q ≡ reopenedRun r (frameOf (f .row) w false (f .deep))
       → ArgumentsOpened store max marks r f marks2 q
   arguments-opened f row end number w i e n g m o =
       record {
         wraps = w;
         isWraps =
             g
-            ∙ ap (λ (x : ℕ). groupWraps (pageOf max [] []) (nodesAt (viewOf store) (r .next) x) (fresh (r .writing .pen) marks))
-            (e ∙ ap (λ (x : ℕ). cell store x 4) i);
+            ∙ ap (λ (x : ℕ). groupWraps (pageOf max [] []) (nodesAt (viewOf store) (r .next) x) (freshRenderer (r .writing .pen) marks))
+            (e ∙ ap (λ (x : ℕ). cell store x AFTER) i);
         run = o;
-        marked = m ∙ ap (λ (x : ℕ). inserted w x marks) (n ∙ ap (λ (x : ℕ). cell store x 2) i);
+        marked = m ∙ ap (λ (x : ℕ). inserted w x marks) (n ∙ ap (λ (x : ℕ). cell store x SECOND-NUMBER) i);
       }
 
 -- An `IfWrap` at either part.
-module _ (store marks : List ℕ) (r : Running) (wrap : Bool) (number : ℕ) (b : Bool) (q : Running) (n : number ≡ cell store (r .next) 1) (e : b ≡ wrapped marks number) where
+module _ (store marks : List ℕ) (r : Running) (wrap : Bool) (number : ℕ) (b : Bool) (q : Running) (n : number ≡ cell store (r .next) NUMBER) (e : b ≡ wrapped marks number) where
   abbrev chosen : Running
   chosen =
-      cond (wrapped marks (cell store (r .next) 1))
-      (openedRun r (frame (r .next) wrap true false) (r .next + 1) (r .writing))
-      (openedRun r (frame (r .next) wrap false false) (cell store (r .next) 3) (r .writing))
+      cond (wrapped marks (cell store (r .next) NUMBER))
+      (openedRun r (frameOf (r .next) wrap true false) (r .next + 1) (r .writing))
+      (openedRun r (frameOf (r .next) wrap false false) (cell store (r .next) SECOND) (r .writing))
 
-  pub if-first : b ≡ true → q ≡ openedRun r (frame (r .next) wrap b false) (r .next + 1) (r .writing) → q ≡ chosen
+  pub if-first : b ≡ true → q ≡ openedRun r (frameOf (r .next) wrap b false) (r .next + 1) (r .writing) → q ≡ chosen
   if-first h o = o ∙ rw (h, ← n, ← e, h)
 
-  pub if-second : (k : ℕ) → k ≡ cell store (r .next) 3 → b ≡ false → q ≡ openedRun r (frame (r .next) wrap b false) k (r .writing) → q ≡ chosen
+  pub if-second : (k : ℕ) → k ≡ cell store (r .next) SECOND → b ≡ false → q ≡ openedRun r (frameOf (r .next) wrap b false) k (r .writing) → q ≡ chosen
   if-second k f h o = o ∙ rw (h, ← n, ← e, h, f)

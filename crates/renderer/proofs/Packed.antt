@@ -10,7 +10,7 @@ use lib.Dec.{eqb}
 use borrow.Author.Tests.{ne-eqb, eq-eqb}
 use Rattle.renderer_rules.specs.declared.Frame.{Frame}
 use Rattle.renderer_rules.specs.Frames.{noFrame, frameAt}
-use Rattle.renderer.specs.declared.pen.Writing.{Writing}
+use Rattle.renderer.specs.declared.writing.Writing.{Writing}
 use Rattle.renderer.specs.declared.run.Run.{Run}
 use Rattle.renderer.specs.Run.{unpackedFrame, withFrames, wholeRun, openedRun}
 

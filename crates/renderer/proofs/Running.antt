@@ -9,34 +9,37 @@ use mathlib.Core.List.{List, []}
 use lib.ListN.{length, getD}
 use lib.Dec.{eqb}
 use borrow.Author.Tests.{ne-eqb, eq-eqb}
+use Rattle.rows.specs.Limits.{CELL-LIMIT, MAX-DEPTH, MAX-ROWS}
+use Rattle.rows.specs.Kinds.{STR}
+use Rattle.rows.specs.Places.{KIND, ORIGIN, START, SIZE, WIDTH, PLACES}
 use Rattle.rows.specs.View.{View, viewOf, cell, nodesAt}
 use Rattle.rows.proofs.Nested.{nests-le}
 use Rattle.renderer_rules.specs.declared.Frame.{Frame}
 use Rattle.renderer_rules.specs.Page.{pageOf}
-use Rattle.renderer_rules.specs.Renderer.{Page, Renderer, fresh, renderNodes}
-use Rattle.renderer_rules.specs.Frames.{limit as partLimit, wrapAt, Under}
+use Rattle.renderer_rules.specs.Renderer.{Page, Renderer, freshRenderer, renderNodes}
+use Rattle.renderer_rules.specs.Frames.{partLimit, wrapAt, Under}
 use Rattle.renderer_rules.proofs.Meaning.{meaning, rest}
 use Rattle.renderer_rules.proofs.Opened.{limit-zero}
 use Rattle.renderer_rules.specs.Machine.{Machine, turn}
 use Rattle.renderer_rules.proofs.Machine.{Fine, left, weight, means, isDone, turned, done-means}
 use Rattle.renderer_rules.specs.Safe.{Safe, SmallTexts, steps, ins}
 use Rattle.renderer_rules.proofs.Safe.{turn-safe}
-use Rattle.renderer.specs.declared.pen.Writing.{Writing}
+use Rattle.renderer.specs.declared.writing.Writing.{Writing}
 use Rattle.renderer.specs.Output.{writtenOver}
 use Rattle.renderer.specs.Run.{Running, withFrames, machineOf, Wrote, Shows, Follows, Ready, Starting, Ended}
 use Rattle.renderer.proofs.Written.{over-length, text-fits}
 
 -- numbers of 32 bits
-pub small-cells : (max : ℕ) (source image store : List ℕ) → ((k : ℕ) → getD store k 0 < 4294967296) → SmallTexts (viewOf store) (pageOf max source image)
+pub small-cells : (max : ℕ) (source image store : List ℕ) → ((k : ℕ) → getD store k 0 < CELL-LIMIT) → SmallTexts (viewOf store) (pageOf max source image)
 unfolding viewOf
 small-cells max source image store h =
     record {
-      bytes = λ i. let t = text-fits source image (cell store i 5) (cell store i 6) (cell store i 7) in let s = h (i * 9 + 7) in omega arith;
-      columns = λ i. h (i * 9 + 7);
-      width = λ i. only-str (eqb (cell store i 0) 5) (cell store i 8) (h (i * 9 + 8));
+      bytes = λ i. let t = text-fits source image (cell store i ORIGIN) (cell store i START) (cell store i SIZE) in let s = h (i * PLACES + 7) in omega arith;
+      columns = λ i. h (i * PLACES + 7);
+      width = λ i. only-str (eqb (cell store i KIND) STR) (cell store i WIDTH) (h (i * PLACES + WIDTH));
     }
   where
-    only-str : (b : Bool) (n : ℕ) → n < 4294967296 → cond b n 0 < 4294967296
+    only-str : (b : Bool) (n : ℕ) → n < CELL-LIMIT → cond b n 0 < CELL-LIMIT
     only-str true n h = h
     only-str false n h = omega arith
 
@@ -48,8 +51,8 @@ module _ (store source image : List ℕ) (max limit stop : ℕ) where
   pg = pageOf max source image
 
   pub record Going (final : Renderer) (out0 marks out : List ℕ) (r : Running) : Type 0 where
-    pub room : stop * 9 ≤ length store
-    pub few : stop ≤ 2097152
+    pub room : stop * PLACES ≤ length store
+    pub few : stop ≤ MAX-ROWS
     pub fits : limit ≤ length out0
     pub small : SmallTexts v pg
     pub base : ℕ
@@ -61,8 +64,8 @@ module _ (store source image : List ℕ) (max limit stop : ℕ) where
     pub safe : Safe v base (machineOf r marks text entered)
     pub mean : means v pg stop (machineOf r marks text entered) ≡ final
 
-  pub going-start : (out marks : List ℕ) (p : Writing) (from : ℕ) (fs : List Frame) → length fs ≡ 256 → SmallTexts v pg → Starting store limit from stop out p
-      → Going (renderNodes pg (nodesAt v from stop) true (fresh (p .pen) marks)) out marks out (withFrames fs (record { depth = 0; next = from; writing = p }))
+  pub going-start : (out marks : List ℕ) (p : Writing) (from : ℕ) (fs : List Frame) → length fs ≡ MAX-DEPTH → SmallTexts v pg → Starting store limit from stop out p
+      → Going (renderNodes pg (nodesAt v from stop) true (freshRenderer (p .pen) marks)) out marks out (withFrames fs (record { depth = 0; next = from; writing = p }))
   unfolding machineOf meaning rest partLimit wrapAt Under steps ins writtenOver
   going-start out marks p from fs e s g =
       let c = g .column in

@@ -9,21 +9,25 @@ use mathlib.Core.List.{List, []}
 use lib.ListN.{length}
 use lib.Dec.{ltb, eqb}
 use borrow.Author.Tests.{ne-eqb, eqb-true, eqb-false, lt-ltb, le-ltb, ltb-true, ltb-false}
+use Rattle.renderer.specs.Limits.{BEFORE-ROW, MAX-MARGIN}
+use Rattle.rows.specs.Limits.{MAX-ROWS}
+use Rattle.rows.specs.Kinds.{GROUP, INDENT, INDENT-NEXT, WRAP-PARENT, CALL}
+use Rattle.rows.specs.Places.{KIND, SECOND, AFTER, WIDTH, PLACES}
 use Rattle.rows.specs.View.{View, viewOf, cell}
 use Rattle.rows.specs.Nesting.{Nests, Nested}
 use Rattle.rows.proofs.Nested.{nests-le, nests-deep, nests-block, nests-pair, nests-kind, nests-weaken}
 use Rattle.renderer_rules.specs.declared.Frame.{Frame}
 use Rattle.renderer_rules.specs.Page.{pageOf}
-use Rattle.renderer_rules.specs.Renderer.{Page, Renderer, onPen, indented, outdented, nextIndented, nextOutdented}
-use Rattle.renderer_rules.specs.Frames.{frameAt, partEnd, limit as partLimit, wrapAt, Open}
-use Rattle.renderer_rules.specs.Machine.{Machine, closing, frame, enter, turn}
+use Rattle.renderer_rules.specs.Renderer.{Page, Renderer, onPen, indentMore, indentLess, nextIndentMore, nextIndentLess}
+use Rattle.renderer_rules.specs.Frames.{frameAt, partEnd, partLimit, wrapAt, Open}
+use Rattle.renderer_rules.specs.Machine.{Machine, closing, frameOf, enter, turn}
 use Rattle.renderer_rules.proofs.Opened.{at-top, limit-zero, limit-pos, wrapAt-zero, wrapAt-pos}
 use Rattle.laws.proofs.Booleans.{both}
 use Rattle.renderer_rules.proofs.Machine.{turn-enter}
 use Rattle.renderer_rules.specs.Safe.{steps, ins, stepsBack, insOf}
 use Rattle.renderer_rules.proofs.Safe.{steps-le, closing-plain, closing-indent, closing-next, closing-call, indent-steps, next-steps, call-steps}
 use Rattle.renderer_rules.specs.declared.Pen.{Pen}
-use Rattle.renderer.specs.declared.pen.Writing.{Writing}
+use Rattle.renderer.specs.declared.writing.Writing.{Writing}
 use Rattle.renderer.specs.Writing.{setPen, WritingRoom}
 use Rattle.renderer.specs.declared.run.Run.{Run}
 use Rattle.renderer.specs.Run.{Running, withFrames, wholeRun, bareRun, passedRun, machineOf, Follows, Ready, Enters, Entering, Leaves, Backs, Left, goesOn, ends, openedRun, closedAt, closedRun, closes}
@@ -31,35 +35,35 @@ use Rattle.renderer.proofs.Followed.{shows-as, indent-follows, next-fol
 
 -- `close`, by what it tests
 module _ (kind : ℕ) (f : Frame) (p q : Pen) where
-  pub closes-indent : kind ≡ 1 → q ≡ outdented (f .wrap) p → q ≡ closes kind f p
+  pub closes-indent : kind ≡ INDENT → q ≡ indentLess (f .wrap) p → q ≡ closes kind f p
   closes-indent k e = e ∙ rw k
 
-  pub closes-next : kind ≡ 2 → q ≡ nextOutdented (f .wrap) p → q ≡ closes kind f p
+  pub closes-next : kind ≡ INDENT-NEXT → q ≡ nextIndentLess (f .wrap) p → q ≡ closes kind f p
   closes-next k e = e ∙ rw k
 
-  pub closes-call : kind ≡ 11 → q ≡ nextOutdented (f .deep) p → q ≡ closes kind f p
+  pub closes-call : kind ≡ CALL → q ≡ nextIndentLess (f .deep) p → q ≡ closes kind f p
   closes-call k e = e ∙ rw k
 
-pub closes-none : (kind : ℕ) (f : Frame) (p : Pen) → (kind ≡ 1 → ⊥) → (kind ≡ 2 → ⊥) → (kind ≡ 11 → ⊥) → p ≡ closes kind f p
+pub closes-none : (kind : ℕ) (f : Frame) (p : Pen) → (kind ≡ INDENT → ⊥) → (kind ≡ INDENT-NEXT → ⊥) → (kind ≡ CALL → ⊥) → p ≡ closes kind f p
 closes-none kind f p a b c = rw (ne-eqb kind 1 a, ne-eqb kind 2 b, ne-eqb kind 11 c)
 
-pub finished : (store : List ℕ) (r : Run) (f : Frame) (row kind next : ℕ) (p : Pen) (q : Run) → row ≡ f .row → kind ≡ cell store row 0 → next ≡ cell store row 4
+pub finished : (store : List ℕ) (r : Run) (f : Frame) (row kind next : ℕ) (p : Pen) (q : Run) → row ≡ f .row → kind ≡ cell store row KIND → next ≡ cell store row AFTER
     → p ≡ closes kind f (r .writing .pen)
     → q ≡ closedAt r next p
     → q ≡ closedRun store r f
 finished store r f row kind next p q e k n a b = b ∙ rw (a, n, k, e)
 
-pub backs-at : (store : List ℕ) (r : Run) (f : Frame) (row kind : ℕ) → row ≡ f .row → kind ≡ cell store row 0 → Leaves store r f → Backs kind f (r .writing .pen)
+pub backs-at : (store : List ℕ) (r : Run) (f : Frame) (row kind : ℕ) → row ≡ f .row → kind ≡ cell store row KIND → Leaves store r f → Backs kind f (r .writing .pen)
 backs-at store r f row kind e k l = rw (k, e) (l .backs)
 
-pub kind-at : (store : List ℕ) (f : Frame) (row kind : ℕ) → row ≡ f .row → kind ≡ cell store row 0 → cell store (f .row) 0 ≡ kind
-kind-at store f row kind e k = sym (k ∙ ap (λ (x : ℕ). cell store x 0) e)
+pub kind-at : (store : List ℕ) (f : Frame) (row kind : ℕ) → row ≡ f .row → kind ≡ cell store row KIND → cell store (f .row) KIND ≡ kind
+kind-at store f row kind e k = sym (k ∙ ap (λ (x : ℕ). cell store x KIND) e)
 
-pub part-early : (store : List ℕ) (f : Frame) (row e : ℕ) → row ≡ f .row → f .early ≡ true → e ≡ cell store row 3 → e ≡ partEnd (viewOf store) f
+pub part-early : (store : List ℕ) (f : Frame) (row e : ℕ) → row ≡ f .row → f .early ≡ true → e ≡ cell store row SECOND → e ≡ partEnd (viewOf store) f
 unfolding partEnd viewOf
 part-early store f row e i y h = h ∙ rw (y, i)
 
-pub part-late : (store : List ℕ) (f : Frame) (row e : ℕ) → row ≡ f .row → f .early ≡ false → e ≡ cell store row 4 → e ≡ partEnd (viewOf store) f
+pub part-late : (store : List ℕ) (f : Frame) (row e : ℕ) → row ≡ f .row → f .early ≡ false → e ≡ cell store row AFTER → e ≡ partEnd (viewOf store) f
 unfolding partEnd viewOf
 part-late store f row e i y h = h ∙ rw (y, i)
 
@@ -76,20 +80,20 @@ some-part d n e e2 p h = ap (eqb n) h ∙ sym (rw (lt-ltb 0 d p))
 pub none-part : (d : ℕ) (b : Bool) → d ≤ 0 → false ≡ (ltb 0 d && b)
 none-part d b p = sym (rw (le-ltb 0 d p))
 
-pub indent-kind : (kind : ℕ) (r : Running) (w : Bool) (q : Running) (p : Pen) (x : Writing) → kind ≡ 1 → p ≡ indented w (r .writing .pen)
+pub indent-kind : (kind : ℕ) (r : Running) (w : Bool) (q : Running) (p : Pen) (x : Writing) → kind ≡ INDENT → p ≡ indentMore w (r .writing .pen)
     → x ≡ setPen p (r .writing)
-    → q ≡ openedRun r (frame (r .next) w false false) (r .next + 1) x
+    → q ≡ openedRun r (frameOf (r .next) w false false) (r .next + 1) x
     → q
-    ≡ openedRun r (frame (r .next) w false false) (r .next + 1)
-    (setPen (cond (eqb kind 1) (indented w (r .writing .pen)) (nextIndented w (r .writing .pen))) (r .writing))
+    ≡ openedRun r (frameOf (r .next) w false false) (r .next + 1)
+    (setPen (cond (eqb kind 1) (indentMore w (r .writing .pen)) (nextIndentMore w (r .writing .pen))) (r .writing))
 indent-kind kind r w q p x k e s o = o ∙ rw (s, e, k)
 
-pub next-kind : (kind : ℕ) (r : Running) (w : Bool) (q : Running) (p : Pen) (x : Writing) → (kind ≡ 1 → ⊥) → p ≡ nextIndented w (r .writing .pen)
+pub next-kind : (kind : ℕ) (r : Running) (w : Bool) (q : Running) (p : Pen) (x : Writing) → (kind ≡ INDENT → ⊥) → p ≡ nextIndentMore w (r .writing .pen)
     → x ≡ setPen p (r .writing)
-    → q ≡ openedRun r (frame (r .next) w false false) (r .next + 1) x
+    → q ≡ openedRun r (frameOf (r .next) w false false) (r .next + 1) x
     → q
-    ≡ openedRun r (frame (r .next) w false false) (r .next + 1)
-    (setPen (cond (eqb kind 1) (indented w (r .writing .pen)) (nextIndented w (r .writing .pen))) (r .writing))
+    ≡ openedRun r (frameOf (r .next) w false false) (r .next + 1)
+    (setPen (cond (eqb kind 1) (indentMore w (r .writing .pen)) (nextIndentMore w (r .writing .pen))) (r .writing))
 next-kind kind r w q p x k e s o = o ∙ rw (s, e, ne-eqb kind 1 k)
 
 -- the run that the code goes on with, once a row without parts is passed
@@ -132,7 +136,7 @@ module _ (store source image : List ℕ) (max limit stop : ℕ) (marks out : Lis
   pg = pageOf max source image
 
   module _ (y : Ready store source image max limit stop marks out r) where
-    margin : r .writing .pen .indent + r .writing .pen .«next_indent» ≤ 384
+    margin : r .writing .pen .indent + r .writing .pen .«next_indent» ≤ MAX-MARGIN
     unfolding machineOf
     margin =
         let a = y .safe .sum in
@@ -141,7 +145,7 @@ module _ (store source image : List ℕ) (max limit stop : ℕ) (marks out : Lis
         let d = y .at .deep in
         omega arith
 
-    column : r .writing .pen .column .0 < 1152921504606846976
+    column : r .writing .pen .column .0 < BEFORE-ROW
     unfolding machineOf
     column =
         let a = y .safe .column in
@@ -150,7 +154,7 @@ module _ (store source image : List ℕ) (max limit stop : ℕ) (marks out : Lis
         let d = y .few in
         omega arith
 
-    bytes : r .writing .at .0 < 1152921504606846976
+    bytes : r .writing .at .0 < BEFORE-ROW
     unfolding machineOf
     bytes =
         let a = y .safe .bytes in
@@ -160,16 +164,16 @@ module _ (store source image : List ℕ) (max limit stop : ℕ) (marks out : Lis
         let d = y .few in
         omega arith
 
-    pub pen-room : WritingRoom 1152921504606846976 limit out (r .writing)
+    pub pen-room : WritingRoom BEFORE-ROW limit out (r .writing)
     pen-room = record { fits = y .fits; indent = margin; column = column; at = bytes }
 
-    pub top-row : (f : Frame) → 0 < r .depth → f ≡ frameAt (r .frames) (r .depth - 1) → f .row * 9 + 8 < length store
+    pub top-row : (f : Frame) → 0 < r .depth → f ≡ frameAt (r .frames) (r .depth - 1) → f .row * PLACES + WIDTH < length store
     top-row f h e =
         let a = at-top v pg stop (r .frames) (r .depth) (r .next) h (y .at) .row in
         let b = y .room in
         rw e (omega arith)
 
-    top-few : (f : Frame) → 0 < r .depth → f ≡ frameAt (r .frames) (r .depth - 1) → f .row < 2097152
+    top-few : (f : Frame) → 0 < r .depth → f ≡ frameAt (r .frames) (r .depth - 1) → f .row < MAX-ROWS
     top-few f h e =
         let a = at-top v pg stop (r .frames) (r .depth) (r .next) h (y .at) .row in
         let b = y .few in
@@ -198,41 +202,41 @@ module _ (store source image : List ℕ) (max limit stop : ℕ) (marks out : Lis
           column = column (n .ready);
         }
 
-    pub group-range : cell store (r .next) 0 ≡ 0 → Nested store (r .next + 1) (cell store (r .next) 4)
+    pub group-range : cell store (r .next) KIND ≡ GROUP → Nested store (r .next + 1) (cell store (r .next) AFTER)
     unfolding viewOf
     group-range k =
         let b = nests-block (n .ready .at .good) (n .inside) (omega arith) in
         let w = b .within .to in
         let l = n .ready .at .low in
-        rw (add-one (r .next)) (range (n .ready) (suc (r .next)) (cell store (r .next) 4) (suc (r .depth)) (omega arith) (b .parts))
+        rw (add-one (r .next)) (range (n .ready) (suc (r .next)) (cell store (r .next) AFTER) (suc (r .depth)) (omega arith) (b .parts))
 
-    pub callee-range : cell store (r .next) 0 ≡ 11 → Nested store (r .next + 1) (cell store (r .next) 3)
+    pub callee-range : cell store (r .next) KIND ≡ CALL → Nested store (r .next + 1) (cell store (r .next) SECOND)
     unfolding viewOf
     callee-range k =
         let b = nests-pair (n .ready .at .good) (n .inside) k in
         let w = b .within .to in
         let s = b .split .to in
         let l = n .ready .at .low in
-        rw (add-one (r .next)) (range (n .ready) (suc (r .next)) (cell store (r .next) 3) (suc (r .depth)) (omega arith) (b .first))
+        rw (add-one (r .next)) (range (n .ready) (suc (r .next)) (cell store (r .next) SECOND) (suc (r .depth)) (omega arith) (b .first))
 
-    pub argument-range : cell store (r .next) 0 ≡ 11 → Nested store (cell store (r .next) 3) (cell store (r .next) 4)
+    pub argument-range : cell store (r .next) KIND ≡ CALL → Nested store (cell store (r .next) SECOND) (cell store (r .next) AFTER)
     unfolding viewOf
     argument-range k =
         let b = nests-pair (n .ready .at .good) (n .inside) k in
         let w = b .within .to in
         let l = n .ready .at .low in
-        range (n .ready) (cell store (r .next) 3) (cell store (r .next) 4) (suc (r .depth)) (omega arith) (b .second)
+        range (n .ready) (cell store (r .next) SECOND) (cell store (r .next) AFTER) (suc (r .depth)) (omega arith) (b .second)
 
-    pub kind-low : cell store (r .next) 0 ≤ 11
+    pub kind-low : cell store (r .next) KIND ≤ CALL
     unfolding viewOf
     kind-low = nests-kind (n .ready .at .good) (n .inside)
 
   -- an `Indent` or an `IndentNext`
-  pub indents-follow : (kind : ℕ) (q : Running) (w : Bool) → kind ≡ cell store (r .next) 0 → (kind ≡ 0 → ⊥) → kind < 3
+  pub indents-follow : (kind : ℕ) (q : Running) (w : Bool) → kind ≡ cell store (r .next) KIND → (kind ≡ GROUP → ⊥) → kind < WRAP-PARENT
       → w ≡ wrapAt (r .frames) (r .depth)
       → q
-      ≡ openedRun r (frame (r .next) w false false) (r .next + 1)
-      (setPen (cond (eqb kind 1) (indented w (r .writing .pen)) (nextIndented w (r .writing .pen))) (r .writing))
+      ≡ openedRun r (frameOf (r .next) w false false) (r .next + 1)
+      (setPen (cond (eqb kind 1) (indentMore w (r .writing .pen)) (nextIndentMore w (r .writing .pen))) (r .writing))
       → Follows limit (enter v pg) marks out r marks out q
   indents-follow zero q w k a b e o = absurd (a refl)
   indents-follow (suc zero) q w k a b e o = indent-follows store source image max limit marks out r q w (sym k) e o
@@ -283,7 +287,7 @@ module _ (store source image : List ℕ) (max limit stop : ℕ) (marks out : Lis
           let b = ap (stepsBack v) j in
           (omega arith, omega arith)
 
-      backs : Backs (cell store (f .row) 0) f (r .writing .pen)
+      backs : Backs (cell store (f .row) KIND) f (r .writing .pen)
       unfolding viewOf
       backs =
           let x = in-depth (r .depth) refl in
@@ -309,27 +313,27 @@ module _ (store source image : List ℕ) (max limit stop : ℕ) (marks out : Lis
                 let w = nests-le (opened-row .after) in
                 let l = opened-row .low in
                 let j = ap (λ (x : Frame). v .after (x .row)) i in
-                range y (r .next) (cell store (f .row) 4) (suc (r .depth - 1)) (omega arith)
+                range y (r .next) (cell store (f .row) AFTER) (suc (r .depth - 1)) (omega arith)
                 (rw (z, i) (opened-row .later));
           }
 
-      closing-closes : (t : Renderer) → (cell store (f .row) 0 ≡ 11 → f .early ≡ false) → closing v pg f t ≡ onPen (closes (cell store (f .row) 0) f) t
+      closing-closes : (t : Renderer) → (cell store (f .row) KIND ≡ CALL → f .early ≡ false) → closing v pg f t ≡ onPen (closes (cell store (f .row) KIND) f) t
       unfolding viewOf
-      closing-closes t e = go (eqb (cell store (f .row) 0) 1) (eqb (cell store (f .row) 0) 2) (eqb (cell store (f .row) 0) 11) refl refl refl
+      closing-closes t e = go (eqb (cell store (f .row) KIND) INDENT) (eqb (cell store (f .row) KIND) INDENT-NEXT) (eqb (cell store (f .row) KIND) CALL) refl refl refl
         where
-          go : (a b c : Bool) → eqb (cell store (f .row) 0) 1 ≡ a → eqb (cell store (f .row) 0) 2 ≡ b → eqb (cell store (f .row) 0) 11 ≡ c
+          go : (a b c : Bool) → eqb (cell store (f .row) KIND) INDENT ≡ a → eqb (cell store (f .row) KIND) INDENT-NEXT ≡ b → eqb (cell store (f .row) KIND) CALL ≡ c
               → closing v pg f t
-              ≡ onPen (λ (p : Pen). cond a (outdented (f .wrap) p) (cond b (nextOutdented (f .wrap) p) (cond c (nextOutdented (f .deep) p) p))) t
+              ≡ onPen (λ (p : Pen). cond a (indentLess (f .wrap) p) (cond b (nextIndentLess (f .wrap) p) (cond c (nextIndentLess (f .deep) p) p))) t
           go true b c p q s = closing-indent v pg f t (eqb-true _ 1 p)
           go false true c p q s = closing-next v pg f t (eqb-true _ 2 q)
           go false false true p q s = closing-call v pg f t (eqb-true _ 11 s) (e (eqb-true _ 11 s))
-          go false false false p q s = closing-plain v pg f t (cell store (f .row) 0) refl (eqb-false _ 1 p) (eqb-false _ 2 q) (eqb-false _ 11 s)
+          go false false false p q s = closing-plain v pg f t (cell store (f .row) KIND) refl (eqb-false _ 1 p) (eqb-false _ 2 q) (eqb-false _ 11 s)
 
-      not-on : (cell store (f .row) 0 ≡ 11 → f .early ≡ false) → (eqb (v .kind (f .row)) 11 && f .early) ≡ false
+      not-on : (cell store (f .row) KIND ≡ CALL → f .early ≡ false) → (eqb (v .kind (f .row)) CALL && f .early) ≡ false
       unfolding viewOf
-      not-on e = go (eqb (cell store (f .row) 0) 11) refl
+      not-on e = go (eqb (cell store (f .row) KIND) CALL) refl
         where
-          go : (b : Bool) → eqb (cell store (f .row) 0) 11 ≡ b → (b && f .early) ≡ false
+          go : (b : Bool) → eqb (cell store (f .row) KIND) CALL ≡ b → (b && f .early) ≡ false
           go true q = e (eqb-true _ 11 q)
           go false q = refl
 
@@ -341,7 +345,7 @@ module _ (store source image : List ℕ) (max limit stop : ℕ) (marks out : Lis
       left-follows marks2 q z (ends e m o) =
           subst (λ (x : List ℕ). Follows limit (turn v pg) marks out r x out q) (sym m)
           (closed-follows store source image max limit marks out r h f i z
-          (closes (cell store (f .row) 0) f)
+          (closes (cell store (f .row) KIND) f)
           q
           (not-on e)
           (λ t. closing-closes t e)
@@ -349,7 +353,7 @@ module _ (store source image : List ℕ) (max limit stop : ℕ) (marks out : Lis
 
   -- A turn, by the innermost row as the code has it.
   module _ (y : Ready store source image max limit stop marks out r) (n : r .depth ≡ 0 → r .next < stop) (f : Frame)
-      (i : f ≡ cond (ltb 0 (r .depth)) (frameAt (r .frames) (r .depth - 1)) (frame 0 true false false))
+      (i : f ≡ cond (ltb 0 (r .depth)) (frameAt (r .frames) (r .depth - 1)) (frameOf 0 true false false))
     where
       pub innermost-is : 0 < r .depth → f ≡ frameAt (r .frames) (r .depth - 1)
       innermost-is h = i ∙ rw (lt-ltb 0 (r .depth) h)
@@ -363,7 +367,7 @@ module _ (store source image : List ℕ) (max limit stop : ℕ) (marks out : Lis
         where
           go : (d : ℕ) → r .depth ≡ d → Entering store source image max limit stop marks out r × (f .wrap ≡ wrapAt (r .frames) (r .depth))
           go zero q =
-              let a : f ≡ frame 0 true false false = i ∙ rw q in
+              let a : f ≡ frameOf 0 true false false = i ∙ rw q in
               (top-entering y q (n q), ap (λ (x : Frame). x .wrap) a ∙ top-wrap y q)
           go (suc d) q =
               let h : 0 < r .depth = omega arith in

@@ -8,9 +8,10 @@ use mathlib.Core.List.{List, [], _∷_, _++_}
 use lib.ListN.{length, replicate, length-append, length-replicate}
 use lib.Dec.{ltb}
 use borrow.Author.Tests.{lt-ltb, le-ltb}
-use Rattle.renderer_rules.specs.Renderer.{Renderer, fresh, withBuf, withColumn, onNewLine, pushStr, atColumn, newLine, margin, comment, text}
+use Rattle.renderer.specs.Limits.{BEFORE-ROW, IN-ROW, MAX-MARGIN}
+use Rattle.renderer_rules.specs.Renderer.{Renderer, freshRenderer, withBuf, withColumn, onNewLine, pushStr, atColumn, newLine, margin, comment, text}
 use Rattle.renderer_rules.specs.declared.Pen.{Pen}
-use Rattle.renderer.specs.declared.pen.Writing.{Writing}
+use Rattle.renderer.specs.declared.writing.Writing.{Writing}
 use Rattle.renderer.specs.Output.{writtenOver}
 use Rattle.renderer.specs.Writing.{setPen, writing, movedTo, writingAfter, Writes, WritingRoom}
 use Rattle.renderer.proofs.Written.{over-length, over-join}
@@ -19,7 +20,7 @@ use Rattle.renderer.proofs.Written.{over-length, over-join}
 pub put-writes : (limit : ℕ) (t : List ℕ) (c : ℕ) (out : List ℕ) (p : Writing) (out2 : List ℕ) (q : Writing) (n : ℕ) → n ≡ length t
     → q ≡ movedTo c (p .at .0 + n) p
     → out2 ≡ writtenOver limit out (p .at .0) t
-    → Writes limit (atColumn c (pushStr t (fresh (p .pen) []))) out p out2 q
+    → Writes limit (atColumn c (pushStr t (freshRenderer (p .pen) []))) out p out2 q
 unfolding atColumn pushStr writingAfter
 put-writes limit t c out p out2 q n e m w = record { after = m ∙ rw e; written = w }
 
@@ -27,19 +28,19 @@ put-writes limit t c out p out2 q n e m w = record { after = m ∙ rw e; written
 pub margin-writes : (limit : ℕ) (out : List ℕ) (p : Writing) (out2 : List ℕ) (q : Writing) (n c : ℕ) → n ≡ 4 * p .pen .indent → c ≡ 4 * p .pen .indent
     → q ≡ movedTo c (p .at .0 + n) p
     → out2 ≡ writtenOver limit out (p .at .0) (replicate n 0x20)
-    → Writes limit (margin (fresh (p .pen) [])) out p out2 q
+    → Writes limit (margin (freshRenderer (p .pen) [])) out p out2 q
 unfolding margin atColumn pushStr writingAfter
 margin-writes limit out p out2 q n c e f m w =
     record { after = m ∙ rw (e, f, length-replicate {A = ℕ} (4 * p .pen .indent) 0x20); written = rw e at w }
 
 pub line-writes : (limit : ℕ) (out : List ℕ) (p : Writing) (out2 : List ℕ) (pen : Pen) → pen ≡ onNewLine (p .pen) → 0 < p .pen .column .0
     → out2 ≡ writtenOver limit out (p .at .0) (0x0A ∷ [])
-    → Writes limit (newLine (fresh (p .pen) [])) out p out2 (writing pen (p .at .0 + 1))
+    → Writes limit (newLine (freshRenderer (p .pen) [])) out p out2 (writing pen (p .at .0 + 1))
 unfolding newLine writingAfter
 line-writes limit out p out2 pen e h w = rw (e, lt-ltb 0 (p .pen .column .0) h) (record { after = refl; written = w })
 
 pub none-writes : (limit : ℕ) (out : List ℕ) (p : Writing) (pen : Pen) (q : Writing) → pen ≡ onNewLine (p .pen) → q ≡ setPen pen p → p .pen .column .0 ≤ 0
-    → Writes limit (newLine (fresh (p .pen) [])) out p out q
+    → Writes limit (newLine (freshRenderer (p .pen) [])) out p out q
 unfolding newLine writingAfter writtenOver
 none-writes limit out p pen q e m h = rw (m, e, le-ltb 0 (p .pen .column .0) h) (record { after = ap (writing (onNewLine (p .pen))) (plus-none (p .at .0)); written = refl })
   where
@@ -49,7 +50,7 @@ none-writes limit out p pen q e m h = rw (m, e, le-ltb 0 (p .pen .column .0) h) 
 -- the same numbers, with a text behind
 pub then-put : (limit : ℕ) (s : Renderer) (t : List ℕ) (c : ℕ) (out : List ℕ) (p : Writing) (out2 : List ℕ) (q : Writing) (out3 : List ℕ) (r : Writing)
     → Writes limit s out p out2 q
-    → Writes limit (atColumn c (pushStr t (fresh (q .pen) []))) out2 q out3 r
+    → Writes limit (atColumn c (pushStr t (freshRenderer (q .pen) []))) out2 q out3 r
     → Writes limit (atColumn c (pushStr t s)) out p out3 r
 unfolding atColumn pushStr writingAfter
 then-put limit s t c out p out2 q out3 r a b =
@@ -61,34 +62,27 @@ then-put limit s t c out p out2 q out3 r a b =
     }
 
 -- `text` and `comment` where the line has begun, and where not
-pub text-on : (t : List ℕ) (w : ℕ) (p : Writing) → 0 < p .pen .column .0 → text t w (fresh (p .pen) []) ≡ atColumn (p .pen .column .0 + w) (pushStr t (fresh (p .pen) []))
+pub text-on : (t : List ℕ) (w : ℕ) (p : Writing) → 0 < p .pen .column .0 → text t w (freshRenderer (p .pen) []) ≡ atColumn (p .pen .column .0 + w) (pushStr t (freshRenderer (p .pen) []))
 unfolding text
 text-on t w p h = rw (lt-ltb 0 (p .pen .column .0) h)
 
 pub text-new : (t : List ℕ) (w : ℕ) (p : Writing) → p .pen .column .0 ≤ 0
-    → text t w (fresh (p .pen) []) ≡ atColumn (margin (fresh (p .pen) []) .pen .column .0 + w) (pushStr t (margin (fresh (p .pen) [])))
+    → text t w (freshRenderer (p .pen) []) ≡ atColumn (margin (freshRenderer (p .pen) []) .pen .column .0 + w) (pushStr t (margin (freshRenderer (p .pen) [])))
 unfolding text
 text-new t w p h = rw (le-ltb 0 (p .pen .column .0) h)
 
 pub comment-on : (t : List ℕ) (p : Writing) → 0 < p .pen .column .0
-    → comment t (fresh (p .pen) []) ≡ atColumn 0 (pushStr (t ++ (0x0A ∷ [])) (pushStr (0x20 ∷ []) (fresh (p .pen) [])))
+    → comment t (freshRenderer (p .pen) []) ≡ atColumn 0 (pushStr (t ++ (0x0A ∷ [])) (pushStr (0x20 ∷ []) (freshRenderer (p .pen) [])))
 unfolding comment
 comment-on t p h = rw (lt-ltb 0 (p .pen .column .0) h)
 
-pub comment-new : (t : List ℕ) (p : Writing) → p .pen .column .0 ≤ 0 → comment t (fresh (p .pen) []) ≡ atColumn 0 (pushStr (t ++ (0x0A ∷ [])) (margin (fresh (p .pen) [])))
+pub comment-new : (t : List ℕ) (p : Writing) → p .pen .column .0 ≤ 0 → comment t (freshRenderer (p .pen) []) ≡ atColumn 0 (pushStr (t ++ (0x0A ∷ [])) (margin (freshRenderer (p .pen) [])))
 unfolding comment
 comment-new t p h = rw (le-ltb 0 (p .pen .column .0) h)
 
--- WritingRoom for more.
-pub room-less : (cap cap2 limit : ℕ) (out : List ℕ) (p : Writing) → cap ≤ cap2 → WritingRoom cap limit out p → WritingRoom cap2 limit out p
-room-less cap cap2 limit out p h r =
-    let a = r .column in
-    let b = r .at in
-    record { fits = r .fits; indent = r .indent; column = omega arith; at = omega arith }
-
 -- after something that grows by k and keeps the margin
 pub room-writes : (cap cap2 limit : ℕ) (s : Renderer) (out : List ℕ) (p : Writing) (out2 : List ℕ) (q : Writing) → WritingRoom cap limit out p → Writes limit s out p out2 q
-    → s .pen .indent + s .pen .«next_indent» ≤ 384
+    → s .pen .indent + s .pen .«next_indent» ≤ MAX-MARGIN
     → s .pen .column .0 < cap2
     → p .at .0 + length (s .buf) < cap2
     → WritingRoom cap2 limit out2 q
@@ -100,26 +94,26 @@ room-writes cap cap2 limit s out p out2 q r d a b c =
     let e = d .after in
     rw e (record { fits = omega arith; indent = a; column = b; at = c })
 
-pub room-put : (limit : ℕ) (t : List ℕ) (c : ℕ) (out : List ℕ) (p : Writing) (out2 : List ℕ) (q : Writing) → WritingRoom 1152921504606846976 limit out p
-    → Writes limit (atColumn c (pushStr t (fresh (p .pen) []))) out p out2 q
+pub room-put : (limit : ℕ) (t : List ℕ) (c : ℕ) (out : List ℕ) (p : Writing) (out2 : List ℕ) (q : Writing) → WritingRoom BEFORE-ROW limit out p
+    → Writes limit (atColumn c (pushStr t (freshRenderer (p .pen) []))) out p out2 q
     → length t ≤ 1
     → c ≤ p .pen .column .0
-    → WritingRoom 2305843009213693952 limit out2 q
+    → WritingRoom IN-ROW limit out2 q
 unfolding atColumn pushStr
 room-put limit t c out p out2 q r d h k =
     let a = r .column in
     let b = r .at in
-    room-writes 1152921504606846976 2305843009213693952 limit (atColumn c (pushStr t (fresh (p .pen) []))) out p out2 q r d (r .indent) (omega arith) (omega arith)
+    room-writes BEFORE-ROW IN-ROW limit (atColumn c (pushStr t (freshRenderer (p .pen) []))) out p out2 q r d (r .indent) (omega arith) (omega arith)
 
-pub room-margin : (limit : ℕ) (out : List ℕ) (p : Writing) (out2 : List ℕ) (q : Writing) → WritingRoom 1152921504606846976 limit out p
-    → Writes limit (margin (fresh (p .pen) [])) out p out2 q
-    → WritingRoom 2305843009213693952 limit out2 q
+pub room-margin : (limit : ℕ) (out : List ℕ) (p : Writing) (out2 : List ℕ) (q : Writing) → WritingRoom BEFORE-ROW limit out p
+    → Writes limit (margin (freshRenderer (p .pen) [])) out p out2 q
+    → WritingRoom IN-ROW limit out2 q
 unfolding margin atColumn pushStr
 room-margin limit out p out2 q r d =
     let a = r .indent in
     let b = r .at in
     let l = length-replicate {A = ℕ} (4 * p .pen .indent) 0x20 in
-    room-writes 1152921504606846976 2305843009213693952 limit (margin (fresh (p .pen) [])) out p out2 q r d a (omega arith) (omega arith)
+    room-writes BEFORE-ROW IN-ROW limit (margin (freshRenderer (p .pen) [])) out p out2 q r d a (omega arith) (omega arith)
 
 -- the column of a pen that drew s
 pub writes-column : (limit : ℕ) (s : Renderer) (out : List ℕ) (p : Writing) (out2 : List ℕ) (q : Writing) → Writes limit s out p out2 q → q .pen .column .0 ≡ s .pen .column .0
@@ -130,7 +124,7 @@ writes-column limit s out p out2 q d = ap (λ (x : Writing). x .pen .column .0) 
 pub ended : (limit : ℕ) (t out : List ℕ) (p : Writing) (q : Writing) (n : ℕ) (out2 out3 : List ℕ) → n ≡ length t → q ≡ movedTo 0 (p .at .0 + n + 1) p
     → out2 ≡ writtenOver limit out (p .at .0) t
     → out3 ≡ writtenOver limit out2 (p .at .0 + n) (0x0A ∷ [])
-    → Writes limit (atColumn 0 (pushStr (t ++ (0x0A ∷ [])) (fresh (p .pen) []))) out p out3 q
+    → Writes limit (atColumn 0 (pushStr (t ++ (0x0A ∷ [])) (freshRenderer (p .pen) []))) out p out3 q
 ended limit t out p q n out2 out3 e m a b =
     put-writes limit (t ++ (0x0A ∷ [])) 0 out p out3 q (n + 1) (let l = length-append t (0x0A ∷ []) in omega arith)
     (m ∙ ap (λ (x : ℕ). movedTo 0 x p) (along (p .at .0) n))
@@ -145,39 +139,39 @@ over-column c t s = refl
 
 -- `text`, `comment` and `EmptyLine` from what they are made of
 pub text-writes-on : (limit : ℕ) (t : List ℕ) (w : ℕ) (out : List ℕ) (p : Writing) (out2 : List ℕ) (q : Writing) → 0 < p .pen .column .0
-    → Writes limit (atColumn (p .pen .column .0 + w) (pushStr t (fresh (p .pen) []))) out p out2 q
-    → Writes limit (text t w (fresh (p .pen) [])) out p out2 q
+    → Writes limit (atColumn (p .pen .column .0 + w) (pushStr t (freshRenderer (p .pen) []))) out p out2 q
+    → Writes limit (text t w (freshRenderer (p .pen) [])) out p out2 q
 text-writes-on limit t w out p out2 q h d = rw (text-on t w p h) d
 
 pub text-writes-new : (limit : ℕ) (t : List ℕ) (w : ℕ) (out : List ℕ) (p : Writing) (out2 : List ℕ) (q : Writing) (out3 : List ℕ) (r : Writing) → p .pen .column .0 ≤ 0
-    → Writes limit (margin (fresh (p .pen) [])) out p out2 q
-    → Writes limit (atColumn (q .pen .column .0 + w) (pushStr t (fresh (q .pen) []))) out2 q out3 r
-    → Writes limit (text t w (fresh (p .pen) [])) out p out3 r
+    → Writes limit (margin (freshRenderer (p .pen) [])) out p out2 q
+    → Writes limit (atColumn (q .pen .column .0 + w) (pushStr t (freshRenderer (q .pen) []))) out2 q out3 r
+    → Writes limit (text t w (freshRenderer (p .pen) [])) out p out3 r
 text-writes-new limit t w out p out2 q out3 r h a b =
     rw (text-new t w p h)
-    (subst (λ (c : ℕ). Writes limit (atColumn (c + w) (pushStr t (margin (fresh (p .pen) [])))) out p out3 r)
-    (writes-column limit (margin (fresh (p .pen) [])) out p out2 q a)
-    (then-put limit (margin (fresh (p .pen) [])) t (q .pen .column .0 + w) out p out2 q out3 r a b))
+    (subst (λ (c : ℕ). Writes limit (atColumn (c + w) (pushStr t (margin (freshRenderer (p .pen) [])))) out p out3 r)
+    (writes-column limit (margin (freshRenderer (p .pen) [])) out p out2 q a)
+    (then-put limit (margin (freshRenderer (p .pen) [])) t (q .pen .column .0 + w) out p out2 q out3 r a b))
 
 pub comment-writes-on : (limit : ℕ) (t : List ℕ) (c : ℕ) (out : List ℕ) (p : Writing) (out2 : List ℕ) (q : Writing) (out3 : List ℕ) (r : Writing) → 0 < p .pen .column .0
-    → Writes limit (atColumn c (pushStr (0x20 ∷ []) (fresh (p .pen) []))) out p out2 q
-    → Writes limit (atColumn 0 (pushStr (t ++ (0x0A ∷ [])) (fresh (q .pen) []))) out2 q out3 r
-    → Writes limit (comment t (fresh (p .pen) [])) out p out3 r
+    → Writes limit (atColumn c (pushStr (0x20 ∷ []) (freshRenderer (p .pen) []))) out p out2 q
+    → Writes limit (atColumn 0 (pushStr (t ++ (0x0A ∷ [])) (freshRenderer (q .pen) []))) out2 q out3 r
+    → Writes limit (comment t (freshRenderer (p .pen) [])) out p out3 r
 comment-writes-on limit t c out p out2 q out3 r h a b =
-    rw (comment-on t p h, ← over-column c (t ++ (0x0A ∷ [])) (pushStr (0x20 ∷ []) (fresh (p .pen) [])))
-    (then-put limit (atColumn c (pushStr (0x20 ∷ []) (fresh (p .pen) []))) (t ++ (0x0A ∷ [])) 0 out p out2 q out3 r a b)
+    rw (comment-on t p h, ← over-column c (t ++ (0x0A ∷ [])) (pushStr (0x20 ∷ []) (freshRenderer (p .pen) [])))
+    (then-put limit (atColumn c (pushStr (0x20 ∷ []) (freshRenderer (p .pen) []))) (t ++ (0x0A ∷ [])) 0 out p out2 q out3 r a b)
 
 pub comment-writes-new : (limit : ℕ) (t out : List ℕ) (p : Writing) (out2 : List ℕ) (q : Writing) (out3 : List ℕ) (r : Writing) → p .pen .column .0 ≤ 0
-    → Writes limit (margin (fresh (p .pen) [])) out p out2 q
-    → Writes limit (atColumn 0 (pushStr (t ++ (0x0A ∷ [])) (fresh (q .pen) []))) out2 q out3 r
-    → Writes limit (comment t (fresh (p .pen) [])) out p out3 r
+    → Writes limit (margin (freshRenderer (p .pen) [])) out p out2 q
+    → Writes limit (atColumn 0 (pushStr (t ++ (0x0A ∷ [])) (freshRenderer (q .pen) []))) out2 q out3 r
+    → Writes limit (comment t (freshRenderer (p .pen) [])) out p out3 r
 comment-writes-new limit t out p out2 q out3 r h a b =
-    rw (comment-new t p h) (then-put limit (margin (fresh (p .pen) [])) (t ++ (0x0A ∷ [])) 0 out p out2 q out3 r a b)
+    rw (comment-new t p h) (then-put limit (margin (freshRenderer (p .pen) [])) (t ++ (0x0A ∷ [])) 0 out p out2 q out3 r a b)
 
 pub empty-writes : (limit : ℕ) (out : List ℕ) (p : Writing) (out2 : List ℕ) (q : Writing) (out3 : List ℕ) (r : Writing)
-    → Writes limit (atColumn (p .pen .column .0 + 0) (pushStr (0x0A ∷ []) (fresh (p .pen) []))) out p out2 q
-    → Writes limit (newLine (fresh (q .pen) [])) out2 q out3 r
-    → Writes limit (newLine (pushStr (0x0A ∷ []) (fresh (p .pen) []))) out p out3 r
+    → Writes limit (atColumn (p .pen .column .0 + 0) (pushStr (0x0A ∷ []) (freshRenderer (p .pen) []))) out p out2 q
+    → Writes limit (newLine (freshRenderer (q .pen) [])) out2 q out3 r
+    → Writes limit (newLine (pushStr (0x0A ∷ []) (freshRenderer (p .pen) []))) out p out3 r
 unfolding newLine atColumn pushStr writingAfter
 empty-writes limit out p out2 q out3 r a b = go (ltb 0 (p .pen .column .0)) (rw (a .after, plus-none (p .pen .column .0)) at (b .after)) (rw (a .after, plus-none (p .pen .column .0), a .written) at (b .written))
   where
@@ -191,7 +185,7 @@ empty-writes limit out p out2 q out3 r a b = go (ltb 0 (p .pen .column .0)) (rw 
     penAt n = writing (onNewLine (p .pen)) n
 
     ended : (b : Bool) → Renderer
-    ended b = withBuf ((0x0A ∷ []) ++ lineEnd b) (fresh (onNewLine (p .pen)) [])
+    ended b = withBuf ((0x0A ∷ []) ++ lineEnd b) (freshRenderer (onNewLine (p .pen)) [])
 
     go : (b : Bool) → r ≡ penAt (p .at .0 + 1 + length ([] ++ lineEnd b))
         → out3 ≡ writtenOver limit (writtenOver limit out (p .at .0) (0x0A ∷ [])) (p .at .0 + 1) ([] ++ lineEnd b)

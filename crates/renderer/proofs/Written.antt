@@ -11,7 +11,7 @@ use lib.Seq.{drop-cons, getD-take, getD-drop, take-take}
 use lib.Dec.{ltb}
 use borrow.Author.Tests.{lt-ltb, le-ltb}
 use Rattle.rows.specs.Ascii.{bytes}
-use Rattle.rows.specs.Words.{words, joined}
+use Rattle.rows.specs.Words.{joined}
 use Rattle.rows.specs.Texts.{originText}
 use Rattle.renderer_rules.specs.Page.{textBytes, textOf}
 use Rattle.renderer.specs.Output.{writtenOver}

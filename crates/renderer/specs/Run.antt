@@ -14,12 +14,12 @@ use Rattle.rows.specs.View.{viewOf, cell, nodesAt}
 use Rattle.rows.specs.Nesting.{Nested}
 use Rattle.renderer_rules.specs.declared.Frame.{Frame}
 use Rattle.renderer_rules.specs.declared.Pen.{Pen}
-use Rattle.renderer_rules.specs.Renderer.{Renderer, fresh, withBuf, groupWraps, trailingCall, calleeWraps, outdented, nextIndented, nextOutdented}
+use Rattle.renderer_rules.specs.Renderer.{Renderer, freshRenderer, withBuf, groupWraps, trailingCall, calleeWraps, indentLess, nextIndentMore, nextIndentLess}
 use Rattle.renderer_rules.specs.Page.{pageOf}
-use Rattle.renderer_rules.specs.Frames.{limit as partLimit, At}
-use Rattle.renderer_rules.specs.Machine.{Machine, frame}
+use Rattle.renderer_rules.specs.Frames.{partLimit, At}
+use Rattle.renderer_rules.specs.Machine.{Machine, frameOf}
 use Rattle.renderer_rules.specs.Safe.{Safe, SmallTexts}
-use Rattle.renderer.specs.declared.pen.Writing.{Writing}
+use Rattle.renderer.specs.declared.writing.Writing.{Writing}
 use Rattle.renderer.specs.declared.run.Run.{Run}
 use Rattle.renderer.specs.declared.run.Bounds.{Bounds}
 use Rattle.renderer.specs.Output.{writtenOver}
@@ -49,7 +49,7 @@ bareRun r = record { depth = r .depth; next = r .next; writing = r .writing }
 
 -- the renderer that has a pen, and has written b
 abbrev pub stateOf : Pen → List ℕ → List ℕ → Renderer
-stateOf p marks b = withBuf b (fresh p marks)
+stateOf p marks b = withBuf b (freshRenderer p marks)
 
 -- the machine of a run that has written b and entered n rows
 unfoldable pub machineOf : Running → List ℕ → List ℕ → ℕ → Machine
@@ -130,8 +130,8 @@ inserted wraps number marks = cond wraps (set marks number 1) marks
 pub record GroupOpened (store : List ℕ) (max : ℕ) (marks : List ℕ) (r : Running) (marks2 : List ℕ) (q : Running) : Type 0 where
   pub wraps : Bool
   pub isWraps :
-      wraps ≡ groupWraps (pageOf max [] []) (nodesAt (viewOf store) (r .next + 1) (cell store (r .next) AFTER)) (fresh (r .writing .pen) marks)
-  pub run : q ≡ openedRun r (frame (r .next) wraps false false) (r .next + 1) (r .writing)
+      wraps ≡ groupWraps (pageOf max [] []) (nodesAt (viewOf store) (r .next + 1) (cell store (r .next) AFTER)) (freshRenderer (r .writing .pen) marks)
+  pub run : q ≡ openedRun r (frameOf (r .next) wraps false false) (r .next + 1) (r .writing)
   pub marked : marks2 ≡ inserted wraps (cell store (r .next) NUMBER) marks
 
 -- A `Call` is opened: which way it goes, whether its callee wraps, the run and the marks.
@@ -143,32 +143,32 @@ pub record CallOpened (store : List ℕ) (max : ℕ) (marks : List ℕ) (r : Run
       ≡ trailingCall (pageOf max [] [])
       (nodesAt (viewOf store) (r .next + 1) (cell store (r .next) SECOND))
       (nodesAt (viewOf store) (cell store (r .next) SECOND) (cell store (r .next) AFTER))
-      (fresh (r .writing .pen) marks)
+      (freshRenderer (r .writing .pen) marks)
   pub isWraps :
       wraps
       ≡ calleeWraps (pageOf max [] []) trails
       (nodesAt (viewOf store) (r .next + 1) (cell store (r .next) SECOND))
       (nodesAt (viewOf store) (cell store (r .next) SECOND) (cell store (r .next) AFTER))
-      (fresh (r .writing .pen) marks)
+      (freshRenderer (r .writing .pen) marks)
   pub run :
       q
-      ≡ openedRun r (frame (r .next) wraps true (not trails && wraps)) (r .next + 1)
-      (setPen (nextIndented (not trails && wraps) (r .writing .pen)) (r .writing))
+      ≡ openedRun r (frameOf (r .next) wraps true (not trails && wraps)) (r .next + 1)
+      (setPen (nextIndentMore (not trails && wraps) (r .writing .pen)) (r .writing))
   pub marked : marks2 ≡ inserted wraps (cell store (r .next) NUMBER) marks
 
 -- The arguments of the `Call` of frame f are opened.
 pub record ArgumentsOpened (store : List ℕ) (max : ℕ) (marks : List ℕ) (r : Running) (f : Frame) (marks2 : List ℕ) (q : Running) : Type 0 where
   pub wraps : Bool
-  pub isWraps : wraps ≡ groupWraps (pageOf max [] []) (nodesAt (viewOf store) (r .next) (cell store (f .row) AFTER)) (fresh (r .writing .pen) marks)
-  pub run : q ≡ reopenedRun r (frame (f .row) wraps false (f .deep))
+  pub isWraps : wraps ≡ groupWraps (pageOf max [] []) (nodesAt (viewOf store) (r .next) (cell store (f .row) AFTER)) (freshRenderer (r .writing .pen) marks)
+  pub run : q ≡ reopenedRun r (frameOf (f .row) wraps false (f .deep))
   pub marked : marks2 ≡ inserted wraps (cell store (f .row) SECOND-NUMBER) marks
 
 -- what the end of a row does to the pen, by its kind
 abbrev pub closes : ℕ → Frame → Pen → Pen
 closes kind f p =
     cond (eqb kind INDENT)
-    (outdented (f .wrap) p)
-    (cond (eqb kind INDENT-NEXT) (nextOutdented (f .wrap) p) (cond (eqb kind CALL) (nextOutdented (f .deep) p) p))
+    (indentLess (f .wrap) p)
+    (cond (eqb kind INDENT-NEXT) (nextIndentLess (f .wrap) p) (cond (eqb kind CALL) (nextIndentLess (f .deep) p) p))
 
 -- the step back that the end of a row takes is there
 pub record Backs (kind : ℕ) (f : Frame) (p : Pen) : Type 0 where

@@ -6,7 +6,7 @@ use lib.ListN.{length}
 use Rattle.renderer.specs.Limits.{MAX-MARGIN}
 use Rattle.renderer_rules.specs.declared.Pen.{Pen}
 use Rattle.renderer_rules.specs.Renderer.{Renderer, withColumn}
-use Rattle.renderer.specs.declared.pen.Writing.{Writing}
+use Rattle.renderer.specs.declared.writing.Writing.{Writing}
 use Rattle.renderer.specs.Output.{writtenOver}
 
 -- the same with another pen

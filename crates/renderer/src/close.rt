@@ -9,8 +9,8 @@ ghost use Rattle.renderer.specs.Run.{wholeRun, closedAt, closedRun, clos
 use crate::margin::outdent;
 use crate::margin::outdent_next;
 use crate::open::enter_arguments;
-use crate::pen::set_pen;
 use crate::run::Run;
+use crate::writing::set_pen;
 use renderer_rules::Frame;
 use renderer_rules::Pen;
 use rows::kinds::CALL;

@@ -6,9 +6,9 @@ ghost use Rattle.renderer.specs.Limits.{MAX-MARGIN, BEFORE-ROW};
 ghost use Rattle.rows.specs.View.{viewOf, nodesAt};
 ghost use Rattle.rows.specs.Nesting.{Nested};
 ghost use Rattle.renderer_rules.specs.Page.{pageOf};
-ghost use Rattle.renderer_rules.specs.Renderer.{fresh, groupWraps, trailingCall, calleeWraps, virtualColumn};
+ghost use Rattle.renderer_rules.specs.Renderer.{freshRenderer, groupWraps, trailingCall, calleeWraps, virtualColumn};
 use crate::measure::width_past;
-use crate::pen::margin_columns;
+use crate::writing::margin_columns;
 use renderer_rules::Pen;
 use rows::units::Columns;
 use rows::wrap::must_wrap;
@@ -34,7 +34,7 @@ pub(crate) fn group_wraps(
     max: usize,
 ) -> bool
     requires { ⌜ Nested (now store) from to × ((p .indent ≤ MAX-MARGIN) × (p .column .0 < BEFORE-ROW)) ⌝ }
-    ensures { λ r. ⌜ r ≡ groupWraps (pageOf max [] []) (nodesAt (viewOf (now (store .entry))) from to) (fresh p (now (marks .entry))) ⌝ }
+    ensures { λ r. ⌜ r ≡ groupWraps (pageOf max [] []) (nodesAt (viewOf (now (store .entry))) from to) (freshRenderer p (now (marks .entry))) ⌝ }
 {
     if must_wrap(store, from, to) {
         return true;
@@ -44,7 +44,7 @@ pub(crate) fn group_wraps(
 }
 
 // Whether a call keeps its callee's line: the first branch of `Call`. The callee's rows are those up to `mid`, the arguments' up to `to`.
-pub(crate) fn trails(
+pub(crate) fn trailing_call(
     p: Pen,
     store: &[u32],
     marks: &[u8],
@@ -54,7 +54,7 @@ pub(crate) fn trails(
     max: usize,
 ) -> bool
     requires { ⌜ Nested (now store) from mid × (Nested (now store) mid to × ((p .indent ≤ MAX-MARGIN) × (p .column .0 < BEFORE-ROW))) ⌝ }
-    ensures { λ r. ⌜ r ≡ trailingCall (pageOf max [] []) (nodesAt (viewOf (now (store .entry))) from mid) (nodesAt (viewOf (now (store .entry))) mid to) (fresh p (now (marks .entry))) ⌝ }
+    ensures { λ r. ⌜ r ≡ trailingCall (pageOf max [] []) (nodesAt (viewOf (now (store .entry))) from mid) (nodesAt (viewOf (now (store .entry))) mid to) (freshRenderer p (now (marks .entry))) ⌝ }
 {
     if must_wrap(store, from, mid) {
         return false;
@@ -81,7 +81,7 @@ pub(crate) fn callee_wraps(
     max: usize,
 ) -> bool
     requires { ⌜ Nested (now store) from mid × (Nested (now store) mid to × ((p .indent ≤ MAX-MARGIN) × (p .column .0 < BEFORE-ROW))) ⌝ }
-    ensures { λ r. ⌜ r ≡ calleeWraps (pageOf max [] []) trailing (nodesAt (viewOf (now (store .entry))) from mid) (nodesAt (viewOf (now (store .entry))) mid to) (fresh p (now (marks .entry))) ⌝ }
+    ensures { λ r. ⌜ r ≡ calleeWraps (pageOf max [] []) trailing (nodesAt (viewOf (now (store .entry))) from mid) (nodesAt (viewOf (now (store .entry))) mid to) (freshRenderer p (now (marks .entry))) ⌝ }
 {
     if trailing {
         return group_wraps(p, store, marks, from, mid, max);

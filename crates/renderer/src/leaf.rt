@@ -9,15 +9,15 @@ ghost use Rattle.rows.specs.Places.{KIND, WIDTH, PLACES};
 ghost use Rattle.renderer.specs.Limits.{BEFORE-ROW};
 ghost use Rattle.rows.specs.View.{cell, viewOf, nodeAt};
 ghost use Rattle.renderer_rules.specs.Page.{pageOf};
-ghost use Rattle.renderer_rules.specs.Renderer.{fresh, renderNode, newLine, text};
+ghost use Rattle.renderer_rules.specs.Renderer.{freshRenderer, renderNode, newLine, text};
 ghost use Rattle.renderer.specs.Writing.{Writes, WritingRoom};
-use crate::pen::Writing;
-use crate::pen::comment;
-use crate::pen::empty_line;
-use crate::pen::new_line;
-use crate::pen::space;
-use crate::pen::text;
 use crate::row_text::row_text;
+use crate::writing::Writing;
+use crate::writing::comment;
+use crate::writing::empty_line;
+use crate::writing::new_line;
+use crate::writing::space;
+use crate::writing::text;
 use rows::kinds::COMMENT;
 use rows::kinds::EMPTY_LINE;
 use rows::kinds::LINE;
@@ -37,7 +37,7 @@ pub struct LeafRow {
 // A `Line`.
 fn line(p: Writing, out: &mut [u8], limit: usize, wrap: bool) -> Writing
     requires { ⌜ WritingRoom BEFORE-ROW limit (now out) p ⌝ }
-    ensures { λ r. ⌜ Writes limit (cond wrap (newLine (fresh (p .pen) [])) (fresh (p .pen) [])) (now (out .entry)) p (now (out .exit)) r ⌝ }
+    ensures { λ r. ⌜ Writes limit (cond wrap (newLine (freshRenderer (p .pen) [])) (freshRenderer (p .pen) [])) (now (out .entry)) p (now (out .exit)) r ⌝ }
 {
     if wrap {
         return new_line(p, out, limit);
@@ -48,7 +48,7 @@ fn line(p: Writing, out: &mut [u8], limit: usize, wrap: bool) -> Writing
 // A `LineOrSpace`.
 fn line_or_space(p: Writing, out: &mut [u8], limit: usize, wrap: bool) -> Writing
     requires { ⌜ WritingRoom BEFORE-ROW limit (now out) p ⌝ }
-    ensures { λ r. ⌜ Writes limit (cond wrap (newLine (fresh (p .pen) [])) (text (0x20 ∷ []) 1 (fresh (p .pen) []))) (now (out .entry)) p (now (out .exit)) r ⌝ }
+    ensures { λ r. ⌜ Writes limit (cond wrap (newLine (freshRenderer (p .pen) [])) (text (0x20 ∷ []) 1 (freshRenderer (p .pen) []))) (now (out .entry)) p (now (out .exit)) r ⌝ }
 {
     if wrap {
         return new_line(p, out, limit);
@@ -67,7 +67,7 @@ pub(crate) fn leaf(
     limit: usize,
 ) -> Writing
     requires { ⌜ WritingRoom BEFORE-ROW limit (now out) p × ((l .row * PLACES + WIDTH < length (now store)) × ((l .kind ≡ cell (now store) (l .row) KIND) × ((WRAP-PARENT ≤ l .kind) × (l .kind ≤ LINE-OR-SPACE)))) ⌝ }
-    ensures { λ r. ⌜ ((max : ℕ) → Writes limit (renderNode (pageOf max (now (source .entry)) (now (image .entry))) (nodeAt (viewOf (now (store .entry))) (l .row)) (l .wrap) (fresh (p .pen) [])) (now (out .entry)) p (now (out .exit)) r) ⌝ }
+    ensures { λ r. ⌜ ((max : ℕ) → Writes limit (renderNode (pageOf max (now (source .entry)) (now (image .entry))) (nodeAt (viewOf (now (store .entry))) (l .row)) (l .wrap) (freshRenderer (p .pen) [])) (now (out .entry)) p (now (out .exit)) r) ⌝ }
 {
     if l.kind == WRAP_PARENT {
         return p;
@@ -95,7 +95,7 @@ fn text_leaf(
     limit: usize,
 ) -> Writing
     requires { ⌜ WritingRoom BEFORE-ROW limit (now out) p × ((l .row * PLACES + WIDTH < length (now store)) × ((l .kind ≡ cell (now store) (l .row) KIND) × ((COMMENT ≤ l .kind) × (l .kind ≤ ASCII)))) ⌝ }
-    ensures { λ r. ⌜ ((max : ℕ) (wrap : Bool) → Writes limit (renderNode (pageOf max (now (source .entry)) (now (image .entry))) (nodeAt (viewOf (now (store .entry))) (l .row)) wrap (fresh (p .pen) [])) (now (out .entry)) p (now (out .exit)) r) ⌝ }
+    ensures { λ r. ⌜ ((max : ℕ) (wrap : Bool) → Writes limit (renderNode (pageOf max (now (source .entry)) (now (image .entry))) (nodeAt (viewOf (now (store .entry))) (l .row)) wrap (freshRenderer (p .pen) [])) (now (out .entry)) p (now (out .exit)) r) ⌝ }
 {
     let t = row_text(store, l.row);
     if l.kind == COMMENT {

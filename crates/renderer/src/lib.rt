@@ -10,6 +10,6 @@ mod marks;
 pub mod measure;
 mod open;
 pub mod output;
-pub mod pen;
 mod row_text;
 pub mod run;
+pub mod writing;

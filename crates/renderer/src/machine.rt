@@ -10,9 +10,9 @@ ghost use Rattle.rows.specs.Places.{WIDTH, PLACES};
 ghost use Rattle.rows.specs.Limits.{MAX-DEPTH};
 ghost use Rattle.rows.specs.View.{viewOf, nodesAt};
 ghost use Rattle.renderer_rules.specs.Page.{pageOf};
-ghost use Rattle.renderer_rules.specs.Renderer.{fresh, renderNodes};
+ghost use Rattle.renderer_rules.specs.Renderer.{freshRenderer, renderNodes};
 ghost use Rattle.renderer_rules.specs.Frames.{frameAt, partEnd};
-ghost use Rattle.renderer_rules.specs.Machine.{frame, turn};
+ghost use Rattle.renderer_rules.specs.Machine.{frameOf, turn};
 ghost use Rattle.renderer.specs.Run.{unpackedFrame, wholeRun, Follows, Turning, Starting, Ended};
 use crate::close::leave;
 use crate::close::part_end;
@@ -20,11 +20,11 @@ use crate::frames::unpack;
 use crate::leaf::LeafRow;
 use crate::leaf::leaf;
 use crate::open::open_row;
-use crate::pen::Writing;
 use crate::run::Bounds;
 use crate::run::RowRange;
 use crate::run::Run;
 use crate::run::passed;
+use crate::writing::Writing;
 use renderer_rules::Frame;
 use rows::kinds::LINE_OR_SPACE;
 use rows::kinds::WRAP_PARENT;
@@ -45,7 +45,7 @@ fn has_parts(kind: usize) -> bool
 // The innermost open row. Where none is open, what is rendered wraps.
 fn innermost(frames: &[u32; MAX_DEPTH], depth: usize) -> Frame
     requires { ⌜ depth ≤ MAX-DEPTH ⌝ }
-    ensures { λ r. ⌜ r ≡ cond (ltb 0 depth) (frameAt (map unpackedFrame (now (frames .entry))) (depth - 1)) (frame 0 true false false) ⌝ }
+    ensures { λ r. ⌜ r ≡ cond (ltb 0 depth) (frameAt (map unpackedFrame (now (frames .entry))) (depth - 1)) (frameOf 0 true false false) ⌝ }
 {
     if 0 < depth {
         return unpack(frames[depth - 1]);
@@ -112,7 +112,7 @@ pub fn run_rows(
     bounds: Bounds,
 ) -> Writing
     requires { ⌜ Starting (now store) (bounds .limit) (rows .from) (rows .stop) (now out) w ⌝ }
-    ensures { λ q. ⌜ Ended (bounds .limit) (renderNodes (pageOf (bounds .max) (now (source .entry)) (now (image .entry))) (nodesAt (viewOf (now (store .entry))) (rows .from) (rows .stop)) true (fresh (w .pen) (now (marks .entry)))) (now (out .entry)) (now (marks .exit)) (now (out .exit)) q ⌝ }
+    ensures { λ q. ⌜ Ended (bounds .limit) (renderNodes (pageOf (bounds .max) (now (source .entry)) (now (image .entry))) (nodesAt (viewOf (now (store .entry))) (rows .from) (rows .stop)) true (freshRenderer (w .pen) (now (marks .entry)))) (now (out .entry)) (now (marks .exit)) (now (out .exit)) q ⌝ }
 {
     let stop = rows.stop;
     let mut frames = [0u32; MAX_DEPTH];

@@ -12,22 +12,22 @@ ghost use Rattle.renderer.specs.Limits.{MAX-MARGIN, BEFORE-ROW};
 ghost use Rattle.rows.specs.Node.{wrapped};
 ghost use Rattle.rows.specs.View.{cell, viewOf};
 ghost use Rattle.rows.specs.Nesting.{Nested};
-ghost use Rattle.renderer_rules.specs.Renderer.{indented, nextIndented};
+ghost use Rattle.renderer_rules.specs.Renderer.{indentMore, nextIndentMore};
 ghost use Rattle.renderer_rules.specs.Page.{pageOf};
 ghost use Rattle.renderer_rules.specs.Frames.{wrapAt};
-ghost use Rattle.renderer_rules.specs.Machine.{frame, enter};
+ghost use Rattle.renderer_rules.specs.Machine.{frameOf, enter};
 ghost use Rattle.renderer.specs.Writing.{setPen};
 ghost use Rattle.renderer.specs.Run.{unpackedFrame, wholeRun, openedRun, Follows, Enters, Opening, GroupOpened, CallOpened, ArgumentsOpened};
 use crate::columns::callee_wraps;
 use crate::columns::group_wraps;
-use crate::columns::trails;
+use crate::columns::trailing_call;
 use crate::frames::pack;
 use crate::margin::indent;
 use crate::margin::indent_next;
 use crate::marks::insert;
-use crate::pen::Writing;
-use crate::pen::set_pen;
 use crate::run::Run;
+use crate::writing::Writing;
+use crate::writing::set_pen;
 use renderer_rules::Frame;
 use rows::kinds::CALL;
 use rows::kinds::GROUP;
@@ -110,7 +110,7 @@ fn enter_group(
 // An `Indent` or an `IndentNext` is opened.
 fn enter_indent(r: Run, frames: &mut [u32; MAX_DEPTH], wrap: bool, kind: usize) -> Run
     requires { ⌜ (r .depth < MAX-DEPTH) × ((r .next < MAX-ROWS) × ((r .writing .pen .indent + r .writing .pen .«next_indent» ≤ MAX-MARGIN) × ((GROUP < kind) × (kind < WRAP-PARENT)))) ⌝ }
-    ensures { λ q. ⌜ wholeRun (now (frames .exit)) q ≡ openedRun (wholeRun (now (frames .entry)) r) (frame (r .next) wrap false false) (r .next + 1) (setPen (cond (eqb kind INDENT) (indented wrap (r .writing .pen)) (nextIndented wrap (r .writing .pen))) (r .writing)) ⌝ }
+    ensures { λ q. ⌜ wholeRun (now (frames .exit)) q ≡ openedRun (wholeRun (now (frames .entry)) r) (frameOf (r .next) wrap false false) (r .next + 1) (setPen (cond (eqb kind INDENT) (indentMore wrap (r .writing .pen)) (nextIndentMore wrap (r .writing .pen))) (r .writing)) ⌝ }
 {
     let i = r.next;
     let w = r.writing;
@@ -129,7 +129,7 @@ fn enter_indent(r: Run, frames: &mut [u32; MAX_DEPTH], wrap: bool, kind: usize) 
 // An `IfWrap` is opened at the part that is chosen.
 fn enter_if(r: Run, frames: &mut [u32; MAX_DEPTH], wrap: bool, store: &[u32], marks: &[u8]) -> Run
     requires { ⌜ Enters (now store) r ⌝ }
-    ensures { λ q. ⌜ wholeRun (now (frames .exit)) q ≡ cond (wrapped (now (marks .entry)) (cell (now (store .entry)) (r .next) NUMBER)) (openedRun (wholeRun (now (frames .entry)) r) (frame (r .next) wrap true false) (r .next + 1) (r .writing)) (openedRun (wholeRun (now (frames .entry)) r) (frame (r .next) wrap false false) (cell (now (store .entry)) (r .next) SECOND) (r .writing)) ⌝ }
+    ensures { λ q. ⌜ wholeRun (now (frames .exit)) q ≡ cond (wrapped (now (marks .entry)) (cell (now (store .entry)) (r .next) NUMBER)) (openedRun (wholeRun (now (frames .entry)) r) (frameOf (r .next) wrap true false) (r .next + 1) (r .writing)) (openedRun (wholeRun (now (frames .entry)) r) (frameOf (r .next) wrap false false) (cell (now (store .entry)) (r .next) SECOND) (r .writing)) ⌝ }
 {
     let i = r.next;
     let w = r.writing;
@@ -162,7 +162,7 @@ fn enter_call(
     let mid = place(store, i, SECOND);
     let end = place(store, i, AFTER);
     let number = place(store, i, NUMBER);
-    let trailing = trails(w.pen, store, marks, i + 1, mid, end, max);
+    let trailing = trailing_call(w.pen, store, marks, i + 1, mid, end, max);
     let wraps = callee_wraps(w.pen, store, marks, trailing, i + 1, mid, end, max);
     insert(marks, number, wraps);
     let deep = made_up(trailing, wraps);

@@ -4,7 +4,7 @@ ghost use Prim.Native.Nat.{_<_};
 ghost use Rattle.rows.specs.Limits.{MAX-ROWS};
 ghost use Rattle.renderer.specs.Run.{bareRun, withFrames, passedRun};
 ghost use mathlib.Core.List.{[]};
-use crate::pen::Writing;
+use crate::writing::Writing;
 
 // How many rows are open, the next row, the text so far. The open rows are numbers in an array beside it.
 pub struct Run {

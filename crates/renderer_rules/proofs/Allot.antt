@@ -4,29 +4,18 @@ use mathlib.Core.Path.{_≡_, refl, sym, _∙_}
 use Prim.Native.Nat.{ℕ, zero, suc, _-_, _≤_}
 use native.Mathlib.Omega.{arith}
 use mathlib.Core.Bool.{Bool, true, false, cond, _&&_}
-use lib.Dec.{ltb, leb, eqb}
+use lib.Dec.{ltb, leb}
 use borrow.Author.Tests.{lt-leb, leb-false}
 use Rattle.rows.specs.View.{View}
-use Rattle.renderer_rules.specs.Renderer.{Page, Renderer}
-use Rattle.renderer_rules.specs.declared.Frame.{Frame}
-use Rattle.renderer_rules.specs.Frames.{frameAt, limit}
-use Rattle.renderer_rules.specs.Machine.{Machine, reopened, closed, leave, turn}
+use Rattle.renderer_rules.specs.Renderer.{Page}
+use Rattle.renderer_rules.specs.Frames.{partLimit}
+use Rattle.renderer_rules.specs.Machine.{Machine, turn}
 use Rattle.renderer_rules.proofs.Machine.{Fine, left, isDone, turned, spent}
 
 module _ (v : View) (pg : Page) (stop : ℕ) where
-  -- rows entered, and allotments: n rows, then the closing of what they finished
-  -- a turn that closes enters no row
-  pub leave-seen : (m : Machine) (k : ℕ) → leave v pg m k .entered ≡ m .entered
-  unfolding leave
-  leave-seen m k = go (eqb (v .kind (frameAt (m .frames) k .row)) 11 && frameAt (m .frames) k .early) _ _ _ _
-    where
-      go : (b : Bool) (f : Frame) (n : ℕ) (x y : Renderer) → cond {A = Machine} b (reopened m k f x) (closed m k n y) .entered ≡ m .entered
-      go true f n x y = refl
-      go false f n x y = refl
-
   -- the allotment n from m on: turns until n more rows are entered and all that they finished is closed
   unfoldable pub wantsRow : Machine → Bool
-  wantsRow m = ltb (m .next) (limit v stop (m .frames) (m .depth))
+  wantsRow m = ltb (m .next) (partLimit v stop (m .frames) (m .depth))
 
   unfoldable pub allot : ℕ → ℕ → Machine → Machine
   allot zero n m = m

@@ -5,11 +5,11 @@ use Prim.Native.Nat.{ℕ, _+_}
 use native.Mathlib.Omega.{arith}
 use mathlib.Core.Bool.{Bool, true, false, cond, not, _&&_}
 use mathlib.Core.List.{List}
-use Rattle.rows.specs.Node.{Text, Node, Nodes, group, indentNext, call, none, _then_, join, widths, mustWraps}
+use Rattle.rows.specs.Node.{Text, Node, Nodes, group, indentNext, none, _then_, join, widths, mustWraps}
 use Rattle.rows.proofs.Widths.{widths-join}
 use Rattle.renderer_rules.specs.declared.Pen.{Pen}
-use Rattle.renderer_rules.specs.Renderer.{Page, Renderer, onPen, renderNode, renderNodes, trailingCall, calleeWraps, groupWraps, wraps, insert, nextIndented}
-use Rattle.renderer_rules.specs.Renderer.{nextOutdented}
+use Rattle.renderer_rules.specs.Renderer.{Page, Renderer, onPen, renderNode, renderNodes, trailingCall, calleeWraps, groupWraps, wraps, insert, nextIndentMore}
+use Rattle.renderer_rules.specs.Renderer.{nextIndentLess}
 use Rattle.renderer_rules.specs.Call.{callOfRust, CallAsRust}
 
 -- nodes and one more: `nodes.push`
@@ -18,13 +18,13 @@ unfolding join renderNodes
 renders-last p none x w s = refl
 renders-last p (n then ns) x w s = renders-last p ns x w (renderNode p n w s)
 
-nextIndented-false : (p : Pen) → nextIndented false p ≡ p
-unfolding nextIndented
-nextIndented-false p = refl
+nextIndentMore-false : (p : Pen) → nextIndentMore false p ≡ p
+unfolding nextIndentMore
+nextIndentMore-false p = refl
 
-nextOutdented-false : (p : Pen) → nextOutdented false p ≡ p
-unfolding nextOutdented
-nextOutdented-false p = refl
+nextIndentLess-false : (p : Pen) → nextIndentLess false p ≡ p
+unfolding nextIndentLess
+nextIndentLess-false p = refl
 
 last-width : (columns : Text → ℕ) (m : List ℕ) (e : Nodes) (k : ℕ) (a : Nodes)
     → widths columns m (indentNext (join e (group k a then none)) then none) ≡ widths columns m e + widths columns m a
@@ -45,12 +45,12 @@ call-as-rust p n e k a w s = go (trailingCall p e a s)
     outer t = calleeWraps p t e a s
 
     callee : Bool → Renderer
-    callee t = renderNodes p e (outer t) (onPen (nextIndented (not t && outer t)) (insert (outer t) n s))
+    callee t = renderNodes p e (outer t) (onPen (nextIndentMore (not t && outer t)) (insert (outer t) n s))
 
     go : (t : Bool)
-        → onPen (nextOutdented (not t && outer t)) (renderNodes p a (groupWraps p a (callee t)) (insert (groupWraps p a (callee t)) k (callee t)))
+        → onPen (nextIndentLess (not t && outer t)) (renderNodes p a (groupWraps p a (callee t)) (insert (groupWraps p a (callee t)) k (callee t)))
         ≡ cond t
         (renderNode p (group k a) true (renderNode p (group n e) false s))
         (renderNode p (group n (indentNext (join e (group k a then none)) then none)) w s)
-    go true = rw (nextIndented-false, nextOutdented-false)
+    go true = rw (nextIndentMore-false, nextIndentLess-false)
     go false = rw (made-up-wraps, renders-last)

@@ -7,6 +7,8 @@ use mathlib.Core.Bool.{Bool, true, false, cond, _&&_, _||_}
 use mathlib.Core.Option.{Option, some, none}
 use lib.Dec.{ltb, leb, eqb}
 use borrow.Author.Tests.{lt-ltb, le-leb, eq-eqb, ltb-true, ltb-false, leb-true, eqb-true, eqb-false}
+use Rattle.rows.specs.Limits.{MAX-DEPTH}
+use Rattle.rows.specs.Kinds.{WRAP-PARENT, LINE-OR-SPACE, IF-WRAP, CALL}
 use Rattle.laws.proofs.Numbers.{lt-of}
 use Rattle.laws.proofs.Booleans.{both}
 use Rattle.laws.proofs.Options.{never}
@@ -15,9 +17,9 @@ use Rattle.rows.specs.Nesting.{RangeIn, Split, TwoParts, Nests, over, leaf, blo
 use Rattle.rows.proofs.Nested.{nests-le, nests-leaf, nests-two, nests-pair, nests-kind, nests-after, nests-rest, nests-deep, nests-join}
 use Rattle.renderer_rules.specs.Check.{reaches, isLeaf, hasTwo, isSplit, partsFit, rowFits, orLater, firstWrong, wrongRow, placesFit, wrongPlace, FaultOfPart}
 
-neither : (a b : Option ℕ) → orLater a b ≡ none → (a ≡ none) × (b ≡ none)
-neither none b e = (refl, e)
-neither (some i) b e = absurd (never i e)
+pub no-wrong : (a b : Option ℕ) → orLater a b ≡ none → (a ≡ none) × (b ≡ none)
+no-wrong none b e = (refl, e)
+no-wrong (some i) b e = absurd (never i e)
 
 -- What is accepted nests.
 
@@ -63,13 +65,13 @@ nests-split (suc f) v a b c d e g h =
 far : {v : View} {i j : ℕ} → RangeIn v i j → i < j
 far w = omega arith
 
-module _ (v : View) (end d i : ℕ) (w : RangeIn v i end) (m : d < 256) (g : Nests v (suc i) (v .after i) (suc d)) (h : Nests v (v .after i) end d) where
-  row-leaf : 3 ≤ v .kind i → v .kind i ≤ 9 → isLeaf v i ≡ true → Nests v i end d
+module _ (v : View) (end d i : ℕ) (w : RangeIn v i end) (m : d < MAX-DEPTH) (g : Nests v (suc i) (v .after i) (suc d)) (h : Nests v (v .after i) end d) where
+  row-leaf : WRAP-PARENT ≤ v .kind i → v .kind i ≤ LINE-OR-SPACE → isLeaf v i ≡ true → Nests v i end d
   row-leaf a b e =
       let q = eqb-true (v .after i) (suc i) e in
       leaf {i = i} a b q (far w) m (subst (λ (x : ℕ). Nests v x end d) q h)
 
-  row-two : v .kind i ≡ 10 → hasTwo v i ≡ true → Nests v i end d
+  row-two : v .kind i ≡ IF-WRAP → hasTwo v i ≡ true → Nests v i end d
   row-two e r =
       let x = both (ltb (suc i) (v .second i) && ltb (v .second i) (v .after i)) (eqb (v .after (suc i)) (v .second i) && eqb (v .after (v .second i)) (v .after i)) r in
       let y = both (ltb (suc i) (v .second i)) (ltb (v .second i) (v .after i)) (x .0) in
@@ -83,7 +85,7 @@ module _ (v : View) (end d i : ℕ) (w : RangeIn v i end) (m : d < 256) (g : Nes
       let p : Nests v (suc i) (v .second i) (suc d) = narrow (v .second i) g n (omega arith) (over a) in
       two e w (record { first = a; second = b; up = c; to = k }) m p q h
 
-  row-pair : v .kind i ≡ 11 → (t r : Bool) → eqb (v .second i) (v .after i) ≡ t → (reaches (v .after i - i) v (suc i) (v .second i)) ≡ r
+  row-pair : v .kind i ≡ CALL → (t r : Bool) → eqb (v .second i) (v .after i) ≡ t → (reaches (v .after i - i) v (suc i) (v .second i)) ≡ r
       → (t || ((ltb i (v .second i) && ltb (v .second i) (v .after i)) && r)) ≡ true
       → Nests v i end d
   row-pair e true r p q x =
@@ -99,7 +101,7 @@ module _ (v : View) (end d i : ℕ) (w : RangeIn v i end) (m : d < 256) (g : Nes
       let z = nests-split (v .after i - i) v (suc i) (v .second i) (v .after i) (suc d) (q ∙ x .1) g to in
       pair e w (record { up = a; to = to }) m (z .0) (z .1) h
 
-  row-call : v .kind i ≡ 11 → isSplit v i ≡ true → Nests v i end d
+  row-call : v .kind i ≡ CALL → isSplit v i ≡ true → Nests v i end d
   row-call e r = row-pair e (eqb (v .second i) (v .after i)) (reaches (v .after i - i) v (suc i) (v .second i)) refl refl r
 
   row-kind : (k : ℕ) → v .kind i ≡ k → partsFit v i k ≡ true → Nests v i end d
@@ -120,7 +122,7 @@ module _ (v : View) (end d i : ℕ) (w : RangeIn v i end) (m : d < 256) (g : Nes
 
 -- what a row that fits is
 pub record Fits (places : ℕ → Bool) (v : View) (end d i : ℕ) : Type 0 where
-  pub shallow : d < 256
+  pub shallow : d < MAX-DEPTH
   pub within : RangeIn v i end
   pub parts : partsFit v i (v .kind i) ≡ true
   pub fit : places i ≡ true
@@ -128,12 +130,12 @@ pub record Fits (places : ℕ → Bool) (v : View) (end d i : ℕ) : Type 0 wher
 pub fits-row : (places : ℕ → Bool) (v : View) (end d i : ℕ) → rowFits places v end d i ≡ true → Fits places v end d i
 unfolding rowFits
 fits-row places v end d i e =
-    let x = both (ltb d 256 && (ltb i (v .after i) && leb (v .after i) end)) (partsFit v i (v .kind i) && places i) e in
-    let y = both (ltb d 256) (ltb i (v .after i) && leb (v .after i) end) (x .0) in
+    let x = both (ltb d MAX-DEPTH && (ltb i (v .after i) && leb (v .after i) end)) (partsFit v i (v .kind i) && places i) e in
+    let y = both (ltb d MAX-DEPTH) (ltb i (v .after i) && leb (v .after i) end) (x .0) in
     let z = both (ltb i (v .after i)) (leb (v .after i) end) (y .1) in
     let u = both (partsFit v i (v .kind i)) (places i) (x .1) in
     record {
-      shallow = ltb-true d 256 (y .0);
+      shallow = ltb-true d MAX-DEPTH (y .0);
       within = record { up = ltb-true i (v .after i) (z .0); to = leb-true (v .after i) end (z .1) };
       parts = u .0;
       fit = u .1;
@@ -146,7 +148,7 @@ sound-step : (places : ℕ → Bool) (v : View) (end d i : ℕ) (a b : Bool) (r 
     → (RangeIn v i end → t ≡ none → Nests v (v .after i) end d)
     → Nests v i end d
 sound-step places v end d i true true r t p q e l f g =
-    let x = neither r t e in
+    let x = no-wrong r t e in
     let y = fits-row places v end d i q in
     row-kind v end d i (y .within) (y .shallow) (f (y .within) (x .0)) (g (y .within) (x .1)) (v .kind i) refl (y .parts)
 sound-step places v end d i true false r t p q e l f g = absurd (never i e)
@@ -239,7 +241,7 @@ row-fits : (places : ℕ → Bool) (v : View) (end d i : ℕ) → Nests v i end 
 unfolding rowFits
 row-fits places v end d i g h q =
     let w = nests-after g h in
-    rw (lt-ltb i (v .after i) (w .up), le-leb (v .after i) end (w .to), lt-ltb d 256 (nests-deep g h), kind-fits v i end d (v .kind i) refl g h) q
+    rw (lt-ltb i (v .after i) (w .up), le-leb (v .after i) end (w .to), lt-ltb d MAX-DEPTH (nests-deep g h), kind-fits v i end d (v .kind i) refl g h) q
 
 -- a row's parts as one range
 pub parts-nest : {v : View} {i end d : ℕ} → Nests v i end d → i < end → Nests v (suc i) (v .after i) (suc d)

@@ -1,6 +1,8 @@
 pub mod Allot
 pub mod Call
 pub mod Checked
+pub mod Choices
+pub mod CommentLine
 pub mod Joined
 pub mod Machine
 pub mod Margin

@@ -5,22 +5,24 @@ use mathlib.Core.Path.{_≡_, refl, ap, ap₂, sym, _∙_, subst}
 use Prim.Native.Nat.{ℕ, zero, suc, _+_, _*_, _-_, _≤_, _<_}
 use native.Mathlib.Omega.{arith}
 use native.Mathlib.Numerals.{add-one}
-use mathlib.Core.Bool.{Bool, true, false, cond, not, _&&_}
-use mathlib.Core.List.{List, [], _∷_}
-use lib.ListN.{length, getD, set}
+use mathlib.Core.Bool.{Bool, true, false, cond, _&&_}
+use mathlib.Core.List.{List}
+use lib.ListN.{length, set}
 use lib.Dec.{eqb}
 use borrow.Author.Tests.{ne-eqb, eq-eqb, eqb-true, eqb-false}
+use Rattle.rows.specs.Limits.{MAX-DEPTH}
+use Rattle.rows.specs.Kinds.{GROUP, INDENT, INDENT-NEXT, WRAP-PARENT, LINE-OR-SPACE, IF-WRAP, CALL}
 use Rattle.laws.proofs.Numbers.{lt-of}
 use Rattle.laws.proofs.Booleans.{both}
-use Rattle.rows.specs.Node.{Nodes, wrapped}
+use Rattle.rows.specs.Node.{wrapped}
 use Rattle.rows.specs.View.{View, nodesAt, nodeAt}
 use Rattle.rows.specs.Nesting.{Nests}
 use Rattle.rows.proofs.Decode.{nodes-none}
 use Rattle.rows.proofs.Nested.{nests-le, nests-two, nests-pair, nests-kind, nests-after, nests-deep}
 use Rattle.renderer_rules.specs.declared.Frame.{Frame}
-use Rattle.renderer_rules.specs.Renderer.{Page, Renderer, renderNode, renderNodes, groupWraps, insert, indented, nextIndented, trailingCall, calleeWraps}
-use Rattle.renderer_rules.specs.Frames.{frameAt, partEnd, limit, wrapAt, Under, At}
-use Rattle.renderer_rules.specs.Machine.{Machine, begun, opened, reopened, closed, frame, closing, enterGroup, enterIndent, enterNext, enterLeaf, enterIf, enterCall, enter, leave, turnAt, turn}
+use Rattle.renderer_rules.specs.Renderer.{Page, Renderer, renderNode, renderNodes, groupWraps, insert}
+use Rattle.renderer_rules.specs.Frames.{frameAt, partEnd, partLimit, wrapAt, Under, At}
+use Rattle.renderer_rules.specs.Machine.{Machine, started, opened, reopened, closedTo, frameOf, closing, enterGroup, enterIndent, enterNext, enterLeaf, enterIf, enterCall, enter, leave, turnAt, turn}
 use Rattle.renderer_rules.specs.Safe.{oneIf}
 use Rattle.renderer_rules.proofs.Meaning.{rest, meaning, pop, frame-other, frame-same, open-group}
 use Rattle.renderer_rules.proofs.Meaning.{open-indent, open-next, open-if-first, open-if-second, open-call, call-on}
@@ -63,35 +65,35 @@ module _ (v : View) (pg : Page) (stop : ℕ) where
   abbrev pub Fine : Machine → Type 0
   Fine m = At v stop (m .frames) (m .depth) (m .next)
 
-  module _ (m : Machine) (a : Fine m) (h : m .next < limit v stop (m .frames) (m .depth)) where
+  module _ (m : Machine) (a : Fine m) (h : m .next < partLimit v stop (m .frames) (m .depth)) where
     roomy : m .depth < length (m .frames)
     roomy = rw (a .size) (nests-deep (a .good) h)
 
-    leaf-same : 3 ≤ v .kind (m .next) → v .kind (m .next) ≤ 9 → means (enterLeaf v pg m) ≡ means m
+    leaf-same : WRAP-PARENT ≤ v .kind (m .next) → v .kind (m .next) ≤ LINE-OR-SPACE → means (enterLeaf v pg m) ≡ means m
     unfolding enterLeaf
     leaf-same k l = ap (λ (j : ℕ). meaning v pg stop (m .frames) (m .depth) j (renderNode pg (nodeAt v (m .next)) (wrapAt (m .frames) (m .depth)) (m .state))) (sym (add-one (m .next))) ∙ advance-leaf v pg stop (m .frames) (m .depth) (m .next) (m .state) a h k l
 
-    if-same : v .kind (m .next) ≡ 10 → means (enterIf v pg m) ≡ means m
+    if-same : v .kind (m .next) ≡ IF-WRAP → means (enterIf v pg m) ≡ means m
     unfolding enterIf
     if-same k = go (wrapped (m .state .marks) (v .number (m .next))) refl
       where
-        go : (b : Bool) → wrapped (m .state .marks) (v .number (m .next)) ≡ b → means (cond b (opened m (frame (m .next) (wrapAt (m .frames) (m .depth)) true false) (suc (m .next)) (m .state)) (opened m (frame (m .next) (wrapAt (m .frames) (m .depth)) false false) (v .second (m .next)) (m .state))) ≡ means m
+        go : (b : Bool) → wrapped (m .state .marks) (v .number (m .next)) ≡ b → means (cond b (opened m (frameOf (m .next) (wrapAt (m .frames) (m .depth)) true false) (suc (m .next)) (m .state)) (opened m (frameOf (m .next) (wrapAt (m .frames) (m .depth)) false false) (v .second (m .next)) (m .state))) ≡ means m
         go true e = open-if-first v pg stop (m .frames) (m .depth) (m .next) (m .state) roomy (nests-after (a .good) h) k (nests-two (a .good) h k .0) e
         go false e = open-if-second v pg stop (m .frames) (m .depth) (m .next) (m .state) roomy (nests-after (a .good) h) k (nests-two (a .good) h k .0) e
 
-    group-same : v .kind (m .next) ≡ 0 → means (enterGroup v pg m) ≡ means m
+    group-same : v .kind (m .next) ≡ GROUP → means (enterGroup v pg m) ≡ means m
     unfolding enterGroup
     group-same k = open-group v pg stop (m .frames) (m .depth) (m .next) (m .state) _ roomy (nests-after (a .good) h) k refl
 
-    indent-same : v .kind (m .next) ≡ 1 → means (enterIndent v pg m) ≡ means m
+    indent-same : v .kind (m .next) ≡ INDENT → means (enterIndent v pg m) ≡ means m
     unfolding enterIndent
     indent-same k = open-indent v pg stop (m .frames) (m .depth) (m .next) (m .state) roomy (nests-after (a .good) h) k
 
-    next-same : v .kind (m .next) ≡ 2 → means (enterNext v pg m) ≡ means m
+    next-same : v .kind (m .next) ≡ INDENT-NEXT → means (enterNext v pg m) ≡ means m
     unfolding enterNext
     next-same k = open-next v pg stop (m .frames) (m .depth) (m .next) (m .state) roomy (nests-after (a .good) h) k
 
-    call-same : v .kind (m .next) ≡ 11 → means (enterCall v pg m) ≡ means m
+    call-same : v .kind (m .next) ≡ CALL → means (enterCall v pg m) ≡ means m
     unfolding enterCall
     call-same k = open-call v pg stop (m .frames) (m .depth) (m .next) (m .state) _ _ roomy (nests-after (a .good) h) k (nests-pair (a .good) h k .split) refl refl
 
@@ -122,43 +124,43 @@ module _ (v : View) (pg : Page) (stop : ℕ) where
     Kept : Machine → Type 0
     Kept n = Fine n × (left stop n < left stop m)
 
-    block-fine : (f : Frame) (t : Renderer) → v .kind (m .next) ≤ 2 → f .row ≡ m .next → f .early ≡ false → Fine (opened m f (suc (m .next)) t) × (left stop (opened m f (suc (m .next)) t) < left stop m)
+    block-fine : (f : Frame) (t : Renderer) → v .kind (m .next) ≤ INDENT-NEXT → f .row ≡ m .next → f .early ≡ false → Fine (opened m f (suc (m .next)) t) × (left stop (opened m f (suc (m .next)) t) < left stop m)
     block-fine f t k e y =
         let x = at-block v pg stop (m .frames) (m .depth) (m .next) f a h k e y in
         (subst (λ (n : ℕ). At v stop (set (m .frames) (m .depth) f) n (suc (m .next))) (add-one (m .depth)) (subst (λ (n : ℕ). At v stop (set (m .frames) (m .depth) f) (m .depth + 1) n) (add-one (m .next)) x), less-open f (suc (m .next)) (omega arith))
 
-    group-fine : v .kind (m .next) ≡ 0 → Fine (enterGroup v pg m) × (left stop (enterGroup v pg m) < left stop m)
+    group-fine : v .kind (m .next) ≡ GROUP → Fine (enterGroup v pg m) × (left stop (enterGroup v pg m) < left stop m)
     unfolding enterGroup
     group-fine k = block-fine _ (m .state) (omega arith) refl refl
 
-    indent-fine : v .kind (m .next) ≡ 1 → Fine (enterIndent v pg m) × (left stop (enterIndent v pg m) < left stop m)
+    indent-fine : v .kind (m .next) ≡ INDENT → Fine (enterIndent v pg m) × (left stop (enterIndent v pg m) < left stop m)
     unfolding enterIndent
     indent-fine k = block-fine _ (m .state) (omega arith) refl refl
 
-    next-fine : v .kind (m .next) ≡ 2 → Fine (enterNext v pg m) × (left stop (enterNext v pg m) < left stop m)
+    next-fine : v .kind (m .next) ≡ INDENT-NEXT → Fine (enterNext v pg m) × (left stop (enterNext v pg m) < left stop m)
     unfolding enterNext
     next-fine k = block-fine _ (m .state) (omega arith) refl refl
 
-    leaf-fine : 3 ≤ v .kind (m .next) → v .kind (m .next) ≤ 9 → Fine (enterLeaf v pg m) × (left stop (enterLeaf v pg m) < left stop m)
+    leaf-fine : WRAP-PARENT ≤ v .kind (m .next) → v .kind (m .next) ≤ LINE-OR-SPACE → Fine (enterLeaf v pg m) × (left stop (enterLeaf v pg m) < left stop m)
     unfolding enterLeaf
     leaf-fine k l =
         let x = at-leaf v pg stop (m .frames) (m .depth) (m .next) a h k l in
         let z = a .low in
         (subst (λ (n : ℕ). At v stop (m .frames) (m .depth) n) (add-one (m .next)) x, omega arith)
 
-    if-fine : v .kind (m .next) ≡ 10 → Fine (enterIf v pg m) × (left stop (enterIf v pg m) < left stop m)
+    if-fine : v .kind (m .next) ≡ IF-WRAP → Fine (enterIf v pg m) × (left stop (enterIf v pg m) < left stop m)
     unfolding enterIf
     if-fine k = go (wrapped (m .state .marks) (v .number (m .next)))
       where
         w : Bool
         w = wrapAt (m .frames) (m .depth)
 
-        go : (b : Bool) → Fine (cond b (opened m (frame (m .next) w true false) (suc (m .next)) (m .state)) (opened m (frame (m .next) w false false) (v .second (m .next)) (m .state)))
-            × (left stop (cond b (opened m (frame (m .next) w true false) (suc (m .next)) (m .state)) (opened m (frame (m .next) w false false) (v .second (m .next)) (m .state))) < left stop m)
-        go true = (at-first v pg stop (m .frames) (m .depth) (m .next) (frame (m .next) w true false) a h k refl refl, less-open (frame (m .next) w true false) (suc (m .next)) (omega arith))
-        go false = (at-second v pg stop (m .frames) (m .depth) (m .next) (frame (m .next) w false false) a h k refl refl, less-open (frame (m .next) w false false) (v .second (m .next)) (let u = nests-two (a .good) h k .0 .up in omega arith))
+        go : (b : Bool) → Fine (cond b (opened m (frameOf (m .next) w true false) (suc (m .next)) (m .state)) (opened m (frameOf (m .next) w false false) (v .second (m .next)) (m .state)))
+            × (left stop (cond b (opened m (frameOf (m .next) w true false) (suc (m .next)) (m .state)) (opened m (frameOf (m .next) w false false) (v .second (m .next)) (m .state))) < left stop m)
+        go true = (at-first v pg stop (m .frames) (m .depth) (m .next) (frameOf (m .next) w true false) a h k refl refl, less-open (frameOf (m .next) w true false) (suc (m .next)) (omega arith))
+        go false = (at-second v pg stop (m .frames) (m .depth) (m .next) (frameOf (m .next) w false false) a h k refl refl, less-open (frameOf (m .next) w false false) (v .second (m .next)) (let u = nests-two (a .good) h k .0 .up in omega arith))
 
-    call-fine : v .kind (m .next) ≡ 11 → Fine (enterCall v pg m) × (left stop (enterCall v pg m) < left stop m)
+    call-fine : v .kind (m .next) ≡ CALL → Fine (enterCall v pg m) × (left stop (enterCall v pg m) < left stop m)
     unfolding enterCall
     call-fine k = (at-call v pg stop (m .frames) (m .depth) (m .next) _ a h k refl refl, less-open _ (suc (m .next)) (omega arith))
 
@@ -185,43 +187,43 @@ module _ (v : View) (pg : Page) (stop : ℕ) where
 
     leave-same : means (leave v pg m k) ≡ meaning v pg stop (m .frames) (suc k) (m .next) (m .state)
     unfolding leave partEnd
-    leave-same = go (eqb (v .kind (frameAt (m .frames) k .row)) 11 && frameAt (m .frames) k .early) refl
+    leave-same = go (eqb (v .kind (frameAt (m .frames) k .row)) CALL && frameAt (m .frames) k .early) refl
       where
         c : Bool
         c = groupWraps pg (nodesAt v (m .next) (v .after (frameAt (m .frames) k .row))) (m .state)
 
         on : Machine
-        on = reopened m k (frame (frameAt (m .frames) k .row) c false (frameAt (m .frames) k .deep)) (insert c (v .number2 (frameAt (m .frames) k .row)) (m .state))
+        on = reopened m k (frameOf (frameAt (m .frames) k .row) c false (frameAt (m .frames) k .deep)) (insert c (v .number2 (frameAt (m .frames) k .row)) (m .state))
 
         off : Machine
-        off = closed m k (v .after (frameAt (m .frames) k .row)) (closing v pg (frameAt (m .frames) k) (m .state))
+        off = closedTo m k (v .after (frameAt (m .frames) k .row)) (closing v pg (frameAt (m .frames) k) (m .state))
 
-        go : (b : Bool) → (eqb (v .kind (frameAt (m .frames) k .row)) 11 && frameAt (m .frames) k .early) ≡ b → means (cond b on off) ≡ meaning v pg stop (m .frames) (suc k) (m .next) (m .state)
+        go : (b : Bool) → (eqb (v .kind (frameAt (m .frames) k .row)) CALL && frameAt (m .frames) k .early) ≡ b → means (cond b on off) ≡ meaning v pg stop (m .frames) (suc k) (m .next) (m .state)
         go true q =
-            let x = both (eqb (v .kind (frameAt (m .frames) k .row)) 11) (frameAt (m .frames) k .early) q in
+            let x = both (eqb (v .kind (frameAt (m .frames) k .row)) CALL) (frameAt (m .frames) k .early) q in
             call-on v pg stop (m .frames) k (m .next) (m .state) c roomy-top (eqb-true (v .kind (frameAt (m .frames) k .row)) 11 (x .0)) (x .1) (e ∙ rw (x .1)) refl
         go false q = sym (pop v pg stop (m .frames) k (m .next) (m .state) (omega arith))
 
     leave-fine : Fine (leave v pg m k) × (left stop (leave v pg m k) < (stop - m .next) * 3 + weight (m .frames) (suc k))
     unfolding leave partEnd
-    leave-fine = go (eqb (v .kind (frameAt (m .frames) k .row)) 11 && frameAt (m .frames) k .early) refl
+    leave-fine = go (eqb (v .kind (frameAt (m .frames) k .row)) CALL && frameAt (m .frames) k .early) refl
       where
         c : Bool
         c = groupWraps pg (nodesAt v (m .next) (v .after (frameAt (m .frames) k .row))) (m .state)
 
         on : Machine
-        on = reopened m k (frame (frameAt (m .frames) k .row) c false (frameAt (m .frames) k .deep)) (insert c (v .number2 (frameAt (m .frames) k .row)) (m .state))
+        on = reopened m k (frameOf (frameAt (m .frames) k .row) c false (frameAt (m .frames) k .deep)) (insert c (v .number2 (frameAt (m .frames) k .row)) (m .state))
 
         off : Machine
-        off = closed m k (v .after (frameAt (m .frames) k .row)) (closing v pg (frameAt (m .frames) k) (m .state))
+        off = closedTo m k (v .after (frameAt (m .frames) k .row)) (closing v pg (frameAt (m .frames) k) (m .state))
 
-        go : (b : Bool) → (eqb (v .kind (frameAt (m .frames) k .row)) 11 && frameAt (m .frames) k .early) ≡ b → Fine (cond b on off) × (left stop (cond b on off) < (stop - m .next) * 3 + weight (m .frames) (suc k))
+        go : (b : Bool) → (eqb (v .kind (frameAt (m .frames) k .row)) CALL && frameAt (m .frames) k .early) ≡ b → Fine (cond b on off) × (left stop (cond b on off) < (stop - m .next) * 3 + weight (m .frames) (suc k))
         go true q =
-            let x = both (eqb (v .kind (frameAt (m .frames) k .row)) 11) (frameAt (m .frames) k .early) q in
+            let x = both (eqb (v .kind (frameAt (m .frames) k .row)) CALL) (frameAt (m .frames) k .early) q in
             let y : oneIf (frameAt (m .frames) k .early) ≡ 1 = ap oneIf (x .1) in
-            let w = weight-top v pg stop (m .frames) k (frame (frameAt (m .frames) k .row) c false (frameAt (m .frames) k .deep)) roomy-top in
+            let w = weight-top v pg stop (m .frames) k (frameOf (frameAt (m .frames) k .row) c false (frameAt (m .frames) k .deep)) roomy-top in
             let u = weight-suc (m .frames) k in
-            (at-on v pg stop (m .frames) k (m .next) (frame (frameAt (m .frames) k .row) c false (frameAt (m .frames) k .deep)) a e refl refl, omega arith)
+            (at-on v pg stop (m .frames) k (m .next) (frameOf (frameAt (m .frames) k .row) c false (frameAt (m .frames) k .deep)) a e refl refl, omega arith)
         go false q =
             let u = weight-suc (m .frames) k in
             let g = nests-le (at-top-suc v pg stop (m .frames) k (m .next) a .later) in
@@ -235,32 +237,32 @@ module _ (v : View) (pg : Page) (stop : ℕ) where
     pub less : left stop n < left stop m
     pub same : means n ≡ means m
 
-  limit-suc : (fs : List Frame) (k : ℕ) → limit v stop fs (suc k) ≡ partEnd v (frameAt fs k)
-  unfolding limit
+  limit-suc : (fs : List Frame) (k : ℕ) → partLimit v stop fs (suc k) ≡ partEnd v (frameAt fs k)
+  unfolding partLimit
   limit-suc fs k = refl
 
-  limit-none : (fs : List Frame) → limit v stop fs zero ≡ stop
-  unfolding limit
+  limit-none : (fs : List Frame) → partLimit v stop fs zero ≡ stop
+  unfolding partLimit
   limit-none fs = refl
 
-  entered : (m : Machine) → Fine m → m .next < limit v stop (m .frames) (m .depth) → Turned m (enter v pg m)
+  entered : (m : Machine) → Fine m → m .next < partLimit v stop (m .frames) (m .depth) → Turned m (enter v pg m)
   entered m a h =
       let x = enter-fine m a h (v .kind (m .next)) refl in
       record { fine = x .0; less = x .1; same = enter-same m a h (v .kind (m .next)) refl }
 
   -- a row is ahead in the open part
-  pub not-done : (m : Machine) → Fine m → isDone m ≡ false → m .depth ≡ 0 → m .next < limit v stop (m .frames) (m .depth)
+  pub not-done : (m : Machine) → Fine m → isDone m ≡ false → m .depth ≡ 0 → m .next < partLimit v stop (m .frames) (m .depth)
   unfolding isDone
   not-done m a n e =
-      let l : limit v stop (m .frames) (m .depth) ≡ stop = rw e (limit-none (m .frames)) in
+      let l : partLimit v stop (m .frames) (m .depth) ≡ stop = rw e (limit-none (m .frames)) in
       let z : eqb (m .next) stop ≡ false = rw e at n in
-      lt-of (m .next) (limit v stop (m .frames) (m .depth)) (nests-le (a .good)) (λ q. eqb-false (m .next) stop z (q ∙ l))
+      lt-of (m .next) (partLimit v stop (m .frames) (m .depth)) (nests-le (a .good)) (λ q. eqb-false (m .next) stop z (q ∙ l))
 
   pub in-part : (m : Machine) (k : ℕ) → m .depth ≡ suc k → Fine m → (m .next ≡ partEnd v (frameAt (m .frames) k) → ⊥)
-      → m .next < limit v stop (m .frames) (m .depth)
+      → m .next < partLimit v stop (m .frames) (m .depth)
   in-part m k e a n =
-      let l : limit v stop (m .frames) (m .depth) ≡ partEnd v (frameAt (m .frames) k) = ap (limit v stop (m .frames)) e ∙ limit-suc (m .frames) k in
-      lt-of (m .next) (limit v stop (m .frames) (m .depth)) (nests-le (a .good)) (λ z. n (z ∙ l))
+      let l : partLimit v stop (m .frames) (m .depth) ≡ partEnd v (frameAt (m .frames) k) = ap (partLimit v stop (m .frames)) e ∙ limit-suc (m .frames) k in
+      lt-of (m .next) (partLimit v stop (m .frames) (m .depth)) (nests-le (a .good)) (λ z. n (z ∙ l))
 
   turned-at : (d : ℕ) (m : Machine) → m .depth ≡ d → Fine m → isDone m ≡ false → Turned m (turnAt v pg d m)
   unfolding turnAt
@@ -291,7 +293,7 @@ module _ (v : View) (pg : Page) (stop : ℕ) where
   run (suc f) m = cond (isDone m) m (run f (turn v pg m))
 
   pub done-means : (m : Machine) → isDone m ≡ true → means m ≡ m .state
-  unfolding isDone meaning rest limit renderNodes
+  unfolding isDone meaning rest partLimit renderNodes
   done-means m e =
       let x = both (eqb (m .depth) 0) (eqb (m .next) stop) e in
       rw (eqb-true (m .depth) 0 (x .0)) (rw (nodes-none v (m .next) stop (let z = eqb-true (m .next) stop (x .1) in omega arith)))
@@ -302,7 +304,7 @@ module _ (v : View) (pg : Page) (stop : ℕ) where
       let w = weight-ge (m .frames) (m .depth) in
       let d : m .depth ≡ 0 = omega arith in
       let g = nests-le (a .good) in
-      let k : limit v stop (m .frames) (m .depth) ≡ stop = rw d (limit-none (m .frames)) in
+      let k : partLimit v stop (m .frames) (m .depth) ≡ stop = rw d (limit-none (m .frames)) in
       let i : m .next ≡ stop = omega arith in
       rw (eq-eqb (m .depth) 0 d, eq-eqb (m .next) stop i)
 
@@ -318,21 +320,21 @@ module _ (v : View) (pg : Page) (stop : ℕ) where
   run-means (suc f) m a l = run-step m f (isDone m) refl a l (λ x y. run-means f (turn v pg m) x y)
 
 -- rows that nest, from any state: the machine's text, marks and numbers are those of the recursive rules on the tree of the rows
-pub machine-renders : (v : View) (pg : Page) (from stop : ℕ) (fs : List Frame) (st : Renderer) → Nests v from stop 0 → length fs ≡ 256
-    → run v pg stop ((stop - from) * 3) (begun fs from st) .state ≡ renderNodes pg (nodesAt v from stop) true st
-unfolding meaning rest limit wrapAt weight Under
+pub machine-renders : (v : View) (pg : Page) (from stop : ℕ) (fs : List Frame) (st : Renderer) → Nests v from stop 0 → length fs ≡ MAX-DEPTH
+    → run v pg stop ((stop - from) * 3) (started fs from st) .state ≡ renderNodes pg (nodesAt v from stop) true st
+unfolding meaning rest partLimit wrapAt weight Under
 machine-renders v pg from stop fs st g e =
-    run-means v pg stop ((stop - from) * 3) (begun fs from st)
+    run-means v pg stop ((stop - from) * 3) (started fs from st)
     (record { good = g; under = tt; low = omega arith; size = e; deep = omega arith }) (omega arith)
 
 -- WHAT A TURN IS, for the code that takes it
 module _ (v : View) (pg : Page) where
-  turn-enter-at : (stop d : ℕ) (m : Machine) → (m .next < limit v stop (m .frames) d) → turnAt v pg d m ≡ enter v pg m
-  unfolding turnAt limit
+  turn-enter-at : (stop d : ℕ) (m : Machine) → (m .next < partLimit v stop (m .frames) d) → turnAt v pg d m ≡ enter v pg m
+  unfolding turnAt partLimit
   turn-enter-at stop zero m h = refl
   turn-enter-at stop (suc k) m h = rw (ne-eqb (m .next) (partEnd v (frameAt (m .frames) k)) (λ e. omega arith))
 
-  pub turn-enter : (stop : ℕ) (m : Machine) → m .next < limit v stop (m .frames) (m .depth) → turn v pg m ≡ enter v pg m
+  pub turn-enter : (stop : ℕ) (m : Machine) → m .next < partLimit v stop (m .frames) (m .depth) → turn v pg m ≡ enter v pg m
   unfolding turn
   turn-enter stop m h = turn-enter-at stop (m .depth) m h
 
@@ -340,19 +342,19 @@ module _ (v : View) (pg : Page) where
   unfolding turn turnAt
   turn-leave m k e h = rw (e, eq-eqb (m .next) (partEnd v (frameAt (m .frames) k)) h)
 
-  pub enter-0 : (m : Machine) → v .kind (m .next) ≡ 0 → enter v pg m ≡ enterGroup v pg m
+  pub enter-0 : (m : Machine) → v .kind (m .next) ≡ GROUP → enter v pg m ≡ enterGroup v pg m
   unfolding enter
   enter-0 m e = rw e
 
-  pub enter-1 : (m : Machine) → v .kind (m .next) ≡ 1 → enter v pg m ≡ enterIndent v pg m
+  pub enter-1 : (m : Machine) → v .kind (m .next) ≡ INDENT → enter v pg m ≡ enterIndent v pg m
   unfolding enter
   enter-1 m e = rw e
 
-  pub enter-2 : (m : Machine) → v .kind (m .next) ≡ 2 → enter v pg m ≡ enterNext v pg m
+  pub enter-2 : (m : Machine) → v .kind (m .next) ≡ INDENT-NEXT → enter v pg m ≡ enterNext v pg m
   unfolding enter
   enter-2 m e = rw e
 
-  pub enter-10 : (m : Machine) → v .kind (m .next) ≡ 10 → enter v pg m ≡ enterIf v pg m
+  pub enter-10 : (m : Machine) → v .kind (m .next) ≡ IF-WRAP → enter v pg m ≡ enterIf v pg m
   unfolding enter
   enter-10 m e = rw e
 
@@ -370,6 +372,6 @@ module _ (v : View) (pg : Page) where
   enter-leaf m (suc (suc (suc (suc (suc (suc (suc (suc (suc zero))))))))) e a b = rw e
   enter-leaf m (suc (suc (suc (suc (suc (suc (suc (suc (suc (suc n)))))))))) e a b = absurd (omega arith)
 
-  pub enter-11 : (m : Machine) → v .kind (m .next) ≡ 11 → enter v pg m ≡ enterCall v pg m
+  pub enter-11 : (m : Machine) → v .kind (m .next) ≡ CALL → enter v pg m ≡ enterCall v pg m
   unfolding enter
   enter-11 m e = rw e

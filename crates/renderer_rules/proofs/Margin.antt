@@ -11,8 +11,8 @@ use borrow.Author.Tests.{ltb-true, ltb-false}
 use Rattle.rows.specs.Node.{Node, Nodes, group, indent, indentNext, wrapParent, comment as commentNode, str, ascii, line, emptyLine, lineOrSpace, ifWrap, call, none}
 use Rattle.rows.specs.Node.{_then_, wrapped}
 use Rattle.renderer_rules.specs.declared.Pen.{Pen}
-use Rattle.renderer_rules.specs.Renderer.{Page, Renderer, withNextIndent, onPen, pushStr, atColumn, newLine, margin, comment, text, insert, indented, outdented, nextIndented}
-use Rattle.renderer_rules.specs.Renderer.{nextOutdented, groupWraps, trailingCall, calleeWraps, renderNode, renderNodes}
+use Rattle.renderer_rules.specs.Renderer.{Page, Renderer, withNextIndent, onPen, pushStr, atColumn, newLine, margin, comment, text, insert, indentMore, indentLess, nextIndentMore}
+use Rattle.renderer_rules.specs.Renderer.{nextIndentLess, groupWraps, trailingCall, calleeWraps, renderNode, renderNodes}
 
 -- the sum is the same, and `indent` is no smaller
 pub record Kept (s t : Renderer) : Type 0 where
@@ -63,16 +63,16 @@ insert-kept : (n : ℕ) (b : Bool) (s : Renderer) → Kept s (insert b n s)
 unfolding insert
 insert-kept n b s = record { sum = refl; low = omega arith }
 
-in-kept : (b : Bool) (s t : Renderer) → Kept (onPen (indented b) s) t → Kept s (onPen (outdented b) t)
-unfolding indented outdented
+in-kept : (b : Bool) (s t : Renderer) → Kept (onPen (indentMore b) s) t → Kept s (onPen (indentLess b) t)
+unfolding indentMore indentLess
 in-kept true s t k = let a = k .sum in let c = k .low in record { sum = omega arith; low = omega arith }
 in-kept false s t k = record { sum = k .sum; low = k .low }
 
-next-kept : (b : Bool) (s t : Renderer) → Kept (onPen (nextIndented b) s) t → Kept s (onPen (nextOutdented b) t)
-unfolding nextIndented nextOutdented outdented
+next-kept : (b : Bool) (s t : Renderer) → Kept (onPen (nextIndentMore b) s) t → Kept s (onPen (nextIndentLess b) t)
+unfolding nextIndentMore nextIndentLess indentLess
 next-kept true s t k = go (ltb 0 (t .pen .«next_indent»)) refl
   where
-    go : (b : Bool) → ltb 0 (t .pen .«next_indent») ≡ b → Kept s (onPen (λ (p : Pen). cond b (withNextIndent (p .«next_indent» - 1) p) (outdented true p)) t)
+    go : (b : Bool) → ltb 0 (t .pen .«next_indent») ≡ b → Kept s (onPen (λ (p : Pen). cond b (withNextIndent (p .«next_indent» - 1) p) (indentLess true p)) t)
     go true e = let h = ltb-true 0 (t .pen .«next_indent») e in let a = k .sum in let c = k .low in record { sum = omega arith; low = omega arith }
     go false e = let h = ltb-false 0 (t .pen .«next_indent») e in let a = k .sum in let c = k .low in record { sum = omega arith; low = omega arith }
 next-kept false s t k = record { sum = k .sum; low = k .low }
@@ -82,8 +82,8 @@ mutual
 
   pub render-kept : (n : Node) (pg : Page) (w : Bool) (s : Renderer) → Kept s (renderNode pg n w s)
   render-kept (group n ns) pg w s = after (insert-kept n (groupWraps pg ns s) s) (renders-kept ns pg (groupWraps pg ns s) (insert (groupWraps pg ns s) n s))
-  render-kept (indent ns) pg w s = in-kept w s (renderNodes pg ns w (onPen (indented w) s)) (renders-kept ns pg w (onPen (indented w) s))
-  render-kept (indentNext ns) pg w s = next-kept w s (renderNodes pg ns w (onPen (nextIndented w) s)) (renders-kept ns pg w (onPen (nextIndented w) s))
+  render-kept (indent ns) pg w s = in-kept w s (renderNodes pg ns w (onPen (indentMore w) s)) (renders-kept ns pg w (onPen (indentMore w) s))
+  render-kept (indentNext ns) pg w s = next-kept w s (renderNodes pg ns w (onPen (nextIndentMore w) s)) (renders-kept ns pg w (onPen (nextIndentMore w) s))
   render-kept wrapParent pg w s = still s
   render-kept (commentNode t) pg w s = comment-kept (pg .bytes t) s
   render-kept (str k t) pg w s = text-kept (pg .bytes t) k s
@@ -96,16 +96,12 @@ mutual
       let t = trailingCall pg e a s in
       let b = calleeWraps pg t e a s in
       let d = not t && b in
-      let s1 = renderNodes pg e b (onPen (nextIndented d) (insert b n s)) in
+      let s1 = renderNodes pg e b (onPen (nextIndentMore d) (insert b n s)) in
       let c = groupWraps pg a s1 in
       after (insert-kept n b s)
       (next-kept d (insert b n s) (renderNodes pg a c (insert c k s1))
-      (after (renders-kept e pg b (onPen (nextIndented d) (insert b n s))) (after (insert-kept k c s1) (renders-kept a pg c (insert c k s1)))))
+      (after (renders-kept e pg b (onPen (nextIndentMore d) (insert b n s))) (after (insert-kept k c s1) (renders-kept a pg c (insert c k s1)))))
 
   pub renders-kept : (ns : Nodes) (pg : Page) (w : Bool) (s : Renderer) → Kept s (renderNodes pg ns w s)
   renders-kept none pg w s = still s
   renders-kept (n then ns) pg w s = after (render-kept n pg w s) (renders-kept ns pg w (renderNode pg n w s))
-
--- from fresh, both are 0 again
-pub no-drift : (ns : Nodes) (pg : Page) (w : Bool) (s : Renderer) → s .pen .indent ≡ 0 → s .pen .«next_indent» ≡ 0 → (renderNodes pg ns w s .pen .indent ≡ 0) × (renderNodes pg ns w s .pen .«next_indent» ≡ 0)
-no-drift ns pg w s a b = let k = renders-kept ns pg w s in let e = k .sum in (omega arith, omega arith)

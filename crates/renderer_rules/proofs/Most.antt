@@ -8,6 +8,8 @@ use mathlib.Core.List.{List, [], _∷_, _++_}
 use lib.ListN.{length, drop, replicate, length-append, length-take, length-replicate}
 use lib.Dec.{ltb}
 use borrow.Author.Tests.{ltb-true, ltb-false}
+use Rattle.rows.specs.Kinds.{CALL}
+use Rattle.rows.specs.Places.{KIND}
 use Rattle.rows.specs.Node.{Text, Node, Nodes, group, indent, indentNext, wrapParent, comment as commentNode, str, ascii, line, emptyLine, lineOrSpace, ifWrap, call, none}
 use Rattle.rows.specs.Node.{_then_, wrapped}
 use Rattle.rows.specs.Rows.{size, sizes}
@@ -15,13 +17,13 @@ use Rattle.rows.specs.View.{View, cell, viewOf, firstOf, nodesAt, nodeAt}
 use Rattle.rows.specs.Nesting.{RangeIn, Split, Nests, over, leaf, block, two, pair}
 use Rattle.rows.proofs.Decode.{nodes-none, nodes-some, node-group, node-indent, node-next, node-parent, node-comment, node-str, node-ascii}
 use Rattle.rows.proofs.Decode.{node-line, node-empty, node-space, node-if, node-call}
-use Rattle.rows.proofs.Nested.{nests-le, leaf-within}
+use Rattle.rows.proofs.Nested.{leaf-within}
 use Rattle.renderer_rules.specs.Most.{rowMost, rowsMost}
 use Rattle.rows.specs.Texts.{originText}
 use Rattle.renderer_rules.specs.Page.{textBytes, pageOf}
 use Rattle.renderer_rules.specs.declared.Pen.{Pen}
-use Rattle.renderer_rules.specs.Renderer.{Page, Renderer, withNextIndent, onPen, pushStr, atColumn, newLine, margin, comment, text, insert, indented, outdented, nextIndented}
-use Rattle.renderer_rules.specs.Renderer.{nextOutdented, groupWraps, trailingCall, calleeWraps, renderNode, renderNodes}
+use Rattle.renderer_rules.specs.Renderer.{Page, Renderer, withNextIndent, onPen, pushStr, atColumn, newLine, margin, comment, text, insert, indentMore, indentLess, nextIndentMore}
+use Rattle.renderer_rules.specs.Renderer.{nextIndentLess, groupWraps, trailingCall, calleeWraps, renderNode, renderNodes}
 use Rattle.renderer_rules.proofs.Margin.{render-kept, renders-kept}
 
 -- ---- a sum over nodes, where lines start m steps in
@@ -170,26 +172,26 @@ more : (c : Bool) (a b : ℕ) → a ≤ b + 1 → cond c 0 (4 * a) ≤ cond c 0 
 more true a b h = omega arith
 more false a b h = omega arith
 
-in-adds : (b : Bool) (s : Renderer) → Adds s (onPen (indented b) s) 4
-unfolding indented ahead
+in-adds : (b : Bool) (s : Renderer) → Adds s (onPen (indentMore b) s) 4
+unfolding indentMore ahead
 in-adds true s = record { most = let h = more (ltb 0 (s .pen .column .0)) (s .pen .indent + 1 + s .pen .«next_indent») (s .pen .indent + s .pen .«next_indent») (omega arith) in omega arith }
 in-adds false s = record { most = omega arith }
 
-out-adds : (b : Bool) (s : Renderer) → Adds s (onPen (outdented b) s) 0
-unfolding outdented ahead
+out-adds : (b : Bool) (s : Renderer) → Adds s (onPen (indentLess b) s) 0
+unfolding indentLess ahead
 out-adds true s = record { most = let h = less (ltb 0 (s .pen .column .0)) (s .pen .indent - 1 + s .pen .«next_indent») (s .pen .indent + s .pen .«next_indent») (omega arith) in omega arith }
 out-adds false s = record { most = omega arith }
 
-next-in-adds : (b : Bool) (s : Renderer) → Adds s (onPen (nextIndented b) s) 4
-unfolding nextIndented ahead
+next-in-adds : (b : Bool) (s : Renderer) → Adds s (onPen (nextIndentMore b) s) 4
+unfolding nextIndentMore ahead
 next-in-adds true s = record { most = let h = more (ltb 0 (s .pen .column .0)) (s .pen .indent + (s .pen .«next_indent» + 1)) (s .pen .indent + s .pen .«next_indent») (omega arith) in omega arith }
 next-in-adds false s = record { most = omega arith }
 
-next-out-adds : (b : Bool) (s : Renderer) → Adds s (onPen (nextOutdented b) s) 0
-unfolding nextOutdented ahead
+next-out-adds : (b : Bool) (s : Renderer) → Adds s (onPen (nextIndentLess b) s) 0
+unfolding nextIndentLess ahead
 next-out-adds true s = go (ltb 0 (s .pen .«next_indent»))
   where
-    go : (c : Bool) → Adds s (onPen (λ (p : Pen). cond c (withNextIndent (p .«next_indent» - 1) p) (outdented true p)) s) 0
+    go : (c : Bool) → Adds s (onPen (λ (p : Pen). cond c (withNextIndent (p .«next_indent» - 1) p) (indentLess true p)) s) 0
     go true = record { most = let h = less (ltb 0 (s .pen .column .0)) (s .pen .indent + (s .pen .«next_indent» - 1)) (s .pen .indent + s .pen .«next_indent») (omega arith) in omega arith }
     go false = out-adds true s
 next-out-adds false s = record { most = omega arith }
@@ -202,13 +204,13 @@ insert-sum : (n : ℕ) (b : Bool) (m : ℕ) (s : Renderer) → s .pen .indent + 
 unfolding insert
 insert-sum n b m s h = h
 
-in-sum : (b : Bool) (m : ℕ) (s : Renderer) → s .pen .indent + s .pen .«next_indent» ≤ m → indented b (s .pen) .indent + indented b (s .pen) .«next_indent» ≤ suc m
-unfolding indented
+in-sum : (b : Bool) (m : ℕ) (s : Renderer) → s .pen .indent + s .pen .«next_indent» ≤ m → indentMore b (s .pen) .indent + indentMore b (s .pen) .«next_indent» ≤ suc m
+unfolding indentMore
 in-sum true m s h = omega arith
 in-sum false m s h = omega arith
 
-next-sum : (b : Bool) (m : ℕ) (s : Renderer) → s .pen .indent + s .pen .«next_indent» ≤ m → nextIndented b (s .pen) .indent + nextIndented b (s .pen) .«next_indent» ≤ suc m
-unfolding nextIndented
+next-sum : (b : Bool) (m : ℕ) (s : Renderer) → s .pen .indent + s .pen .«next_indent» ≤ m → nextIndentMore b (s .pen) .indent + nextIndentMore b (s .pen) .«next_indent» ≤ suc m
+unfolding nextIndentMore
 next-sum true m s h = omega arith
 next-sum false m s h = omega arith
 
@@ -223,11 +225,11 @@ module _ (pg : Page) (said : (t : Text) → length (pg .bytes t) ≤ t .size) wh
         adds-more (costs ns m) (omega arith) (adds-then (insert-adds n b s) (renders-adds ns b m (insert b n s) (insert-sum n b m s h)))
     render-adds (indent ns) w m s h =
         adds-more (4 + costs ns (suc m)) (omega arith)
-        (adds-then (adds-then (in-adds w s) (renders-adds ns w (suc m) (onPen (indented w) s) (in-sum w m s h))) (out-adds w (renderNodes pg ns w (onPen (indented w) s))))
+        (adds-then (adds-then (in-adds w s) (renders-adds ns w (suc m) (onPen (indentMore w) s) (in-sum w m s h))) (out-adds w (renderNodes pg ns w (onPen (indentMore w) s))))
     render-adds (indentNext ns) w m s h =
         adds-more (4 + costs ns (suc m)) (omega arith)
-        (adds-then (adds-then (next-in-adds w s) (renders-adds ns w (suc m) (onPen (nextIndented w) s) (next-sum w m s h)))
-        (next-out-adds w (renderNodes pg ns w (onPen (nextIndented w) s))))
+        (adds-then (adds-then (next-in-adds w s) (renders-adds ns w (suc m) (onPen (nextIndentMore w) s) (next-sum w m s h)))
+        (next-out-adds w (renderNodes pg ns w (onPen (nextIndentMore w) s))))
     render-adds wrapParent w m s h = adds-none s
     render-adds (commentNode t) w m s h = let g = said t in adds-more (t .size + (2 + 4 * m)) (omega arith) (comment-adds (pg .bytes t) m s h)
     render-adds (str k t) w m s h = adds-more (t .size) (said t) (text-adds (pg .bytes t) k s)
@@ -246,7 +248,7 @@ module _ (pg : Page) (said : (t : Text) → length (pg .bytes t) ≤ t .size) wh
         let t = trailingCall pg e a s in
         let b = calleeWraps pg t e a s in
         let d = not t && b in
-        let s0 = onPen (nextIndented d) (insert b n s) in
+        let s0 = onPen (nextIndentMore d) (insert b n s) in
         let h0 = next-sum d m (insert b n s) (insert-sum n b m s h) in
         let s1 = renderNodes pg e b s0 in
         let z = renders-kept e pg b s0 .sum in
@@ -297,7 +299,7 @@ module _ (s : List ℕ) where
   span-parts : (m i k j : ℕ) → i ≤ k → k ≤ j → span m i j ≡ span m i k + span m k j
   span-parts m i k j p q = parted (k - i) (j - k) m i k (j - i) (omega arith) (omega arith)
 
-  span-row : (m i j : ℕ) → i < j → span m i j ≡ rowMost m s i (cell s i 0) + span m (suc i) j
+  span-row : (m i j : ℕ) → i < j → span m i j ≡ rowMost m s i (cell s i KIND) + span m (suc i) j
   unfolding rowsMost
   span-row m i j h = ap (λ (n : ℕ). rowsMost n m s i) (one-less h)
     where
@@ -388,7 +390,7 @@ module _ (s : List ℕ) where
   blocks-most m i (suc (suc zero)) e p h g = rw (node-next v i e) (set-in m i (v .after i) (nodesAt v (suc i) (v .after i)) h g)
   blocks-most m i (suc (suc (suc k))) e p h g = absurd (omega arith)
 
-  calls-most : (m i : ℕ) → v .kind i ≡ 11 → Split v i → i < v .after i
+  calls-most : (m i : ℕ) → v .kind i ≡ CALL → Split v i → i < v .after i
       → sizes (nodesAt v (suc i) (v .second i)) ≤ v .second i - suc i
       → sizes (nodesAt v (v .second i) (v .after i)) ≤ v .after i - v .second i
       → cost (nodeAt v i) m ≤ rowMost m s i 11 + (costs (nodesAt v (suc i) (v .second i)) m + costs (nodesAt v (v .second i) (v .after i)) m)

@@ -11,7 +11,7 @@ use lib.Dec.{ltb, eqb}
 use borrow.Author.Tests.{eqb-false}
 use Rattle.rows.specs.Node.{Node, Nodes, group, indent, indentNext, wrapParent, comment as commentNode, str, ascii, line, emptyLine, lineOrSpace, ifWrap, call, none}
 use Rattle.rows.specs.Node.{_then_, wrapped}
-use Rattle.renderer_rules.specs.Renderer.{Page, Renderer, onPen, pushStr, atColumn, newLine, margin, comment, text, insert, indented, nextIndented}
+use Rattle.renderer_rules.specs.Renderer.{Page, Renderer, onPen, pushStr, atColumn, newLine, margin, comment, text, insert, indentMore, nextIndentMore}
 use Rattle.renderer_rules.specs.Renderer.{groupWraps, trailingCall, calleeWraps, renderNode, renderNodes}
 
 -- x is a number of the node, or of one in it
@@ -90,9 +90,9 @@ mutual
       let h = neither (eqb x n) (namesIn x ns) e in
       after (insert-same x n (groupWraps p ns s) s (h .0)) (renders-same x ns p (groupWraps p ns s) (insert (groupWraps p ns s) n s) (h .1))
   render-same x (indent ns) p w s e =
-      after (same-marks x s (onPen (indented w) s) refl) (after (renders-same x ns p w (onPen (indented w) s) e) (same-marks x _ _ refl))
+      after (same-marks x s (onPen (indentMore w) s) refl) (after (renders-same x ns p w (onPen (indentMore w) s) e) (same-marks x _ _ refl))
   render-same x (indentNext ns) p w s e =
-      after (same-marks x s (onPen (nextIndented w) s) refl) (after (renders-same x ns p w (onPen (nextIndented w) s) e) (same-marks x _ _ refl))
+      after (same-marks x s (onPen (nextIndentMore w) s) refl) (after (renders-same x ns p w (onPen (nextIndentMore w) s) e) (same-marks x _ _ refl))
   render-same x wrapParent p w s e = same-marks x s s refl
   render-same x (commentNode t) p w s e = same-marks x s _ (comment-marks (p .bytes t) s)
   render-same x (str k t) p w s e = same-marks x s _ (text-marks (p .bytes t) k s)
@@ -112,11 +112,11 @@ mutual
       let t = trailingCall p e a s in
       let o = calleeWraps p t e a s in
       let d = not t && o in
-      let s1 = renderNodes p e o (onPen (nextIndented d) (insert o n s)) in
+      let s1 = renderNodes p e o (onPen (nextIndentMore d) (insert o n s)) in
       let c = groupWraps p a s1 in
       after (insert-same x n o s (i .0))
-      (after (same-marks x (insert o n s) (onPen (nextIndented d) (insert o n s)) refl)
-      (after (renders-same x e p o (onPen (nextIndented d) (insert o n s)) (j .0))
+      (after (same-marks x (insert o n s) (onPen (nextIndentMore d) (insert o n s)) refl)
+      (after (renders-same x e p o (onPen (nextIndentMore d) (insert o n s)) (j .0))
       (after (insert-same x k c s1 (i .1))
       (after (renders-same x a p c (insert c k s1) (j .1)) (same-marks x _ _ refl)))))
 

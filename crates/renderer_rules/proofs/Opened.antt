@@ -7,15 +7,15 @@ use native.Mathlib.Numerals.{add-one}
 use mathlib.Core.Bool.{Bool, true, false}
 use mathlib.Core.List.{List}
 use lib.ListN.{length, set, length-set}
+use Rattle.rows.specs.Kinds.{INDENT-NEXT, WRAP-PARENT, LINE-OR-SPACE, IF-WRAP, CALL}
 use Rattle.rows.specs.View.{View, nodeAt}
 use Rattle.rows.specs.Nesting.{Nests, over}
 use Rattle.rows.proofs.Nested.{nests-le, nests-leaf, nests-block, nests-two, nests-pair, nests-after, nests-rest, nests-deep}
 use Rattle.renderer_rules.specs.declared.Frame.{Frame}
 use Rattle.renderer_rules.specs.Renderer.{Page, Renderer, renderNode}
-use Rattle.renderer_rules.specs.Frames.{frameAt, partEnd, limit, wrapAt, Open, Under, At}
-use Rattle.renderer_rules.specs.Machine.{closing}
+use Rattle.renderer_rules.specs.Frames.{frameAt, partEnd, partLimit, wrapAt, Open, Under, At}
 use Rattle.renderer_rules.specs.Safe.{oneIf}
-use Rattle.renderer_rules.proofs.Meaning.{meaning, advance, pop, limit-set, limit-same, frame-same}
+use Rattle.renderer_rules.proofs.Meaning.{meaning, advance, limit-set, limit-same, frame-same}
 use Rattle.renderer_rules.proofs.Meaning.{frame-other}
 
 bit-le : (b : Bool) → oneIf b ≤ 1
@@ -38,10 +38,10 @@ module _ (v : View) (pg : Page) (stop : ℕ) where
         under-set fs k d f (omega arith) (u .1),
       )
 
-  pub at-leaf : (fs : List Frame) (d i : ℕ) → At v stop fs d i → i < limit v stop fs d → 3 ≤ v .kind i → v .kind i ≤ 9 → At v stop fs d (i + 1)
+  pub at-leaf : (fs : List Frame) (d i : ℕ) → At v stop fs d i → i < partLimit v stop fs d → WRAP-PARENT ≤ v .kind i → v .kind i ≤ LINE-OR-SPACE → At v stop fs d (i + 1)
   at-leaf fs d i a h k l = rw (add-one i) (record { good = nests-leaf (a .good) h k l .rest; under = a .under; low = a .low; size = a .size; deep = a .deep })
 
-  pub at-block : (fs : List Frame) (d i : ℕ) (f : Frame) → At v stop fs d i → i < limit v stop fs d → v .kind i ≤ 2 → f .row ≡ i → f .early ≡ false → At v stop (set fs d f) (d + 1) (i + 1)
+  pub at-block : (fs : List Frame) (d i : ℕ) (f : Frame) → At v stop fs d i → i < partLimit v stop fs d → v .kind i ≤ INDENT-NEXT → f .row ≡ i → f .early ≡ false → At v stop (set fs d f) (d + 1) (i + 1)
   unfolding Under partEnd
   at-block fs d i f a h k e y =
       let b = nests-block (a .good) h k in
@@ -50,7 +50,7 @@ module _ (v : View) (pg : Page) (stop : ℕ) where
       let w = b .within in
       let l : d < length fs = rw (a .size) n in
       let p = limit-set v pg stop fs d d f (omega arith) in
-      let q : limit v stop (set fs d f) (suc d) ≡ v .after i = limit-same v pg stop fs d f l ∙ rw (y, e) in
+      let q : partLimit v stop (set fs d f) (suc d) ≡ v .after i = limit-same v pg stop fs d f l ∙ rw (y, e) in
       let s = frame-same v pg stop fs d f l in
       rw (add-one i, add-one d)
       (record {
@@ -74,16 +74,12 @@ module _ (v : View) (pg : Page) (stop : ℕ) where
   at-top fs zero i h a = absurd (omega arith)
   at-top fs (suc d) i h a = let e : suc d - 1 ≡ d = omega arith in rw e (at-top-suc fs d i a)
 
-  pub at-pop : (fs : List Frame) (d i : ℕ) → 0 < d → At v stop fs d i → At v stop fs (d - 1) (v .after (frameAt fs (d - 1) .row))
-  at-pop fs zero i h a = absurd (omega arith)
-  at-pop fs (suc d) i h a = let e : suc d - 1 ≡ d = omega arith in rw e (at-pop-suc fs d i a)
-
-  pub limit-zero : (fs : List Frame) (d : ℕ) → d ≡ 0 → limit v stop fs d ≡ stop
-  unfolding limit
+  pub limit-zero : (fs : List Frame) (d : ℕ) → d ≡ 0 → partLimit v stop fs d ≡ stop
+  unfolding partLimit
   limit-zero fs d e = rw e
 
-  pub limit-pos : (fs : List Frame) (d : ℕ) → 0 < d → limit v stop fs d ≡ partEnd v (frameAt fs (d - 1))
-  unfolding limit
+  pub limit-pos : (fs : List Frame) (d : ℕ) → 0 < d → partLimit v stop fs d ≡ partEnd v (frameAt fs (d - 1))
+  unfolding partLimit
   limit-pos fs zero h = absurd (omega arith)
   limit-pos fs (suc d) h = let e : suc d - 1 ≡ d = omega arith in rw e
 
@@ -96,13 +92,7 @@ module _ (v : View) (pg : Page) (stop : ℕ) where
   wrapAt-pos fs zero h = absurd (omega arith)
   wrapAt-pos fs (suc d) h = let e : suc d - 1 ≡ d = omega arith in rw e
 
-  pub pop-at : (fs : List Frame) (d i : ℕ) (s : Renderer) → 0 < d → limit v stop fs d ≤ i
-      → meaning v pg stop fs d i s ≡ meaning v pg stop fs (d - 1) (v .after (frameAt fs (d - 1) .row)) (closing v pg (frameAt fs (d - 1)) s)
-  unfolding limit
-  pop-at fs zero i s z h = absurd (omega arith)
-  pop-at fs (suc d) i s z h = let e : suc d - 1 ≡ d = omega arith in rw e (pop v pg stop fs d i s h)
-
-  pub advance-leaf : (fs : List Frame) (d i : ℕ) (s : Renderer) → At v stop fs d i → i < limit v stop fs d → 3 ≤ v .kind i → v .kind i ≤ 9
+  pub advance-leaf : (fs : List Frame) (d i : ℕ) (s : Renderer) → At v stop fs d i → i < partLimit v stop fs d → WRAP-PARENT ≤ v .kind i → v .kind i ≤ LINE-OR-SPACE
       → meaning v pg stop fs d (i + 1) (renderNode pg (nodeAt v i) (wrapAt fs d) s) ≡ meaning v pg stop fs d i s
   advance-leaf fs d i s a h k l =
       sym
@@ -110,7 +100,7 @@ module _ (v : View) (pg : Page) (stop : ℕ) where
       ∙ ap (λ (j : ℕ). meaning v pg stop fs d j (renderNode pg (nodeAt v i) (wrapAt fs d) s)) (nests-leaf (a .good) h k l .next ∙ sym (add-one i)))
 
   -- a row is opened at one of its parts
-  pub at-open : (fs : List Frame) (d i k : ℕ) (f : Frame) → At v stop fs d i → i < limit v stop fs d → f .row ≡ i
+  pub at-open : (fs : List Frame) (d i k : ℕ) (f : Frame) → At v stop fs d i → i < partLimit v stop fs d → f .row ≡ i
       → Nests v k (partEnd v f) (suc d) → Nests v (partEnd v f) (v .after i) (suc d) → At v stop (set fs d f) (suc d) k
   unfolding Under
   at-open fs d i k f a h e g l =
@@ -138,19 +128,19 @@ module _ (v : View) (pg : Page) (stop : ℕ) where
         deep = omega arith;
       }
 
-  pub at-first : (fs : List Frame) (d i : ℕ) (f : Frame) → At v stop fs d i → i < limit v stop fs d → v .kind i ≡ 10 → f .row ≡ i → f .early ≡ true → At v stop (set fs d f) (suc d) (suc i)
+  pub at-first : (fs : List Frame) (d i : ℕ) (f : Frame) → At v stop fs d i → i < partLimit v stop fs d → v .kind i ≡ IF-WRAP → f .row ≡ i → f .early ≡ true → At v stop (set fs d f) (suc d) (suc i)
   unfolding partEnd
   at-first fs d i f a h k e y =
       let g = nests-two (a .good) h k .1 in
       at-open fs d i (suc i) f a h e (rw (y, e) (g .first)) (rw (y, e) (g .second))
 
-  pub at-second : (fs : List Frame) (d i : ℕ) (f : Frame) → At v stop fs d i → i < limit v stop fs d → v .kind i ≡ 10 → f .row ≡ i → f .early ≡ false → At v stop (set fs d f) (suc d) (v .second i)
+  pub at-second : (fs : List Frame) (d i : ℕ) (f : Frame) → At v stop fs d i → i < partLimit v stop fs d → v .kind i ≡ IF-WRAP → f .row ≡ i → f .early ≡ false → At v stop (set fs d f) (suc d) (v .second i)
   unfolding partEnd
   at-second fs d i f a h k e y =
       let g = nests-two (a .good) h k .1 in
       at-open fs d i (v .second i) f a h e (rw (y, e) (g .second)) (rw (y, e) (over refl))
 
-  pub at-call : (fs : List Frame) (d i : ℕ) (f : Frame) → At v stop fs d i → i < limit v stop fs d → v .kind i ≡ 11 → f .row ≡ i → f .early ≡ true → At v stop (set fs d f) (suc d) (suc i)
+  pub at-call : (fs : List Frame) (d i : ℕ) (f : Frame) → At v stop fs d i → i < partLimit v stop fs d → v .kind i ≡ CALL → f .row ≡ i → f .early ≡ true → At v stop (set fs d f) (suc d) (suc i)
   unfolding partEnd
   at-call fs d i f a h k e y =
       let g = nests-pair (a .good) h k in
@@ -164,7 +154,7 @@ module _ (v : View) (pg : Page) (stop : ℕ) where
       let n = a .deep in
       let b : d < length fs = rw (a .size) (omega arith) in
       let p = limit-set v pg stop fs d d f (omega arith) in
-      let q : limit v stop (set fs d f) (suc d) ≡ v .after (frameAt fs d .row) = limit-same v pg stop fs d f b ∙ rw (y, e) in
+      let q : partLimit v stop (set fs d f) (suc d) ≡ v .after (frameAt fs d .row) = limit-same v pg stop fs d f b ∙ rw (y, e) in
       let s = frame-same v pg stop fs d f b in
       let w = nests-le (o .after) in
       let z = o .low in

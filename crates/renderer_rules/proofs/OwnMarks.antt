@@ -14,9 +14,10 @@ use borrow.Author.Tests.{eqb-true, eqb-false}
 use Rattle.rows.specs.Node.{Text, Node, Nodes, group, indent, indentNext, wrapParent, comment as commentNode, str, ascii, line, emptyLine, lineOrSpace, ifWrap, call}
 use Rattle.rows.specs.Node.{none, _then_, wrapped, width, widths, mustWraps}
 use Rattle.renderer_rules.specs.declared.Pen.{Pen}
-use Rattle.renderer_rules.specs.Renderer.{Page, Renderer, withMarks, onPen, pushStr, atColumn, newLine, margin, comment, text, virtualColumn, insert, indented, outdented}
-use Rattle.renderer_rules.specs.Renderer.{nextIndented, nextOutdented, wraps, groupWraps, trailingCall, calleeWraps, renderNode, renderNodes}
+use Rattle.renderer_rules.specs.Renderer.{Page, Renderer, withMarks, onPen, pushStr, atColumn, newLine, margin, comment, text, virtualColumn, insert, indentMore, indentLess}
+use Rattle.renderer_rules.specs.Renderer.{nextIndentMore, nextIndentLess, wraps, groupWraps, trailingCall, calleeWraps, renderNode, renderNodes}
 use Rattle.renderer_rules.proofs.Names.{names, namesIn, neither}
+use Rattle.renderer_rules.proofs.Choices.{grouped, callee, called}
 
 -- what keeps the marks does the same over other marks
 cond-marked : (c : Bool) (m : List ℕ) (s t : Renderer) → cond c (withMarks m s) (withMarks m t) ≡ withMarks m (cond c s t)
@@ -168,40 +169,33 @@ module _ (q : ℕ → Bool) where
     abbrev Ih : Nodes → Type 0
     Ih ns = (w : Bool) (s t : Renderer) → Alike s t → Alike (renderNodes p ns w s) (renderNodes p ns w t)
 
-    -- a group, and a `Call`'s callee, by what was decided
-    grouped : ℕ → Nodes → Renderer → Renderer
-    grouped n ns s = renderNodes p ns (groupWraps p ns s) (insert (groupWraps p ns s) n s)
-
-    grouped-alike : (n : ℕ) (ns : Nodes) (s t : Renderer) → Inside ns → Ih ns → Alike s t → Alike (grouped n ns s) (grouped n ns t)
+    grouped-alike : (n : ℕ) (ns : Nodes) (s t : Renderer) → Inside ns → Ih ns → Alike s t → Alike (grouped p n ns s) (grouped p n ns t)
     unfolding grouped
     grouped-alike n ns s t i ih a =
         let w = groupWraps p ns s in
         subst (λ (c : Bool). Alike (renderNodes p ns w (insert w n s)) (renderNodes p ns c (insert c n t))) (sym (group-same ns s t i a))
         (ih w (insert w n s) (insert w n t) (insert-alike w n s t a))
 
-    called : Bool → Bool → ℕ → Nodes → ℕ → Nodes → Renderer → Renderer
-    called c w n e k b s = onPen (nextOutdented (not c && w)) (grouped k b (renderNodes p e w (onPen (nextIndented (not c && w)) (insert w n s))))
-
     called-alike : (c w : Bool) (n : ℕ) (e : Nodes) (k : ℕ) (b : Nodes) (s t : Renderer) → Inside b → Ih e → Ih b → Alike s t
-        → Alike (called c w n e k b s) (called c w n e k b t)
-    unfolding called
+        → Alike (called p c w n e k b s) (called p c w n e k b t)
+    unfolding called callee
     called-alike c w n e k b s t j ihe ihb a =
         let d = not c && w in
-        keeps-pen (nextOutdented d) _ _
+        keeps-pen (nextIndentLess d) _ _
         (grouped-alike k b _ _ j ihb
-        (ihe w _ _ (keeps-pen (nextIndented d) _ _ (insert-alike w n s t a))))
+        (ihe w _ _ (keeps-pen (nextIndentMore d) _ _ (insert-alike w n s t a))))
 
     mutual
-      unfolding renderNode names called grouped
+      unfolding renderNode names called callee grouped
 
       render-alike : (n : Node) (w : Bool) (s t : Renderer) → Within n → Alike s t → Alike (renderNode p n w s) (renderNode p n w t)
       render-alike (group n ns) w s t i a =
           let j : Inside ns = λ x h. neither (eqb x n) (namesIn x ns) (i x h) .1 in
           grouped-alike n ns s t j (λ w′ s′ t′ a′. renders-alike ns w′ s′ t′ j a′) a
       render-alike (indent ns) w s t i a =
-          keeps-pen (outdented w) _ _ (renders-alike ns w _ _ i (keeps-pen (indented w) s t a))
+          keeps-pen (indentLess w) _ _ (renders-alike ns w _ _ i (keeps-pen (indentMore w) s t a))
       render-alike (indentNext ns) w s t i a =
-          keeps-pen (nextOutdented w) _ _ (renders-alike ns w _ _ i (keeps-pen (nextIndented w) s t a))
+          keeps-pen (nextIndentLess w) _ _ (renders-alike ns w _ _ i (keeps-pen (nextIndentMore w) s t a))
       render-alike wrapParent w s t i a = a
       render-alike (commentNode x) w s t i a = keeps (comment (p .bytes x)) (comment-marked (p .bytes x)) s t a
       render-alike (str k x) w s t i a = keeps (text (p .bytes x) k) (text-marked (p .bytes x) k) s t a
@@ -227,7 +221,7 @@ module _ (q : ℕ → Bool) where
           let o = calleeWraps p c e b s in
           let one : trailingCall p e b t ≡ c = trailing-same e b s t u v a in
           let two : calleeWraps p (trailingCall p e b t) e b t ≡ o = ap (λ (z : Bool). calleeWraps p z e b t) one ∙ callee-same c e b s t u v a in
-          subst₂ (λ (y z : Bool). Alike (called c o n e k b s) (called y z n e k b t)) (sym one) (sym two)
+          subst₂ (λ (y z : Bool). Alike (called p c o n e k b s) (called p y z n e k b t)) (sym one) (sym two)
           (called-alike c o n e k b s t v (λ w′ s′ t′ a′. renders-alike e w′ s′ t′ u a′) (λ w′ s′ t′ a′. renders-alike b w′ s′ t′ v a′) a)
 
       pub renders-alike : (ns : Nodes) (w : Bool) (s t : Renderer) → Inside ns → Alike s t → Alike (renderNodes p ns w s) (renderNodes p ns w t)

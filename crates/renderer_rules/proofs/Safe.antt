@@ -9,6 +9,7 @@ use mathlib.Core.List.{List, [], _∷_, _++_}
 use lib.ListN.{length, set, replicate, length-append, length-replicate}
 use lib.Dec.{ltb, eqb}
 use borrow.Author.Tests.{eqb-true, eqb-false, ne-eqb, ltb-true, ltb-false}
+use Rattle.rows.specs.Kinds.{GROUP, INDENT, INDENT-NEXT, WRAP-PARENT, LINE-OR-SPACE, IF-WRAP, CALL}
 use Rattle.rows.specs.Node.{wrapped}
 use Rattle.rows.specs.View.{View, nodesAt, nodeAt}
 use Rattle.rows.proofs.Decode.{node-parent, node-comment, node-str, node-ascii, node-line, node-empty, node-space}
@@ -16,11 +17,11 @@ use Rattle.rows.proofs.Nested.{nests-le, nests-two, nests-kind, nests-deep}
 use Rattle.laws.proofs.Booleans.{both}
 use Rattle.renderer_rules.specs.declared.Frame.{Frame}
 use Rattle.renderer_rules.specs.declared.Pen.{Pen}
-use Rattle.renderer_rules.specs.Renderer.{Page, Renderer, withBuf, withNextIndent, onPen, onNewLine, pushStr, atColumn, newLine, margin, comment, text, insert, indented, outdented, nextIndented}
-use Rattle.renderer_rules.specs.Renderer.{nextOutdented, groupWraps, trailingCall, calleeWraps, renderNode}
+use Rattle.renderer_rules.specs.Renderer.{Page, Renderer, withBuf, withNextIndent, onPen, onNewLine, pushStr, atColumn, newLine, margin, comment, text, insert, indentMore, indentLess, nextIndentMore}
+use Rattle.renderer_rules.specs.Renderer.{nextIndentLess, groupWraps, trailingCall, calleeWraps, renderNode}
 use Rattle.renderer_rules.proofs.Margin.{render-kept}
-use Rattle.renderer_rules.specs.Frames.{frameAt, partEnd, limit, wrapAt, At}
-use Rattle.renderer_rules.specs.Machine.{Machine, opened, reopened, closed, frame, closing, firstPart, secondPart, enterGroup, enterIndent, enterNext, enterLeaf, enterIf, enterCall, enter, leave, turnAt, turn}
+use Rattle.renderer_rules.specs.Frames.{frameAt, partEnd, partLimit, wrapAt, At}
+use Rattle.renderer_rules.specs.Machine.{Machine, opened, reopened, closedTo, frameOf, closing, firstPart, secondPart, enterGroup, enterIndent, enterNext, enterLeaf, enterIf, enterCall, enter, leave, turnAt, turn}
 use Rattle.renderer_rules.specs.Safe.{oneIf, stepsBack, insOf, steps, ins, SmallTexts, Safe}
 use Rattle.renderer_rules.proofs.Meaning.{frame-other, frame-same}
 use Rattle.renderer_rules.proofs.Opened.{at-top-suc}
@@ -33,7 +34,7 @@ bit-le false = omega arith
 step-le : (v : View) (f : Frame) → stepsBack v f ≤ 1
 unfolding stepsBack
 step-le v f =
-    bit-le ((eqb (v .kind (f .row)) 1 && f .wrap) || ((eqb (v .kind (f .row)) 2 && f .wrap) || (eqb (v .kind (f .row)) 11 && f .deep)))
+    bit-le ((eqb (v .kind (f .row)) INDENT && f .wrap) || ((eqb (v .kind (f .row)) INDENT-NEXT && f .wrap) || (eqb (v .kind (f .row)) CALL && f .deep)))
 
 or-ge : (a b : Bool) → oneIf a ≤ oneIf (a || b)
 or-ge true b = omega arith
@@ -42,7 +43,7 @@ or-ge false false = omega arith
 
 in-le : (v : View) (f : Frame) → insOf v f ≤ stepsBack v f
 unfolding insOf stepsBack
-in-le v f = or-ge (eqb (v .kind (f .row)) 1 && f .wrap) ((eqb (v .kind (f .row)) 2 && f .wrap) || (eqb (v .kind (f .row)) 11 && f .deep))
+in-le v f = or-ge (eqb (v .kind (f .row)) INDENT && f .wrap) ((eqb (v .kind (f .row)) INDENT-NEXT && f .wrap) || (eqb (v .kind (f .row)) CALL && f .deep))
 
 pub steps-le : (v : View) (fs : List Frame) (d : ℕ) → steps v fs d ≤ d
 unfolding steps
@@ -72,33 +73,33 @@ closing-plain v pg f s (suc (suc (suc (suc (suc (suc (suc (suc (suc (suc zero)))
 closing-plain v pg f s (suc (suc (suc (suc (suc (suc (suc (suc (suc (suc (suc zero))))))))))) e a b c = absurd (c refl)
 closing-plain v pg f s (suc (suc (suc (suc (suc (suc (suc (suc (suc (suc (suc (suc k)))))))))))) e a b c = rw e
 
-pub closing-indent : (v : View) (pg : Page) (f : Frame) (s : Renderer) → v .kind (f .row) ≡ 1 → closing v pg f s ≡ onPen (outdented (f .wrap)) s
+pub closing-indent : (v : View) (pg : Page) (f : Frame) (s : Renderer) → v .kind (f .row) ≡ INDENT → closing v pg f s ≡ onPen (indentLess (f .wrap)) s
 unfolding closing
 closing-indent v pg f s k = rw k
 
-pub closing-next : (v : View) (pg : Page) (f : Frame) (s : Renderer) → v .kind (f .row) ≡ 2 → closing v pg f s ≡ onPen (nextOutdented (f .wrap)) s
+pub closing-next : (v : View) (pg : Page) (f : Frame) (s : Renderer) → v .kind (f .row) ≡ INDENT-NEXT → closing v pg f s ≡ onPen (nextIndentLess (f .wrap)) s
 unfolding closing
 closing-next v pg f s k = rw k
 
-pub closing-call : (v : View) (pg : Page) (f : Frame) (s : Renderer) → v .kind (f .row) ≡ 11 → f .early ≡ false → closing v pg f s ≡ onPen (nextOutdented (f .deep)) s
+pub closing-call : (v : View) (pg : Page) (f : Frame) (s : Renderer) → v .kind (f .row) ≡ CALL → f .early ≡ false → closing v pg f s ≡ onPen (nextIndentLess (f .deep)) s
 unfolding closing
 closing-call v pg f s k e = rw (k, e)
 
-plain-step : (v : View) (f : Frame) → (v .kind (f .row) ≡ 1 → ⊥) → (v .kind (f .row) ≡ 2 → ⊥) → (v .kind (f .row) ≡ 11 → ⊥) → stepsBack v f ≡ 0
+plain-step : (v : View) (f : Frame) → (v .kind (f .row) ≡ INDENT → ⊥) → (v .kind (f .row) ≡ INDENT-NEXT → ⊥) → (v .kind (f .row) ≡ CALL → ⊥) → stepsBack v f ≡ 0
 unfolding stepsBack
-plain-step v f a b c = rw (ne-eqb (v .kind (f .row)) 1 a, ne-eqb (v .kind (f .row)) 2 b, ne-eqb (v .kind (f .row)) 11 c)
+plain-step v f a b c = rw (ne-eqb (v .kind (f .row)) INDENT a, ne-eqb (v .kind (f .row)) INDENT-NEXT b, ne-eqb (v .kind (f .row)) CALL c)
 
-pub indent-steps : (v : View) (f : Frame) (b : Bool) → v .kind (f .row) ≡ 1 → f .wrap ≡ b → (stepsBack v f ≡ oneIf b) × (insOf v f ≡ oneIf b)
+pub indent-steps : (v : View) (f : Frame) (b : Bool) → v .kind (f .row) ≡ INDENT → f .wrap ≡ b → (stepsBack v f ≡ oneIf b) × (insOf v f ≡ oneIf b)
 unfolding stepsBack insOf
 indent-steps v f true k e = (rw (k, e), rw (k, e))
 indent-steps v f false k e = (rw (k, e), rw (k, e))
 
-pub next-steps : (v : View) (f : Frame) (b : Bool) → v .kind (f .row) ≡ 2 → f .wrap ≡ b → (stepsBack v f ≡ oneIf b) × (insOf v f ≡ 0)
+pub next-steps : (v : View) (f : Frame) (b : Bool) → v .kind (f .row) ≡ INDENT-NEXT → f .wrap ≡ b → (stepsBack v f ≡ oneIf b) × (insOf v f ≡ 0)
 unfolding stepsBack insOf
 next-steps v f true k e = (rw (k, e), rw k)
 next-steps v f false k e = (rw (k, e), rw k)
 
-pub call-steps : (v : View) (f : Frame) (b : Bool) → v .kind (f .row) ≡ 11 → f .deep ≡ b → (stepsBack v f ≡ oneIf b) × (insOf v f ≡ 0)
+pub call-steps : (v : View) (f : Frame) (b : Bool) → v .kind (f .row) ≡ CALL → f .deep ≡ b → (stepsBack v f ≡ oneIf b) × (insOf v f ≡ 0)
 unfolding stepsBack insOf
 call-steps v f true k e = (rw (k, e), rw k)
 call-steps v f false k e = (rw (k, e), rw k)
@@ -248,84 +249,84 @@ module _ (v : View) (pg : Page) (stop : ℕ) where
       let j = ap length q in
       record { sum = omega arith; low = omega arith; column = omega arith; bytes = omega arith }
 
-  module _ (base : ℕ) (m : Machine) (a : Fine v pg stop m) (h : m .next < limit v stop (m .frames) (m .depth)) (s : Safe v base m) where
+  module _ (base : ℕ) (m : Machine) (a : Fine v pg stop m) (h : m .next < partLimit v stop (m .frames) (m .depth)) (s : Safe v base m) where
     roomy : m .depth < length (m .frames)
     roomy = rw (a .size) (nests-deep (a .good) h)
 
-    group-safe : v .kind (m .next) ≡ 0 → Safe v base (enterGroup v pg m)
+    group-safe : v .kind (m .next) ≡ GROUP → Safe v base (enterGroup v pg m)
     unfolding enterGroup insert stepsBack insOf
     group-safe k =
         opened-safe base m _ _ _ 0 0 s roomy (rw k) (rw k) (omega arith) (omega arith) (omega arith) refl refl
 
-    indent-step : (b : Bool) → v .kind (m .next) ≡ 1 → stepsBack v (frame (m .next) b false false) ≡ oneIf b
+    indent-step : (b : Bool) → v .kind (m .next) ≡ INDENT → stepsBack v (frameOf (m .next) b false false) ≡ oneIf b
     unfolding stepsBack
     indent-step true k = rw k
     indent-step false k = rw k
 
-    next-step : (b : Bool) → v .kind (m .next) ≡ 2 → stepsBack v (frame (m .next) b false false) ≡ oneIf b
+    next-step : (b : Bool) → v .kind (m .next) ≡ INDENT-NEXT → stepsBack v (frameOf (m .next) b false false) ≡ oneIf b
     unfolding stepsBack
     next-step true k = rw k
     next-step false k = rw k
 
-    call-step : (w b : Bool) → v .kind (m .next) ≡ 11 → stepsBack v (frame (m .next) w true b) ≡ oneIf b
+    call-step : (w b : Bool) → v .kind (m .next) ≡ CALL → stepsBack v (frameOf (m .next) w true b) ≡ oneIf b
     unfolding stepsBack
     call-step w true k = rw k
     call-step w false k = rw k
 
-    if-step : (w b : Bool) → v .kind (m .next) ≡ 10 → stepsBack v (frame (m .next) w b false) ≡ 0
+    if-step : (w b : Bool) → v .kind (m .next) ≡ IF-WRAP → stepsBack v (frameOf (m .next) w b false) ≡ 0
     unfolding stepsBack
     if-step w b k = rw k
 
-    in-indent : (b : Bool) → v .kind (m .next) ≡ 1 → insOf v (frame (m .next) b false false) ≡ oneIf b
+    in-indent : (b : Bool) → v .kind (m .next) ≡ INDENT → insOf v (frameOf (m .next) b false false) ≡ oneIf b
     unfolding insOf
     in-indent b k = rw k
 
-    no-ins : (f : Frame) → f .row ≡ m .next → (v .kind (m .next) ≡ 1 → ⊥) → insOf v f ≡ 0
+    no-ins : (f : Frame) → f .row ≡ m .next → (v .kind (m .next) ≡ INDENT → ⊥) → insOf v f ≡ 0
     unfolding insOf
-    no-ins f e k = rw (e, ne-eqb (v .kind (m .next)) 1 k)
+    no-ins f e k = rw (e, ne-eqb (v .kind (m .next)) INDENT k)
 
-    indented-sum : (b : Bool) (p : Pen) → indented b p .indent + indented b p .«next_indent» ≡ p .indent + p .«next_indent» + oneIf b
-    unfolding indented
-    indented-sum true p = omega arith
-    indented-sum false p = omega arith
+    indentMore-sum : (b : Bool) (p : Pen) → indentMore b p .indent + indentMore b p .«next_indent» ≡ p .indent + p .«next_indent» + oneIf b
+    unfolding indentMore
+    indentMore-sum true p = omega arith
+    indentMore-sum false p = omega arith
 
-    indented-low : (b : Bool) (p : Pen) → p .indent + oneIf b ≤ indented b p .indent
-    unfolding indented
-    indented-low true p = omega arith
-    indented-low false p = omega arith
+    indentMore-low : (b : Bool) (p : Pen) → p .indent + oneIf b ≤ indentMore b p .indent
+    unfolding indentMore
+    indentMore-low true p = omega arith
+    indentMore-low false p = omega arith
 
-    next-sum : (b : Bool) (p : Pen) → nextIndented b p .indent + nextIndented b p .«next_indent» ≡ p .indent + p .«next_indent» + oneIf b
-    unfolding nextIndented
+    next-sum : (b : Bool) (p : Pen) → nextIndentMore b p .indent + nextIndentMore b p .«next_indent» ≡ p .indent + p .«next_indent» + oneIf b
+    unfolding nextIndentMore
     next-sum true p = omega arith
     next-sum false p = omega arith
 
-    indent-safe : v .kind (m .next) ≡ 1 → Safe v base (enterIndent v pg m)
-    unfolding enterIndent indented
+    indent-safe : v .kind (m .next) ≡ INDENT → Safe v base (enterIndent v pg m)
+    unfolding enterIndent indentMore
     indent-safe k =
         let w = wrapAt (m .frames) (m .depth) in
-        opened-safe base m (frame (m .next) w false false) (suc (m .next)) (onPen (indented w) (m .state)) (oneIf w) (oneIf w) s roomy
+        opened-safe base m (frameOf (m .next) w false false) (suc (m .next)) (onPen (indentMore w) (m .state)) (oneIf w) (oneIf w) s roomy
         (indent-step w k)
         (in-indent w k)
         (omega arith)
-        (indented-sum w (m .state .pen))
-        (indented-low w (m .state .pen))
+        (indentMore-sum w (m .state .pen))
+        (indentMore-low w (m .state .pen))
         refl
         refl
 
-    next-safe : v .kind (m .next) ≡ 2 → Safe v base (enterNext v pg m)
-    unfolding enterNext nextIndented
+    next-safe : v .kind (m .next) ≡ INDENT-NEXT → Safe v base (enterNext v pg m)
+    unfolding enterNext nextIndentMore
     next-safe k =
         let w = wrapAt (m .frames) (m .depth) in
-        opened-safe base m (frame (m .next) w false false) (suc (m .next)) (onPen (nextIndented w) (m .state)) (oneIf w) 0 s roomy
+        opened-safe base m (frameOf (m .next) w false false) (suc (m .next)) (onPen (nextIndentMore w) (m .state)) (oneIf w) 0 s roomy
         (next-step w k)
-        (no-ins (frame (m .next) w false false) refl (λ e. omega arith))
+        (no-ins (frameOf (m .next) w false false) refl (λ e. omega arith))
         (omega arith)
         (next-sum w (m .state .pen))
         (omega arith)
         refl
         refl
 
-    if-safe : v .kind (m .next) ≡ 10 → Safe v base (enterIf v pg m)
+    if-safe : v .kind (m .next) ≡ IF-WRAP → Safe v base (enterIf v pg m)
     unfolding enterIf
     if-safe k = go (wrapped (m .state .marks) (v .number (m .next)))
       where
@@ -334,10 +335,10 @@ module _ (v : View) (pg : Page) (stop : ℕ) where
 
         go : (b : Bool)
             → Safe v base
-            (cond b (opened m (frame (m .next) w true false) (suc (m .next)) (m .state)) (opened m (frame (m .next) w false false) (v .second (m .next)) (m .state)))
+            (cond b (opened m (frameOf (m .next) w true false) (suc (m .next)) (m .state)) (opened m (frameOf (m .next) w false false) (v .second (m .next)) (m .state)))
         go true =
-            opened-safe base m (frame (m .next) w true false) (suc (m .next)) (m .state) 0 0 s roomy (if-step w true k)
-            (no-ins (frame (m .next) w true false) refl (λ e. omega arith))
+            opened-safe base m (frameOf (m .next) w true false) (suc (m .next)) (m .state) 0 0 s roomy (if-step w true k)
+            (no-ins (frameOf (m .next) w true false) refl (λ e. omega arith))
             (omega arith)
             (omega arith)
             (omega arith)
@@ -345,29 +346,29 @@ module _ (v : View) (pg : Page) (stop : ℕ) where
             refl
         go false =
             let u = nests-two (a .good) h k .0 .up in
-            opened-safe base m (frame (m .next) w false false) (v .second (m .next)) (m .state) 0 0 s roomy (if-step w false k)
-            (no-ins (frame (m .next) w false false) refl (λ e. omega arith))
+            opened-safe base m (frameOf (m .next) w false false) (v .second (m .next)) (m .state) 0 0 s roomy (if-step w false k)
+            (no-ins (frameOf (m .next) w false false) refl (λ e. omega arith))
             (omega arith)
             (omega arith)
             (omega arith)
             refl
             refl
 
-    call-safe : v .kind (m .next) ≡ 11 → Safe v base (enterCall v pg m)
-    unfolding enterCall nextIndented insert
+    call-safe : v .kind (m .next) ≡ CALL → Safe v base (enterCall v pg m)
+    unfolding enterCall nextIndentMore insert
     call-safe k =
         let t = trailingCall pg (firstPart v (m .next)) (secondPart v (m .next)) (m .state) in
         let b = calleeWraps pg t (firstPart v (m .next)) (secondPart v (m .next)) (m .state) in
-        opened-safe base m (frame (m .next) b true (not t && b)) (suc (m .next)) (onPen (nextIndented (not t && b)) (insert b (v .number (m .next)) (m .state))) (oneIf (not t && b)) 0 s roomy
+        opened-safe base m (frameOf (m .next) b true (not t && b)) (suc (m .next)) (onPen (nextIndentMore (not t && b)) (insert b (v .number (m .next)) (m .state))) (oneIf (not t && b)) 0 s roomy
         (call-step b (not t && b) k)
-        (no-ins (frame (m .next) b true (not t && b)) refl (λ e. omega arith))
+        (no-ins (frameOf (m .next) b true (not t && b)) refl (λ e. omega arith))
         (omega arith)
         (next-sum (not t && b) (m .state .pen))
         (omega arith)
         refl
         refl
 
-    leaf-safe : SmallTexts v pg → base ≤ 128 → 3 ≤ v .kind (m .next) → v .kind (m .next) ≤ 9 → Safe v base (enterLeaf v pg m)
+    leaf-safe : SmallTexts v pg → base ≤ 128 → WRAP-PARENT ≤ v .kind (m .next) → v .kind (m .next) ≤ LINE-OR-SPACE → Safe v base (enterLeaf v pg m)
     unfolding enterLeaf
     leaf-safe z y k l =
         let w = wrapAt (m .frames) (m .depth) in
@@ -403,11 +404,11 @@ module _ (v : View) (pg : Page) (stop : ℕ) where
         absurd (let x = nests-kind (a .good) h in omega arith)
 
   -- the state is closed: a step is taken back from `indent`, or from `next_indent` where that is over 0
-  outdented-safe : (base k : ℕ) (m : Machine) (b : Bool) → Safe v base (closed m (suc k) (m .next) (m .state)) → (n : ℕ) → m .next ≤ n
+  indentLess-safe : (base k : ℕ) (m : Machine) (b : Bool) → Safe v base (closedTo m (suc k) (m .next) (m .state)) → (n : ℕ) → m .next ≤ n
       → (stepsBack v (frameAt (m .frames) k) ≡ oneIf b) × (insOf v (frameAt (m .frames) k) ≡ oneIf b)
-      → Safe v base (closed m k n (onPen (outdented b) (m .state)))
-  unfolding outdented
-  outdented-safe base k m true g n h x =
+      → Safe v base (closedTo m k n (onPen (indentLess b) (m .state)))
+  unfolding indentLess
+  indentLess-safe base k m true g n h x =
       let a = x .0 in
       let b = x .1 in
       let c = steps-suc (m .frames) k in
@@ -417,7 +418,7 @@ module _ (v : View) (pg : Page) (stop : ℕ) where
       let g3 = g .column in
       let g4 = g .bytes in
       record { sum = omega arith; low = omega arith; column = omega arith; bytes = omega arith }
-  outdented-safe base k m false g n h x =
+  indentLess-safe base k m false g n h x =
       let a = x .0 in
       let b = x .1 in
       let c = steps-suc (m .frames) k in
@@ -428,15 +429,15 @@ module _ (v : View) (pg : Page) (stop : ℕ) where
       let g4 = g .bytes in
       record { sum = omega arith; low = omega arith; column = omega arith; bytes = omega arith }
 
-  nextOutdented-safe : (base k : ℕ) (m : Machine) (b : Bool) → Safe v base (closed m (suc k) (m .next) (m .state)) → (n : ℕ) → m .next ≤ n
+  nextIndentLess-safe : (base k : ℕ) (m : Machine) (b : Bool) → Safe v base (closedTo m (suc k) (m .next) (m .state)) → (n : ℕ) → m .next ≤ n
       → (stepsBack v (frameAt (m .frames) k) ≡ oneIf b) × (insOf v (frameAt (m .frames) k) ≡ 0)
-      → Safe v base (closed m k n (onPen (nextOutdented b) (m .state)))
-  unfolding nextOutdented outdented
-  nextOutdented-safe base k m true g n h x = go (ltb 0 (m .state .pen .«next_indent»)) refl
+      → Safe v base (closedTo m k n (onPen (nextIndentLess b) (m .state)))
+  unfolding nextIndentLess indentLess
+  nextIndentLess-safe base k m true g n h x = go (ltb 0 (m .state .pen .«next_indent»)) refl
     where
       go : (b : Bool) → ltb 0 (m .state .pen .«next_indent») ≡ b
           → Safe v base
-          (closed m k n (onPen (λ (p : Pen). cond b (withNextIndent (p .«next_indent» - 1) p) (outdented true p)) (m .state)))
+          (closedTo m k n (onPen (λ (p : Pen). cond b (withNextIndent (p .«next_indent» - 1) p) (indentLess true p)) (m .state)))
       go true q =
           let a = x .0 in
           let b = x .1 in
@@ -458,7 +459,7 @@ module _ (v : View) (pg : Page) (stop : ℕ) where
           let g4 = g .bytes in
           let p = ltb-false 0 (m .state .pen .«next_indent») q in
           record { sum = omega arith; low = omega arith; column = omega arith; bytes = omega arith }
-  nextOutdented-safe base k m false g n h x =
+  nextIndentLess-safe base k m false g n h x =
       let a = x .0 in
       let b = x .1 in
       let c = steps-suc (m .frames) k in
@@ -470,7 +471,7 @@ module _ (v : View) (pg : Page) (stop : ℕ) where
       record { sum = omega arith; low = omega arith; column = omega arith; bytes = omega arith }
 
   module _ (base : ℕ) (m : Machine) (k : ℕ) (a : At v stop (m .frames) (suc k) (m .next)) (e : m .next ≡ partEnd v (frameAt (m .frames) k))
-      (s : Safe v base (closed m (suc k) (m .next) (m .state)))
+      (s : Safe v base (closedTo m (suc k) (m .next) (m .state)))
     where
       f : Frame
       f = frameAt (m .frames) k
@@ -480,7 +481,7 @@ module _ (v : View) (pg : Page) (stop : ℕ) where
 
       off-plain : (n : ℕ) → v .kind (frameAt (m .frames) k .row) ≡ n → (n ≡ 1 → ⊥) → (n ≡ 2 → ⊥) → (n ≡ 11 → ⊥)
           → Safe v base
-          (closed m k (v .after (frameAt (m .frames) k .row)) (closing v pg (frameAt (m .frames) k) (m .state)))
+          (closedTo m k (v .after (frameAt (m .frames) k .row)) (closing v pg (frameAt (m .frames) k) (m .state)))
       off-plain n q x y z =
           rw (closing-plain v pg (frameAt (m .frames) k) (m .state) n q x y z)
           (let b = plain-step v (frameAt (m .frames) k) (λ p. x (sym q ∙ p)) (λ p. y (sym q ∙ p)) (λ p. z (sym q ∙ p)) in
@@ -494,41 +495,41 @@ module _ (v : View) (pg : Page) (stop : ℕ) where
           let l = later in
           record { sum = omega arith; low = omega arith; column = omega arith; bytes = omega arith })
 
-      off-indent : v .kind (frameAt (m .frames) k .row) ≡ 1
+      off-indent : v .kind (frameAt (m .frames) k .row) ≡ INDENT
           → Safe v base
-          (closed m k (v .after (frameAt (m .frames) k .row)) (closing v pg (frameAt (m .frames) k) (m .state)))
+          (closedTo m k (v .after (frameAt (m .frames) k .row)) (closing v pg (frameAt (m .frames) k) (m .state)))
       off-indent q =
           rw (closing-indent v pg (frameAt (m .frames) k) (m .state) q)
-          (outdented-safe base k m (frameAt (m .frames) k .wrap) s
+          (indentLess-safe base k m (frameAt (m .frames) k .wrap) s
           (v .after (frameAt (m .frames) k .row))
           later
           (indent-steps v (frameAt (m .frames) k) (frameAt (m .frames) k .wrap) q refl))
 
-      off-next : v .kind (frameAt (m .frames) k .row) ≡ 2
+      off-next : v .kind (frameAt (m .frames) k .row) ≡ INDENT-NEXT
           → Safe v base
-          (closed m k (v .after (frameAt (m .frames) k .row)) (closing v pg (frameAt (m .frames) k) (m .state)))
+          (closedTo m k (v .after (frameAt (m .frames) k .row)) (closing v pg (frameAt (m .frames) k) (m .state)))
       off-next q =
           rw (closing-next v pg (frameAt (m .frames) k) (m .state) q)
-          (nextOutdented-safe base k m (frameAt (m .frames) k .wrap) s
+          (nextIndentLess-safe base k m (frameAt (m .frames) k .wrap) s
           (v .after (frameAt (m .frames) k .row))
           later
           (next-steps v (frameAt (m .frames) k) (frameAt (m .frames) k .wrap) q refl))
 
-      off-call : v .kind (frameAt (m .frames) k .row) ≡ 11 → frameAt (m .frames) k .early ≡ false
+      off-call : v .kind (frameAt (m .frames) k .row) ≡ CALL → frameAt (m .frames) k .early ≡ false
           → Safe v base
-          (closed m k (v .after (frameAt (m .frames) k .row)) (closing v pg (frameAt (m .frames) k) (m .state)))
+          (closedTo m k (v .after (frameAt (m .frames) k .row)) (closing v pg (frameAt (m .frames) k) (m .state)))
       off-call q y =
           rw (closing-call v pg (frameAt (m .frames) k) (m .state) q y)
-          (nextOutdented-safe base k m (frameAt (m .frames) k .deep) s
+          (nextIndentLess-safe base k m (frameAt (m .frames) k .deep) s
           (v .after (frameAt (m .frames) k .row))
           later
           (call-steps v (frameAt (m .frames) k) (frameAt (m .frames) k .deep) q refl))
 
-      off-safe : (x y z : Bool) → eqb (v .kind (frameAt (m .frames) k .row)) 1 ≡ x → eqb (v .kind (frameAt (m .frames) k .row)) 2 ≡ y
-          → eqb (v .kind (frameAt (m .frames) k .row)) 11 ≡ z
+      off-safe : (x y z : Bool) → eqb (v .kind (frameAt (m .frames) k .row)) INDENT ≡ x → eqb (v .kind (frameAt (m .frames) k .row)) INDENT-NEXT ≡ y
+          → eqb (v .kind (frameAt (m .frames) k .row)) CALL ≡ z
           → (z && frameAt (m .frames) k .early) ≡ false
           → Safe v base
-          (closed m k (v .after (frameAt (m .frames) k .row)) (closing v pg (frameAt (m .frames) k) (m .state)))
+          (closedTo m k (v .after (frameAt (m .frames) k .row)) (closing v pg (frameAt (m .frames) k) (m .state)))
       off-safe true y z p q r g = off-indent (eqb-true _ 1 p)
       off-safe false true z p q r g = off-next (eqb-true _ 2 q)
       off-safe false false true p q r g = off-call (eqb-true _ 11 r) g
@@ -536,14 +537,14 @@ module _ (v : View) (pg : Page) (stop : ℕ) where
           off-plain (v .kind (frameAt (m .frames) k .row)) refl (eqb-false _ 1 p) (eqb-false _ 2 q) (eqb-false _ 11 r)
 
       -- the arguments of a `Call` are opened: the same steps
-      on-safe : (c : Bool) → v .kind (frameAt (m .frames) k .row) ≡ 11
+      on-safe : (c : Bool) → v .kind (frameAt (m .frames) k .row) ≡ CALL
           → Safe v base
-          (reopened m k (frame (frameAt (m .frames) k .row) c false (frameAt (m .frames) k .deep)) (insert c (v .number2 (frameAt (m .frames) k .row)) (m .state)))
+          (reopened m k (frameOf (frameAt (m .frames) k .row) c false (frameAt (m .frames) k .deep)) (insert c (v .number2 (frameAt (m .frames) k .row)) (m .state)))
       unfolding insert
       on-safe c q =
           let deep = a .deep in
           let h : k < length (m .frames) = rw (a .size) (omega arith) in
-          let new = frame (frameAt (m .frames) k .row) c false (frameAt (m .frames) k .deep) in
+          let new = frameOf (frameAt (m .frames) k .row) c false (frameAt (m .frames) k .deep) in
           let u = steps-top (m .frames) k new h in
           let w = ins-top (m .frames) k new h in
           let x = call-steps v new (frameAt (m .frames) k .deep) q refl in
@@ -560,19 +561,19 @@ module _ (v : View) (pg : Page) (stop : ℕ) where
 
       leave-safe : Safe v base (leave v pg m k)
       unfolding leave
-      leave-safe = go (eqb (v .kind (frameAt (m .frames) k .row)) 11 && frameAt (m .frames) k .early) refl
+      leave-safe = go (eqb (v .kind (frameAt (m .frames) k .row)) CALL && frameAt (m .frames) k .early) refl
         where
           c : Bool
           c = groupWraps pg (nodesAt v (m .next) (v .after (frameAt (m .frames) k .row))) (m .state)
 
           on : Machine
-          on = reopened m k (frame (frameAt (m .frames) k .row) c false (frameAt (m .frames) k .deep)) (insert c (v .number2 (frameAt (m .frames) k .row)) (m .state))
+          on = reopened m k (frameOf (frameAt (m .frames) k .row) c false (frameAt (m .frames) k .deep)) (insert c (v .number2 (frameAt (m .frames) k .row)) (m .state))
 
           off : Machine
-          off = closed m k (v .after (frameAt (m .frames) k .row)) (closing v pg (frameAt (m .frames) k) (m .state))
+          off = closedTo m k (v .after (frameAt (m .frames) k .row)) (closing v pg (frameAt (m .frames) k) (m .state))
 
-          go : (b : Bool) → (eqb (v .kind (frameAt (m .frames) k .row)) 11 && frameAt (m .frames) k .early) ≡ b → Safe v base (cond b on off)
-          go true q = on-safe c (eqb-true _ 11 (both (eqb (v .kind (frameAt (m .frames) k .row)) 11) (frameAt (m .frames) k .early) q .0))
+          go : (b : Bool) → (eqb (v .kind (frameAt (m .frames) k .row)) CALL && frameAt (m .frames) k .early) ≡ b → Safe v base (cond b on off)
+          go true q = on-safe c (eqb-true _ 11 (both (eqb (v .kind (frameAt (m .frames) k .row)) CALL) (frameAt (m .frames) k .early) q .0))
           go false q = off-safe _ _ _ refl refl refl q
 
   turn-safe-at : (base d : ℕ) (m : Machine) → m .depth ≡ d → Fine v pg stop m → isDone v pg stop m ≡ false → SmallTexts v pg → base ≤ 128 → Safe v base m

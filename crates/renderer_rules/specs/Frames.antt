@@ -28,16 +28,16 @@ wrapAt fs (suc d) = frameAt fs d .wrap
 
 module _ (v : View) (stop : ℕ) where
   -- where that part ends
-  unfoldable pub limit : List Frame → ℕ → ℕ
-  limit fs zero = stop
-  limit fs (suc d) = partEnd v (frameAt fs d)
+  unfoldable pub partLimit : List Frame → ℕ → ℕ
+  partLimit fs zero = stop
+  partLimit fs (suc d) = partEnd v (frameAt fs d)
 
   -- the row that frame d has open, with d rows around it
   pub record Open (fs : List Frame) (d : ℕ) : Type 0 where
     pub row : frameAt fs d .row < stop
     pub later : Nests v (partEnd v (frameAt fs d)) (v .after (frameAt fs d .row)) (suc d)
-    pub after : Nests v (v .after (frameAt fs d .row)) (limit fs d) d
-    pub low : limit fs d ≤ stop
+    pub after : Nests v (v .after (frameAt fs d .row)) (partLimit fs d) d
+    pub low : partLimit fs d ≤ stop
 
   -- the rows that the first d frames have open
   unfoldable pub Under : List Frame → ℕ → Type 0
@@ -46,8 +46,8 @@ module _ (v : View) (stop : ℕ) where
 
   -- with d rows open and row i next, the rows that are left nest
   pub record At (fs : List Frame) (d i : ℕ) : Type 0 where
-    pub good : Nests v i (limit fs d) d
+    pub good : Nests v i (partLimit fs d) d
     pub under : Under fs d
-    pub low : limit fs d ≤ stop
+    pub low : partLimit fs d ≤ stop
     pub size : length fs ≡ MAX-DEPTH
     pub deep : d ≤ MAX-DEPTH

@@ -1,5 +1,6 @@
 pub mod Call
 pub mod Check
+pub mod CommentLine
 pub mod Frames
 pub mod Limits
 pub mod Machine

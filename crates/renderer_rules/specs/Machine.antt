@@ -8,7 +8,7 @@ use Rattle.rows.specs.Kinds.{CALL}
 use Rattle.rows.specs.Node.{Nodes, group, wrapped}
 use Rattle.rows.specs.View.{View, nodesAt, nodeAt}
 use Rattle.renderer_rules.specs.declared.Frame.{Frame}
-use Rattle.renderer_rules.specs.Renderer.{Page, Renderer, onPen, renderNode, groupWraps, insert, indented, outdented, nextIndented, nextOutdented, trailingCall, calleeWraps}
+use Rattle.renderer_rules.specs.Renderer.{Page, Renderer, onPen, renderNode, groupWraps, insert, indentMore, indentLess, nextIndentMore, nextIndentLess, trailingCall, calleeWraps}
 use Rattle.renderer_rules.specs.Frames.{frameAt, partEnd, wrapAt}
 
 -- open rows, how many, the next row, the state, the rows entered
@@ -20,8 +20,8 @@ pub record Machine : Type 0 where
   pub entered : ℕ
 
 -- before the first turn: no row is open, and row `from` is next
-abbrev pub begun : List Frame → ℕ → Renderer → Machine
-begun fs from t = record { frames = fs; depth = 0; next = from; state = t; entered = 0 }
+abbrev pub started : List Frame → ℕ → Renderer → Machine
+started fs from t = record { frames = fs; depth = 0; next = from; state = t; entered = 0 }
 
 -- How a turn goes on: one more row is open, with row k next; a row without parts is passed; frame k, the innermost, is f from here on; k rows
 -- stay open, with row n next. No rule and no proof writes a machine out but by these.
@@ -34,20 +34,20 @@ passed m t = record { frames = m .frames; depth = m .depth; next = suc (m .next)
 abbrev pub reopened : Machine → ℕ → Frame → Renderer → Machine
 reopened m k f t = record { frames = set (m .frames) k f; depth = suc k; next = m .next; state = t; entered = m .entered }
 
-abbrev pub closed : Machine → ℕ → ℕ → Renderer → Machine
-closed m k n t = record { frames = m .frames; depth = k; next = n; state = t; entered = m .entered }
+abbrev pub closedTo : Machine → ℕ → ℕ → Renderer → Machine
+closedTo m k n t = record { frames = m .frames; depth = k; next = n; state = t; entered = m .entered }
 
 -- an open row by its four places
-abbrev pub frame : ℕ → Bool → Bool → Bool → Frame
-frame i w e p = record { row = i; wrap = w; early = e; deep = p }
+abbrev pub frameOf : ℕ → Bool → Bool → Bool → Frame
+frameOf i w e p = record { row = i; wrap = w; early = e; deep = p }
 
 -- what follows of f's row once the open part is rendered
 unfoldable pub closing : View → Page → Frame → Renderer → Renderer
 closing v pg f s =
     getD
     (s
-    ∷ onPen (outdented (f .wrap)) s
-    ∷ onPen (nextOutdented (f .wrap)) s
+    ∷ onPen (indentLess (f .wrap)) s
+    ∷ onPen (nextIndentLess (f .wrap)) s
     ∷ s
     ∷ s
     ∷ s
@@ -56,7 +56,7 @@ closing v pg f s =
     ∷ s
     ∷ s
     ∷ s
-    ∷ onPen (nextOutdented (f .deep))
+    ∷ onPen (nextIndentLess (f .deep))
     (cond (f .early) (renderNode pg (group (v .number2 (f .row)) (nodesAt v (v .second (f .row)) (v .after (f .row)))) true s) s)
     ∷ [])
     (v .kind (f .row))
@@ -74,13 +74,13 @@ module _ (v : View) (pg : Page) where
   unfoldable pub enterGroup : Machine → Machine
   enterGroup m =
       let b = groupWraps pg (nodesAt v (suc (m .next)) (v .after (m .next))) (m .state) in
-      opened m (frame (m .next) b false false) (suc (m .next)) (insert b (v .number (m .next)) (m .state))
+      opened m (frameOf (m .next) b false false) (suc (m .next)) (insert b (v .number (m .next)) (m .state))
 
   unfoldable pub enterIndent : Machine → Machine
-  enterIndent m = let w = wrapAt (m .frames) (m .depth) in opened m (frame (m .next) w false false) (suc (m .next)) (onPen (indented w) (m .state))
+  enterIndent m = let w = wrapAt (m .frames) (m .depth) in opened m (frameOf (m .next) w false false) (suc (m .next)) (onPen (indentMore w) (m .state))
 
   unfoldable pub enterNext : Machine → Machine
-  enterNext m = let w = wrapAt (m .frames) (m .depth) in opened m (frame (m .next) w false false) (suc (m .next)) (onPen (nextIndented w) (m .state))
+  enterNext m = let w = wrapAt (m .frames) (m .depth) in opened m (frameOf (m .next) w false false) (suc (m .next)) (onPen (nextIndentMore w) (m .state))
 
   unfoldable pub enterLeaf : Machine → Machine
   enterLeaf m = passed m (renderNode pg (nodeAt v (m .next)) (wrapAt (m .frames) (m .depth)) (m .state))
@@ -89,14 +89,14 @@ module _ (v : View) (pg : Page) where
   enterIf m =
       let w = wrapAt (m .frames) (m .depth) in
       cond (wrapped (m .state .marks) (v .number (m .next)))
-      (opened m (frame (m .next) w true false) (suc (m .next)) (m .state))
-      (opened m (frame (m .next) w false false) (v .second (m .next)) (m .state))
+      (opened m (frameOf (m .next) w true false) (suc (m .next)) (m .state))
+      (opened m (frameOf (m .next) w false false) (v .second (m .next)) (m .state))
 
   unfoldable pub enterCall : Machine → Machine
   enterCall m =
       let t = trailingCall pg (firstPart v (m .next)) (secondPart v (m .next)) (m .state) in
       let b = calleeWraps pg t (firstPart v (m .next)) (secondPart v (m .next)) (m .state) in
-      opened m (frame (m .next) b true (not t && b)) (suc (m .next)) (onPen (nextIndented (not t && b)) (insert b (v .number (m .next)) (m .state)))
+      opened m (frameOf (m .next) b true (not t && b)) (suc (m .next)) (onPen (nextIndentMore (not t && b)) (insert b (v .number (m .next)) (m .state)))
 
   unfoldable pub enter : Machine → Machine
   enter m =
@@ -111,8 +111,8 @@ module _ (v : View) (pg : Page) where
       let f = frameAt (m .frames) k in
       let c = groupWraps pg (nodesAt v (m .next) (v .after (f .row))) (m .state) in
       cond (eqb (v .kind (f .row)) CALL && f .early)
-      (reopened m k (frame (f .row) c false (f .deep)) (insert c (v .number2 (f .row)) (m .state)))
-      (closed m k (v .after (f .row)) (closing v pg f (m .state)))
+      (reopened m k (frameOf (f .row) c false (f .deep)) (insert c (v .number2 (f .row)) (m .state)))
+      (closedTo m k (v .after (f .row)) (closing v pg f (m .state)))
 
   -- one turn, with k + 1 rows open and with none
   unfoldable pub turnAt : ℕ → Machine → Machine

@@ -20,8 +20,8 @@ pub record Renderer : Type 0 where
   pub marks : List ℕ
 
 -- `Renderer` before it writes anything
-abbrev pub fresh : Pen → List ℕ → Renderer
-fresh p marks = record { buf = []; pen = p; marks = marks }
+abbrev pub freshRenderer : Pen → List ℕ → Renderer
+freshRenderer p marks = record { buf = []; pen = p; marks = marks }
 
 -- One field set. No rule and no proof writes a record out but by these.
 abbrev pub withBuf : List ℕ → Renderer → Renderer
@@ -84,18 +84,18 @@ unfoldable pub insert : Bool → ℕ → Renderer → Renderer
 insert w n r = withMarks (cond w (set (r .marks) n 1) (r .marks)) r
 
 -- `indent` one more and one less, where `wrap` holds
-unfoldable pub indented : Bool → Pen → Pen
-indented w p = withIndent (cond w (p .indent + 1) (p .indent)) p
+unfoldable pub indentMore : Bool → Pen → Pen
+indentMore w p = withIndent (cond w (p .indent + 1) (p .indent)) p
 
-unfoldable pub outdented : Bool → Pen → Pen
-outdented w p = withIndent (cond w (p .indent - 1) (p .indent)) p
+unfoldable pub indentLess : Bool → Pen → Pen
+indentLess w p = withIndent (cond w (p .indent - 1) (p .indent)) p
 
 -- `next_indent` one more, and what `IndentNext` takes back in the end
-unfoldable pub nextIndented : Bool → Pen → Pen
-nextIndented w p = withNextIndent (cond w (p .«next_indent» + 1) (p .«next_indent»)) p
+unfoldable pub nextIndentMore : Bool → Pen → Pen
+nextIndentMore w p = withNextIndent (cond w (p .«next_indent» + 1) (p .«next_indent»)) p
 
-unfoldable pub nextOutdented : Bool → Pen → Pen
-nextOutdented w p = cond w (cond (ltb 0 (p .«next_indent»)) (withNextIndent (p .«next_indent» - 1) p) (outdented true p)) p
+unfoldable pub nextIndentLess : Bool → Pen → Pen
+nextIndentLess w p = cond w (cond (ltb 0 (p .«next_indent»)) (withNextIndent (p .«next_indent» - 1) p) (indentLess true p)) p
 
 module _ (p : Page) where
   -- `nodes.width`, by the groups that have wrapped so far
@@ -125,8 +125,8 @@ module _ (p : Page) where
   unfoldable mutual
     pub renderNode : Node → Bool → Renderer → Renderer
     renderNode (group n ns) w r = renderNodes ns (groupWraps ns r) (insert (groupWraps ns r) n r)
-    renderNode (indent ns) w r = onPen (outdented w) (renderNodes ns w (onPen (indented w) r))
-    renderNode (indentNext ns) w r = onPen (nextOutdented w) (renderNodes ns w (onPen (nextIndented w) r))
+    renderNode (indent ns) w r = onPen (indentLess w) (renderNodes ns w (onPen (indentMore w) r))
+    renderNode (indentNext ns) w r = onPen (nextIndentLess w) (renderNodes ns w (onPen (nextIndentMore w) r))
     renderNode wrapParent w r = r
     renderNode (commentNode t) w r = comment (p .bytes t) r
     renderNode (str k t) w r = text (p .bytes t) k r
@@ -139,9 +139,9 @@ module _ (p : Page) where
         let trails = trailingCall e a r in
         let outer = calleeWraps trails e a r in
         let deeper = not trails && outer in
-        let s = renderNodes e outer (onPen (nextIndented deeper) (insert outer n r)) in
+        let s = renderNodes e outer (onPen (nextIndentMore deeper) (insert outer n r)) in
         let inner = groupWraps a s in
-        onPen (nextOutdented deeper) (renderNodes a inner (insert inner k s))
+        onPen (nextIndentLess deeper) (renderNodes a inner (insert inner k s))
 
     pub renderNodes : Nodes → Bool → Renderer → Renderer
     renderNodes none w r = r

@@ -9,6 +9,8 @@ use mathlib.Core.List.{List}
 use lib.ListN.{length}
 use lib.Dec.{leb, eqb}
 use borrow.Author.Tests.{lt-ltb, le-ltb, le-leb, lt-leb, eq-eqb, ne-eqb}
+use Rattle.rows.specs.Limits.{MAX-DEPTH}
+use Rattle.rows.specs.Places.{KIND, NUMBER, SECOND-NUMBER, SECOND, AFTER, ORIGIN, START, SIZE, WIDTH}
 use Rattle.laws.proofs.Numbers.{lt-of}
 use Rattle.rows.specs.View.{View, cell, viewOf}
 use Rattle.renderer_rules.specs.Check.{reaches, isLeaf, hasTwo, isSplit, partsFit, usesNumber, usesNumber2, usesSecond, usesText, textFits, noTextFits}
@@ -50,7 +52,7 @@ module _ (s : List ℕ) (a b steps row : ℕ) (r : Reaching s a b steps row) whe
   pub reach-end : b ≤ row → true ≡ reaches steps (viewOf s) a b
   reach-end h = let l = r .low in sym (r .same ∙ reach-here (r .left) (viewOf s) row b (omega arith))
 
-  module _ (n : ℕ) (h : row < b) (e : n ≡ cell s row 4) where
+  module _ (n : ℕ) (h : row < b) (e : n ≡ cell s row AFTER) where
     some-left : (A : Type 0) → ((l : ℕ) → reaches steps (viewOf s) a b ≡ reaches (suc l) (viewOf s) row b → b - row ≤ suc l → A) → A
     some-left A f = go (r .left) (r .enough) (r .same)
       where
@@ -73,7 +75,7 @@ module _ (s : List ℕ) (a b steps row : ℕ) (r : Reaching s a b steps row) whe
         (λ l q z. record { left = l; low = m; enough = omega arith; same = q ∙ reach-next l (viewOf s) row b n h e k m })
 
 -- An `IfWrap`.
-module _ (s : List ℕ) (i second after : ℕ) (e : second ≡ cell s i 3) (f : after ≡ cell s i 4) where
+module _ (s : List ℕ) (i second after : ℕ) (e : second ≡ cell s i SECOND) (f : after ≡ cell s i AFTER) where
   pub two-low : second ≤ i + 1 → false ≡ hasTwo (viewOf s) i
   unfolding viewOf
   two-low h = sym (rw (← e, le-ltb (suc i) second (omega arith)))
@@ -82,13 +84,13 @@ module _ (s : List ℕ) (i second after : ℕ) (e : second ≡ cell s i 3) (f : 
   unfolding viewOf
   two-high h k = sym (rw (← e, ← f, lt-ltb (suc i) second (omega arith), le-ltb second after k))
 
-  module _ (h : i + 1 < second) (k : second < after) (x : ℕ) (q : x ≡ cell s (i + 1) 4) where
+  module _ (h : i + 1 < second) (k : second < after) (x : ℕ) (q : x ≡ cell s (i + 1) AFTER) where
     pub two-first : (x ≡ second → ⊥) → false ≡ hasTwo (viewOf s) i
     unfolding viewOf
     two-first n =
         sym (rw (← e, ← f, lt-ltb (suc i) second (omega arith), lt-ltb second after k, ← add-one i, ← q, ne-eqb x second n))
 
-    pub two-second : (y : ℕ) → y ≡ cell s second 4 → x ≡ second → eqb y after ≡ hasTwo (viewOf s) i
+    pub two-second : (y : ℕ) → y ≡ cell s second AFTER → x ≡ second → eqb y after ≡ hasTwo (viewOf s) i
     unfolding viewOf
     two-second y p n =
         sym (rw (← e, ← f, lt-ltb (suc i) second (omega arith), lt-ltb second after k, ← add-one i, ← q, eq-eqb x second n, ← p))
@@ -121,11 +123,11 @@ parts-block v i (suc zero) h = refl
 parts-block v i (suc (suc zero)) h = refl
 parts-block v i (suc (suc (suc n))) h = absurd (omega arith)
 
-leaf-same : (s : List ℕ) (i after : ℕ) → after ≡ cell s i 4 → eqb after (i + 1) ≡ isLeaf (viewOf s) i
+leaf-same : (s : List ℕ) (i after : ℕ) → after ≡ cell s i AFTER → eqb after (i + 1) ≡ isLeaf (viewOf s) i
 unfolding viewOf
 leaf-same s i after e = rw (e, add-one i)
 
-pub parts-leaf : (s : List ℕ) (i after k : ℕ) → after ≡ cell s i 4 → 3 ≤ k → k < 10 → eqb after (i + 1) ≡ partsFit (viewOf s) i k
+pub parts-leaf : (s : List ℕ) (i after k : ℕ) → after ≡ cell s i AFTER → 3 ≤ k → k < 10 → eqb after (i + 1) ≡ partsFit (viewOf s) i k
 unfolding partsFit
 parts-leaf s i after zero e h l = absurd (omega arith)
 parts-leaf s i after (suc zero) e h l = absurd (omega arith)
@@ -170,12 +172,6 @@ or-false a b e = rw e
 pub or-true : (a b : Bool) → a ≡ true → true ≡ (a || b)
 or-true a b e = rw e
 
-pub and-on : (a b c : Bool) → a ≡ true → c ≡ b → c ≡ (a && b)
-and-on a b c e f = f ∙ rw e
-
-pub and-off : (a b : Bool) → a ≡ false → false ≡ (a && b)
-and-off a b e = rw e
-
 -- three tests, of which x, y, z are the answers
 pub three-on : (a b c x y z : Bool) → x ≡ a → y ≡ b → z ≡ c → x ≡ true → y ≡ true → z ≡ (a && (b && c))
 three-on a b c x y z p q r h k = r ∙ rw (← p, ← q, h, k)
@@ -189,32 +185,32 @@ three-first a b x p h = rw (← p, h)
 pub used-is : (u x : Bool) (n m : ℕ) (r : Bool) → r ≡ (u || eqb n 0) → u ≡ x → n ≡ m → r ≡ (x || eqb m 0)
 used-is u x n m r e f g = e ∙ rw (f, g)
 
-pub text-origin : (source image s : List ℕ) (i origin : ℕ) → origin ≡ cell s i 5 → 2 < origin → false ≡ textFits source image s i
+pub text-origin : (source image s : List ℕ) (i origin : ℕ) → origin ≡ cell s i ORIGIN → 2 < origin → false ≡ textFits source image s i
 text-origin source image s i origin e h = rw (← e, lt-leb origin 2 h)
 
-pub text-size : (source image s : List ℕ) (i origin size a b : ℕ) → origin ≡ cell s i 5 → origin ≤ 2 → size ≡ length (originText source image origin)
-    → a ≡ cell s i 6
-    → b ≡ cell s i 7
+pub text-size : (source image s : List ℕ) (i origin size a b : ℕ) → origin ≡ cell s i ORIGIN → origin ≤ 2 → size ≡ length (originText source image origin)
+    → a ≡ cell s i START
+    → b ≡ cell s i SIZE
     → leb (a + b) size ≡ textFits source image s i
 text-size source image s i origin size a b e h f g k = rw (← e, le-leb origin 2 h, ← f, ← g, ← k)
 
-pub no-text-1 : (s : List ℕ) (i a : ℕ) → a ≡ cell s i 5 → (a ≡ 0 → ⊥) → false ≡ noTextFits s i
+pub no-text-1 : (s : List ℕ) (i a : ℕ) → a ≡ cell s i ORIGIN → (a ≡ 0 → ⊥) → false ≡ noTextFits s i
 no-text-1 s i a e h = rw (← e, ne-eqb a 0 h)
 
-pub no-text-2 : (s : List ℕ) (i a b : ℕ) → a ≡ cell s i 5 → b ≡ cell s i 6 → a ≡ 0 → (b ≡ 0 → ⊥) → false ≡ noTextFits s i
+pub no-text-2 : (s : List ℕ) (i a b : ℕ) → a ≡ cell s i ORIGIN → b ≡ cell s i START → a ≡ 0 → (b ≡ 0 → ⊥) → false ≡ noTextFits s i
 no-text-2 s i a b e f h k = rw (← e, ← f, eq-eqb a 0 h, ne-eqb b 0 k)
 
-pub no-text-3 : (s : List ℕ) (i a b c : ℕ) → a ≡ cell s i 5 → b ≡ cell s i 6 → c ≡ cell s i 7 → a ≡ 0 → b ≡ 0 → eqb c 0 ≡ noTextFits s i
+pub no-text-3 : (s : List ℕ) (i a b c : ℕ) → a ≡ cell s i ORIGIN → b ≡ cell s i START → c ≡ cell s i SIZE → a ≡ 0 → b ≡ 0 → eqb c 0 ≡ noTextFits s i
 no-text-3 s i a b c e f g h k = rw (← e, ← f, ← g, eq-eqb a 0 h, eq-eqb b 0 k)
 
 -- the tests of a row's places put together
-module _ (source image s : List ℕ) (i kind : ℕ) (e : kind ≡ cell s i 0) where
-  module _ (n : Bool) (p : n ≡ ((usesNumber kind || eqb (cell s i 1) 0) && ((usesNumber2 kind || eqb (cell s i 2) 0) && (usesSecond kind || eqb (cell s i 3) 0)))) where
+module _ (source image s : List ℕ) (i kind : ℕ) (e : kind ≡ cell s i KIND) where
+  module _ (n : Bool) (p : n ≡ ((usesNumber kind || eqb (cell s i NUMBER) 0) && ((usesNumber2 kind || eqb (cell s i SECOND-NUMBER) 0) && (usesSecond kind || eqb (cell s i SECOND) 0)))) where
     pub places-numbers : n ≡ false → false ≡ placesFit source image s i
     unfolding placesFit
     places-numbers h = rw (← e, ← p, h)
 
-    module _ (w : Bool) (q : w ≡ (eqb kind 5 || eqb (cell s i 8) 0)) (h : n ≡ true) where
+    module _ (w : Bool) (q : w ≡ (eqb kind 5 || eqb (cell s i WIDTH) 0)) (h : n ≡ true) where
       pub places-width : w ≡ false → false ≡ placesFit source image s i
       unfolding placesFit
       places-width k = rw (← e, ← p, h, ← q, k)
@@ -228,20 +224,20 @@ module _ (source image s : List ℕ) (i kind : ℕ) (e : kind ≡ cell s i 0) wh
       places-none t r a b k l = b ∙ rw (← e, ← p, h, ← q, k, ← a, l)
 
 -- A row, from its tests.
-module _ (places : ℕ → Bool) (s : List ℕ) (end d i after : ℕ) (e : after ≡ cell s i 4) where
-  pub fits-deep : 256 ≤ d → false ≡ rowFits places (viewOf s) end d i
+module _ (places : ℕ → Bool) (s : List ℕ) (end d i after : ℕ) (e : after ≡ cell s i AFTER) where
+  pub fits-deep : MAX-DEPTH ≤ d → false ≡ rowFits places (viewOf s) end d i
   unfolding rowFits
-  fits-deep h = rw (le-ltb d 256 h)
+  fits-deep h = rw (le-ltb d MAX-DEPTH h)
 
-  pub fits-low : d < 256 → after ≤ i → false ≡ rowFits places (viewOf s) end d i
+  pub fits-low : d < MAX-DEPTH → after ≤ i → false ≡ rowFits places (viewOf s) end d i
   unfolding rowFits viewOf
-  fits-low h k = rw (← e, lt-ltb d 256 h, le-ltb i after k)
+  fits-low h k = rw (← e, lt-ltb d MAX-DEPTH h, le-ltb i after k)
 
-  pub fits-past : d < 256 → i < after → end < after → false ≡ rowFits places (viewOf s) end d i
+  pub fits-past : d < MAX-DEPTH → i < after → end < after → false ≡ rowFits places (viewOf s) end d i
   unfolding rowFits viewOf
-  fits-past h k l = rw (← e, lt-ltb d 256 h, lt-ltb i after k, lt-leb after end l)
+  fits-past h k l = rw (← e, lt-ltb d MAX-DEPTH h, lt-ltb i after k, lt-leb after end l)
 
-  module _ (h : d < 256) (k : i < after) (l : after ≤ end) (kind : ℕ) (f : kind ≡ cell s i 0) (p : Bool) (q : p ≡ partsFit (viewOf s) i kind) where
+  module _ (h : d < MAX-DEPTH) (k : i < after) (l : after ≤ end) (kind : ℕ) (f : kind ≡ cell s i KIND) (p : Bool) (q : p ≡ partsFit (viewOf s) i kind) where
     same-kind : partsFit (viewOf s) i (viewOf s .kind i) ≡ p
     unfolding viewOf
     same-kind = rw (← f) (sym q)
@@ -252,8 +248,8 @@ module _ (places : ℕ → Bool) (s : List ℕ) (end d i after : ℕ) (e : after
 
     pub fits-parts : p ≡ false → false ≡ rowFits places (viewOf s) end d i
     unfolding rowFits
-    fits-parts n = rw (same-after, lt-ltb d 256 h, lt-ltb i after k, le-leb after end l, same-kind, n)
+    fits-parts n = rw (same-after, lt-ltb d MAX-DEPTH h, lt-ltb i after k, le-leb after end l, same-kind, n)
 
     pub fits-places : (r : Bool) → r ≡ places i → p ≡ true → r ≡ rowFits places (viewOf s) end d i
     unfolding rowFits
-    fits-places r a n = a ∙ rw (same-after, lt-ltb d 256 h, lt-ltb i after k, le-leb after end l, same-kind, n)
+    fits-places r a n = a ∙ rw (same-after, lt-ltb d MAX-DEPTH h, lt-ltb i after k, le-leb after end l, same-kind, n)

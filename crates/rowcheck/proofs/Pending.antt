@@ -11,6 +11,8 @@ use lib.ListN.{length, getD, set, length-set}
 use lib.Seq.{getD-set-same, getD-set-other}
 use lib.Dec.{ltb, eqb}
 use borrow.Author.Tests.{lt-ltb, le-ltb, le-leb, lt-leb, ltb-true, eqb-true, eqb-false}
+use Rattle.rows.specs.Limits.{MAX-DEPTH, MAX-ROWS}
+use Rattle.rows.specs.Places.{AFTER, PLACES}
 use Rattle.rows.specs.View.{View, viewOf, cell}
 use Rattle.refusals.specs.Refusals.{Refusal, refuseAt}
 use Rattle.renderer_rules.specs.Check.{rowFits, orLater, firstWrong, wrongRow, placesFit, wrongPlace}
@@ -151,8 +153,8 @@ pub record Checking (places : ℕ → Bool) (s : List ℕ) (stop : ℕ) (answer 
   pub same : ahead places (viewOf s) ends depth end row ≡ answer
   pub low : end ≤ stop
   pub under : (k : ℕ) → k < depth → getD ends k 0 ≤ stop
-  pub size : length ends ≡ 256
-  pub deep : depth ≤ 256
+  pub size : length ends ≡ MAX-DEPTH
+  pub deep : depth ≤ MAX-DEPTH
   pub inside : 0 < depth → row ≤ end
   pub over : (k : ℕ) → k < depth → end ≤ getD ends k 0
   pub chain : (j k : ℕ) → j < k → k < depth → getD ends k 0 ≤ getD ends j 0
@@ -164,7 +166,7 @@ below : {d : ℕ} (k : ℕ) → k < suc d → (k ≡ d → ⊥) → k < d
 below k m n = omega arith
 
 module _ (places : ℕ → Bool) (s : List ℕ) (stop : ℕ) where
-  pub check-start : (ends : List ℕ) (from : ℕ) → length ends ≡ 256 → Checking places s stop (wrongRow places (viewOf s) stop 0 from) ends 0 stop from
+  pub check-start : (ends : List ℕ) (from : ℕ) → length ends ≡ MAX-DEPTH → Checking places s stop (wrongRow places (viewOf s) stop 0 from) ends 0 stop from
   unfolding ahead
   check-start ends from e =
       record { same = refl; low = omega arith; under = λ k h. absurd (omega arith); size = e; deep = omega arith; inside = λ h. absurd (omega arith); over = λ k h. absurd (omega arith); chain = λ j k l h. absurd (omega arith) }
@@ -205,7 +207,7 @@ module _ (places : ℕ → Bool) (s : List ℕ) (stop : ℕ) where
     pub check-out-at : (e : ℕ) → e ≡ getD ends (depth - 1) 0 → 0 < depth → end ≤ row → Checking places s stop answer ends (depth - 1) e row
     check-out-at e q h l = rw q (check-out h l)
 
-    pub check-in : (after : ℕ) → row < end → after ≡ cell s row 4 → rowFits places (viewOf s) end depth row ≡ true
+    pub check-in : (after : ℕ) → row < end → after ≡ cell s row AFTER → rowFits places (viewOf s) end depth row ≡ true
         → Checking places s stop answer (set ends depth end) (depth + 1) after (row + 1)
     unfolding viewOf
     check-in after h e f =
@@ -222,7 +224,7 @@ module _ (places : ℕ → Bool) (s : List ℕ) (stop : ℕ) where
           size = length-set ends depth end ∙ c .size;
           deep = d;
           inside = λ m. w .up;
-          over = λ k m. at-least k (cell s row 4) m l (w .to) (λ n. let o = c .over k n in let u = w .to in omega arith);
+          over = λ k m. at-least k (cell s row AFTER) m l (w .to) (λ n. let o = c .over k n in let u = w .to in omega arith);
           chain = λ j k m n. linked j k m n l;
         })
       where
@@ -251,7 +253,7 @@ module _ (places : ℕ → Bool) (s : List ℕ) (stop : ℕ) where
             let z = there j (omega arith) in
             at-most k (getD (set ends depth end) j 0) n l (let o = c .over j (omega arith) in omega arith) (λ p. let o = c .chain j k m p in omega arith)
 
-    pub check-past : (after : ℕ) → row < end → after ≡ cell s row 4 → rowFits places (viewOf s) end depth row ≡ true → after ≤ row + 1
+    pub check-past : (after : ℕ) → row < end → after ≡ cell s row AFTER → rowFits places (viewOf s) end depth row ≡ true → after ≤ row + 1
         → Checking places s stop answer ends depth end (row + 1)
     unfolding viewOf
     check-past after h e f l =
@@ -279,14 +281,14 @@ check-as places s stop answer ends depth end row ends2 depth2 end2 p q r c = rw 
 
 -- The stop, tested first.
 module _ (source image s : List ℕ) (from stop : ℕ) where
-  pub stop-far : 2097152 < stop → wrongPlace source image s from stop ≡ some 0
+  pub stop-far : MAX-ROWS < stop → wrongPlace source image s from stop ≡ some 0
   unfolding wrongPlace
-  stop-far h = rw (lt-leb stop 2097152 h)
+  stop-far h = rw (lt-leb stop MAX-ROWS h)
 
-  pub stop-past : stop ≤ 2097152 → length s < stop * 9 → wrongPlace source image s from stop ≡ some 0
+  pub stop-past : stop ≤ MAX-ROWS → length s < stop * PLACES → wrongPlace source image s from stop ≡ some 0
   unfolding wrongPlace
-  stop-past h k = rw (le-leb stop 2097152 h, lt-leb (stop * 9) (length s) k)
+  stop-past h k = rw (le-leb stop MAX-ROWS h, lt-leb (stop * PLACES) (length s) k)
 
-  pub stop-fits : stop ≤ 2097152 → stop * 9 ≤ length s → wrongPlace source image s from stop ≡ wrongRow (placesFit source image s) (viewOf s) stop 0 from
+  pub stop-fits : stop ≤ MAX-ROWS → stop * PLACES ≤ length s → wrongPlace source image s from stop ≡ wrongRow (placesFit source image s) (viewOf s) stop 0 from
   unfolding wrongPlace
-  stop-fits h k = rw (le-leb stop 2097152 h, le-leb (stop * 9) (length s) k)
+  stop-fits h k = rw (le-leb stop MAX-ROWS h, le-leb (stop * PLACES) (length s) k)

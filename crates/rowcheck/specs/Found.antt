@@ -4,6 +4,6 @@ use Rattle.refusals.specs.Refusals.{Refusal}
 use Rattle.rowcheck.specs.declared.Found.{Found}
 use Rattle.rowcheck.specs.declared.Found.the-variants.{Right, Wrong}
 
-abbrev pub refusalOf : Found → Option Refusal
-refusalOf Right = none
-refusalOf (Wrong row) = some (record { number = 11; place = row })
+abbrev pub foundRefusal : Found → Option Refusal
+foundRefusal Right = none
+foundRefusal (Wrong row) = some (record { number = 11; place = row })

@@ -9,7 +9,7 @@ ghost use Rattle.rows.specs.Limits.{MAX-ROWS};
 ghost use Rattle.rows.specs.View.{cell, viewOf};
 ghost use Rattle.renderer_rules.specs.Check.{reaches, hasTwo, isSplit, partsFit, usesNumber, usesNumber2, usesSecond, usesText, textFits, noTextFits, placesFit, rowFits, wrongRow, wrongPlace};
 ghost use Rattle.refusals.specs.Refusals.{refuseAt};
-ghost use Rattle.rowcheck.specs.Found.{refusalOf};
+ghost use Rattle.rowcheck.specs.Found.{foundRefusal};
 use rows::kinds::ASCII;
 use rows::kinds::CALL;
 use rows::kinds::COMMENT;
@@ -244,7 +244,7 @@ fn row_fits(
 // The first row from `from` up to `stop` that is not right. `ends` has where the rows around the open part end.
 fn wrong_row(store: &[u32], source: &[u8], image: &[u8], from: usize, stop: usize) -> Found
     requires { ⌜ (stop * PLACES ≤ length (now store)) × (stop ≤ MAX-ROWS) ⌝ }
-    ensures { λ r. ⌜ refusalOf r ≡ refuseAt (wrongRow (placesFit (now (source .entry)) (now (image .entry)) (now (store .entry))) (viewOf (now (store .entry))) stop 0 from) 11 ⌝ }
+    ensures { λ r. ⌜ foundRefusal r ≡ refuseAt (wrongRow (placesFit (now (source .entry)) (now (image .entry)) (now (store .entry))) (viewOf (now (store .entry))) stop 0 from) 11 ⌝ }
 {
     let mut ends = [0u32; MAX_DEPTH];
     let mut depth: usize = 0;
@@ -272,7 +272,7 @@ fn wrong_row(store: &[u32], source: &[u8], image: &[u8], from: usize, stop: usiz
 
 // Refusal 11: whether the rows from `from` up to `stop` may be rendered; 0 for the stop.
 pub fn check_rows(store: &[u32], source: &[u8], image: &[u8], from: usize, stop: usize) -> Found
-    ensures { λ r. ⌜ refusalOf r ≡ refuseAt (wrongPlace (now (source .entry)) (now (image .entry)) (now (store .entry)) from stop) 11 ⌝ }
+    ensures { λ r. ⌜ foundRefusal r ≡ refuseAt (wrongPlace (now (source .entry)) (now (image .entry)) (now (store .entry)) from stop) 11 ⌝ }
 {
     if MAX_ROWS < stop {
         return Found::Wrong(0);

@@ -7,7 +7,8 @@ use native.Mathlib.Omega.{arith}
 use mathlib.Core.Bool.{cond}
 use lib.Dec.{ltb}
 use borrow.Author.Tests.{lt-ltb, le-ltb}
-use Rattle.rows.specs.Node.{Node, Nodes, group, indent, indentNext, wrapParent, comment, str, ascii, line, emptyLine, lineOrSpace, ifWrap, call, none, _then_}
+use Rattle.rows.specs.Kinds.{GROUP, INDENT, INDENT-NEXT, WRAP-PARENT, COMMENT, STR, ASCII, LINE, EMPTY-LINE, LINE-OR-SPACE, IF-WRAP, CALL}
+use Rattle.rows.specs.Node.{Nodes, group, indent, indentNext, wrapParent, comment, str, ascii, line, emptyLine, lineOrSpace, ifWrap, call, none, _then_}
 use Rattle.rows.specs.View.{View, firstOf, nodeOf, endIn, secondIn, decode, nodesAt, nodeAt}
 use Rattle.rows.specs.Nesting.{RangeIn, Split}
 
@@ -122,52 +123,52 @@ nodes-some v i j w = nodes-clamped v i j (omega arith) ∙ rw (end-in v i j w)
 
 -- The node of a row, by its kind.
 module _ (v : View) (i : ℕ) where
-  pub node-group : v .kind i ≡ 0 → nodeAt v i ≡ group (v .number i) (nodesAt v (suc i) (v .after i))
+  pub node-group : v .kind i ≡ GROUP → nodeAt v i ≡ group (v .number i) (nodesAt v (suc i) (v .after i))
   unfolding nodeAt nodeOf
   node-group e = rw e
 
-  pub node-indent : v .kind i ≡ 1 → nodeAt v i ≡ indent (nodesAt v (suc i) (v .after i))
+  pub node-indent : v .kind i ≡ INDENT → nodeAt v i ≡ indent (nodesAt v (suc i) (v .after i))
   unfolding nodeAt nodeOf
   node-indent e = rw e
 
-  pub node-next : v .kind i ≡ 2 → nodeAt v i ≡ indentNext (nodesAt v (suc i) (v .after i))
+  pub node-next : v .kind i ≡ INDENT-NEXT → nodeAt v i ≡ indentNext (nodesAt v (suc i) (v .after i))
   unfolding nodeAt nodeOf
   node-next e = rw e
 
-  pub node-parent : v .kind i ≡ 3 → nodeAt v i ≡ wrapParent
+  pub node-parent : v .kind i ≡ WRAP-PARENT → nodeAt v i ≡ wrapParent
   unfolding nodeAt nodeOf
   node-parent e = rw e
 
-  pub node-comment : v .kind i ≡ 4 → nodeAt v i ≡ comment (v .text i)
+  pub node-comment : v .kind i ≡ COMMENT → nodeAt v i ≡ comment (v .text i)
   unfolding nodeAt nodeOf
   node-comment e = rw e
 
-  pub node-str : v .kind i ≡ 5 → nodeAt v i ≡ str (v .width i) (v .text i)
+  pub node-str : v .kind i ≡ STR → nodeAt v i ≡ str (v .width i) (v .text i)
   unfolding nodeAt nodeOf
   node-str e = rw e
 
-  pub node-ascii : v .kind i ≡ 6 → nodeAt v i ≡ ascii (v .text i)
+  pub node-ascii : v .kind i ≡ ASCII → nodeAt v i ≡ ascii (v .text i)
   unfolding nodeAt nodeOf
   node-ascii e = rw e
 
-  pub node-line : v .kind i ≡ 7 → nodeAt v i ≡ line
+  pub node-line : v .kind i ≡ LINE → nodeAt v i ≡ line
   unfolding nodeAt nodeOf
   node-line e = rw e
 
-  pub node-empty : v .kind i ≡ 8 → nodeAt v i ≡ emptyLine
+  pub node-empty : v .kind i ≡ EMPTY-LINE → nodeAt v i ≡ emptyLine
   unfolding nodeAt nodeOf
   node-empty e = rw e
 
-  pub node-space : v .kind i ≡ 9 → nodeAt v i ≡ lineOrSpace
+  pub node-space : v .kind i ≡ LINE-OR-SPACE → nodeAt v i ≡ lineOrSpace
   unfolding nodeAt nodeOf
   node-space e = rw e
 
-  pub node-if : v .kind i ≡ 10 → Split v i
+  pub node-if : v .kind i ≡ IF-WRAP → Split v i
       → nodeAt v i ≡ ifWrap (v .number i) (firstOf (nodesAt v (suc i) (v .second i))) (firstOf (nodesAt v (v .second i) (v .after i)))
   unfolding nodeAt nodeOf
   node-if e s = rw (e, second-in v i s)
 
-  pub node-call : v .kind i ≡ 11 → Split v i
+  pub node-call : v .kind i ≡ CALL → Split v i
       → nodeAt v i ≡ call (v .number i) (nodesAt v (suc i) (v .second i)) (v .number2 i) (nodesAt v (v .second i) (v .after i))
   unfolding nodeAt nodeOf
   node-call e s = rw (e, second-in v i s)

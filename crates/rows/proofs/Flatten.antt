@@ -9,6 +9,9 @@ use native.Mathlib.Nat.{add-zero}
 use mathlib.Core.List.{List, [], _++_}
 use lib.ListN.{length, getD, take, drop, length-append, List·getD-append}
 use lib.Seq.{getD-append-add, getD-take, getD-drop}
+use Rattle.rows.specs.Limits.{MAX-DEPTH}
+use Rattle.rows.specs.Kinds.{GROUP, INDENT, INDENT-NEXT, LINE-OR-SPACE, IF-WRAP, CALL}
+use Rattle.rows.specs.Places.{WIDTH, PLACES}
 use Rattle.rows.specs.Node.{Text, Node, Nodes, group, indent, indentNext, wrapParent, comment, str, ascii, line, emptyLine, lineOrSpace, ifWrap}
 use Rattle.rows.specs.Node.{call, none, _then_}
 use Rattle.rows.specs.Rows.{size, sizes, depth, depths, row, rowsOf, rows, noText}
@@ -21,16 +24,16 @@ use Rattle.rows.proofs.Sizes.{size-pos, length-rowsOf, length-rows}
 
 -- the store has these numbers from row i on
 pub record Holds (s : List ℕ) (i : ℕ) (l : List ℕ) : Type 0 where
-  pub at : (k : ℕ) → k < length l → getD s (i * 9 + k) 0 ≡ getD l k 0
+  pub at : (k : ℕ) → k < length l → getD s (i * PLACES + k) 0 ≡ getD l k 0
 
-pub holds-part : (s : List ℕ) (i : ℕ) (l : List ℕ) → take (length l) (drop (i * 9) s) ≡ l → Holds s i l
+pub holds-part : (s : List ℕ) (i : ℕ) (l : List ℕ) → take (length l) (drop (i * PLACES) s) ≡ l → Holds s i l
 holds-part s i l e =
-    record { at = λ k h. sym (getD-drop (i * 9) s k 0) ∙ sym (getD-take (length l) (drop (i * 9) s) k 0 h) ∙ ap (λ (x : List ℕ). getD x k 0) e }
+    record { at = λ k h. sym (getD-drop (i * PLACES) s k 0) ∙ sym (getD-take (length l) (drop (i * PLACES) s) k 0 h) ∙ ap (λ (x : List ℕ). getD x k 0) e }
 
 holds-left : (s : List ℕ) (i : ℕ) (a b : List ℕ) → Holds s i (a ++ b) → Holds s i a
 holds-left s i a b h = record { at = λ k l. h .at k (simp length-append (omega arith)) ∙ List·getD-append a b 0 k l }
 
-holds-right : (s : List ℕ) (i n : ℕ) (a b : List ℕ) → length a ≡ n * 9 → Holds s i (a ++ b) → Holds s (i + n) b
+holds-right : (s : List ℕ) (i n : ℕ) (a b : List ℕ) → length a ≡ n * PLACES → Holds s i (a ++ b) → Holds s (i + n) b
 holds-right s i n a b e h =
     record {
       at =
@@ -40,7 +43,7 @@ holds-right s i n a b e h =
           ∙ getD-append-add a b k 0;
     }
   where
-    along : (i n k m : ℕ) → m ≡ n * 9 → (i + n) * 9 + k ≡ i * 9 + (m + k)
+    along : (i n k m : ℕ) → m ≡ n * PLACES → (i + n) * 9 + k ≡ i * PLACES + (m + k)
     along i n k m e = omega arith
 
 -- one row
@@ -51,7 +54,7 @@ pub record Row (s : List ℕ) (i kind n k second after : ℕ) (t : Text) (w : �
   pub isSecond : viewOf s .second i ≡ second
   pub isAfter : viewOf s .after i ≡ after
   pub isText : viewOf s .text i ≡ t
-  pub isWidth : cell s i 8 ≡ w
+  pub isWidth : cell s i WIDTH ≡ w
 
 module _ (s : List ℕ) (i kind n k second after : ℕ) (t : Text) (w : ℕ) (l : List ℕ) (h : Holds s i (row kind n k second after t w ++ l)) where
   pub row-held : Row s i kind n k second after t w
@@ -105,15 +108,15 @@ module _ (s : List ℕ) (i kind n : ℕ) (ns : Nodes) (r : Row s i kind n 0 0 (i
         same : (i z : ℕ) → suc i + z ≡ i + (1 + z)
         same i z = omega arith
 
-    group-shown : kind ≡ 0 → Shown s i (group n ns)
+    group-shown : kind ≡ GROUP → Shown s i (group n ns)
     unfolding size
     group-shown k = record { end = r .isAfter; node = node-group (viewOf s) i (r .isKind ∙ k) ∙ rw (r .isNumber, parts) }
 
-    indent-shown : kind ≡ 1 → Shown s i (indent ns)
+    indent-shown : kind ≡ INDENT → Shown s i (indent ns)
     unfolding size
     indent-shown k = record { end = r .isAfter; node = node-indent (viewOf s) i (r .isKind ∙ k) ∙ rw parts }
 
-    next-shown : kind ≡ 2 → Shown s i (indentNext ns)
+    next-shown : kind ≡ INDENT-NEXT → Shown s i (indentNext ns)
     unfolding size
     next-shown k = record { end = r .isAfter; node = node-next (viewOf s) i (r .isKind ∙ k) ∙ rw parts }
 
@@ -240,8 +243,8 @@ pub flattened : (ns : Nodes) (s : List ℕ) (r : ℕ) → take (length (rows ns 
 flattened ns s r e = read-back ns s r (holds-part s r (rows ns r) e)
 
 -- These rows nest. What follows them, up to j, nests as well.
-leaf-nests : (s : List ℕ) (i kind : ℕ) (t : Text) (w j d : ℕ) → Row s i kind 0 0 0 (i + 1) t w → 3 ≤ kind → kind ≤ 9
-    → 1 + d ≤ 256
+leaf-nests : (s : List ℕ) (i kind : ℕ) (t : Text) (w j d : ℕ) → Row s i kind 0 0 0 (i + 1) t w → 3 ≤ kind → kind ≤ LINE-OR-SPACE
+    → 1 + d ≤ MAX-DEPTH
     → Nests (viewOf s) (i + 1) j d
     → Nests (viewOf s) i j d
 leaf-nests s i kind t w j d r a b c g =
@@ -251,7 +254,7 @@ leaf-nests s i kind t w j d r a b c g =
     leaf {i = i} {j = j} {d = d} (rw e a) (rw e b) (f ∙ add-one i) (omega arith) (omega arith) (rw (add-one i) at g)
 
 module _ (s : List ℕ) (i kind n z j d : ℕ) (r : Row s i kind n 0 0 (i + (1 + z)) noText 0) where
-  block-nests : kind ≤ 2 → d < 256 → Nests (viewOf s) (i + 1) (i + 1 + z) (suc d) → Nests (viewOf s) (i + (1 + z)) j d → Nests (viewOf s) i j d
+  block-nests : kind ≤ INDENT-NEXT → d < MAX-DEPTH → Nests (viewOf s) (i + 1) (i + 1 + z) (suc d) → Nests (viewOf s) (i + (1 + z)) j d → Nests (viewOf s) i j d
   block-nests k c p g =
       let f = r .isAfter in
       let e = r .isKind in
@@ -260,7 +263,7 @@ module _ (s : List ℕ) (i kind n z j d : ℕ) (r : Row s i kind n 0 0 (i + (1 +
       block {i = i} {j = j} {d = d} (rw e k) (record { up = omega arith; to = omega arith }) c (rw (m, ← add-one i) p) (rw f g)
 
 module _ (s : List ℕ) (i kind n k x y j d : ℕ) (r : Row s i kind n k (i + (1 + x)) (i + (1 + (x + y))) noText 0)
-    (c : d < 256)
+    (c : d < MAX-DEPTH)
     (p : Nests (viewOf s) (i + 1) (i + 1 + x) (suc d))
     (q : Nests (viewOf s) (i + (1 + x)) (i + (1 + x) + y) (suc d))
     (g : Nests (viewOf s) (i + (1 + (x + y))) j d)
@@ -280,13 +283,13 @@ module _ (s : List ℕ) (i kind n k x y j d : ℕ) (r : Row s i kind n k (i + (1
     second-part : Nests (viewOf s) (viewOf s .second i) (viewOf s .after i) (suc d)
     second-part = rw (isAfter′, r .isSecond) q
 
-    pair-nests : kind ≡ 11 → Nests (viewOf s) i j d
+    pair-nests : kind ≡ CALL → Nests (viewOf s) i j d
     pair-nests e =
         let a = r .isSecond in
         let b = r .isAfter in
         pair {i = i} {j = j} {d = d} (r .isKind ∙ e) inside (record { up = omega arith; to = omega arith }) c first-part second-part (rw b g)
 
-    two-nests : kind ≡ 10 → viewOf s .after (i + 1) ≡ i + 1 + x → viewOf s .after (i + (1 + x)) ≡ i + (1 + x) + y → 0 < x → 0 < y → Nests (viewOf s) i j d
+    two-nests : kind ≡ IF-WRAP → viewOf s .after (i + 1) ≡ i + 1 + x → viewOf s .after (i + (1 + x)) ≡ i + (1 + x) + y → 0 < x → 0 < y → Nests (viewOf s) i j d
     two-nests e u w l m =
         let a = r .isSecond in
         let b = r .isAfter in
@@ -314,7 +317,7 @@ then-after s i a b j d g = subst (λ (x : ℕ). Nests (viewOf s) x j d) (same i 
 mutual
   unfolding rowsOf size depth
 
-  node-nests : (n : Node) (s : List ℕ) (i j d : ℕ) → Holds s i (rowsOf n i) → depth n + d ≤ 256 → Nests (viewOf s) (i + size n) j d → Nests (viewOf s) i j d
+  node-nests : (n : Node) (s : List ℕ) (i j d : ℕ) → Holds s i (rowsOf n i) → depth n + d ≤ MAX-DEPTH → Nests (viewOf s) (i + size n) j d → Nests (viewOf s) i j d
   node-nests (group n ns) s i j d h l g =
       block-nests s i 0 n (sizes ns) j d (block-row s i 0 n ns h) (omega arith) (omega arith) (nodes-nest ns s (i + 1) (i + 1 + sizes ns) (suc d) (block-parts s i 0 n ns h) (omega arith) (over refl)) g
   node-nests (indent ns) s i j d h l g =
@@ -359,11 +362,11 @@ mutual
       g
       refl
 
-  nodes-nest : (ns : Nodes) (s : List ℕ) (i j d : ℕ) → Holds s i (rows ns i) → depths ns + d ≤ 256 → Nests (viewOf s) (i + sizes ns) j d → Nests (viewOf s) i j d
+  nodes-nest : (ns : Nodes) (s : List ℕ) (i j d : ℕ) → Holds s i (rows ns i) → depths ns + d ≤ MAX-DEPTH → Nests (viewOf s) (i + sizes ns) j d → Nests (viewOf s) i j d
   nodes-nest none s i j d h l g = none-rest s i j d g
   nodes-nest (n then ns) s i j d h l g =
       node-nests n s i j d (then-first n ns s i h) (omega arith) (nodes-nest ns s (i + size n) j d (then-rest n ns s i h) (omega arith) (then-after s i (size n) (sizes ns) j d g))
 
 -- the rows that flattened nodes are, where these are not too deep
-pub all-nest : (ns : Nodes) (s : List ℕ) (i d : ℕ) → Holds s i (rows ns i) → depths ns + d ≤ 256 → Nests (viewOf s) i (i + sizes ns) d
+pub all-nest : (ns : Nodes) (s : List ℕ) (i d : ℕ) → Holds s i (rows ns i) → depths ns + d ≤ MAX-DEPTH → Nests (viewOf s) i (i + sizes ns) d
 all-nest ns s i d h l = nodes-nest ns s i (i + sizes ns) d h l (over refl)

@@ -8,6 +8,8 @@ use mathlib.Core.List.{List}
 use Prim.Native.Nat.{ℕ, zero, suc, _+_, _-_, _≤_, _<_}
 use native.Mathlib.Omega.{arith}
 use native.Mathlib.Numerals.{add-one}
+use Rattle.rows.specs.Kinds.{INDENT}
+use Rattle.rows.specs.Places.{KIND, AFTER}
 use Rattle.rows.specs.Node.{Nodes, none, _then_, join, mustWrap, mustWraps}
 use Rattle.rows.specs.View.{View, viewOf, cell, nodesAt, nodeOf, nodeAt}
 use Rattle.rows.specs.Nesting.{RangeIn, Nests}
@@ -34,7 +36,7 @@ module _ (v : View) where
   must-true k i j w e (inr a) = must-some i j w ∙ rw (e ∙ a)
 
   -- an Indent: its parts and what follows are one range
-  pub must-flat : {i j d : ℕ} → Nests v i j d → i < j → v .kind i ≡ 1 → mustWraps (nodesAt v i j) ≡ mustWraps (nodesAt v (suc i) j)
+  pub must-flat : {i j d : ℕ} → Nests v i j d → i < j → v .kind i ≡ INDENT → mustWraps (nodesAt v i j) ≡ mustWraps (nodesAt v (suc i) j)
   unfolding mustWrap
   must-flat {i} {j} g h k =
       let b = nests-block g h (omega arith) in
@@ -42,7 +44,7 @@ module _ (v : View) where
       ∙ rw (node-indent v i k)
       (sym (ap mustWraps (nodes-join j (b .parts) (b .within .to)) ∙ mustWraps-join (nodesAt v (suc i) (v .after i)) (nodesAt v (v .after i) j)))
 
-  pub nests-flat : {i j d : ℕ} → Nests v i j d → i < j → v .kind i ≡ 1 → Nests v (suc i) j d
+  pub nests-flat : {i j d : ℕ} → Nests v i j d → i < j → v .kind i ≡ INDENT → Nests v (suc i) j d
   nests-flat {d = d} g h k = let b = nests-block g h (omega arith) in nests-join (nests-weaken d (omega arith) (b .parts)) (b .rest)
 
   must-none : (k i : ℕ) → v .kind i ≡ k → k ≤ 11 → (k ≡ 1 → ⊥) → (k ≡ 3 → ⊥) → (k ≡ 4 → ⊥) → mustWrap (nodeAt v i) ≡ false
@@ -74,7 +76,7 @@ module _ (s : List ℕ) (from to row : ℕ) (a : MustAt s from to row) where
   unfolding mustWraps
   must-done h = sym (ap mustWraps (nodes-none (viewOf s) row to h)) ∙ a .same
 
-  module _ (k : ℕ) (h : row < to) (e : k ≡ cell s row 0) where
+  module _ (k : ℕ) (h : row < to) (e : k ≡ cell s row KIND) where
     pub must-found : (k ≡ 3) ⊎ (k ≡ 4) → true ≡ mustWraps (nodesAt (viewOf s) from to)
     unfolding viewOf
     must-found q = sym (must-true (viewOf s) k row to (nests-after (a .good) h) (sym e) q) ∙ a .same
@@ -88,11 +90,11 @@ module _ (s : List ℕ) (from to row : ℕ) (a : MustAt s from to row) where
           same = sym (must-flat (viewOf s) (a .good) h (sym e ∙ q)) ∙ a .same;
         })
 
-    pub must-over : (n : ℕ) → n ≡ cell s row 4 → (k ≡ 1 → ⊥) → (k ≡ 3 → ⊥) → (k ≡ 4 → ⊥) → MustAt s from to n
+    pub must-over : (n : ℕ) → n ≡ cell s row AFTER → (k ≡ 1 → ⊥) → (k ≡ 3 → ⊥) → (k ≡ 4 → ⊥) → MustAt s from to n
     unfolding viewOf
     must-over n f x y z =
         rw f (record { good = nests-rest (a .good) h; same = sym (must-skip (viewOf s) k (a .good) h (sym e) x y z) ∙ a .same })
 
-    pub must-less : (n : ℕ) → n ≡ cell s row 4 → to - n < to - row
+    pub must-less : (n : ℕ) → n ≡ cell s row AFTER → to - n < to - row
     unfolding viewOf
     must-less n f = let w = nests-after (a .good) h .up in omega arith

@@ -3,6 +3,8 @@
 use mathlib.Core.Path.{_≡_, sym, subst}
 use Prim.Native.Nat.{ℕ, suc, _≤_, _<_}
 use native.Mathlib.Omega.{arith}
+use Rattle.rows.specs.Limits.{MAX-DEPTH}
+use Rattle.rows.specs.Kinds.{INDENT-NEXT, WRAP-PARENT, LINE-OR-SPACE, IF-WRAP, CALL}
 use Rattle.rows.specs.Node.{join}
 use Rattle.rows.specs.View.{View, nodesAt}
 use Rattle.rows.specs.Nesting.{RangeIn, Split, TwoParts, Nests, over, leaf, block, two, pair}
@@ -15,7 +17,7 @@ nests-le (block a w d g h) = omega arith
 nests-le (two a w t d g h k) = omega arith
 nests-le (pair a w t d g h k) = omega arith
 
-shallower : {c d : ℕ} → c ≤ d → d < 256 → c < 256
+shallower : {c d : ℕ} → c ≤ d → d < MAX-DEPTH → c < MAX-DEPTH
 shallower p q = omega arith
 
 further : {i j k : ℕ} → i < j → j ≤ k → i < k
@@ -60,52 +62,52 @@ nodes-join {v} {i} {j} k (pair a w t q g l r) h = join-step v i j k w h (nodes-j
 -- What a row of a range that nests gives, by its kind.
 pub record Leaf (v : View) (i j d : ℕ) : Type 0 where
   pub next : v .after i ≡ suc i
-  pub shallow : d < 256
+  pub shallow : d < MAX-DEPTH
   pub rest : Nests v (suc i) j d
 
 pub record Block (v : View) (i j d : ℕ) : Type 0 where
   pub within : RangeIn v i j
-  pub shallow : d < 256
+  pub shallow : d < MAX-DEPTH
   pub parts : Nests v (suc i) (v .after i) (suc d)
   pub rest : Nests v (v .after i) j d
 
 pub record Pair (v : View) (i j d : ℕ) : Type 0 where
   pub within : RangeIn v i j
   pub split : Split v i
-  pub shallow : d < 256
+  pub shallow : d < MAX-DEPTH
   pub first : Nests v (suc i) (v .second i) (suc d)
   pub second : Nests v (v .second i) (v .after i) (suc d)
   pub rest : Nests v (v .after i) j d
 
-pub nests-leaf : {v : View} {i j d : ℕ} → Nests v i j d → i < j → 3 ≤ v .kind i → v .kind i ≤ 9 → Leaf v i j d
+pub nests-leaf : {v : View} {i j d : ℕ} → Nests v i j d → i < j → WRAP-PARENT ≤ v .kind i → v .kind i ≤ LINE-OR-SPACE → Leaf v i j d
 nests-leaf (over e) h a b = absurd (omega arith)
 nests-leaf (leaf k l e f q g) h a b = record { next = e; shallow = q; rest = g }
 nests-leaf (block k w q g r) h a b = absurd (omega arith)
 nests-leaf (two k w t q g l r) h a b = absurd (omega arith)
 nests-leaf (pair k w t q g l r) h a b = absurd (omega arith)
 
-pub nests-block : {v : View} {i j d : ℕ} → Nests v i j d → i < j → v .kind i ≤ 2 → Block v i j d
+pub nests-block : {v : View} {i j d : ℕ} → Nests v i j d → i < j → v .kind i ≤ INDENT-NEXT → Block v i j d
 nests-block (over e) h a = absurd (omega arith)
 nests-block (leaf k l e f q g) h a = absurd (omega arith)
 nests-block (block k w q g r) h a = record { within = w; shallow = q; parts = g; rest = r }
 nests-block (two k w t q g l r) h a = absurd (omega arith)
 nests-block (pair k w t q g l r) h a = absurd (omega arith)
 
-pub nests-two : {v : View} {i j d : ℕ} → Nests v i j d → i < j → v .kind i ≡ 10 → TwoParts v i × Pair v i j d
+pub nests-two : {v : View} {i j d : ℕ} → Nests v i j d → i < j → v .kind i ≡ IF-WRAP → TwoParts v i × Pair v i j d
 nests-two (over e) h a = absurd (omega arith)
 nests-two (leaf k l e f q g) h a = absurd (omega arith)
 nests-two (block k w q g r) h a = absurd (omega arith)
 nests-two (two k w t q g l r) h a = (t, record { within = w; split = record { up = omega arith; to = omega arith }; shallow = q; first = g; second = l; rest = r })
 nests-two (pair k w t q g l r) h a = absurd (omega arith)
 
-pub nests-pair : {v : View} {i j d : ℕ} → Nests v i j d → i < j → v .kind i ≡ 11 → Pair v i j d
+pub nests-pair : {v : View} {i j d : ℕ} → Nests v i j d → i < j → v .kind i ≡ CALL → Pair v i j d
 nests-pair (over e) h a = absurd (omega arith)
 nests-pair (leaf k l e f q g) h a = absurd (omega arith)
 nests-pair (block k w q g r) h a = absurd (omega arith)
 nests-pair (two k w t q g l r) h a = absurd (omega arith)
 nests-pair (pair k w t q g l r) h a = record { within = w; split = t; shallow = q; first = g; second = l; rest = r }
 
-pub nests-kind : {v : View} {i j d : ℕ} → Nests v i j d → i < j → v .kind i ≤ 11
+pub nests-kind : {v : View} {i j d : ℕ} → Nests v i j d → i < j → v .kind i ≤ CALL
 nests-kind (over e) h = absurd (omega arith)
 nests-kind (leaf k l e f q g) h = omega arith
 nests-kind (block k w q g r) h = omega arith
@@ -126,7 +128,7 @@ nests-rest (block k w q g r) h = r
 nests-rest (two k w t q g l r) h = r
 nests-rest (pair k w t q g l r) h = r
 
-pub nests-deep : {v : View} {i j d : ℕ} → Nests v i j d → i < j → d < 256
+pub nests-deep : {v : View} {i j d : ℕ} → Nests v i j d → i < j → d < MAX-DEPTH
 nests-deep (over e) h = absurd (omega arith)
 nests-deep (leaf k l e f q g) h = q
 nests-deep (block k w q g r) h = q

@@ -5,6 +5,7 @@ use Prim.Native.Nat.{ℕ, _+_, _*_, _<_}
 use native.Mathlib.Omega.{arith}
 use mathlib.Core.List.{List, _∷_, _++_, append-assoc}
 use lib.ListN.{length, length-append}
+use Rattle.rows.specs.Places.{PLACES}
 use Rattle.rows.specs.Node.{Node, Nodes, group, indent, indentNext, wrapParent, comment, str, ascii, line, emptyLine, lineOrSpace, ifWrap, call, none, _then_, join}
 use Rattle.rows.specs.Rows.{size, sizes, rowsOf, rows}
 
@@ -23,17 +24,17 @@ size-pos lineOrSpace = omega arith
 size-pos (ifWrap n a b) = omega arith
 size-pos (call n e k a) = omega arith
 
-both : (a b : List ℕ) (m n : ℕ) → length a ≡ m * 9 → length b ≡ n * 9 → length (a ++ b) ≡ (m + n) * 9
+both : (a b : List ℕ) (m n : ℕ) → length a ≡ m * PLACES → length b ≡ n * PLACES → length (a ++ b) ≡ (m + n) * 9
 both a b m n p q = length-append a b ∙ omega arith
 
 -- nine numbers, and those of the parts
-headed : (n : ℕ) (l : List ℕ) → length l ≡ n * 9 → length (0 ∷ 0 ∷ 0 ∷ 0 ∷ 0 ∷ 0 ∷ 0 ∷ 0 ∷ 0 ∷ l) ≡ (1 + n) * 9
+headed : (n : ℕ) (l : List ℕ) → length l ≡ n * PLACES → length (0 ∷ 0 ∷ 0 ∷ 0 ∷ 0 ∷ 0 ∷ 0 ∷ 0 ∷ 0 ∷ l) ≡ (1 + n) * 9
 headed n l p = omega arith
 
 mutual
   unfolding size rowsOf
 
-  pub length-rowsOf : (n : Node) (r : ℕ) → length (rowsOf n r) ≡ size n * 9
+  pub length-rowsOf : (n : Node) (r : ℕ) → length (rowsOf n r) ≡ size n * PLACES
   length-rowsOf (group n ns) r = headed (sizes ns) (rows ns (r + 1)) (length-rows ns (r + 1))
   length-rowsOf (indent ns) r = headed (sizes ns) (rows ns (r + 1)) (length-rows ns (r + 1))
   length-rowsOf (indentNext ns) r = headed (sizes ns) (rows ns (r + 1)) (length-rows ns (r + 1))

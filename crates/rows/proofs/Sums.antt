@@ -7,6 +7,9 @@ use native.Mathlib.Numerals.{add-one}
 use mathlib.Core.Bool.{true, false}
 use mathlib.Core.List.{List}
 use lib.ListN.{length, getD, set}
+use Rattle.rows.specs.Limits.{CELL-LIMIT, MAX-DEPTH, MAX-ROWS, WIDTH-LIMIT}
+use Rattle.rows.specs.Kinds.{IF-WRAP}
+use Rattle.rows.specs.Places.{KIND, NUMBER, SECOND, AFTER}
 use Rattle.laws.proofs.Numbers.{lt-of}
 use Rattle.rows.specs.Node.{widths, wrapped, byteColumns}
 use Rattle.rows.specs.View.{viewOf, cell, ownWidth, nodesAt}
@@ -18,12 +21,12 @@ use Rattle.rows.proofs.Widths.{W, w-start, w-end, w-other, wlimit-top, 
 pub record SumAt (s m : List ℕ) (to total : ℕ) (firsts : List ℕ) (depth row end sum : ℕ) : Type 0 where
   pub w : W (viewOf s) byteColumns m to total firsts depth row sum
   pub ends : end ≡ wlimit (viewOf s) byteColumns m to firsts depth
-  pub cap : sum ≤ row * 4294967296
+  pub cap : sum ≤ row * CELL-LIMIT
 
 abbrev pub sumLeft : ℕ → ℕ → ℕ → ℕ
 sumLeft to depth row = (to - row) * 2 + depth
 
-pub started : (s m : List ℕ) (from to : ℕ) (firsts : List ℕ) → Nested s from to → length firsts ≡ 256
+pub started : (s m : List ℕ) (from to : ℕ) (firsts : List ℕ) → Nested s from to → length firsts ≡ MAX-DEPTH
     → SumAt s m to (widths byteColumns m (nodesAt (viewOf s) from to)) firsts 0 from to 0
 started s m from to firsts r e =
     record {
@@ -46,7 +49,7 @@ own-none s i (suc (suc (suc (suc (suc (suc (suc (suc (suc zero))))))))) a b c = 
 own-none s i (suc (suc (suc (suc (suc (suc (suc (suc (suc (suc n)))))))))) a b c = refl
 
 -- the places of a row are what the view reads
-own-same : (s m : List ℕ) (i k : ℕ) → k ≡ cell s i 0 → ownOf (viewOf s) byteColumns m k i ≡ ownWidth s i k
+own-same : (s m : List ℕ) (i k : ℕ) → k ≡ cell s i KIND → ownOf (viewOf s) byteColumns m k i ≡ ownWidth s i k
 unfolding viewOf
 own-same s m i zero e = refl
 own-same s m i (suc zero) e = refl
@@ -60,19 +63,19 @@ own-same s m i (suc (suc (suc (suc (suc (suc (suc (suc zero)))))))) e = refl
 own-same s m i (suc (suc (suc (suc (suc (suc (suc (suc (suc zero))))))))) e = refl
 own-same s m i (suc (suc (suc (suc (suc (suc (suc (suc (suc (suc n)))))))))) e = refl
 
-kind-cell : (s : List ℕ) (i : ℕ) → viewOf s .kind i ≡ cell s i 0
+kind-cell : (s : List ℕ) (i : ℕ) → viewOf s .kind i ≡ cell s i KIND
 unfolding viewOf
 kind-cell s i = refl
 
-number-cell : (s : List ℕ) (i : ℕ) → viewOf s .number i ≡ cell s i 1
+number-cell : (s : List ℕ) (i : ℕ) → viewOf s .number i ≡ cell s i NUMBER
 unfolding viewOf
 number-cell s i = refl
 
-second-cell : (s : List ℕ) (i : ℕ) → viewOf s .second i ≡ cell s i 3
+second-cell : (s : List ℕ) (i : ℕ) → viewOf s .second i ≡ cell s i SECOND
 unfolding viewOf
 second-cell s i = refl
 
-after-cell : (s : List ℕ) (i : ℕ) → viewOf s .after i ≡ cell s i 4
+after-cell : (s : List ℕ) (i : ℕ) → viewOf s .after i ≡ cell s i AFTER
 unfolding viewOf
 after-cell s i = refl
 
@@ -86,7 +89,7 @@ module _ (s m : List ℕ) (to total : ℕ) (firsts : List ℕ) (depth row end su
       (subst (λ (p : ℕ). W (viewOf s) byteColumns m to total firsts p row sum) z (t .w))
       (omega arith)
 
-  pub capped : to ≤ 2097152 → sum < 18014398509481984
+  pub capped : to ≤ MAX-ROWS → sum < WIDTH-LIMIT
   capped f =
       let b = t .cap in
       let c = nests-le (t .w .good) in
@@ -100,7 +103,7 @@ module _ (s m : List ℕ) (to total : ℕ) (firsts : List ℕ) (depth row end su
   pub in-store : row < end → row < to
   in-store h = let g = t .w .low in let e = t .ends in omega arith
 
-  pub shallow : row < end → depth < 256
+  pub shallow : row < end → depth < MAX-DEPTH
   shallow h = let e = t .ends in w-deep (viewOf s) byteColumns m to total firsts depth row sum (t .w) (omega arith)
 
   -- a part is left
@@ -121,16 +124,16 @@ module _ (s m : List ℕ) (to total : ℕ) (firsts : List ℕ) (depth row end su
       w-top (viewOf s) byteColumns m to total firsts (depth - 1) _ sum h
       (w-pop (viewOf s) byteColumns m to total firsts depth row sum q (t .w) (omega arith))
 
-  pub left-later : row ≡ end → 0 < depth → row ≤ cell s (getD firsts (depth - 1) 0) 4
+  pub left-later : row ≡ end → 0 < depth → row ≤ cell s (getD firsts (depth - 1) 0) AFTER
   left-later e q =
       let l = t .ends in
       let j = w-jump (viewOf s) byteColumns m to total firsts depth row sum q (t .w) in
       let a = after-cell s (getD firsts (depth - 1) 0) in
       omega arith
 
-  pub left : (next e2 : ℕ) → row ≡ end → 0 < depth → next ≡ cell s (getD firsts (depth - 1) 0) 4
+  pub left : (next e2 : ℕ) → row ≡ end → 0 < depth → next ≡ cell s (getD firsts (depth - 1) 0) AFTER
       → (depth - 1 ≡ 0 → e2 ≡ to)
-      → (0 < depth - 1 → e2 ≡ cell s (getD firsts (depth - 1 - 1) 0) 3)
+      → (0 < depth - 1 → e2 ≡ cell s (getD firsts (depth - 1 - 1) 0) SECOND)
       → SumAt s m to total firsts (depth - 1) next e2 sum
   left next e2 e q f z y =
       let j = left-later e q in
@@ -143,7 +146,7 @@ module _ (s m : List ℕ) (to total : ℕ) (firsts : List ℕ) (depth row end su
         cap = omega arith;
       }
     where
-      limit : (p : ℕ) → (p ≡ 0 → e2 ≡ to) → (0 < p → e2 ≡ cell s (getD firsts (p - 1) 0) 3) → e2 ≡ wlimit (viewOf s) byteColumns m to firsts p
+      limit : (p : ℕ) → (p ≡ 0 → e2 ≡ to) → (0 < p → e2 ≡ cell s (getD firsts (p - 1) 0) SECOND) → e2 ≡ wlimit (viewOf s) byteColumns m to firsts p
       limit zero a b = a refl ∙ sym (wlimit-zero (viewOf s) byteColumns m to firsts 0 refl)
       limit (suc p) a b =
           b (omega arith)
@@ -151,7 +154,7 @@ module _ (s m : List ℕ) (to total : ℕ) (firsts : List ℕ) (depth row end su
           ∙ sym (wlimit-pos (viewOf s) byteColumns m to firsts (suc p) (omega arith))
 
   -- any row but an `IfWrap`
-  pub passed : (k w : ℕ) → row < end → k ≡ cell s row 0 → (k ≡ 10 → ⊥) → w ≡ ownWidth s row k → w < 4294967296
+  pub passed : (k w : ℕ) → row < end → k ≡ cell s row KIND → (k ≡ 10 → ⊥) → w ≡ ownWidth s row k → w < CELL-LIMIT
       → SumAt s m to total firsts depth (row + 1) end (sum + w)
   passed k w h e n q r =
       let l = t .ends in
@@ -167,7 +170,7 @@ module _ (s m : List ℕ) (to total : ℕ) (firsts : List ℕ) (depth row end su
       }
 
   -- an `IfWrap` that has wrapped: its first part
-  pub first-part : (n mid : ℕ) → row < end → cell s row 0 ≡ 10 → n ≡ cell s row 1 → mid ≡ cell s row 3 → wrapped m n ≡ true
+  pub first-part : (n mid : ℕ) → row < end → cell s row KIND ≡ IF-WRAP → n ≡ cell s row NUMBER → mid ≡ cell s row SECOND → wrapped m n ≡ true
       → SumAt s m to total (set firsts depth row) (depth + 1) (row + 1) mid sum
   first-part n mid h k a d e =
       let l = t .ends in
@@ -186,7 +189,7 @@ module _ (s m : List ℕ) (to total : ℕ) (firsts : List ℕ) (depth row end su
         cap = omega arith;
       }
 
-  pub second-later : (mid : ℕ) → row < end → cell s row 0 ≡ 10 → mid ≡ cell s row 3 → (row < mid) × (mid ≤ to)
+  pub second-later : (mid : ℕ) → row < end → cell s row KIND ≡ IF-WRAP → mid ≡ cell s row SECOND → (row < mid) × (mid ≤ to)
   second-later mid h k d =
       let l = t .ends in
       let g : row < wlimit (viewOf s) byteColumns m to firsts depth = omega arith in
@@ -197,7 +200,7 @@ module _ (s m : List ℕ) (to total : ℕ) (firsts : List ℕ) (depth row end su
       (let u = o .up in omega arith, let u = o .to in omega arith)
 
   -- an `IfWrap` that has not: its second part
-  pub second-part : (n mid : ℕ) → row < end → cell s row 0 ≡ 10 → n ≡ cell s row 1 → mid ≡ cell s row 3 → wrapped m n ≡ false
+  pub second-part : (n mid : ℕ) → row < end → cell s row KIND ≡ IF-WRAP → n ≡ cell s row NUMBER → mid ≡ cell s row SECOND → wrapped m n ≡ false
       → SumAt s m to total firsts depth mid end sum
   second-part n mid h k a d e =
       let l = t .ends in

@@ -10,6 +10,8 @@ use mathlib.Core.Bool.{true, false, cond}
 use mathlib.Core.List.{List, [], _∷_}
 use lib.ListN.{length, getD, set, length-set}
 use lib.Seq.{getD-set-same, getD-set-other}
+use Rattle.rows.specs.Limits.{MAX-DEPTH}
+use Rattle.rows.specs.Kinds.{INDENT-NEXT, WRAP-PARENT, LINE-OR-SPACE, IF-WRAP, CALL}
 use Rattle.rows.specs.Node.{Text, Node, Nodes, none, _then_, join, wrapped, width, widths}
 use Rattle.rows.specs.View.{View, nodesAt, nodeOf, firstOf, nodeAt}
 use Rattle.rows.specs.Nesting.{RangeIn, Split, TwoParts, Nests}
@@ -33,11 +35,7 @@ module _ (v : View) (columns : Text → ℕ) (m : List ℕ) where
   width-split : {i j d : ℕ} (k : ℕ) → Nests v i j d → j ≤ k → widthOf i k ≡ widthOf i j + widthOf j k
   width-split {i} {j} k g h = ap (λ (n : Nodes). widths columns m n) (nodes-join k g h) ∙ widths-join (nodesAt v i j) (nodesAt v j k) columns m
 
-  pub width-none : (i : ℕ) → widthOf i i ≡ 0
-  unfolding widths
-  width-none i = ap (λ (n : Nodes). widths columns m n) (nodes-none v i i (omega arith))
-
-  width-block : (i : ℕ) → v .kind i ≤ 2 → width columns m (nodeAt v i) ≡ widthOf (suc i) (v .after i)
+  width-block : (i : ℕ) → v .kind i ≤ INDENT-NEXT → width columns m (nodeAt v i) ≡ widthOf (suc i) (v .after i)
   unfolding width nodeAt nodeOf
   width-block i h = go (v .kind i) refl h
     where
@@ -48,14 +46,14 @@ module _ (v : View) (columns : Text → ℕ) (m : List ℕ) where
       go (suc (suc (suc k))) e q = absurd (omega arith)
 
   -- a block: its parts and what follows are one range
-  pub width-flat : {i j d : ℕ} → v .kind i ≤ 2 → RangeIn v i j → Nests v (suc i) (v .after i) d → widthOf i j ≡ widthOf (suc i) j
+  pub width-flat : {i j d : ℕ} → v .kind i ≤ INDENT-NEXT → RangeIn v i j → Nests v (suc i) (v .after i) d → widthOf i j ≡ widthOf (suc i) j
   width-flat {i} {j} h w g =
       let a = width-some i j w in
       let b = width-split j g (w .to) in
       let c = width-block i h in
       omega arith
 
-  pub width-flat-call : {i j d : ℕ} → v .kind i ≡ 11 → RangeIn v i j → Split v i → Nests v (suc i) (v .second i) d → Nests v (v .second i) (v .after i) d → widthOf i j ≡ widthOf (suc i) j
+  pub width-flat-call : {i j d : ℕ} → v .kind i ≡ CALL → RangeIn v i j → Split v i → Nests v (suc i) (v .second i) d → Nests v (v .second i) (v .after i) d → widthOf i j ≡ widthOf (suc i) j
   unfolding width
   width-flat-call {i} {j} h w s g l =
       let a = width-some i j w in
@@ -68,7 +66,7 @@ module _ (v : View) (columns : Text → ℕ) (m : List ℕ) where
   unfolding widths
   single-width i h = rw (nodes-some v i (v .after i) h, nodes-none v (v .after i) (v .after i) (omega arith)) (omega arith)
 
-  width-if : (i : ℕ) → v .kind i ≡ 10 → TwoParts v i → width columns m (nodeAt v i) ≡ cond (wrapped m (v .number i)) (widthOf (suc i) (v .second i)) (widthOf (v .second i) (v .after i))
+  width-if : (i : ℕ) → v .kind i ≡ IF-WRAP → TwoParts v i → width columns m (nodeAt v i) ≡ cond (wrapped m (v .number i)) (widthOf (suc i) (v .second i)) (widthOf (v .second i) (v .after i))
   unfolding width
   width-if i h t =
       ap (λ (n : Node). width columns m n) (node-if v i h (record { up = omega arith; to = omega arith }))
@@ -77,14 +75,14 @@ module _ (v : View) (columns : Text → ℕ) (m : List ℕ) where
       (rw (t .second) at (single-width (v .second i) (record { up = omega arith; to = omega arith })))
 
   -- an IfWrap's chosen part
-  pub width-second : {i j d : ℕ} → v .kind i ≡ 10 → RangeIn v i j → TwoParts v i → Nests v (v .second i) (v .after i) d → wrapped m (v .number i) ≡ false → widthOf i j ≡ widthOf (v .second i) j
+  pub width-second : {i j d : ℕ} → v .kind i ≡ IF-WRAP → RangeIn v i j → TwoParts v i → Nests v (v .second i) (v .after i) d → wrapped m (v .number i) ≡ false → widthOf i j ≡ widthOf (v .second i) j
   width-second {i} {j} h w t g e =
       let a = width-some i j w in
       let b = width-split j g (w .to) in
       let c = rw e at (width-if i h t) in
       omega arith
 
-  pub width-first : {i j : ℕ} → v .kind i ≡ 10 → RangeIn v i j → TwoParts v i → wrapped m (v .number i) ≡ true → widthOf i j ≡ widthOf (suc i) (v .second i) + widthOf (v .after i) j
+  pub width-first : {i j : ℕ} → v .kind i ≡ IF-WRAP → RangeIn v i j → TwoParts v i → wrapped m (v .number i) ≡ true → widthOf i j ≡ widthOf (suc i) (v .second i) + widthOf (v .after i) j
   width-first {i} {j} h w t e =
       let a = width-some i j w in
       let c = rw e at (width-if i h t) in
@@ -94,7 +92,7 @@ module _ (v : View) (columns : Text → ℕ) (m : List ℕ) where
   abbrev pub ownOf : ℕ → ℕ → ℕ
   ownOf k i = getD (0 ∷ 0 ∷ 0 ∷ 0 ∷ 0 ∷ v .width i ∷ columns (v .text i) ∷ 0 ∷ 0 ∷ 1 ∷ []) k 0
 
-  width-own : (i : ℕ) → 3 ≤ v .kind i → v .kind i ≤ 9 → width columns m (nodeAt v i) ≡ ownOf (v .kind i) i
+  width-own : (i : ℕ) → WRAP-PARENT ≤ v .kind i → v .kind i ≤ LINE-OR-SPACE → width columns m (nodeAt v i) ≡ ownOf (v .kind i) i
   unfolding nodeAt width nodeOf
   width-own i h l = go (v .kind i) refl h l
     where
@@ -111,7 +109,7 @@ module _ (v : View) (columns : Text → ℕ) (m : List ℕ) where
       go (suc (suc (suc (suc (suc (suc (suc (suc (suc zero))))))))) e a b = rw e
       go (suc (suc (suc (suc (suc (suc (suc (suc (suc (suc n)))))))))) e a b = absurd (omega arith)
 
-  pub width-leaf : (i j : ℕ) → 3 ≤ v .kind i → v .kind i ≤ 9 → v .after i ≡ suc i → i < j → widthOf i j ≡ ownOf (v .kind i) i + widthOf (suc i) j
+  pub width-leaf : (i j : ℕ) → WRAP-PARENT ≤ v .kind i → v .kind i ≤ LINE-OR-SPACE → v .after i ≡ suc i → i < j → widthOf i j ≡ ownOf (v .kind i) i + widthOf (suc i) j
   width-leaf i j h l e f = width-some i j (leaf-within e f) ∙ rw (width-own i h l, e)
 
 -- The sum as a loop: pend has the p rows `IfWrap` whose first part the loop is in, outermost first.
@@ -153,11 +151,11 @@ module _ (v : View) (columns : Text → ℕ) (m : List ℕ) (to : ℕ) where
     pub sum : acc + widthOf v columns m i (wlimit pend p) + wrest pend p ≡ total
     pub good : Nests v i (wlimit pend p) p
     pub low : wlimit pend p ≤ to
-    pub deep : p ≤ 256
+    pub deep : p ≤ MAX-DEPTH
     pub fine : wfine pend p
-    pub size : length pend ≡ 256
+    pub size : length pend ≡ MAX-DEPTH
 
-  pub w-start : (pend : List ℕ) (i : ℕ) → Nests v i to 0 → length pend ≡ 256 → W (widthOf v columns m i to) pend 0 i 0
+  pub w-start : (pend : List ℕ) (i : ℕ) → Nests v i to 0 → length pend ≡ MAX-DEPTH → W (widthOf v columns m i to) pend 0 i 0
   unfolding wlimit wrest wfine
   w-start pend i g e = record { sum = omega arith; good = g; low = omega arith; deep = omega arith; fine = tt; size = e }
 
@@ -169,14 +167,14 @@ module _ (v : View) (columns : Text → ℕ) (m : List ℕ) (to : ℕ) where
       omega arith
 
   module _ (total : ℕ) (pend : List ℕ) (p i acc : ℕ) (w : W total pend p i acc) (h : i < wlimit pend p) where
-    pub w-leaf : 3 ≤ v .kind i → v .kind i ≤ 9 → W total pend p (i + 1) (acc + ownOf v columns m (v .kind i) i)
+    pub w-leaf : WRAP-PARENT ≤ v .kind i → v .kind i ≤ LINE-OR-SPACE → W total pend p (i + 1) (acc + ownOf v columns m (v .kind i) i)
     w-leaf a b =
         let l = nests-leaf (w .good) h a b in
         let e = width-leaf v columns m i (wlimit pend p) a b (l .next) h in
         let t = w .sum in
         rw (add-one i) (record { sum = omega arith; good = l .rest; low = w .low; deep = w .deep; fine = w .fine; size = w .size })
 
-    pub w-block : v .kind i ≤ 2 → W total pend p (i + 1) acc
+    pub w-block : v .kind i ≤ INDENT-NEXT → W total pend p (i + 1) acc
     w-block a =
         let l = nests-block (w .good) h a in
         let e = width-flat v columns m a (l .within) (l .parts) in
@@ -184,7 +182,7 @@ module _ (v : View) (columns : Text → ℕ) (m : List ℕ) (to : ℕ) where
         rw (add-one i)
         (record { sum = omega arith; good = nests-join (nests-weaken p (omega arith) (l .parts)) (l .rest); low = w .low; deep = w .deep; fine = w .fine; size = w .size })
 
-    pub w-call : v .kind i ≡ 11 → W total pend p (i + 1) acc
+    pub w-call : v .kind i ≡ CALL → W total pend p (i + 1) acc
     w-call a =
         let l = nests-pair (w .good) h a in
         let e = width-flat-call v columns m a (l .within) (l .split) (l .first) (l .second) in
@@ -199,7 +197,7 @@ module _ (v : View) (columns : Text → ℕ) (m : List ℕ) (to : ℕ) where
           size = w .size;
         })
 
-    pub w-second : v .kind i ≡ 10 → wrapped m (v .number i) ≡ false → W total pend p (v .second i) acc
+    pub w-second : v .kind i ≡ IF-WRAP → wrapped m (v .number i) ≡ false → W total pend p (v .second i) acc
     w-second a b =
         let l = nests-two (w .good) h a in
         let e = width-second v columns m a (l .1 .within) (l .0) (l .1 .second) b in
@@ -222,14 +220,14 @@ module _ (v : View) (columns : Text → ℕ) (m : List ℕ) (to : ℕ) where
     w-other (suc (suc (suc (suc (suc (suc (suc (suc (suc (suc (suc zero))))))))))) e n = rw (add-zero acc) (w-call e)
     w-other (suc (suc (suc (suc (suc (suc (suc (suc (suc (suc (suc (suc k)))))))))))) e n = absurd (let z = nests-kind (w .good) h in omega arith)
 
-    pend-same : p < 256 → getD (set pend p i) p 0 ≡ i
+    pend-same : p < MAX-DEPTH → getD (set pend p i) p 0 ≡ i
     pend-same l = getD-set-same pend p i 0 (rw (w .size) l)
 
-    pub wlimit-top : p < 256 → wlimit (set pend p i) (suc p) ≡ v .second i
+    pub wlimit-top : p < MAX-DEPTH → wlimit (set pend p i) (suc p) ≡ v .second i
     unfolding wlimit
     wlimit-top l = ap (v .second) (pend-same l)
 
-    pub w-first : v .kind i ≡ 10 → wrapped m (v .number i) ≡ true → W total (set pend p i) (p + 1) (i + 1) acc
+    pub w-first : v .kind i ≡ IF-WRAP → wrapped m (v .number i) ≡ true → W total (set pend p i) (p + 1) (i + 1) acc
     unfolding wrest wfine
     w-first a b =
         let l = nests-two (w .good) h a in
@@ -246,9 +244,6 @@ module _ (v : View) (columns : Text → ℕ) (m : List ℕ) (to : ℕ) where
           fine = (rw s (let z = w .low in omega arith), rw (wlimit-set pend p p i (omega arith)) (w .low), rw s (l .1 .split .to), rw (s, wlimit-set pend p p i (omega arith)) (l .1 .rest), wfine-set pend p p i (omega arith) (w .fine));
           size = length-set pend p i ∙ w .size;
         })
-
-    pub w-shallow : v .kind i ≡ 10 → p < 256
-    w-shallow a = nests-two (w .good) h a .1 .shallow
 
   w-pop-suc : (total : ℕ) (pend : List ℕ) (p i acc : ℕ) → W total pend (suc p) i acc → wlimit pend (suc p) ≤ i → W total pend p (v .after (getD pend p 0)) acc
   unfolding wrest wfine widths
@@ -279,7 +274,7 @@ module _ (v : View) (columns : Text → ℕ) (m : List ℕ) (to : ℕ) where
   w-top total pend zero i acc z w = absurd (omega arith)
   w-top total pend (suc p) i acc z w = let e : suc p - 1 ≡ p = omega arith in rw e (w-top-suc pend p (w .fine))
 
-  pub w-deep : (total : ℕ) (pend : List ℕ) (p i acc : ℕ) → W total pend p i acc → i < wlimit pend p → p < 256
+  pub w-deep : (total : ℕ) (pend : List ℕ) (p i acc : ℕ) → W total pend p i acc → i < wlimit pend p → p < MAX-DEPTH
   w-deep total pend p i acc w h = nests-deep (w .good) h
 
   w-jump-suc : (pend : List ℕ) (p : ℕ) → wfine pend (suc p) → wlimit pend (suc p) ≤ v .after (getD pend p 0)
@@ -289,6 +284,3 @@ module _ (v : View) (columns : Text → ℕ) (m : List ℕ) (to : ℕ) where
   pub w-jump : (total : ℕ) (pend : List ℕ) (p i acc : ℕ) → 0 < p → W total pend p i acc → wlimit pend p ≤ v .after (getD pend (p - 1) 0)
   w-jump total pend zero i acc z w = absurd (omega arith)
   w-jump total pend (suc p) i acc z w = let e : suc p - 1 ≡ p = omega arith in rw e (w-jump-suc pend p (w .fine))
-
-  pub w-depth : (total : ℕ) (pend : List ℕ) (p i acc : ℕ) → W total pend p i acc → i < wlimit pend p → p < 256
-  w-depth total pend p i acc w h = nests-deep (w .good) h

@@ -1,6 +1,6 @@
 // `width` of a range of rows.
 ghost use mathlib.Core.Path.{_≡_};
-ghost use Prim.Native.Nat.{_+_, _*_, _-_, _≤_, _<_};
+ghost use Prim.Native.Nat.{_+_, _*_, _-_, _<_};
 ghost use lib.ListN.{length, getD};
 ghost use Rattle.rows.specs.Places.{SECOND, WIDTH, PLACES};
 ghost use Rattle.rows.specs.Limits.{MAX-DEPTH, CELL-LIMIT, WIDTH-LIMIT};

@@ -1,5 +1,6 @@
 use lib.Dec.{eqb}
 use mathlib.Core.Bool.{_||_}
+use Rattle.rows.specs.Places.{SECOND}
 use Rattle.rows.specs.View.{cell}
 use Rattle.renderer_rules.specs.Check.{usesSecond}
 use mathlib.Core.Path.{refl}
@@ -19,7 +20,7 @@ returns c =
 
 returns-2 : tie.Need-returns-2
 returns-2 c =
-    three-second _ _ (usesSecond (c .before .before .before .before .before .before .before .before .args .kind) || eqb (cell (c .before .before .before .before .before .before .before .before .args .store .now) (c .before .before .before .before .before .before .before .before .args .row) 3) 0) _ _
+    three-second _ _ (usesSecond (c .before .before .before .before .before .before .before .before .args .kind) || eqb (cell (c .before .before .before .before .before .before .before .before .args .store .now) (c .before .before .before .before .before .before .before .before .args .row) SECOND) 0) _ _
     (used-is _ _ _ _ _ (c .before .before .before .before .used-or-none .ensures) (c .before .before .before .before .before .before .uses-number .ensures) (c .before .before .before .before .before .place .ensures .0))
     (used-is (eqb (c .before .before .before .before .before .before .before .before .args .kind) 11) _ _ _ _ (c .before .used-or-none2 .ensures) refl (c .before .before .place2 .ensures .0))
     (c .before .before .before .if1 .taken)

@@ -1,6 +1,6 @@
 use mathlib.Core.Path.{ap}
 use Prim.Native.Nat.{_-_}
-use Rattle.renderer.specs.declared.pen.Writing.{Writing}
+use Rattle.renderer.specs.declared.writing.Writing.{Writing}
 use borrow.Author.Needs.{needs}
 use Rattle.renderer.proofs.close.closed.Statement.{statement}
 use Rattle.renderer.proofs.close.closed.Tie as tie

@@ -2,6 +2,7 @@ use native.Mathlib.Omega.{arith}
 use Prim.Native.Nat.{ℕ, _+_, _-_}
 use mathlib.Core.Path.{refl, ap, sym, _∙_}
 use lib.ListN.{replicate}
+use Rattle.rows.specs.Limits.{MAX-DEPTH}
 use Rattle.rows.specs.Node.{widths, byteColumns}
 use Rattle.rows.specs.View.{viewOf, nodesAt}
 use Rattle.rows.proofs.Sums.{SumAt, started, done, capped, passed, second-later, second-part}
@@ -11,7 +12,7 @@ use Rattle.renderer.proofs.measure.width_past.Tie as tie
 
 abbrev Inv-loop : tie.InvT-loop
 Inv-loop store marks from to room row₀ sum₀ row sum =
-    SumAt store marks to (widths byteColumns marks (nodesAt (viewOf store) from to)) (replicate 256 0) 0 row to sum
+    SumAt store marks to (widths byteColumns marks (nodesAt (viewOf store) from to)) (replicate MAX-DEPTH 0) 0 row to sum
 
 abbrev μ-loop : tie.MeasureT-loop
 μ-loop store marks from to room row₀ sum₀ row sum = to - row

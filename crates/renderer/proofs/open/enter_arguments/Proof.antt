@@ -1,5 +1,6 @@
 use Prim.Native.Nat.{ℕ}
 use mathlib.Core.Path.{ap, _∙_}
+use Rattle.rows.specs.Places.{AFTER}
 use Rattle.rows.specs.View.{cell}
 use Rattle.renderer.proofs.Opening.{nested-to, arguments-opened}
 use Rattle.renderer.proofs.Packed.{stored-packed}
@@ -9,7 +10,7 @@ use Rattle.renderer.proofs.open.enter_arguments.Tie as tie
 
 group-wraps-requires : tie.Need-group-wraps-requires
 group-wraps-requires c κs = (
-  nested-to _ _ _ _ (c .before .before .place .ensures .0 ∙ ap (λ (x : ℕ). cell (c .before .before .before .before .before .before .before .before .args .store .now) x 4) (c .before .before .before .to-usize .ensures)) (c .before .before .before .before .before .before .before .before .pre .1 .1 .1 .1 .0),
+  nested-to _ _ _ _ (c .before .before .place .ensures .0 ∙ ap (λ (x : ℕ). cell (c .before .before .before .before .before .before .before .before .args .store .now) x AFTER) (c .before .before .before .to-usize .ensures)) (c .before .before .before .before .before .before .before .before .pre .1 .1 .1 .1 .0),
   (c .before .before .before .before .before .before .before .before .pre .1 .1 .1 .1 .1 .0, c .before .before .before .before .before .before .before .before .pre .1 .1 .1 .1 .1 .1),
 )
 

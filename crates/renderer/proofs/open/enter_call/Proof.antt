@@ -4,8 +4,8 @@ use borrow.Author.Needs.{needs}
 use Rattle.renderer.proofs.open.enter_call.Statement.{statement}
 use Rattle.renderer.proofs.open.enter_call.Tie as tie
 
-trails-requires : tie.Need-trails-requires
-trails-requires c κs = (
+trailing-call-requires : tie.Need-trailing-call-requires
+trailing-call-requires c κs = (
   nested-to _ _ _ _ (c .before .before .before .place .ensures .0) (c .before .before .before .before .before .before .before .pre .1 .0),
   (nested-at _ _ _ _ _ (c .before .before .before .place .ensures .0) (c .before .before .place2 .ensures .0) (c .before .before .before .before .before .before .before .pre .1 .1), (omega (arith, c .before .before .before .before .before .before .before .pre .0 .indent), c .before .before .before .before .before .before .before .pre .0 .column)),
 )
@@ -21,7 +21,7 @@ opened-requires c κs = (c .before .before .before .before .before .before .befo
 
 returns : tie.Need-returns
 returns c =
-    call-opened _ _ _ _ _ _ (c .before .before .before .before .before .before .before .before .before .before .before .before .before .before .before .place .result) (c .before .before .before .before .before .before .before .before .before .before .before .before .before .before .place2 .result) (c .before .before .before .before .before .before .before .before .before .before .before .before .before .place3 .result) (c .before .before .before .before .before .before .before .before .before .before .before .trails .result) (c .before .before .before .before .before .before .before .before .before .callee-wraps .result) (c .before .before .before .before .made-up .result) (c .before .before .indent-next .result) (c .before .set-pen .result) (c .before .before .before .before .before .before .before .before .before .before .before .before .before .before .before .place .ensures .0) (c .before .before .before .before .before .before .before .before .before .before .before .before .before .before .place2 .ensures .0) (c .before .before .before .before .before .before .before .before .before .before .before .before .before .place3 .ensures .0) (c .before .before .before .before .before .before .before .before .before .before .before .trails .ensures) (c .before .before .before .before .before .before .before .before .before .callee-wraps .ensures) (c .before .before .before .before .made-up .ensures) (c .before .before .indent-next .ensures) (c .before .set-pen .ensures) (c .before .before .before .before .before .before .before .insert .ensures) (c .opened .ensures)
+    call-opened _ _ _ _ _ _ (c .before .before .before .before .before .before .before .before .before .before .before .before .before .before .before .place .result) (c .before .before .before .before .before .before .before .before .before .before .before .before .before .before .place2 .result) (c .before .before .before .before .before .before .before .before .before .before .before .before .before .place3 .result) (c .before .before .before .before .before .before .before .before .before .before .before .trailing-call .result) (c .before .before .before .before .before .before .before .before .before .callee-wraps .result) (c .before .before .before .before .made-up .result) (c .before .before .indent-next .result) (c .before .set-pen .result) (c .before .before .before .before .before .before .before .before .before .before .before .before .before .before .before .place .ensures .0) (c .before .before .before .before .before .before .before .before .before .before .before .before .before .before .place2 .ensures .0) (c .before .before .before .before .before .before .before .before .before .before .before .before .before .place3 .ensures .0) (c .before .before .before .before .before .before .before .before .before .before .before .trailing-call .ensures) (c .before .before .before .before .before .before .before .before .before .callee-wraps .ensures) (c .before .before .before .before .made-up .ensures) (c .before .before .indent-next .ensures) (c .before .set-pen .ensures) (c .before .before .before .before .before .before .before .insert .ensures) (c .opened .ensures)
 
 pub enter-call-spec : {M : Type 1} → statement M
 enter-call-spec =
@@ -31,7 +31,7 @@ enter-call-spec =
     (λ c κs. search needs)
     (λ c κs. search needs)
     (λ c. search needs)
-    trails-requires
+    trailing-call-requires
     (λ c. search needs)
     callee-wraps-requires
     (λ c κs. search needs)

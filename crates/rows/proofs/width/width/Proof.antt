@@ -5,6 +5,7 @@ use mathlib.Core.Path.{_≡_, refl, sym, ap, _∙_}
 use mathlib.Core.Logic.{⊎-elim}
 use borrow.Author.Tests.{ltb-true, ltb-false}
 use lib.ListN.{getD}
+use Rattle.rows.specs.Places.{AFTER}
 use Rattle.rows.specs.Node.{widths, byteColumns}
 use Rattle.rows.specs.View.{cell, viewOf, nodesAt}
 use Rattle.rows.proofs.Sums.{SumAt, sumLeft, started, done, capped, enters, in-store, shallow, pops, popped-row, under-row, left-later, left}
@@ -31,8 +32,8 @@ inside : (c : tie.Else3 Inv-loop μ-loop) → c .before .before .loop .row < c .
 inside c = in-store _ _ _ _ _ _ _ _ _ (c .before .before .loop .inv) (entered c)
 
 -- the row after the one whose first part is left
-went : (c : tie.After-part-end Inv-loop μ-loop) → c .before .before .place .result ≡ cell (c .before .before .before .before .before .before .before .before .before .args .store .now) (getD (c .before .before .before .before .before .before .loop .firsts) (c .before .before .before .before .before .before .loop .depth - 1) 0) 4
-went c = c .before .before .place .ensures .0 ∙ ap (λ (q : ℕ). cell (c .before .before .before .before .before .before .before .before .before .args .store .now) q 4) (c .before .before .before .to-usize .ensures)
+went : (c : tie.After-part-end Inv-loop μ-loop) → c .before .before .place .result ≡ cell (c .before .before .before .before .before .before .before .before .before .args .store .now) (getD (c .before .before .before .before .before .before .loop .firsts) (c .before .before .before .before .before .before .loop .depth - 1) 0) AFTER
+went c = c .before .before .place .ensures .0 ∙ ap (λ (q : ℕ). cell (c .before .before .before .before .before .before .before .before .before .args .store .now) q AFTER) (c .before .before .before .to-usize .ensures)
 
 loop-holds : tie.Need-loop-holds Inv-loop μ-loop
 loop-holds c = started _ _ _ _ _ (c .before .before .pre) refl

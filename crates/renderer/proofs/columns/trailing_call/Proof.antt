@@ -3,8 +3,8 @@ use native.Mathlib.Omega.{arith}
 use mathlib.Core.Path.{sym, _∙_}
 use Rattle.renderer.proofs.Decided.{trail-callee, trail-arguments, trail-long, trail-short}
 use borrow.Author.Needs.{needs}
-use Rattle.renderer.proofs.columns.trails.Statement.{statement}
-use Rattle.renderer.proofs.columns.trails.Tie as tie
+use Rattle.renderer.proofs.columns.trailing_call.Statement.{statement}
+use Rattle.renderer.proofs.columns.trailing_call.Tie as tie
 
 returns : tie.Need-returns
 returns c = trail-callee _ _ _ _ _ (sym (c .if1 .taken) ∙ c .before .must-wrap .ensures)
@@ -40,8 +40,8 @@ returns-4 : tie.Need-returns-4
 returns-4 c =
     trail-short _ _ _ _ _ _ _ _ (sym (c .before .before .before .before .before .before .before .before .before .if1 .left) ∙ c .before .before .before .before .before .before .before .before .before .before .must-wrap .ensures) (sym (c .before .before .before .before .before .before .before .if2 .left) ∙ c .before .before .before .before .before .before .before .before .must-wrap2 .ensures) (c .before .before .before .before .before .before .virtual-column .ensures) (c .before .before .before .before .before .width-past .ensures .0) (c .before .before .width-past2 .ensures .0) (c .if3 .left)
 
-pub trails-spec : {M : Type 1} → statement M
-trails-spec =
+pub trailing-call-spec : {M : Type 1} → statement M
+trailing-call-spec =
     tie.close
     (tie.spec
     (λ c κs. search needs)

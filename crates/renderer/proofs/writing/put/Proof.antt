@@ -1,8 +1,8 @@
 use mathlib.Core.Path.{refl}
 use Rattle.renderer.proofs.Writes.{put-writes}
 use borrow.Author.Needs.{needs}
-use Rattle.renderer.proofs.pen.put.Statement.{statement}
-use Rattle.renderer.proofs.pen.put.Tie as tie
+use Rattle.renderer.proofs.writing.put.Statement.{statement}
+use Rattle.renderer.proofs.writing.put.Tie as tie
 
 returns : tie.Need-returns
 returns c = put-writes _ _ _ _ _ _ _ 1 refl (c .moved-to .ensures) (c .before .before .before .before .before .emit .ensures)

@@ -1,8 +1,8 @@
 use native.Mathlib.Omega.{arith}
 use Rattle.renderer.proofs.Writes.{comment-writes-on, comment-writes-new, room-margin, room-put}
 use borrow.Author.Needs.{needs}
-use Rattle.renderer.proofs.pen.comment.Statement.{statement}
-use Rattle.renderer.proofs.pen.comment.Tie as tie
+use Rattle.renderer.proofs.writing.comment.Statement.{statement}
+use Rattle.renderer.proofs.writing.comment.Tie as tie
 
 end-line-requires : tie.Need-end-line-requires
 end-line-requires c κs = (room-put _ _ _ _ _ _ _ (c .before .before .before .before .before .before .before .before .before .pre .0) (c .before .before .before .put .ensures) (omega arith) (omega arith), search needs)

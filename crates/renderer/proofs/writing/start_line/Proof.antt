@@ -1,7 +1,7 @@
 use Rattle.renderer.proofs.Writes.{margin-writes}
 use borrow.Author.Needs.{needs}
-use Rattle.renderer.proofs.pen.start_line.Statement.{statement}
-use Rattle.renderer.proofs.pen.start_line.Tie as tie
+use Rattle.renderer.proofs.writing.start_line.Statement.{statement}
+use Rattle.renderer.proofs.writing.start_line.Tie as tie
 
 returns : tie.Need-returns
 returns c =

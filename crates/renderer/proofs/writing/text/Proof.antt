@@ -1,7 +1,7 @@
 use Rattle.renderer.proofs.Writes.{text-writes-on, text-writes-new, room-margin}
 use borrow.Author.Needs.{needs}
-use Rattle.renderer.proofs.pen.text.Statement.{statement}
-use Rattle.renderer.proofs.pen.text.Tie as tie
+use Rattle.renderer.proofs.writing.text.Statement.{statement}
+use Rattle.renderer.proofs.writing.text.Tie as tie
 
 returns : tie.Need-returns
 returns c = text-writes-on _ _ _ _ _ _ _ (c .before .before .before .before .if1 .taken) (c .before .before .put-text .ensures)

@@ -1,7 +1,7 @@
 use Rattle.renderer.proofs.Writes.{line-writes, none-writes}
 use borrow.Author.Needs.{needs}
-use Rattle.renderer.proofs.pen.new_line.Statement.{statement}
-use Rattle.renderer.proofs.pen.new_line.Tie as tie
+use Rattle.renderer.proofs.writing.new_line.Statement.{statement}
+use Rattle.renderer.proofs.writing.new_line.Tie as tie
 
 returns : tie.Need-returns
 returns c = line-writes _ _ _ _ _ (c .before .before .before .before .before .before .on-new-line .ensures) (c .before .before .before .before .if1 .taken) (c .before .before .emit .ensures)

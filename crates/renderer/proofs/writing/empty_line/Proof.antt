@@ -1,8 +1,8 @@
 use native.Mathlib.Omega.{arith}
 use Rattle.renderer.proofs.Writes.{empty-writes, room-put}
 use borrow.Author.Needs.{needs}
-use Rattle.renderer.proofs.pen.empty_line.Statement.{statement}
-use Rattle.renderer.proofs.pen.empty_line.Tie as tie
+use Rattle.renderer.proofs.writing.empty_line.Statement.{statement}
+use Rattle.renderer.proofs.writing.empty_line.Tie as tie
 
 new-line-requires : tie.Need-new-line-requires
 new-line-requires c κs = room-put _ _ _ _ _ _ _ (c .before .before .before .before .before .before .pre) (c .before .before .before .put .ensures) (omega arith) (omega arith)

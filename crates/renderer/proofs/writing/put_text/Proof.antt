@@ -2,8 +2,8 @@ use native.Mathlib.Omega.{arith}
 use Rattle.renderer.proofs.Written.{text-fits}
 use Rattle.renderer.proofs.Writes.{put-writes}
 use borrow.Author.Needs.{needs}
-use Rattle.renderer.proofs.pen.put_text.Statement.{statement}
-use Rattle.renderer.proofs.pen.put_text.Tie as tie
+use Rattle.renderer.proofs.writing.put_text.Statement.{statement}
+use Rattle.renderer.proofs.writing.put_text.Tie as tie
 
 add-t14 : tie.Need-add-t14
 add-t14 c =

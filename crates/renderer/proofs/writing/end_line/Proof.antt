@@ -2,8 +2,8 @@ use native.Mathlib.Omega.{arith}
 use Rattle.renderer.proofs.Written.{text-fits}
 use Rattle.renderer.proofs.Writes.{ended}
 use borrow.Author.Needs.{needs}
-use Rattle.renderer.proofs.pen.end_line.Statement.{statement}
-use Rattle.renderer.proofs.pen.end_line.Tie as tie
+use Rattle.renderer.proofs.writing.end_line.Statement.{statement}
+use Rattle.renderer.proofs.writing.end_line.Tie as tie
 
 add-emit : tie.Need-add-emit
 add-emit c =

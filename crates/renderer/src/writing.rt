@@ -1,10 +1,10 @@
-// `Renderer` of fmt.rs by its numbers: `new_line`, `comment` and `text`.
+// A text on its way, and what `Renderer` of fmt.rs does to it: `new_line`, `comment` and `text`.
 ghost use mathlib.Core.Path.{_≡_};
 ghost use Prim.Native.Nat.{_+_, _*_, _≤_, _<_};
 ghost use mathlib.Core.List.{[], _∷_, _++_};
 ghost use Rattle.rows.specs.Limits.{CELL-LIMIT};
 ghost use Rattle.renderer.specs.Limits.{MAX-MARGIN, BEFORE-ROW, IN-ROW};
-ghost use Rattle.renderer_rules.specs.Renderer.{fresh, pushStr, atColumn, newLine, margin, comment, text};
+ghost use Rattle.renderer_rules.specs.Renderer.{freshRenderer, pushStr, atColumn, newLine, margin, comment, text};
 ghost use Rattle.renderer.specs.Output.{bytesOf};
 ghost use Rattle.renderer.specs.Writing.{setPen, movedTo, Writes, WritingRoom};
 use crate::lent::on_new_line;
@@ -45,7 +45,7 @@ fn moved_to(w: Writing, column: Columns, at: Bytes) -> Writing
 // Writes one byte, `w` columns wide.
 fn put(p: Writing, out: &mut [u8], limit: usize, b: u8, w: Columns) -> Writing
     requires { ⌜ WritingRoom IN-ROW limit (now out) p × (w .0 < CELL-LIMIT) ⌝ }
-    ensures { λ r. ⌜ Writes limit (atColumn (p .pen .column .0 + w .0) (pushStr (b ∷ []) (fresh (p .pen) []))) (now (out .entry)) p (now (out .exit)) r ⌝ }
+    ensures { λ r. ⌜ Writes limit (atColumn (p .pen .column .0 + w .0) (pushStr (b ∷ []) (freshRenderer (p .pen) []))) (now (out .entry)) p (now (out .exit)) r ⌝ }
 {
     let at = p.at.0;
     emit(out, limit, at, b);
@@ -63,7 +63,7 @@ fn put_text(
     w: Columns,
 ) -> Writing
     requires { ⌜ WritingRoom IN-ROW limit (now out) p × ((t .start < CELL-LIMIT) × ((t .size .0 < CELL-LIMIT) × (w .0 < CELL-LIMIT))) ⌝ }
-    ensures { λ r. ⌜ Writes limit (atColumn (p .pen .column .0 + w .0) (pushStr (bytesOf (now (source .entry)) (now (image .entry)) t) (fresh (p .pen) []))) (now (out .entry)) p (now (out .exit)) r ⌝ }
+    ensures { λ r. ⌜ Writes limit (atColumn (p .pen .column .0 + w .0) (pushStr (bytesOf (now (source .entry)) (now (image .entry)) t) (freshRenderer (p .pen) []))) (now (out .entry)) p (now (out .exit)) r ⌝ }
 {
     let at = p.at.0;
     let n = copy(out, limit, at, source, image, t);
@@ -89,7 +89,7 @@ pub(crate) fn margin_columns(indent: usize) -> Columns
 // The indent of a line that starts here.
 fn start_line(p: Writing, out: &mut [u8], limit: usize) -> Writing
     requires { ⌜ WritingRoom IN-ROW limit (now out) p ⌝ }
-    ensures { λ r. ⌜ Writes limit (margin (fresh (p .pen) [])) (now (out .entry)) p (now (out .exit)) r ⌝ }
+    ensures { λ r. ⌜ Writes limit (margin (freshRenderer (p .pen) [])) (now (out .entry)) p (now (out .exit)) r ⌝ }
 {
     let at = p.at.0;
     let n = margin_bytes(p.pen.indent);
@@ -101,7 +101,7 @@ fn start_line(p: Writing, out: &mut [u8], limit: usize) -> Writing
 // `new_line`
 pub(crate) fn new_line(p: Writing, out: &mut [u8], limit: usize) -> Writing
     requires { ⌜ WritingRoom IN-ROW limit (now out) p ⌝ }
-    ensures { λ r. ⌜ Writes limit (newLine (fresh (p .pen) [])) (now (out .entry)) p (now (out .exit)) r ⌝ }
+    ensures { λ r. ⌜ Writes limit (newLine (freshRenderer (p .pen) [])) (now (out .entry)) p (now (out .exit)) r ⌝ }
 {
     let at = p.at.0;
     let pen = on_new_line(p.pen);
@@ -118,7 +118,7 @@ pub(crate) fn new_line(p: Writing, out: &mut [u8], limit: usize) -> Writing
 // An `EmptyLine`.
 pub(crate) fn empty_line(p: Writing, out: &mut [u8], limit: usize) -> Writing
     requires { ⌜ WritingRoom BEFORE-ROW limit (now out) p ⌝ }
-    ensures { λ r. ⌜ Writes limit (newLine (pushStr (0x0A ∷ []) (fresh (p .pen) []))) (now (out .entry)) p (now (out .exit)) r ⌝ }
+    ensures { λ r. ⌜ Writes limit (newLine (pushStr (0x0A ∷ []) (freshRenderer (p .pen) []))) (now (out .entry)) p (now (out .exit)) r ⌝ }
 {
     new_line(put(p, out, limit, 0x0A, Columns(0)), out, limit)
 }
@@ -126,7 +126,7 @@ pub(crate) fn empty_line(p: Writing, out: &mut [u8], limit: usize) -> Writing
 // The blank of a `LineOrSpace`: `text(" ", 1)`.
 pub(crate) fn space(p: Writing, out: &mut [u8], limit: usize) -> Writing
     requires { ⌜ WritingRoom BEFORE-ROW limit (now out) p ⌝ }
-    ensures { λ r. ⌜ Writes limit (text (0x20 ∷ []) 1 (fresh (p .pen) [])) (now (out .entry)) p (now (out .exit)) r ⌝ }
+    ensures { λ r. ⌜ Writes limit (text (0x20 ∷ []) 1 (freshRenderer (p .pen) [])) (now (out .entry)) p (now (out .exit)) r ⌝ }
 {
     if 0 < p.pen.column.0 {
         return put(p, out, limit, b' ', Columns(1));
@@ -145,7 +145,7 @@ pub(crate) fn text(
     w: Columns,
 ) -> Writing
     requires { ⌜ WritingRoom BEFORE-ROW limit (now out) p × ((t .start < CELL-LIMIT) × ((t .size .0 < CELL-LIMIT) × (w .0 < CELL-LIMIT))) ⌝ }
-    ensures { λ r. ⌜ Writes limit (text (bytesOf (now (source .entry)) (now (image .entry)) t) (w .0) (fresh (p .pen) [])) (now (out .entry)) p (now (out .exit)) r ⌝ }
+    ensures { λ r. ⌜ Writes limit (text (bytesOf (now (source .entry)) (now (image .entry)) t) (w .0) (freshRenderer (p .pen) [])) (now (out .entry)) p (now (out .exit)) r ⌝ }
 {
     if 0 < p.pen.column.0 {
         return put_text(p, out, limit, source, image, t, w);
@@ -163,7 +163,7 @@ fn end_line(
     t: RowText,
 ) -> Writing
     requires { ⌜ WritingRoom IN-ROW limit (now out) p × ((t .start < CELL-LIMIT) × (t .size .0 < CELL-LIMIT)) ⌝ }
-    ensures { λ r. ⌜ Writes limit (atColumn 0 (pushStr (bytesOf (now (source .entry)) (now (image .entry)) t ++ (0x0A ∷ [])) (fresh (p .pen) []))) (now (out .entry)) p (now (out .exit)) r ⌝ }
+    ensures { λ r. ⌜ Writes limit (atColumn 0 (pushStr (bytesOf (now (source .entry)) (now (image .entry)) t ++ (0x0A ∷ [])) (freshRenderer (p .pen) []))) (now (out .entry)) p (now (out .exit)) r ⌝ }
 {
     let at = p.at.0;
     let n = copy(out, limit, at, source, image, t);
@@ -181,7 +181,7 @@ pub(crate) fn comment(
     t: RowText,
 ) -> Writing
     requires { ⌜ WritingRoom BEFORE-ROW limit (now out) p × ((t .start < CELL-LIMIT) × (t .size .0 < CELL-LIMIT)) ⌝ }
-    ensures { λ r. ⌜ Writes limit (comment (bytesOf (now (source .entry)) (now (image .entry)) t) (fresh (p .pen) [])) (now (out .entry)) p (now (out .exit)) r ⌝ }
+    ensures { λ r. ⌜ Writes limit (comment (bytesOf (now (source .entry)) (now (image .entry)) t) (freshRenderer (p .pen) [])) (now (out .entry)) p (now (out .exit)) r ⌝ }
 {
     let column = p.pen.column.0;
     if 0 < column {
