@@ -22,7 +22,7 @@ use Rattle.state.proofs.Nested.{lays-group, lays-indent}
 use Rattle.comments.specs.Listed.{given}
 use Rattle.layout.specs.Layout.{importPath, isBraced, noneOf, isEmpty, gap, stmtsRule, stmtRule, stmtForm, beforeStmt, afterStmt, blockStart, blockRule, partsRule, placeholder}
 use Rattle.layout.specs.Contracts.{Has, HasAll, InImage, Whole, Readable}
-use Rattle.layout.specs.Forms.{exprWith, stmtsFrom, lastFrom, bodyRule, LetAt, letRule, SpanAt, contentRule, Part, text, PartAt, partRule}
+use Rattle.layout.specs.Forms.{exprWith, stmtsFrom, lastFrom, LetAt, letRule, SpanAt, contentRule, Part, text, PartAt, partRule}
 use Rattle.layout.specs.Forms as forms
 use Rattle.layout.proofs.Places.{head-whole, expr-whole, stmt-whole, maybe-expr}
 use Rattle.layout.proofs.ExprForms.{kind-of}
@@ -60,6 +60,11 @@ NoStmts b at = eqb (stopAt b (at + 13)) (at + 13 + 13)
 
 abbrev pub NoParts : List ℕ → ℕ → Bool
 NoParts b at = eqb (stopAt b (at + 13)) (at + 13 + 13) && eqb (be32 b (stopAt b (at + 13))) 0
+
+-- what stands between the braces of a block
+abbrev pub bodyRule : Given → Block → Act
+bodyRule g (braces s ss last) =
+    indented (stmtsFrom true g ss ⨟ lastFrom (noneOf ss) g last ⨟ gap g (s .end) (not (isEmpty ss last)) false false)
 
 -- the steps of a block and of what stands between its braces, by the answers of these tests and where the span ends
 abbrev pub blockSteps : Bool → Given → Block → Act

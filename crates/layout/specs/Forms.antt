@@ -1,17 +1,17 @@
 -- The forms of types and expressions, as the records at an offset hold them, and the rule of each.
 use Prim.Native.Nat.{ℕ, _+_, _≤_, _<_}
 use mathlib.Core.Path.{_≡_}
-use mathlib.Core.Bool.{Bool, true, false, not}
+use mathlib.Core.Bool.{Bool}
 use mathlib.Core.List.{List}
 use mathlib.Core.Option.{Option}
 use lib.ListN.{length, getD}
 use Rattle.image.specs.Kinds.{TEXT-PART, EXPR-PART, OPERATOR, LITERAL}
 use Rattle.image.specs.Read.{stopAt}
-use Rattle.tree.specs.Syntax.{Span, Ident, Path, TypeExpr, type, TypeForm, Types, _∷ᵗ_, Expr, expr, Form, MaybeExpr, Block, braces, Stmts, stmt, let′, Idents, Declaration}
+use Rattle.tree.specs.Syntax.{Span, Ident, Path, TypeExpr, type, TypeForm, Types, _∷ᵗ_, Expr, expr, Form, MaybeExpr, Block, Stmts, stmt, let′, Idents, Declaration}
 use Rattle.tree.specs.At.{Head, Record, Done, Ends, ByteAt, PathAt, Maybe, TypeAt, TypesAt, ExprAt, BlockAt, StmtAt, IdentAt, ListAt, DeclarationAt}
 use Rattle.rows.specs.Node.{ascii, line}
 use Rattle.rows.specs.Words.{table}
-use Rattle.state.specs.Act.{Given, Act, _⨟_, says, push, indented, content}
+use Rattle.state.specs.Act.{Given, Act, _⨟_, says, push, content}
 use Rattle.layout.specs.Layout as layout
 
 -- a constructor of two or more arguments, as one of a tuple
@@ -132,14 +132,6 @@ LetAt s b x at = StmtAt s b (stmt (x .0) (let′ (x .1) (x .2) (x .3))) at
 
 abbrev pub letRule : Given → Span × Ident × Option TypeExpr × Expr → Act
 letRule g x = layout.stmtForm g (let′ (x .1) (x .2) (x .3))
-
--- what stands between the braces of a block
-abbrev pub bodyRule : Given → Block → Act
-bodyRule g (braces s ss last) =
-    indented (
-    layout.stmtsRule g ss true
-    ⨟ layout.lastRule g last (layout.noneOf ss)
-    ⨟ layout.gap g (s .end) (not (layout.isEmpty ss last)) false false)
 
 -- ---- declarations
 -- a declaration of one form, and its rule

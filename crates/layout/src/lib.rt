@@ -24,7 +24,7 @@ ghost use Rattle.layout.specs.Layout.{exprRule, partsRule, blockRule, st
 ghost use Rattle.layout.specs.Contracts.{Has, LaidAs, HasAll, LaidAll};
 ghost use Rattle.layout.specs.Elems.{EntryAt, entryRule, ArmAt, armRule, ExprElem, elemRule, HasList, LaidList, ListWith, argsRule, entriesRule};
 ghost use Rattle.layout.specs.Forms.{two, three, four, exprWith, formWith, Of, formRule, afterWord, maybeAfter, ClauseAt};
-ghost use Rattle.layout.specs.Forms.{clauseRule, PartAt, partRule, bodyRule, stmtsFrom, lastFrom, LetAt, letRule};
+ghost use Rattle.layout.specs.Forms.{clauseRule, PartAt, partRule, stmtsFrom, lastFrom, LetAt, letRule};
 ghost use Rattle.layout.specs.Chains.{HasTail, LaidTail};
 use crate::blocks::after_stmt;
 use crate::blocks::arm_comma;
@@ -208,7 +208,7 @@ fn form(store: &mut [u32], c: Cursor, s: &[u8], b: &[u8], at: usize, outer: usiz
         }
         kinds::BIN_OP => binop(store, c, s, b, at),
         kinds::NEGATE => after(store, c, s, b, at + HEAD, MINUS, BOTTOM),
-        kinds::IF_ELSE => alt(store, c, s, b, at),
+        kinds::IF_ELSE => if_else(store, c, s, b, at),
         kinds::WHILE => cond(store, c, s, b, at + HEAD, WHILE),
         kinds::FOR => each(store, c, s, b, at),
         kinds::QUESTION_MARK => {
@@ -418,7 +418,7 @@ fn tail(
 }
 
 // `expr_with_precedence`, the arm of `IfElse`.
-fn alt(store: &mut [u32], c: Cursor, s: &[u8], b: &[u8], at: usize) -> Cursor
+fn if_else(store: &mut [u32], c: Cursor, s: &[u8], b: &[u8], at: usize) -> Cursor
     requires { ⌜ Has (Of (three ifElse)) (formRule (three ifElse) 0) (now s) (now b) at c ⌝ }
     ensures { λ r. ⌜ LaidAs (Of (three ifElse)) (formRule (three ifElse) 0) (now (s .entry)) (now (b .entry)) at (now (store .entry)) c (now (store .exit)) r ⌝ }
 {
@@ -495,30 +495,20 @@ fn block(store: &mut [u32], c: Cursor, s: &[u8], b: &[u8], at: usize) -> Cursor
     requires { ⌜ Has BlockAt blockRule (now s) (now b) at c ⌝ }
     ensures { λ r. ⌜ LaidAs BlockAt blockRule (now (s .entry)) (now (b .entry)) at (now (store .entry)) c (now (store .exit)) r ⌝ }
 {
-    let empty = is_empty(b, at);
-    let g = open_group(store, c);
-    let d = block_start(store, g, empty);
-    let e = body(store, d, s, b, at);
-    let f = line(store, e);
-    let h = word(store, f, BRACE_CLOSE);
-    close(store, c.row, h);
-    h
-}
-
-// `block`: what stands between the braces of a block.
-fn body(store: &mut [u32], c: Cursor, s: &[u8], b: &[u8], at: usize) -> Cursor
-    requires { ⌜ Has BlockAt bodyRule (now s) (now b) at c ⌝ }
-    ensures { λ r. ⌜ LaidAs BlockAt bodyRule (now (s .entry)) (now (b .entry)) at (now (store .entry)) c (now (store .exit)) r ⌝ }
-{
     let p = second(b, at);
     let none = no_stmts(b, at);
     let empty = is_empty(b, at);
-    let i = open_indent(store, c);
-    let d = stmts(store, i, s, b, at + HEAD + HEAD, p);
-    let e = last(store, d, s, b, p, none);
-    let f = gap(store, e, s, b, end(b, at), !empty, false, false);
-    close(store, c.row, f);
-    f
+    let g = open_group(store, c);
+    let d = block_start(store, g, empty);
+    let i = open_indent(store, d);
+    let e = stmts(store, i, s, b, at + HEAD + HEAD, p);
+    let f = last(store, e, s, b, p, none);
+    let h = gap(store, f, s, b, end(b, at), !empty, false, false);
+    close(store, d.row, h);
+    let k = line(store, h);
+    let w = word(store, k, BRACE_CLOSE);
+    close(store, c.row, w);
+    w
 }
 
 // `block`, its loop: the statements from `from` up to `to`.

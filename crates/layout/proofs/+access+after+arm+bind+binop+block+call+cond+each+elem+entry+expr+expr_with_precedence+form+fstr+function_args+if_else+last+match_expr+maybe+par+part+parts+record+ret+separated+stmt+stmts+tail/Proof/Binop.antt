@@ -1,0 +1,96 @@
+use mathlib.Core.Path.{_≡_, refl, sym, _∙_, ap}
+use Prim.Native.Nat.{ℕ}
+use native.Mathlib.Omega.{arith}
+use Rattle.state.proofs.Laws.{lays, room-first, room-next}
+use Rattle.layout.proofs.Lays.{lays-as, laid-as, lays-tail}
+use Rattle.tree.specs.Syntax.{binOp}
+use Rattle.tree.specs.Syntax as syntax
+use Rattle.tree.specs.At.{ExprAt}
+use Rattle.state.proofs.Nested.{opens-group, room-group, opens-indent, room-indent}
+use Rattle.comments.specs.Listed.{given}
+use Rattle.layout.specs.Layout as rules
+use Rattle.layout.specs.Forms.{four, exprWith}
+use Rattle.layout.proofs.Places.{within, expr-whole}
+use Rattle.layout.proofs.Operands.{above-size, chain-room, chain-laid, chain-form}
+use Rattle.layout.proofs.binop.Reads as binop
+use Rattle.layout.proofs.+access+after+arm+bind+binop+block+call+cond+each+elem+entry+expr+expr_with_precedence+form+fstr+function_args+if_else+last+match_expr+maybe+par+part+parts+record+ret+separated+stmt+stmts+tail.Lts-binop as binop-lts
+use Rattle.layout.proofs.+access+after+arm+bind+binop+block+call+cond+each+elem+entry+expr+expr_with_precedence+form+fstr+function_args+if_else+last+match_expr+maybe+par+part+parts+record+ret+separated+stmt+stmts+tail.Proof.Base.{binop-at, binop-calls}
+
+pub binop-precedence-requires : (t : ℕ) → binop-lts.Need-precedence-requires (binop-calls t) (binop-at t) binop.Post
+unfolding ExprAt
+binop-precedence-requires t c κs = (within (expr-whole _ _ _ (c .before .before .before .pre .1 .tree .1 .0) (c .before .before .before .pre .1 .held .1 .0)), omega (arith, c .before .before .before .pre .1 .held .1 .1 .ends .same, c .before .before .before .pre .1 .held .1 .1 .head .fits))
+
+pub binop-leftmost-requires : (t : ℕ) → binop-lts.Need-leftmost-requires (binop-calls t) (binop-at t) binop.Post
+unfolding ExprAt
+binop-leftmost-requires t c κs = (record { source = c .before .before .before .before .before .args .s .now; tree = c .before .before .before .before .before .pre .1 .tree; held = c .before .before .before .before .before .pre .1 .held; same = (ap rules.binopPrecedence (sym (c .before .before .before .before .before .pre .1 .held .1 .1 .which .byte)) ∙ sym (c .before .precedence .ensures)) }, refl)
+
+pub binop-open-group-requires : (t : ℕ) → binop-lts.Need-open-group-requires (binop-calls t) (binop-at t) binop.Post
+unfolding ExprAt
+binop-open-group-requires t c κs = let same : rules.binopPrecedence (c .before .before .before .before .before .before .before .pre .1 .tree .1 .2) ≡ c .before .before .before .precedence .result = ap rules.binopPrecedence (sym (c .before .before .before .before .before .before .before .pre .1 .held .1 .1 .which .byte)) ∙ sym (c .before .before .before .precedence .ensures) in
+    let st = c .before .leftmost .ensures .of (c .before .before .before .before .before .before .before .args .s .now) (c .before .before .before .before .before .before .before .pre .1 .tree) (c .before .before .before .before .before .before .before .pre .1 .held) same in
+    let room = chain-room (st .above) _ (rw (chain-form _ _ (c .before .before .before .before .before .before .before .pre .1 .tree) _ _ _ st same) at (c .before .before .before .before .before .before .before .pre .1 .room)) in
+    opens-group _ room
+
+pub binop-expr-with-precedence-requires : (t : ℕ) → binop-lts.Need-expr-with-precedence-requires (binop-calls t) (binop-at t) binop.Post
+unfolding ExprAt
+binop-expr-with-precedence-requires t c κs = let same : rules.binopPrecedence (c .before .before .before .before .before .before .before .before .before .before .before .pre .1 .tree .1 .2) ≡ c .before .before .before .before .before .before .before .precedence .result = ap rules.binopPrecedence (sym (c .before .before .before .before .before .before .before .before .before .before .before .pre .1 .held .1 .1 .which .byte)) ∙ sym (c .before .before .before .before .before .before .before .precedence .ensures) in
+    let st = c .before .before .before .before .before .leftmost .ensures .of (c .before .before .before .before .before .before .before .before .before .before .before .args .s .now) (c .before .before .before .before .before .before .before .before .before .before .before .pre .1 .tree) (c .before .before .before .before .before .before .before .before .before .before .before .pre .1 .held) same in
+    let room = chain-room (st .above) _ (rw (chain-form _ _ (c .before .before .before .before .before .before .before .before .before .before .before .pre .1 .tree) _ _ _ st same) at (c .before .before .before .before .before .before .before .before .before .before .before .pre .1 .room)) in
+    (omega (arith, c .before .before .before .before .before .before .before .before .before .before .before .pre .0, above-size (st .above), c .before .before .before .before .before .leftmost .ensures .further), record { accepted = c .before .before .before .before .before .before .before .before .before .before .before .pre .1 .accepted; tree = st .tree; held = st .held; room = room-first _ (room-group _ room (c .before .before .before .open-group .ensures)) })
+
+pub binop-line-or-space-requires : (t : ℕ) → binop-lts.Need-line-or-space-requires (binop-calls t) (binop-at t) binop.Post
+unfolding ExprAt
+binop-line-or-space-requires t c κs = let same : rules.binopPrecedence (c .before .before .before .before .before .before .before .before .before .before .before .before .before .before .before .pre .1 .tree .1 .2) ≡ c .before .before .before .before .before .before .before .before .before .before .before .precedence .result = ap rules.binopPrecedence (sym (c .before .before .before .before .before .before .before .before .before .before .before .before .before .before .before .pre .1 .held .1 .1 .which .byte)) ∙ sym (c .before .before .before .before .before .before .before .before .before .before .before .precedence .ensures) in
+    let st = c .before .before .before .before .before .before .before .before .before .leftmost .ensures .of (c .before .before .before .before .before .before .before .before .before .before .before .before .before .before .before .args .s .now) (c .before .before .before .before .before .before .before .before .before .before .before .before .before .before .before .pre .1 .tree) (c .before .before .before .before .before .before .before .before .before .before .before .before .before .before .before .pre .1 .held) same in
+    let room = chain-room (st .above) _ (rw (chain-form _ _ (c .before .before .before .before .before .before .before .before .before .before .before .before .before .before .before .pre .1 .tree) _ _ _ st same) at (c .before .before .before .before .before .before .before .before .before .before .before .before .before .before .before .pre .1 .room)) in
+    room-first _ (room-next (room-group _ room (c .before .before .before .before .before .before .before .open-group .ensures)) (lays-as (c .before .before .before .before .before .before .before .before .before .before .before .before .before .before .before .pre .1 .accepted) (c .before .before .before .expr-with-precedence .ensures) .of (st .tree) (st .held)))
+
+pub binop-open-indent-requires : (t : ℕ) → binop-lts.Need-open-indent-requires (binop-calls t) (binop-at t) binop.Post
+unfolding ExprAt
+binop-open-indent-requires t c κs = let same : rules.binopPrecedence (c .before .before .before .before .before .before .before .before .before .before .before .before .before .before .before .before .before .before .before .pre .1 .tree .1 .2) ≡ c .before .before .before .before .before .before .before .before .before .before .before .before .before .before .before .precedence .result = ap rules.binopPrecedence (sym (c .before .before .before .before .before .before .before .before .before .before .before .before .before .before .before .before .before .before .before .pre .1 .held .1 .1 .which .byte)) ∙ sym (c .before .before .before .before .before .before .before .before .before .before .before .before .before .before .before .precedence .ensures) in
+    let st = c .before .before .before .before .before .before .before .before .before .before .before .before .before .leftmost .ensures .of (c .before .before .before .before .before .before .before .before .before .before .before .before .before .before .before .before .before .before .before .args .s .now) (c .before .before .before .before .before .before .before .before .before .before .before .before .before .before .before .before .before .before .before .pre .1 .tree) (c .before .before .before .before .before .before .before .before .before .before .before .before .before .before .before .before .before .before .before .pre .1 .held) same in
+    let room = chain-room (st .above) _ (rw (chain-form _ _ (c .before .before .before .before .before .before .before .before .before .before .before .before .before .before .before .before .before .before .before .pre .1 .tree) _ _ _ st same) at (c .before .before .before .before .before .before .before .before .before .before .before .before .before .before .before .before .before .before .before .pre .1 .room)) in
+    opens-indent _ (room-next (room-next (room-group _ room (c .before .before .before .before .before .before .before .before .before .before .before .open-group .ensures)) (lays-as (c .before .before .before .before .before .before .before .before .before .before .before .before .before .before .before .before .before .before .before .pre .1 .accepted) (c .before .before .before .before .before .before .before .expr-with-precedence .ensures) .of (st .tree) (st .held))) (lays (c .before .before .before .line-or-space .ensures)))
+
+pub binop-tail-requires : (t : ℕ) → binop-lts.Need-tail-requires (binop-calls t) (binop-at t) binop.Post
+unfolding ExprAt
+binop-tail-requires t c κs = let same : rules.binopPrecedence (c .before .before .before .before .before .before .before .before .before .before .before .before .before .before .before .before .before .before .before .before .before .before .before .before .pre .1 .tree .1 .2) ≡ c .before .before .before .before .before .before .before .before .before .before .before .before .before .before .before .before .before .before .before .before .precedence .result = ap rules.binopPrecedence (sym (c .before .before .before .before .before .before .before .before .before .before .before .before .before .before .before .before .before .before .before .before .before .before .before .before .pre .1 .held .1 .1 .which .byte)) ∙ sym (c .before .before .before .before .before .before .before .before .before .before .before .before .before .before .before .before .before .before .before .before .precedence .ensures) in
+    let st = c .before .before .before .before .before .before .before .before .before .before .before .before .before .before .before .before .before .before .leftmost .ensures .of (c .before .before .before .before .before .before .before .before .before .before .before .before .before .before .before .before .before .before .before .before .before .before .before .before .args .s .now) (c .before .before .before .before .before .before .before .before .before .before .before .before .before .before .before .before .before .before .before .before .before .before .before .before .pre .1 .tree) (c .before .before .before .before .before .before .before .before .before .before .before .before .before .before .before .before .before .before .before .before .before .before .before .before .pre .1 .held) same in
+    let room = chain-room (st .above) _ (rw (chain-form _ _ (c .before .before .before .before .before .before .before .before .before .before .before .before .before .before .before .before .before .before .before .before .before .before .before .before .pre .1 .tree) _ _ _ st same) at (c .before .before .before .before .before .before .before .before .before .before .before .before .before .before .before .before .before .before .before .before .before .before .before .before .pre .1 .room)) in (
+      omega (arith, c .before .before .before .before .before .before .before .before .before .before .before .before .before .before .before .before .before .before .before .before .before .before .before .before .pre .0),
+      record {
+        accepted = c .before .before .before .before .before .before .before .before .before .before .before .before .before .before .before .before .before .before .before .before .before .before .before .before .pre .1 .accepted;
+        tree = syntax.expr (c .before .before .before .before .before .before .before .before .before .before .before .before .before .before .before .before .before .before .before .before .before .before .before .before .pre .1 .tree .0) (four binOp (c .before .before .before .before .before .before .before .before .before .before .before .before .before .before .before .before .before .before .before .before .before .before .before .before .pre .1 .tree .1));
+        held = c .before .before .before .before .before .before .before .before .before .before .before .before .before .before .before .before .before .before .before .before .before .before .before .before .pre .1 .held;
+        precedence = c .before .before .before .before .before .before .before .before .before .before .before .before .before .before .before .before .before .before .before .before .precedence .result;
+        low = st .tree;
+        above = st .above;
+        filled = c .before .before .before .before .before .before .before .before .before .before .before .before .before .before .before .before .before .before .leftmost .ensures .filled;
+        head = exprWith (c .before .before .before .before .before .before .before .before .before .before .before .before .before .before .before .before .before .before .before .before .precedence .result) (given (c .before .before .before .before .before .before .before .before .before .before .before .before .before .before .before .before .before .before .before .before .before .before .before .before .args .s .now) (c .before .before .before .before .before .before .before .before .before .before .before .before .before .before .before .before .before .before .before .before .before .before .before .before .args .b .now)) (st .tree);
+        room = room-indent (room-next (room-next (room-group _ room (c .before .before .before .before .before .before .before .before .before .before .before .before .before .before .before .before .open-group .ensures)) (lays-as (c .before .before .before .before .before .before .before .before .before .before .before .before .before .before .before .before .before .before .before .before .before .before .before .before .pre .1 .accepted) (c .before .before .before .before .before .before .before .before .before .before .before .before .expr-with-precedence .ensures) .of (st .tree) (st .held))) (lays (c .before .before .before .before .before .before .before .before .line-or-space .ensures))) (c .before .before .before .before .open-indent .ensures);
+      },
+    )
+
+pub binop-close-requires : (t : ℕ) → binop-lts.Need-close-requires (binop-calls t) (binop-at t) binop.Post
+binop-close-requires t c κs = tt
+
+pub binop-close-requires-2 : (t : ℕ) → binop-lts.Need-close-requires-2 (binop-calls t) (binop-at t) binop.Post
+binop-close-requires-2 t c κs = tt
+
+pub binop-same-length : (t : ℕ) → binop-lts.Need-same-length (binop-calls t) (binop-at t) binop.Post
+binop-same-length t c = c .before .before .close2 .kept .0 ∙ c .before .before .before .before .before .before .close .kept .0 ∙ c .before .before .before .before .before .before .before .before .before .before .tail .kept .0 ∙ c .before .before .before .before .before .before .before .before .before .before .before .before .before .before .before .open-indent .kept .0 ∙ c .before .before .before .before .before .before .before .before .before .before .before .before .before .before .before .before .before .before .before .line-or-space .kept .0 ∙ c .before .before .before .before .before .before .before .before .before .before .before .before .before .before .before .before .before .before .before .before .before .before .before .expr-with-precedence .kept .0 ∙ c .before .before .before .before .before .before .before .before .before .before .before .before .before .before .before .before .before .before .before .before .before .before .before .before .before .before .before .open-group .kept .0
+
+pub binop-returns : (t : ℕ) → binop-lts.Need-returns (binop-calls t) (binop-at t) binop.Post
+unfolding ExprAt
+binop-returns t c = laid-as
+    (record {
+      of =
+          λ x a.
+          let same : rules.binopPrecedence (x .1 .2) ≡ c .before .before .before .before .before .before .before .before .before .before .before .before .before .before .before .before .before .before .before .before .before .before .before .before .before .before .before .before .before .before .before .precedence .result =
+          ap rules.binopPrecedence (sym (a .1 .1 .which .byte)) ∙ sym (c .before .before .before .before .before .before .before .before .before .before .before .before .before .before .before .before .before .before .before .before .before .before .before .before .before .before .before .before .before .before .before .precedence .ensures) in
+          let st = c .before .before .before .before .before .before .before .before .before .before .before .before .before .before .before .before .before .before .before .before .before .before .before .before .before .before .before .before .before .leftmost .ensures .of (c .before .before .before .before .before .before .before .before .before .before .before .before .before .before .before .before .before .before .before .before .before .before .before .before .before .before .before .before .before .before .before .before .before .before .before .args .s .now) x a same in
+          rw (chain-form _ _ x _ _ _ st same)
+          (chain-laid (st .above) _ (c .before .before .before .before .before .before .before .before .before .before .before .before .before .before .before .before .before .before .before .before .before .before .before .before .before .before .before .open-group .ensures) (lays-as (c .before .before .before .before .before .before .before .before .before .before .before .before .before .before .before .before .before .before .before .before .before .before .before .before .before .before .before .before .before .before .before .before .before .before .before .pre .1 .accepted) (c .before .before .before .before .before .before .before .before .before .before .before .before .before .before .before .before .before .before .before .before .before .before .before .expr-with-precedence .ensures) .of (st .tree) (st .held)) (lays (c .before .before .before .before .before .before .before .before .before .before .before .before .before .before .before .before .before .before .before .line-or-space .ensures)) (c .before .before .before .before .before .before .before .before .before .before .before .before .before .before .before .open-indent .ensures)
+          (lays-tail (c .before .before .before .before .before .before .before .before .before .before .before .before .before .before .before .before .before .before .before .before .before .before .before .before .before .before .before .before .before .before .before .before .before .before .before .pre .1 .accepted) (c .before .before .before .before .before .before .before .before .before .before .before .before .before .before .before .before .before .before .before .before .before .before .before .before .before .before .before .before .before .leftmost .ensures .filled) (c .before .before .before .before .before .before .before .before .before .before .tail .ensures) .of _ (syntax.expr (x .0) (four binOp (x .1))) a (st .tree) (st .above) _)
+          (c .before .before .before .before .before .before .close .ensures) (c .before .before .close2 .ensures));
+    })
