@@ -196,7 +196,7 @@ tried-marks = refl
 
 -- 12's limits of a rendering state: each at its limit, and one past it; marks in use that are 0 and 1, a mark of 2, more marks than there are
 abbrev penAt : ℕ → ℕ → ℕ → Bool
-penAt indent next column = any (penTests (record { indent = indent; next-indent = next; column = column }))
+penAt indent next column = any (penTests (record { indent = indent; «next_indent» = next; column = record { 0 = column } }))
 
 tried-pens : penAt MAX-INDENT MAX-INDENT MAX-COLUMN ∷ penAt 65 0 0 ∷ penAt 0 65 0 ∷ penAt 0 0 72057594037927937 ∷ []
     ≡ false ∷ true ∷ true ∷ true ∷ []

@@ -9,7 +9,8 @@ use native.Mathlib.Omega.{arith}
 use lib.ListN.{length, take, replicate, length-append, length-take, length-replicate, replicate-append-replicate}
 use Rattle.cut_rule.specs.Rules.{RenderResult}
 use Rattle.cut_rule.specs.Laws.{SameBefore, thenRendered, RenderLaws, RoomLaws}
-use Rattle.cut_rule.specs.States.{RenderChoice, RenderState, renderFresh, Pen}
+use Rattle.renderer_rules.specs.declared.Pen.{Pen}
+use Rattle.cut_rule.specs.States.{RenderChoice, RenderState, renderFresh}
 use Rattle.cut_rule.specs.Parts.{Drawn, RuleParts, withCleared, drawnOf, renderedOf, rules}
 use Rattle.cut_rule.specs.PartLaws.{LayoutPartLaws, withPast, thenDrawn, RenderPartLaws}
 use Rattle.cut_rule.proofs.Table.{render-told}

@@ -14,7 +14,8 @@ use Rattle.renderer_rules.specs.Limits.{MAX-INDENT, MAX-COLUMN}
 use Rattle.refusals.specs.Refusals.{first, refuseIf, refuseAt, any}
 use Rattle.refusals.proofs.Groups.{none-left, none-right, passes-left, passes-right, passes-line, passes-others, not-if, not-at}
 use Rattle.cut_rule.specs.Rules.{LayoutArgs, RenderArgs}
-use Rattle.cut_rule.specs.States.{LayoutChoice, RenderChoice, LayoutState, Pen, RenderState}
+use Rattle.renderer_rules.specs.declared.Pen.{Pen}
+use Rattle.cut_rule.specs.States.{LayoutChoice, RenderChoice, LayoutState, RenderState}
 use Rattle.cut_rule.specs.Tests.{rowsIn, oddMark, placesTests, limitTests, begunTests, stopTests, layoutTestsIn, rowTests, penTests, markTests, renderTests}
 use Rattle.cut_rule.specs.Parts.{RuleParts, layoutTests, rowsNeeded, beforeRows, rowsLine, layoutTable, marksFor, beforeMarks, marksLine, beforeText, textLine, renderTable}
 
@@ -100,17 +101,17 @@ row-fits rows stop row e = record {
 
 pub record PenFits (z : Pen) : Type 0 where
   pub indent : z .indent ≤ MAX-INDENT
-  pub next-indent : z .next-indent ≤ MAX-INDENT
-  pub column : z .column ≤ MAX-COLUMN
+  pub next-indent : z .«next_indent» ≤ MAX-INDENT
+  pub column : z .column .0 ≤ MAX-COLUMN
 
 pen-fits : (z : Pen) → any (penTests z) ≡ false → PenFits z
 pen-fits z e =
     let e2 = or-rest (ltb MAX-INDENT (z .indent)) _ e in
-    let e3 = or-rest (ltb MAX-INDENT (z .next-indent)) _ e2 in
+    let e3 = or-rest (ltb MAX-INDENT (z .«next_indent»)) _ e2 in
     record {
       indent = first-within MAX-INDENT (z .indent) _ e;
-      next-indent = first-within MAX-INDENT (z .next-indent) _ e2;
-      column = first-within MAX-COLUMN (z .column) _ e3;
+      next-indent = first-within MAX-INDENT (z .«next_indent») _ e2;
+      column = first-within MAX-COLUMN (z .column .0) _ e3;
     }
 
 pub record MarksFit (marks : List ℕ) (used : ℕ) : Type 0 where

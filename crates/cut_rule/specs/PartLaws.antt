@@ -8,7 +8,8 @@ use Rattle.rows.specs.Places.{PLACES}
 use Rattle.rows.specs.Node.{Text}
 use Rattle.cut_rule.specs.CutRule.{commentsIn}
 use Rattle.cut_rule.specs.Laws.{SameBefore}
-use Rattle.cut_rule.specs.States.{Cursor, Pen}
+use Rattle.renderer_rules.specs.declared.Pen.{Pen}
+use Rattle.cut_rule.specs.States.{Cursor}
 use Rattle.cut_rule.specs.Parts.{Piece, Drawn, RuleParts}
 
 -- a piece moves the next row by the rows that it adds

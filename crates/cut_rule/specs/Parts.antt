@@ -8,7 +8,8 @@ use lib.Dec.{ltb}
 use lib.ListN.{length, take, replicate}
 use Rattle.refusals.specs.Refusals.{Refusal, refuseIf, refuseAt, any, first}
 use Rattle.cut_rule.specs.Rules.{LayoutArgs, RenderArgs, LayoutResult, RenderResult, Rules}
-use Rattle.cut_rule.specs.States.{LayoutChoice, RenderChoice, Cursor, LayoutState, Pen, RenderState, layoutFresh, renderFresh}
+use Rattle.renderer_rules.specs.declared.Pen.{Pen}
+use Rattle.cut_rule.specs.States.{LayoutChoice, RenderChoice, Cursor, LayoutState, RenderState, layoutFresh, renderFresh}
 use Rattle.cut_rule.specs.Tests.{rowsIn, layoutTestsIn, renderTests}
 
 -- what a piece of layout gives: the cursor behind it, and the rows that it adds, nine numbers a row

@@ -1,6 +1,7 @@
 -- Document 01's carried states, and what a call may choose.
 use mathlib.Core.Bool.{Bool, false}
 use Prim.Native.Nat.{ℕ}
+use Rattle.renderer_rules.specs.declared.Pen.{Pen}
 
 -- the numbers that a step of layout changes
 pub record Cursor : Type 0 where
@@ -16,12 +17,6 @@ pub record LayoutState : Type 0 where
   pub declaration : ℕ
   pub cursor : Cursor
 
--- the numbers that rendering a row changes
-pub record Pen : Type 0 where
-  pub indent : ℕ
-  pub next-indent : ℕ
-  pub column : ℕ
-
 -- "Rendering state: `indent`, `next_indent`, `column`, marks in use, next row."
 pub record RenderState : Type 0 where
   pub pen : Pen
@@ -33,7 +28,7 @@ abbrev pub layoutFresh : LayoutState
 layoutFresh = record { begun = false; closed = false; declaration = 0; cursor = record { row = 0; number = 0; placed = 0; position = 0 } }
 
 abbrev pub renderFresh : RenderState
-renderFresh = record { pen = record { indent = 0; next-indent = 0; column = 0 }; in-use = 0; row = 0 }
+renderFresh = record { pen = record { indent = 0; «next_indent» = 0; column = record { 0 = 0 } }; in-use = 0; row = 0 }
 
 -- What a call may choose beside its stop: nothing yet, so each has one value. Later tickets add fields.
 abbrev pub LayoutChoice : Type 0

@@ -8,7 +8,8 @@ use Rattle.rows.specs.Places.{PLACES}
 use Rattle.rows.specs.Limits.{MAX-ROWS, MAX-NUMBER}
 use Rattle.renderer_rules.specs.Limits.{MAX-INDENT, MAX-COLUMN}
 use Rattle.cut_rule.specs.Rules.{LayoutArgs, RenderArgs}
-use Rattle.cut_rule.specs.States.{LayoutChoice, RenderChoice, LayoutState, Pen, RenderState}
+use Rattle.renderer_rules.specs.declared.Pen.{Pen}
+use Rattle.cut_rule.specs.States.{LayoutChoice, RenderChoice, LayoutState, RenderState}
 
 -- "A store has length / 9 rows, rounded down."
 abbrev pub rowsIn : List ℕ → ℕ
@@ -61,7 +62,7 @@ rowTests rows stop row = ltb rows row ∷ ltb stop row ∷ ltb MAX-ROWS row ∷ 
 
 -- "`indent` or `next_indent` over 64; column over 72,057,594,037,927,936"
 abbrev pub penTests : Pen → List Bool
-penTests z = ltb MAX-INDENT (z .indent) ∷ ltb MAX-INDENT (z .next-indent) ∷ ltb MAX-COLUMN (z .column) ∷ []
+penTests z = ltb MAX-INDENT (z .indent) ∷ ltb MAX-INDENT (z .«next_indent») ∷ ltb MAX-COLUMN (z .column .0) ∷ []
 
 -- marks "not 0 or 1"
 abbrev pub oddMark : List ℕ → Bool

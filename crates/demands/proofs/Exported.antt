@@ -91,7 +91,7 @@ module _ (s b : List ℕ) where
       ∷ []
 
   abbrev writtenNumbers : states.RenderState → ℕ → List ℕ
-  writtenNumbers t n = 0 ∷ n ∷ t .pen .indent ∷ t .pen .next-indent ∷ t .pen .column ∷ t .in-use ∷ t .row ∷ []
+  writtenNumbers t n = 0 ∷ n ∷ t .pen .indent ∷ t .pen .«next_indent» ∷ t .pen .column .0 ∷ t .in-use ∷ t .row ∷ []
 
   laid-zero : (o : Option Refusal) (t : states.LayoutState) (n : ℕ) (out : List ℕ) → 9 ≤ length out → o ≡ none
       → getD (toldCall s b (answerBy (rulesOf s b) o (laidOut t n)) out) 0 0 ≡ 0

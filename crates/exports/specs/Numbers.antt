@@ -72,7 +72,7 @@ toldCall s b (laidOut t n) out =
     ∷ t .cursor .position
     ∷ [])
 toldCall s b (written t n) out =
-    sets out 0 (0 ∷ n ∷ t .pen .indent ∷ t .pen .next-indent ∷ t .pen .column ∷ t .in-use ∷ t .row ∷ [])
+    sets out 0 (0 ∷ n ∷ t .pen .indent ∷ t .pen .«next_indent» ∷ t .pen .column .0 ∷ t .in-use ∷ t .row ∷ [])
 
 -- a whole file's answer: a refusal's number and place; or 0, the bytes written, the comments left, the rows and the group numbers
 abbrev pub toldFile : file.FileAnswer → List ℕ → List ℕ

@@ -16,7 +16,7 @@ use Rattle.renderer_rules.specs.Renderer.{Page, Renderer, withBuf, withMarks, r
 use Rattle.renderer_rules.specs.Check.{wrongPlace}
 use Rattle.renderer_rules.proofs.Joined.{renders-ranges}
 use Rattle.cut_rule.specs.Laws.{SameBefore}
-use Rattle.cut_rule.specs.States.{Pen}
+use Rattle.renderer_rules.specs.declared.Pen.{Pen}
 use Rattle.cut_rule.specs.Parts.{Drawn}
 use Rattle.cut_rule.specs.PartLaws.{withPast, thenDrawn, RenderPartLaws}
 use Rattle.plain_run.specs.Parts.{rendererOf, drawnBy, page, drawn, partsBy}

@@ -27,7 +27,8 @@ use Rattle.layout_facts.specs.Accepted.{fresh, upTo, callRule}
 use Rattle.renderer_rules.specs.Renderer.{renderNodes}
 use Rattle.cut_rule.specs.Rules.{LayoutArgs}
 use Rattle.cut_rule.specs.Parts as cut
-use Rattle.cut_rule.specs.States.{LayoutChoice, Cursor, LayoutState, Pen, layoutFresh}
+use Rattle.renderer_rules.specs.declared.Pen.{Pen}
+use Rattle.cut_rule.specs.States.{LayoutChoice, Cursor, LayoutState, layoutFresh}
 use Rattle.cut_rule.specs.Parts.{Piece, still, andThen, begin, several, end}
 use Rattle.plain_run.specs.Parts.{acceptedTree, actPiece, declarationAct, rendererOf, drawnBy, page, drawn, partsBy}
 use Rattle.plain_run.specs.Demands.{Gives, laidTo, stoppingAt, closingAt, FmtParsed}

@@ -20,7 +20,8 @@ use Rattle.cut_rule.specs.Rules.{LayoutArgs, LayoutResult, Rules}
 use Rattle.cut_rule.specs.Run.{Call, start}
 use Rattle.cut_rule.specs.Plain.{AllReadLaid}
 use Rattle.cut_rule.specs.CutRule.{CutRule}
-use Rattle.cut_rule.specs.States.{LayoutChoice, onlyLayoutChoice, Pen, LayoutState, layoutFresh}
+use Rattle.renderer_rules.specs.declared.Pen.{Pen}
+use Rattle.cut_rule.specs.States.{LayoutChoice, onlyLayoutChoice, LayoutState, layoutFresh}
 use Rattle.cut_rule.specs.Parts.{laidOf, rules}
 use Rattle.plain_run.specs.Parts.{readRefusal, acceptedTree, listed, rendererOf, drawnBy, page, drawn, partsBy}
 

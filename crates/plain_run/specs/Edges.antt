@@ -80,7 +80,7 @@ rendersAs e =
       store = rows (e .nodes) 0;
       marks = 0 ∷ 0 ∷ [];
       layout-state = layoutFresh;
-      render-state = record { pen = record { indent = e .indent; next-indent = 0; column = e .column }; in-use = 0; row = 0 };
+      render-state = record { pen = record { indent = e .indent; «next_indent» = 0; column = record { 0 = e .column } }; in-use = 0; row = 0 };
       text = [];
       left = none;
     } in

@@ -23,7 +23,8 @@ use Rattle.renderer_rules.specs.Page.{pageOf}
 use Rattle.renderer_rules.specs.Check.{wrongPlace}
 use Rattle.refusals.specs.Refusals.{Refusal, first, refuseIf}
 use Rattle.rows.specs.Node.{Text}
-use Rattle.cut_rule.specs.States.{Cursor, Pen}
+use Rattle.renderer_rules.specs.declared.Pen.{Pen}
+use Rattle.cut_rule.specs.States.{Cursor}
 use Rattle.cut_rule.specs.Parts.{Piece, Drawn, RuleParts}
 
 -- ---- source and image
@@ -63,10 +64,10 @@ declarationAct s b n (some d) = declaration (given s b) d (eqb n 0)
 -- ---- rendering
 -- `Renderer` as a call makes it, and what a call takes from it
 abbrev pub rendererOf : Pen → List ℕ → Renderer
-rendererOf z marks = freshRenderer (record { indent = z .indent; «next_indent» = z .next-indent; column = record { 0 = z .column } }) marks
+rendererOf z marks = freshRenderer z marks
 
 abbrev pub drawnBy : Renderer → Drawn
-drawnBy r = record { pen = record { indent = r .pen .indent; next-indent = r .pen .«next_indent»; column = r .pen .column .0 }; marks = r .marks; text = r .buf }
+drawnBy r = record { pen = r .pen; marks = r .marks; text = r .buf }
 
 -- 80 columns
 abbrev pub page : List ℕ → List ℕ → Page

@@ -69,7 +69,7 @@ cleared-front m u n h k =
 module _ (source image : List ℕ) (state : RenderState) (args : RenderArgs) (store marks : List ℕ) (a : Accepted source image state args store marks) where
   -- how many rows, and how many marks they need
   abbrev count : ℕ
-  count = (args .stop) - state .row
+  count = args .stop - state .row
 
   abbrev needed : ℕ
   needed = marksNeeded count store (state .row)

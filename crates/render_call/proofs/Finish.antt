@@ -15,7 +15,7 @@ use Rattle.renderer.specs.Run.{Ended}
 use Rattle.renderer.specs.declared.writing.Writing.{Writing}
 use Rattle.renderer.proofs.Outcome.{over-full}
 use Rattle.cut_rule.specs.Run.{writeFront}
-use Rattle.cut_rule.specs.States as states
+use Rattle.renderer_rules.specs.declared.Pen.{Pen}
 use Rattle.cut_rule.specs.Parts as cut
 use Rattle.cut_rule.specs.PartLaws.{withPast}
 use Rattle.marks.specs.Marks.{marksNeeded}
@@ -36,10 +36,10 @@ pub record Leaves (q : Writing) (used stop : ℕ) (t : RenderState) : Type 0 whe
   pub in-use : t .«in_use» ≡ used
   pub row : t .row ≡ stop
 
-module _ (source image : List ℕ) (state : RenderState) (args : RenderArgs) (store marks : List ℕ) (ahead : state .row ≤ (args .stop)) (out : List ℕ) where
+module _ (source image : List ℕ) (state : RenderState) (args : RenderArgs) (store marks : List ℕ) (ahead : state .row ≤ args .stop) (out : List ℕ) where
   -- the marks that the rows need
   abbrev needed : ℕ
-  needed = marksNeeded ((args .stop) - state .row) store (state .row)
+  needed = marksNeeded (args .stop - state .row) store (state .row)
 
   abbrev taken : List ℕ
   taken = inUse source image state args store marks ahead
@@ -77,11 +77,11 @@ module _ (source image : List ℕ) (state : RenderState) (args : RenderArgs) (st
         (r .marks ∙ ap (λ (d : cut.Drawn). d .marks) end ∙ marks-onto source image state args store marks ahead)
         (r .written ∙ over-full (length out) out (after .buf) (let z = ap (λ (d : cut.Drawn). length (d .text)) end in omega arith) (omega arith) ∙ ap (λ (d : cut.Drawn). writeFront (d .text) out) end)
       where
-        pen-same : _≡_ {A = states.Pen} (record { indent = t .indent; next-indent = t .«next_indent»; column = t .column .0 }) (drawnBy after .pen)
-        pen-same = rw (l .indent, l .next, l .column, r .pen)
+        pen-same : _≡_ {A = Pen} (record { indent = t .indent; «next_indent» = t .«next_indent»; column = t .column }) (drawnBy after .pen)
+        pen-same = (λ i. record { indent = l .indent i; «next_indent» = l .next i; column = record { 0 = l .column i } }) ∙ r .pen
 
-        left-state : toState t ≡ record { pen = given .pen; in-use = max (state .«in_use») needed; row = (args .stop) }
+        left-state : toState t ≡ record { pen = given .pen; in-use = max (state .«in_use») needed; row = args .stop }
         left-state =
             rw (l .in-use, l .row)
-            (ap (λ (z : states.Pen). record { pen = z; in-use = max (state .«in_use») needed; row = (args .stop) })
+            (ap (λ (z : Pen). record { pen = z; in-use = max (state .«in_use») needed; row = args .stop })
             (pen-same ∙ ap (λ (d : cut.Drawn). d .pen) end))

@@ -28,9 +28,9 @@ enough-cleared m n =
     let f : length new ≡ n - length m = length-replicate (n - length m) 0 in
     omega arith
 
-module _ (source image : List ℕ) (state : RenderState) (args : RenderArgs) (store marks : List ℕ) (ahead : state .row ≤ (args .stop)) where
+module _ (source image : List ℕ) (state : RenderState) (args : RenderArgs) (store marks : List ℕ) (ahead : state .row ≤ args .stop) where
   abbrev needed : ℕ
-  needed = marksNeeded ((args .stop) - state .row) store (state .row)
+  needed = marksNeeded (args .stop - state .row) store (state .row)
 
   -- the marks in use, "the new ones cleared first"
   abbrev pub inUse : List ℕ
@@ -41,7 +41,7 @@ module _ (source image : List ℕ) (state : RenderState) (args : RenderArgs) (st
 
   under : Unders (length inUse) (nodesAt (viewOf store) (state .row) (args .stop))
   under =
-      nodes-under store ((args .stop) - state .row) (state .row) (state .row) (args .stop) (length inUse)
+      nodes-under store (args .stop - state .row) (state .row) (state .row) (args .stop) (length inUse)
       (enough-cleared (take (state .«in_use») marks) needed)
       (omega arith)
       (omega arith)
@@ -63,4 +63,4 @@ module _ (source image : List ℕ) (state : RenderState) (args : RenderArgs) (st
   -- the renderer that a pen with the state's numbers starts as
   pub started : (p : Writing) (m : List ℕ) → p .pen .indent ≡ state .indent → p .pen .«next_indent» ≡ state .«next_indent» → p .pen .column .0 ≡ state .column .0
       → freshRenderer (p .pen) m ≡ rendererOf (toState state .pen) m
-  started p m e f g = rw (e, f, g)
+  started p m e f g = λ i. freshRenderer (record { indent = e i; «next_indent» = f i; column = record { 0 = g i } }) m

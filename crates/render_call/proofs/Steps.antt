@@ -37,7 +37,7 @@ module _ (source image : List ℕ) (state : RenderState) (args : RenderArgs) (st
   may : Accepted source image state args store marks
   may = accepted source image state args store marks (h .passes)
 
-  pub rows-within : (args .stop) * PLACES ≤ length store
+  pub rows-within : args .stop * PLACES ≤ length store
   rows-within = may .within
 
   -- ---- a sum over the rows shows that the text has room
@@ -57,12 +57,12 @@ module _ (source image : List ℕ) (state : RenderState) (args : RenderArgs) (st
       below p q r = omega arith
 
   -- ---- the dry run
-  module _ (rows2 marks2 : List ℕ) (e : held rows2 marks2 ≡ putAside ((args .stop) - state .row) (state .«in_use») (held store marks) (state .row)) where
+  module _ (rows2 marks2 : List ℕ) (e : held rows2 marks2 ≡ putAside (args .stop - state .row) (state .«in_use») (held store marks) (state .row)) where
     pub dry-starts : (p : Writing) (out : List ℕ) → Takes state p → Starting rows2 0 (state .row) (args .stop) out p
     dry-starts p out k =
         starts source image state args store marks may rows2 (dry.aside-nests source image state args store marks may rows2 marks2 e) p 0 out k (omega arith)
 
-    pub back-within : (state .row ≤ (args .stop)) × ((args .stop) * PLACES ≤ length rows2)
+    pub back-within : (state .row ≤ args .stop) × (args .stop * PLACES ≤ length rows2)
     back-within =
         let l = dry.aside-rows source image state args store marks may rows2 marks2 e in
         let w = may .within in
@@ -70,7 +70,7 @@ module _ (source image : List ℕ) (state : RenderState) (args : RenderArgs) (st
 
     pub dry-ends : (p q : Writing) → Takes state p → ((k : ℕ) → getD marks k 0 < 256) → (out marks3 out3 rows4 marks4 : List ℕ)
         → Ended 0 (renderNodes (pageOf 80 source image) (nodesAt (viewOf rows2) (state .row) (args .stop)) true (freshRenderer (p .pen) marks2)) out marks3 out3 q
-        → held rows4 marks4 ≡ putBack ((args .stop) - state .row) (held rows2 marks3) (state .row)
+        → held rows4 marks4 ≡ putBack (args .stop - state .row) (held rows2 marks3) (state .row)
         → Counted source image state args store marks out (q .at) rows4 marks4 out3
     dry-ends p q k b out marks3 out3 rows4 marks4 r f =
         dry.counted source image state args store marks may rows2 marks2 e p q k (record { at = b }) out marks3 out3 rows4 marks4 r f (q .at) refl
@@ -90,7 +90,7 @@ module _ (source image : List ℕ) (state : RenderState) (args : RenderArgs) (st
         rw (c .store-left, c .marks-left, c .output-left)
         (record { passing = h; room = let z = ap length (c .output-left) in let b = c .bytes in omega arith })
 
-    pub still-needed : (n : ℕ) → n ≡ marksNeeded ((args .stop) - state .row) store (state .row) → n ≡ marksNeeded ((args .stop) - state .row) store2 (state .row)
+    pub still-needed : (n : ℕ) → n ≡ marksNeeded (args .stop - state .row) store (state .row) → n ≡ marksNeeded (args .stop - state .row) store2 (state .row)
     still-needed n e = rw (c .store-left) e
 
     pub then-run : (r : Rendering) (marks3 out3 : List ℕ) → RenderCalled source image state args store2 marks2 out2 r store2 marks3 out3
@@ -102,21 +102,21 @@ module _ (source image : List ℕ) (state : RenderState) (args : RenderArgs) (st
   fine : Accepted source image state args store marks
   fine = accepted source image state args store marks (h .passing .passes)
 
-  pub marks-within : (n : ℕ) → n ≡ marksNeeded ((args .stop) - state .row) store (state .row) → n ≤ length marks
+  pub marks-within : (n : ℕ) → n ≡ marksNeeded (args .stop - state .row) store (state .row) → n ≤ length marks
   marks-within n e = let w = fine .enough in omega arith
 
   pub run-starts : (p : Writing) → Takes state p → Starting store (length out) (state .row) (args .stop) out p
   run-starts p k =
       starts source image state args store marks fine store (nested source image state args store marks fine) p (length out) out k (omega arith)
 
-  pub run-ends : (p q : Writing) → Takes state p → (n : ℕ) → n ≡ marksNeeded ((args .stop) - state .row) store (state .row) → (marks2 : List ℕ)
+  pub run-ends : (p q : Writing) → Takes state p → (n : ℕ) → n ≡ marksNeeded (args .stop - state .row) store (state .row) → (marks2 : List ℕ)
       → marks2 ≡ clearFrom (n - state .«in_use») (state .«in_use») marks
       → (marks3 out3 : List ℕ)
       → Ended (length out) (renderNodes (pageOf 80 source image) (nodesAt (viewOf store) (state .row) (args .stop)) true (freshRenderer (p .pen) marks2)) out marks3 out3 q
       → (used : ℕ)
       → used ≡ max (state .«in_use») n
       → RenderCalled source image state args store marks out
-      (rendering.Written (record { indent = q .pen .indent; «next_indent» = q .pen .«next_indent»; column = q .pen .column; «in_use» = used; row = (args .stop) }) (q .at))
+      (rendering.Written (record { indent = q .pen .indent; «next_indent» = q .pen .«next_indent»; column = q .pen .column; «in_use» = used; row = args .stop }) (q .at))
       store
       marks3
       out3

@@ -19,7 +19,7 @@ use Rattle.render_call.specs.declared.refusal.Verdict.the-variants as ve
 -- "Rendering state: `indent`, `next_indent`, `column`, marks in use, next row."
 abbrev pub toState : RenderState → states.RenderState
 toState s = record {
-  pen = record { indent = s .indent; next-indent = s .«next_indent»; column = s .column .0 };
+  pen = record { indent = s .indent; «next_indent» = s .«next_indent»; column = s .column };
   in-use = s .«in_use»;
   row = s .row;
 }
