@@ -11,9 +11,9 @@ use crate::room::Needs;
 use marks::count::clear_marks;
 use marks::count::larger;
 use renderer::machine::run_rows;
-use renderer::writing::Writing;
 use renderer::run::Bounds;
 use renderer::run::RowRange;
+use renderer::writing::Writing;
 use renderer_rules::Pen;
 use rows::units::Bytes;
 

@@ -13,7 +13,6 @@ use render_call::RenderArgs;
 use render_call::RenderState;
 use render_call::Rendering;
 use render_call::render_call;
-use stored_answers::compare::copy;
 use stored_answers::found::Found;
 use stored_answers::found::first;
 use stored_answers::found::refusal_found;
@@ -23,8 +22,13 @@ use stored_answers::numbers::long;
 use stored_answers::numbers::past;
 use stored_answers::report::count;
 
-// Where the next call is stored, the states that the calls so far left, the bytes that they wrote, and the first difference.
+// How many answers a call can have: accepted, or a number up to 13. Those of rendering calls are counted behind those of layout calls.
+pub(crate) const ANSWERS: usize = 14;
+
+// How many calls there are, where the next one is stored, the states that the calls so far left, the bytes that they wrote, and the first
+// difference.
 pub(crate) struct Run {
+    pub calls: usize,
     pub at: usize,
     pub layout: LayoutState,
     pub render: RenderState,
@@ -82,6 +86,7 @@ fn after(run: Run, end: usize, found: Found) -> Run {
     let render = run.render;
     let before = run.found;
     Run {
+        calls: run.calls,
         at: end,
         layout: layout,
         render: render,
@@ -94,6 +99,7 @@ fn with_layout(run: Run, s: LayoutState) -> Run {
     let render = run.render;
     let found = run.found;
     Run {
+        calls: run.calls,
         at: run.at,
         layout: s,
         render: render,
@@ -106,6 +112,7 @@ fn with_render(run: Run, s: RenderState, bytes: usize) -> Run {
     let layout = run.layout;
     let found = run.found;
     Run {
+        calls: run.calls,
         at: run.at,
         layout: layout,
         render: s,
@@ -150,63 +157,58 @@ fn lay(
     after_layout(d, counts, run, answer)
 }
 
-// Puts the first bytes of a call's output behind the texts written so far.
-fn join(text: &mut [u8], written: usize, out: &[u8], bytes: usize) -> Found {
-    if text.len() < written {
-        return Found::Room;
-    }
-    if text.len() - written < bytes {
-        return Found::Room;
-    }
-    let end = written + bytes;
-    copy(&mut text[written..end], out, 0);
-    Found::Same
-}
-
-// The run after a rendering call with this answer and this output.
-fn after_rendering(
-    d: &[u8],
-    out: &[u8],
-    text: &mut [u8],
-    counts: &mut [usize],
-    run: Run,
-    answer: Rendering,
-) -> Run {
+// The run after a rendering call with this answer.
+fn after_rendering(d: &[u8], counts: &mut [usize], run: Run, answer: Rendering) -> Run {
     let at = run.at;
     let end = call_end(d, at, RENDER);
     match answer {
         Rendering::Refused(number, place) => {
             let n = wide(number);
-            count(counts, n);
+            count(counts, past(ANSWERS, n));
             after(run, end, refusal_found(d, past(at, NUMBER), n, place))
         }
         Rendering::Written(s, bytes) => {
-            count(counts, 0);
-            let room = join(text, run.written, out, bytes.0);
+            count(counts, ANSWERS);
             let found = written_found(d, at, s, bytes.0);
-            after(with_render(run, s, bytes.0), end, first(room, found))
+            after(with_render(run, s, bytes.0), end, found)
         }
     }
 }
 
-// Runs a rendering call that may fill all of `out`.
+// Runs a rendering call. Its output, which has as many bytes as the call is stored with, lies behind the texts written so far.
 fn render(
     d: &[u8],
     source: &[u8],
     image: &[u8],
     store: &mut [u32],
     marks: &mut [u8],
-    out: &mut [u8],
     text: &mut [u8],
     counts: &mut [usize],
     run: Run,
 ) -> Run {
+    let room = long(d, past(run.at, ARGUMENT));
+    let from = run.written;
+    if text.len() < from {
+        return after(run, call_end(d, run.at, RENDER), Found::Room);
+    }
+    if text.len() - from < room {
+        return after(run, call_end(d, run.at, RENDER), Found::Room);
+    }
+    let to = from + room;
     let state = run.render;
     let args = RenderArgs {
         stop: long(d, past(run.at, STOP)),
     };
-    let answer = render_call(source, image, store, marks, out, state, args);
-    after_rendering(d, out, text, counts, run, answer)
+    let answer = render_call(
+        source,
+        image,
+        store,
+        marks,
+        &mut text[from..to],
+        state,
+        args,
+    );
+    after_rendering(d, counts, run, answer)
 }
 
 // Runs the call stored at the run's place.
@@ -216,61 +218,31 @@ fn call(
     image: &[u8],
     store: &mut [u32],
     marks: &mut [u8],
-    out: &mut [u8],
     text: &mut [u8],
-    laid: &mut [usize],
-    rendered: &mut [usize],
+    counts: &mut [usize],
     run: Run,
 ) -> Run {
     if byte(d, run.at) == 0 {
-        return lay(d, source, image, store, laid, run);
+        return lay(d, source, image, store, counts, run);
     }
-    let room = long(d, past(run.at, ARGUMENT));
-    if out.len() < room {
-        return after(run, call_end(d, run.at, RENDER), Found::Room);
-    }
-    render(
-        d,
-        source,
-        image,
-        store,
-        marks,
-        &mut out[..room],
-        text,
-        rendered,
-        run,
-    )
+    render(d, source, image, store, marks, text, counts, run)
 }
 
-// Runs n calls.
+// Runs the calls that the run starts with.
 pub(crate) fn replay_calls(
     d: &[u8],
-    n: usize,
     source: &[u8],
     image: &[u8],
     store: &mut [u32],
     marks: &mut [u8],
-    out: &mut [u8],
     text: &mut [u8],
-    laid: &mut [usize],
-    rendered: &mut [usize],
+    counts: &mut [usize],
     start: Run,
 ) -> Run {
+    let mut left = start.calls;
     let mut run = start;
-    let mut left = n;
     while left > 0 {
-        run = call(
-            d,
-            source,
-            image,
-            store,
-            marks,
-            out,
-            text,
-            laid,
-            rendered,
-            run,
-        );
+        run = call(d, source, image, store, marks, text, counts, run);
         left -= 1;
     }
     run

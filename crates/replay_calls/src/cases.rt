@@ -91,17 +91,13 @@ fn beginning(d: &[u8], at: usize) -> Run {
     let render_at = past(at, LAYOUT);
     let count_at = past(render_at, RENDER);
     Run {
+        calls: short(d, count_at),
         at: past(count_at, 2),
         layout: layout_state(d, at),
         render: render_state(d, render_at),
         written: 0,
         found: Found::Same,
     }
-}
-
-// How many calls there are, behind the states stored at `at`.
-fn calls_count(d: &[u8], at: usize) -> usize {
-    short(d, past(past(at, LAYOUT), RENDER))
 }
 
 // A case whose world before the calls is stored at `at`, with a store and marks of its size.
@@ -112,28 +108,15 @@ fn in_world(
     image: &[u8],
     store: &mut [u32],
     marks: &mut [u8],
-    out: &mut [u8],
     text: &mut [u8],
-    laid: &mut [usize],
-    rendered: &mut [usize],
+    counts: &mut [usize],
 ) -> Case {
     let marks_at = numbers_end(d, at);
     let states_at = bytes_end(d, marks_at);
     fill(store, d, past(at, 4));
     copy(marks, d, past(marks_at, 4));
-    let run = replay_calls(
-        d,
-        calls_count(d, states_at),
-        source,
-        image,
-        store,
-        marks,
-        out,
-        text,
-        laid,
-        rendered,
-        beginning(d, states_at),
-    );
+    let before = beginning(d, states_at);
+    let run = replay_calls(d, source, image, store, marks, text, counts, before);
     world_found(d, store, marks, text, run)
 }
 
@@ -151,10 +134,8 @@ fn replay_case(
     at: usize,
     store: &mut [u32],
     marks: &mut [u8],
-    out: &mut [u8],
     text: &mut [u8],
-    laid: &mut [usize],
-    rendered: &mut [usize],
+    counts: &mut [usize],
 ) -> Case {
     let source_from = start(d, at);
     let source_to = end(d, source_from, long(d, at));
@@ -175,10 +156,8 @@ fn replay_case(
         &d[image_from..world],
         &mut store[..numbers],
         &mut marks[..count],
-        out,
         text,
-        laid,
-        rendered,
+        counts,
     )
 }
 
@@ -187,16 +166,14 @@ pub(crate) fn replay_cases(
     d: &[u8],
     store: &mut [u32],
     marks: &mut [u8],
-    out: &mut [u8],
     text: &mut [u8],
-    laid: &mut [usize],
-    rendered: &mut [usize],
+    counts: &mut [usize],
 ) -> Compared {
     let mut at: usize = 0;
     let mut cases: usize = 0;
     let mut differ: usize = 0;
     while at < d.len() {
-        let c = replay_case(d, at, store, marks, out, text, laid, rendered);
+        let c = replay_case(d, at, store, marks, text, counts);
         let found = c.found;
         cases += 1;
         differ += told(cases, found);

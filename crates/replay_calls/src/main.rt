@@ -6,6 +6,7 @@ mod states;
 
 ghost use mathlib.Core.Path.{_≡_};
 ghost use lib.ListN.{length};
+use calls::ANSWERS;
 use cases::replay_cases;
 use libc::STDIN_FILENO;
 use libc::STDOUT_FILENO;
@@ -32,38 +33,29 @@ fn marks_room() -> [u8; 4096]
     [0; 4096]
 }
 
-// Room for the output of a call.
-fn output_room() -> [u8; 1048576]
-    ensures { λ r. ⌜ 1048576 ≡ length r ⌝ }
+// Room for the joined texts of a list, and the output of its next call.
+fn text_room() -> [u8; 1114112]
+    ensures { λ r. ⌜ 1114112 ≡ length r ⌝ }
 {
-    [0; 1048576]
+    [0; 1114112]
 }
 
-// Room for the joined texts of a list.
-fn text_room() -> [u8; 65536]
-    ensures { λ r. ⌜ 65536 ≡ length r ⌝ }
-{
-    [0; 65536]
+// How often each answer was given, by layout and by rendering calls.
+fn show_answers(counts: &[usize]) {
+    if counts.len() < ANSWERS {
+        return;
+    }
+    show_counts(b"layout calls", &counts[..ANSWERS]);
+    show_counts(b"rendering calls", &counts[ANSWERS..]);
 }
 
 fn replay(d: &[u8]) {
     let mut store = store_room();
     let mut marks = marks_room();
-    let mut out = output_room();
     let mut text = text_room();
-    let mut laid = [0usize; 14];
-    let mut rendered = [0usize; 14];
-    let c = replay_cases(
-        d,
-        &mut store,
-        &mut marks,
-        &mut out,
-        &mut text,
-        &mut laid,
-        &mut rendered,
-    );
-    show_counts(b"layout calls", &laid);
-    show_counts(b"rendering calls", &rendered);
+    let mut counts = [0usize; 28];
+    let c = replay_cases(d, &mut store, &mut marks, &mut text, &mut counts);
+    show_answers(&counts);
     show_end(b"lists", c);
 }
 

@@ -6,16 +6,16 @@ use Rattle.replay_calls.proofs.calls.replay_calls.Statement.{statement}
 use Rattle.replay_calls.proofs.calls.replay_calls.Tie as tie
 
 abbrev Inv-loop : tie.InvT-loop
-Inv-loop d n source image store₀ marks₀ out₀ text₀ laid₀ rendered₀ run₀ left₀ store marks out text laid rendered run left = (length store ≡ length store₀) × (length marks ≡ length marks₀) × (length out ≡ length out₀) × (length text ≡ length text₀) × (length laid ≡ length laid₀) × (length rendered ≡ length rendered₀)
+Inv-loop d source image store₀ marks₀ text₀ counts₀ left₀ run₀ store marks text counts left run = (length store ≡ length store₀) × (length marks ≡ length marks₀) × (length text ≡ length text₀) × (length counts ≡ length counts₀)
 
 abbrev μ-loop : tie.MeasureT-loop
-μ-loop d n source image store₀ marks₀ out₀ text₀ laid₀ rendered₀ run₀ left₀ store marks out text laid rendered run left = left
+μ-loop d source image store₀ marks₀ text₀ counts₀ left₀ run₀ store marks text counts left run = left
 
 sub-left : tie.Need-sub-left Inv-loop μ-loop
-sub-left c = omega (arith, c .before .before .before .before .before .before .before .before .before .before .before .before .before .before .before .before .before .before .before .loop-test .taken)
+sub-left c = omega (arith, c .before .before .before .before .before .before .before .before .before .before .before .before .before .loop-test .taken)
 
 loop-less : tie.Need-loop-less Inv-loop μ-loop
-loop-less c = omega (arith, c .before .before .before .before .before .before .before .before .before .before .before .before .before .before .before .before .before .before .before .loop-test .taken)
+loop-less c = omega (arith, c .before .before .before .before .before .before .before .before .before .before .before .before .before .loop-test .taken)
 
 pub replay-calls-spec : {M : Type 1} → statement M
 replay-calls-spec =
@@ -27,8 +27,6 @@ replay-calls-spec =
     (λ c κs. search needs)
     sub-left
     loop-less
-    (λ c. search needs)
-    (λ c. search needs)
     (λ c. search needs)
     (λ c. search needs)
     (λ c. search needs)

@@ -6,10 +6,10 @@ use Rattle.replay_calls.proofs.cases.replay_cases.Statement.{statement}
 use Rattle.replay_calls.proofs.cases.replay_cases.Tie as tie
 
 abbrev Inv-loop : tie.InvT-loop
-Inv-loop d store₀ marks₀ out₀ text₀ laid₀ rendered₀ at₀ cases₀ differ₀ store marks out text laid rendered at cases differ = (length store ≡ length store₀) × (length marks ≡ length marks₀) × (length out ≡ length out₀) × (length text ≡ length text₀) × (length laid ≡ length laid₀) × (length rendered ≡ length rendered₀) × (cases ≤ at) × (differ ≤ cases)
+Inv-loop d store₀ marks₀ text₀ counts₀ at₀ cases₀ differ₀ store marks text counts at cases differ = (length store ≡ length store₀) × (length marks ≡ length marks₀) × (length text ≡ length text₀) × (length counts ≡ length counts₀) × (cases ≤ at) × (differ ≤ cases)
 
 abbrev μ-loop : tie.MeasureT-loop
-μ-loop d store₀ marks₀ out₀ text₀ laid₀ rendered₀ at₀ cases₀ differ₀ store marks out text laid rendered at cases differ = length d - at
+μ-loop d store₀ marks₀ text₀ counts₀ at₀ cases₀ differ₀ store marks text counts at cases differ = length d - at
 
 pub replay-cases-spec : {M : Type 1} → statement M
 replay-cases-spec =
@@ -23,8 +23,6 @@ replay-cases-spec =
     (λ c κs. search needs)
     (λ c. search needs)
     (λ c κs. search needs)
-    (λ c. search needs)
-    (λ c. search needs)
     (λ c. search needs)
     (λ c. search needs)
     (λ c. search needs)
