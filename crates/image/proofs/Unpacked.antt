@@ -1,6 +1,6 @@
 -- What places and rows mean: the digits of a sum, one by one.
 -- Assumes nothing.
-use mathlib.Core.Path.{_≡_, sym, ap, ap₂, _∙_}
+use mathlib.Core.Path.{_≡_, refl, sym, ap, ap₂, _∙_}
 use mathlib.Core.Bool.{Bool, true, false, cond, _&&_}
 use Prim.Native.Nat.{ℕ, _+_, _*_, _-_, _/_, _%_, _≤_, _<_}
 use native.Mathlib.Omega.{arith}
@@ -44,6 +44,9 @@ unfolding kindFits rowUnder
 unpacked = record {
   alone = λ n k h. ap (λ (p : ℕ). kindFits p k) (by-itself n) ∙ kinds n 0 k h (omega arith) ∙ ap (λ (m : ℕ). leb n k && leb k m) (none-above n);
   ranges = λ low high k h o r. kinds low (high - low) k h (omega arith) ∙ ap (λ (m : ℕ). leb low k && leb k m) (up low high o);
+  assigns = λ k. refl;
+  assigned = refl;
+  unassigned = λ p h. ne-eqb (p / 8192 % 2) 1 (λ e. omega arith);
   lists = λ p k h. ap (λ (t : Bool). cond t (eqb k LIST) (leb (list p % 128) k && leb k (list p % 128 + list p / 128 % 32))) (a-list p h);
   elements = λ p k h. ap (λ (t : Bool). cond t (many (element (list p))) (rowOf k)) (a-list p h) ∙ ap many (inside p h);
   optional = λ p h. eq-eqb ((16384 + p) / 16384 % 2) 1 (omega arith);
