@@ -184,6 +184,3 @@ lower-column a h = omega arith
 
 pub lower-sum : (a b : ℕ) → a < BEFORE-ROW → b < MEASURED-LIMIT → a + b < IN-ROW
 lower-sum a b h k = omega arith
-
-pub lower-widths : (a b : ℕ) → a < MEASURED-LIMIT → b < MEASURED-LIMIT → a + b < IN-ROW
-lower-widths a b h k = omega arith
