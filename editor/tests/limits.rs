@@ -133,13 +133,14 @@ fn lists(deep: usize) -> SyntaxTree {
     tree
 }
 
-/// Five rows for each 13 bytes of image are enough (crates/layout_facts), and
-/// hardly fewer would be: a list in a list is 26 bytes and ten rows, so that
-/// these images need all but 22 of the rows.
+/// Five rows for each 13 bytes of image are enough (crates/layout_facts). A
+/// list in a list is 26 bytes and ten rows, so that these images need all but
+/// 22 of the rows, and the deepest more than five for each 14 bytes.
 #[test]
 fn rows_come_near_their_bound() {
     // Tree, constant, and two records a list.
-    for deep in 1..=(MAX_DEPTH - 2) / 2 {
+    let most = (MAX_DEPTH - 2) / 2;
+    for deep in 1..=most {
         let image = encode(&lists(deep), &[]).expect("an image");
         assert!(accepted(SOURCE, &image));
         let bound = image.len() * 5 / 13;
@@ -148,6 +149,7 @@ fn rows_come_near_their_bound() {
         let laid = layout(source, &image, &mut store, &fresh, 1, true);
         let rows = laid.expect("room enough").state.next_row;
         assert_eq!(rows, bound as u64 - 22, "{deep} deep");
+        assert!(deep < most || rows > image.len() as u64 * 5 / 14);
     }
 }
 

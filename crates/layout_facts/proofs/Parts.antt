@@ -68,8 +68,8 @@ pub points-most : (g : Given) (at k : ℕ) → points g at k ≤ BYTE-GIVES * (4
 unfolding points
 points-most g at k = omega arith
 
--- a record has five rows at least
-pub points-left : (g : Given) (at k : ℕ) → k ≤ 5 → 9 ≤ be32 (g .image) at → points g at k + ROW-TAKES * k ≡ BYTE-GIVES * (4 + be32 (g .image) at)
+-- a record gives four rows at least
+pub points-left : (g : Given) (at k : ℕ) → k ≤ 4 → 9 ≤ be32 (g .image) at → points g at k + ROW-TAKES * k ≡ BYTE-GIVES * (4 + be32 (g .image) at)
 unfolding points
 points-left g at k h l = omega arith
 
