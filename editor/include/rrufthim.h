@@ -56,7 +56,7 @@ typedef char rrufthim_lengths_have_64_bits[sizeof(size_t) == 8 ? 1 : -1];
 #define RRUFTHIM_MAX_FILE_ROWS 1800  /* the rows, and the marks, that rrufthim_format has of its own */
 #define RRUFTHIM_LAYOUT_STATE 7      /* places of a layout state */
 #define RRUFTHIM_RENDER_STATE 5      /* places of a rendering state */
-#define RRUFTHIM_CHECK_OUT 3         /* places of each function's out */
+#define RRUFTHIM_CHECK_OUT 4         /* places of each function's out */
 #define RRUFTHIM_LAYOUT_OUT 9
 #define RRUFTHIM_RENDER_OUT 7
 #define RRUFTHIM_FORMAT_OUT 5
@@ -64,7 +64,8 @@ typedef char rrufthim_lengths_have_64_bits[sizeof(size_t) == 8 ? 1 : -1];
 /*
  * Whether a source and its tree image are accepted. Refusals 1 to 7.
  *
- * out: [0] 0, [1] number of comments, [2] offset of the tree's record in the image.
+ * out: [0] 0, [1] number of comments, [2] offset of the tree's record in the image, [3] number of declarations: the stop at which
+ *      rrufthim_layout may close.
  */
 void rrufthim_check(
     const uint8_t *source, size_t source_len,

@@ -1,7 +1,6 @@
 //! The calls of the static library over slices that the caller lends.
 
 use crate::{
-    image::declarations,
     linked::{
         rrufthim_check, rrufthim_format, rrufthim_layout, rrufthim_render,
     },
@@ -64,7 +63,7 @@ pub struct FileWritten {
 ///
 /// Refusals 1 to 7.
 pub fn check(source: &[u8], image: &[u8]) -> Result<Accepted, Refusal> {
-    let mut out = [0; 3];
+    let mut out = [0; 4];
     // Safety: each pointer comes from a slice and goes with its length; the
     // function is proved to stay within, and nothing is kept.
     unsafe {
@@ -76,11 +75,11 @@ pub fn check(source: &[u8], image: &[u8]) -> Result<Accepted, Refusal> {
             &mut out,
         );
     }
-    let [number, comments, tree] = out;
+    let [number, comments, tree, declarations] = out;
     refused(number, comments)?;
     Ok(Accepted {
         comments,
-        declarations: declarations(image),
+        declarations,
         tree,
     })
 }

@@ -12,7 +12,7 @@ unsafe extern "C" {
         source_len: usize,
         image: *const u8,
         image_len: usize,
-        out: *mut [u64; 3],
+        out: *mut [u64; 4],
     );
 
     pub fn rrufthim_layout(

@@ -126,7 +126,7 @@ fn all_say_the_same() {
 #[test]
 fn a_difference_is_found() {
     let changes = [
-        ("uint64_t out[RRUFTHIM_CHECK_OUT]", "uint64_t out[4]"),
+        ("uint64_t out[RRUFTHIM_CHECK_OUT]", "uint64_t out[3]"),
         ("_LAYOUT_STATE 7", "_LAYOUT_STATE 8"),
         ("uint32_t *store", "uint64_t *store"),
         ("const uint64_t state", "uint64_t state"),

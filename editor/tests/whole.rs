@@ -110,6 +110,10 @@ fn declarations_are_counted() {
     for count in [0, 1, 2, 7, 300] {
         for image in images(count) {
             assert_eq!(declarations(&image), count as u64);
+            let source = "const A: u32 = 1;\n".repeat(count.max(1));
+            let accepted =
+                check(source.as_bytes(), &image).expect("accepted");
+            assert_eq!(accepted.declarations, count as u64);
         }
     }
     assert_eq!(declarations(&tariff_image()), DECLARATIONS);
@@ -143,7 +147,8 @@ fn counts_of_damaged_images() {
             image.truncate(random.below(whole.len()));
         }
         let count = declarations(&image);
-        if check(SOURCE.as_bytes(), &image).is_ok() {
+        if let Ok(accepted) = check(SOURCE.as_bytes(), &image) {
+            assert_eq!(accepted.declarations, count);
             let store = &mut Buffers::ample().store;
             let fresh = LayoutState::default();
             let source = SOURCE.as_bytes();

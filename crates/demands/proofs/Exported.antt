@@ -22,6 +22,7 @@ use Rattle.plain_run.specs.Demands.{rulesOf}
 use Rattle.plain_run.specs.File.{fileRefusal, fileAnswerBy, formatted}
 use Rattle.plain_run.proofs.Demands.{rules-cut}
 use Rattle.layout_call.specs.Calls as layout
+use Rattle.layout_call.specs.Steps.{declared}
 use Rattle.render_call.specs.Calls as render
 use Rattle.exports.specs.Numbers.{flag, bit, layoutState, layoutArgs, renderState, renderArgs, toldCall, toldRead, toldFile}
 use Rattle.exports.specs.Calls.{Lays, Renders}
@@ -54,13 +55,14 @@ two ns table out out2 Kept h u zero-first tells kept = record {
       };
 }
 
-read-zero : (x : Read Image) (out : List ℕ) → 3 ≤ length out → readRefusal x ≡ none → getD (toldRead (outcome x) out) 0 0 ≡ 0
-read-zero (got i end) out h e = ap (λ (l : List ℕ). getD l 0 0) (stored (0 ∷ i .comments ∷ i .at ∷ []) out h)
-read-zero (bad n p) out h e = let z : _≡_ {A = ℕ} 0 1 = cc in absurd (omega arith)
+read-zero : (x : Read Image) (d : ℕ) (out : List ℕ) → 4 ≤ length out → readRefusal x ≡ none → getD (toldRead (outcome x) d out) 0 0 ≡ 0
+read-zero (got i end) d out h e = ap (λ (l : List ℕ). getD l 0 0) (stored (0 ∷ i .comments ∷ i .at ∷ d ∷ []) out h)
+read-zero (bad n p) d out h e = let z : _≡_ {A = ℕ} 0 1 = cc in absurd (omega arith)
 
-read-tells : (x : Read Image) (out : List ℕ) (r : Refusal) → readRefusal x ≡ some r → toldRead (outcome x) out ≡ sets out 0 (r .number ∷ r .place ∷ [])
-read-tells (got i end) out r e = let z : _≡_ {A = ℕ} 0 1 = cc in absurd (omega arith)
-read-tells (bad n p) out r e =
+read-tells : (x : Read Image) (d : ℕ) (out : List ℕ) (r : Refusal) → readRefusal x ≡ some r
+    → toldRead (outcome x) d out ≡ sets out 0 (r .number ∷ r .place ∷ [])
+read-tells (got i end) d out r e = let z : _≡_ {A = ℕ} 0 1 = cc in absurd (omega arith)
+read-tells (bad n p) d out r e =
     let same : _≡_ {A = Refusal} (record { number = n; place = p }) r = cc in
     ap (λ (x : Refusal). sets out 0 (x .number ∷ x .place ∷ [])) same
 
@@ -122,8 +124,8 @@ linked-1 = record {
   check =
       λ s b out out2 h e.
       two readNumbers (readRefusal (readAll s b)) out out2 (Unit {0}) (omega arith) (read-under s b)
-      (λ f. ap (λ (l : List ℕ). getD l 0 0) e ∙ read-zero (readAll s b) out (omega arith) f)
-      (λ r f. e ∙ read-tells (readAll s b) out r f)
+      (λ f. ap (λ (l : List ℕ). getD l 0 0) e ∙ read-zero (readAll s b) (length (declared s b)) out (omega arith) f)
+      (λ r f. e ∙ read-tells (readAll s b) (length (declared s b)) out r f)
       (λ r f. tt);
   layout =
       λ s b store state stop close out store2 out2 h p.

@@ -16,6 +16,7 @@ use Rattle.plain_run.specs.Parts.{readRefusal}
 use Rattle.plain_run.specs.Demands.{rulesOf}
 use Rattle.plain_run.specs.File.{fileRefusal}
 use Rattle.layout_call.specs.Calls as layout
+use Rattle.layout_call.specs.Steps.{declared}
 use Rattle.render_call.specs.Calls as render
 use Rattle.exports.specs.Numbers.{layoutState, layoutArgs, renderState, renderArgs, toldRead}
 use Rattle.exports.specs.Calls.{Lays, Renders, FormatsFile}
@@ -36,7 +37,8 @@ pub record Told (numbers : List ℕ) (table : Option Refusal) (out2 : List ℕ) 
   pub refused : (r : Refusal) → table ≡ some r → ToldRefusal numbers r out2 Kept
 
 pub record Linked1 : Type 0 where
-  pub check : (s b out out2 : List ℕ) → length out ≡ 3 → out2 ≡ toldRead (outcome (readAll s b)) out
+  pub check : (s b out out2 : List ℕ) → length out ≡ 4
+      → out2 ≡ toldRead (outcome (readAll s b)) (length (declared s b)) out
       → Told readNumbers (readRefusal (readAll s b)) out2 (Unit {0})
   pub layout : (s b store state : List ℕ) (stop close : ℕ) (out store2 out2 : List ℕ) → length out ≡ 9
       → Lays s b store state stop close out store2 out2

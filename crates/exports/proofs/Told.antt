@@ -50,6 +50,6 @@ formats s b output out output2 out2 r q p g h =
     let c = rw g at p in
     record { output-left = c .output-left; told-as = h ∙ ap (λ (a : FileAnswer). toldFile a out) (c .answer) }
 
-pub reads : (s b out out2 : List ℕ) (r q : Answer) → outcomeOf r ≡ outcome (readAll s b) → r ≡ q → out2 ≡ toldRead (outcomeOf q) out
-    → out2 ≡ toldRead (outcome (readAll s b)) out
-reads s b out out2 r q p g h = h ∙ ap (λ (a : Outcome). toldRead a out) (sym (ap outcomeOf g) ∙ p)
+pub reads : (s b out out2 : List ℕ) (d : ℕ) (r q : Answer) → outcomeOf r ≡ outcome (readAll s b) → r ≡ q → out2 ≡ toldRead (outcomeOf q) d out
+    → out2 ≡ toldRead (outcome (readAll s b)) d out
+reads s b out out2 d r q p g h = h ∙ ap (λ (a : Outcome). toldRead a d out) (sym (ap outcomeOf g) ∙ p)

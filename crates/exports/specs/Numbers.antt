@@ -15,10 +15,10 @@ use Rattle.layout_call.specs.declared.LayoutArgs.{LayoutArgs}
 use Rattle.render_call.specs.declared.RenderState.{RenderState}
 use Rattle.render_call.specs.declared.RenderArgs.{RenderArgs}
 
--- a refusal's number and place; or 0, the number of comments and the tree's offset
-abbrev pub toldRead : image.Outcome → List ℕ → List ℕ
-toldRead (image.refused r) out = sets out 0 (r .number ∷ r .place ∷ [])
-toldRead (image.accepted n at) out = sets out 0 (0 ∷ n ∷ at ∷ [])
+-- a refusal's number and place; or 0, the number of comments, the tree's offset and the number of declarations
+abbrev pub toldRead : image.Outcome → ℕ → List ℕ → List ℕ
+toldRead (image.refused r) declarations out = sets out 0 (r .number ∷ r .place ∷ [])
+toldRead (image.accepted n at) declarations out = sets out 0 (0 ∷ n ∷ at ∷ declarations ∷ [])
 
 -- ---- states, in document 01's order
 -- a flag is yes for every number but 0

@@ -2,7 +2,9 @@
 mod numbers;
 
 ghost use mathlib.Core.Path.{_≡_};
+ghost use lib.ListN.{length};
 ghost use Rattle.image.specs.Read.{readAll, outcome};
+ghost use Rattle.layout_call.specs.Steps.{declared};
 ghost use Rattle.exports.specs.Numbers.{toldRead};
 ghost use Rattle.exports.specs.Calls.{Lays, Renders, FormatsFile};
 use crate::numbers::flag;
@@ -14,18 +16,20 @@ use crate::numbers::render_state;
 use file::Formatted;
 use file::format_file;
 use image::Answer;
+use layout_call::Document;
 use layout_call::Laying;
 use layout_call::LayoutArgs;
 use layout_call::layout_call;
+use layout_call::steps::count_declarations;
 use render_call::RenderArgs;
 use render_call::Rendering;
 use render_call::render_call;
 
-// Whether a source and an image are accepted. `out` gets the refusal's number and place, or 0, the number of comments and the tree's
-// offset.
+// Whether a source and an image are accepted. `out` gets the refusal's number and place, or 0, the number of comments, the tree's offset and
+// the number of declarations.
 #[no_mangle]
-pub extern "C" fn rrufthim_check(source: &[u8], image: &[u8], out: &mut [u64; 3])
-    ensures { λ r. ⌜ now (out .exit) ≡ toldRead (outcome (readAll (now (source .entry)) (now (image .entry)))) (now (out .entry)) ⌝ }
+pub extern "C" fn rrufthim_check(source: &[u8], image: &[u8], out: &mut [u64; 4])
+    ensures { λ r. ⌜ now (out .exit) ≡ toldRead (outcome (readAll (now (source .entry)) (now (image .entry)))) (length (declared (now (source .entry)) (now (image .entry)))) (now (out .entry)) ⌝ }
 {
     match image::check(source, image) {
         Answer::Refused(n, p) => {
@@ -36,6 +40,11 @@ pub extern "C" fn rrufthim_check(source: &[u8], image: &[u8], out: &mut [u64; 3]
             out[0] = 0;
             out[1] = comments as u64;
             out[2] = tree as u64;
+            let doc = Document {
+                comments: comments,
+                tree: tree,
+            };
+            out[3] = count_declarations(source, image, doc) as u64;
         }
     }
 }

@@ -18,14 +18,19 @@ mod typed;
 pub struct Accepted {
     pub comments: u64,
     pub tree: u64,
+    pub declarations: u64,
 }
 
 /// The port's reader: refusals 1 to 7.
 pub fn check(source: &[u8], image: &[u8]) -> Result<Accepted, Refusal> {
-    let mut out = Out::<4>::new();
+    let mut out = Out::<5>::new();
     port::check(source, image, out.places());
-    let [comments, tree] = out.accepted()?;
-    Ok(Accepted { comments, tree })
+    let [comments, tree, declarations] = out.accepted()?;
+    Ok(Accepted {
+        comments,
+        tree,
+        declarations,
+    })
 }
 
 /// What a reader of results must know: who answered, and to what.

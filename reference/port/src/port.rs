@@ -15,7 +15,7 @@ mod linked {
             source_len: usize,
             image: *const u8,
             image_len: usize,
-            out: *mut [u64; 3],
+            out: *mut [u64; 4],
         );
     }
 
@@ -59,8 +59,8 @@ mod linked {
         );
     }
 
-    /// `out`: 0, comments, the tree's offset; or number, place.
-    pub fn check(source: &[u8], image: &[u8], out: &mut [u64; 3]) {
+    /// `out`: 0, comments, the tree's offset, declarations; or number, place.
+    pub fn check(source: &[u8], image: &[u8], out: &mut [u64; 4]) {
         // Safety: each slice with its own length; nothing is kept.
         unsafe {
             rrufthim_check(

@@ -22,6 +22,8 @@ pub enum Fault {
     None,
     /// The reader's place is one too high.
     CheckPlace,
+    /// The reader counts a declaration too many.
+    Declarations,
     /// Comments left one too many.
     CommentsLeft,
     /// The position is one too high at the fourth declaration.
@@ -61,8 +63,9 @@ pub enum Fault {
 }
 
 impl Fault {
-    pub const ALL: [Fault; 19] = [
+    pub const ALL: [Fault; 20] = [
         Fault::CheckPlace,
+        Fault::Declarations,
         Fault::CommentsLeft,
         Fault::Position,
         Fault::RowCell,
@@ -139,10 +142,13 @@ fn render_state(state: &[u64; 5]) -> RenderState {
     }
 }
 
-pub fn check(source: &[u8], image: &[u8], out: &mut [u64; 3]) {
+pub fn check(source: &[u8], image: &[u8], out: &mut [u64; 4]) {
     match reader::read(source, image) {
         Ok(read) => {
-            put(out, &[0, read.comments.len() as u64, read.tree.at as u64]);
+            let mut declarations = read.tree.children.len() as u64 - 1;
+            declarations += u64::from(planted(Fault::Declarations));
+            let comments = read.comments.len() as u64;
+            put(out, &[0, comments, read.tree.at as u64, declarations]);
         }
         Err(mut refusal) => {
             refusal.place += u64::from(planted(Fault::CheckPlace));

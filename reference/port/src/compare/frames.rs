@@ -4,6 +4,7 @@ use judge::{
     frame::{self, Frame},
     reader,
     refusal::Refusal,
+    tree::Input,
 };
 
 use super::Tally;
@@ -30,10 +31,12 @@ pub fn compare_parts(tally: &mut Tally, class: &str, frame: Frame) {
     super::cuts::compare(tally, class, frame);
 }
 
-/// The judge's reader, in the port's terms.
+/// The judge's reader, in the port's terms. Declarations are those of the
+/// original's own tree.
 fn judged(source: &[u8], image: &[u8]) -> Result<Accepted, Refusal> {
     reader::read(source, image).map(|read| Accepted {
         comments: read.comments.len() as u64,
         tree: read.tree.at as u64,
+        declarations: Input::new(&read, image).declarations() as u64,
     })
 }
