@@ -31,7 +31,7 @@ module _ {g : Given} (commented : Commented g) where
 
   sound-newlines : {d : ℕ} (p : ℕ) → p ≤ length (g .source) → Sounds g 1 d (told (newlines g p))
   unfolding newlines
-  sound-newlines {d} p h = record { from = λ s. counted (countNewlines (g .source) (s .pos) p) .from s }
+  sound-newlines {d} p h = record { from = λ s. counted (countNewlines (g .source) (s .pos) p .count) .from s }
     where
       counted : (n : ℕ) → Sounds g 1 d (cond (eqb n 0) skip (cond (eqb n 1) (push line) (push emptyLine)) ⨟ moveTo p)
       counted n =
@@ -49,7 +49,7 @@ module _ {g : Given} (commented : Commented g) where
   -- they take no numbers
   newlines-free : (p : ℕ) (s : St) → told (newlines g p) s .taken ≡ 0
   unfolding newlines _⨟_
-  newlines-free p s = counted (eqb (countNewlines (g .source) (s .pos) p) 0) (eqb (countNewlines (g .source) (s .pos) p) 1)
+  newlines-free p s = counted (eqb (countNewlines (g .source) (s .pos) p .count) 0) (eqb (countNewlines (g .source) (s .pos) p .count) 1)
     where
       counted : (t u : Bool) → cond t skip (cond u (push line) (push emptyLine)) s .taken + 0 ≡ 0
       counted true u = refl
