@@ -80,7 +80,7 @@ void rrufthim_check(
  *
  * state: [0] begun (flag), [1] closed (flag), [2] next declaration, [3] next row, [4] next group number, [5] comments placed,
  *        [6] position in the source. Fresh: all 0. Later: out[2] to out[8] of the last accepted call.
- * store: is written from the state's next row on.
+ * store: is written from the state's next row on. Five rows for each 13 bytes of image are enough for what is still to be laid out.
  * out:   [0] 0, [1] comments that no row holds yet, [2] to [8] the new state. After closing, out[1] comments are in no row and so not in
  *        the text: the last out[1] of the image's list. Look at it before you save.
  */

@@ -5,10 +5,15 @@ use std::fmt;
 use crate::{
     calls::{Laid, ROW, Written, layout, render},
     error::FormatError,
-    image::comments,
     refusal::Refusal,
     states::{LayoutState, RenderState},
 };
+
+/// Five rows for each 13 bytes of its image are enough for every file: a byte
+/// gives 5 points, and a row takes 13. That it is so is proved
+/// (crates/layout_facts), and there are files that nearly need as many.
+const BYTE_GIVES: u64 = 5;
+const ROW_TAKES: u64 = 13;
 
 /// The most rows that are lent before a refusal asks for more: 18 MiB.
 const MAX_AT_FIRST: u64 = 1 << 19;
@@ -57,15 +62,14 @@ impl Buffers {
         }
     }
 
-    /// Room to spare, as far as there is memory: a row and a mark for each
-    /// byte of the image and two for each comment, so many `times`, and many
-    /// times the source and the image for the text. Neither layout nor
-    /// rendering then has to count before it writes. What was in the buffers
-    /// is dropped.
+    /// Room to spare, as far as there is memory: five rows and marks for each
+    /// 13 bytes of the image, so many `times`, and many times the source and
+    /// the image for the text. Neither layout nor rendering then has to count
+    /// before it writes. What was in the buffers is dropped.
     pub fn prepare(&mut self, file: File<'_>, times: u64) {
         let image = file.image.len() as u64;
-        let rows = times * (image + 2 * comments(file.image));
-        let rows = rows.min(MAX_AT_FIRST);
+        let rows = image.saturating_mul(BYTE_GIVES) / ROW_TAKES;
+        let rows = (times * rows).min(MAX_AT_FIRST);
         let lengths = file.source.len() as u64 * 2 + image;
         let bytes = lengths.saturating_mul(8).saturating_add(1 << 16);
         let bytes = bytes.min(self.max_output);

@@ -6,8 +6,9 @@ mod support;
 use std::thread;
 
 use rrufthim::{
-    EncodeError, MAX_BODY, MAX_COMMENTS, MAX_DEPTH, MAX_SOURCE, MAX_WIDTH,
-    Refusal, ast::*, check, encode, encode_with_widths, format_file,
+    EncodeError, LayoutState, MAX_BODY, MAX_COMMENTS, MAX_DEPTH, MAX_SOURCE,
+    MAX_WIDTH, ROW, Refusal, ast::*, check, encode, encode_with_widths,
+    format_file, layout,
 };
 use support::{Buffers, constants, path};
 
@@ -115,6 +116,41 @@ fn a_small_stack() {
     };
     let thread = thread::Builder::new().stack_size(256 << 10).spawn(run);
     assert!(thread.expect("a thread").join().expect("no panic"));
+}
+
+/// `const A: ! = [[..]];`, lists in lists so many deep.
+fn lists(deep: usize) -> SyntaxTree {
+    let mut expr = Meta::new(Expr::List(vec![]), 6..7);
+    for _ in 1..deep {
+        expr = Meta::new(Expr::List(vec![expr]), 6..7);
+    }
+    let mut tree = constants(SOURCE);
+    let [Declaration::Const(constant)] = &mut tree.declarations[..] else {
+        panic!("one constant");
+    };
+    constant.ty = Meta::new(TypeExpr::Never, 6..7);
+    constant.expr = expr;
+    tree
+}
+
+/// Five rows for each 13 bytes of image are enough (crates/layout_facts). A
+/// list in a list is 26 bytes and ten rows, so that these images need all but
+/// 22 of the rows, and the deepest more than five for each 14 bytes.
+#[test]
+fn rows_come_near_their_bound() {
+    // Tree, constant, and two records a list.
+    let most = (MAX_DEPTH - 2) / 2;
+    for deep in 1..=most {
+        let image = encode(&lists(deep), &[]).expect("an image");
+        assert!(accepted(SOURCE, &image));
+        let bound = image.len() * 5 / 13;
+        let mut store = vec![0; bound * ROW];
+        let (source, fresh) = (SOURCE.as_bytes(), LayoutState::default());
+        let laid = layout(source, &image, &mut store, &fresh, 1, true);
+        let rows = laid.expect("room enough").state.next_row;
+        assert_eq!(rows, bound as u64 - 22, "{deep} deep");
+        assert!(deep < most || rows > image.len() as u64 * 5 / 14);
+    }
 }
 
 /// A tree with nothing but a shebang: its image's body is 30 bytes longer.

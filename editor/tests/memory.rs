@@ -56,7 +56,7 @@ fn a_new_formatter_has_nothing() {
     assert_eq!(asked(Formatter::new), (0, 0));
 }
 
-/// The rows of a small file take less than a hundredth of a large one's 15 MB.
+/// A small file takes little more than a hundredth of a large one's 8 MB.
 #[test]
 fn a_small_file_takes_little() {
     let image = tariff_image();
@@ -65,7 +65,7 @@ fn a_small_file_takes_little() {
         let text = formatter.format_image(SOURCE.as_bytes(), &image);
         assert!(text.is_ok());
     });
-    assert!(cleared > 0 && cleared < 150_000, "{cleared}");
+    assert!(cleared > 0 && cleared < 100_000, "{cleared}");
 }
 
 /// Rows are asked for as cleared memory, which costs time by the page in use.
@@ -79,7 +79,7 @@ fn a_large_file_takes_cleared_memory() {
         let text = formatter.format_image(source.as_bytes(), &image);
         assert!(text.is_ok());
     });
-    assert!(cleared > image.len() * 36, "{cleared}");
+    assert!(cleared > image.len() * 5 / 13 * 36, "{cleared}");
     assert!(filled <= cleared, "{filled}");
 }
 

@@ -12,6 +12,7 @@ use lib.Dec.{ltb, eqb}
 use borrow.Author.Tests.{lt-ltb, le-ltb, ltb-false, eq-eqb, ne-eqb}
 use Rattle.text.specs.Space.{something}
 use Rattle.text.specs.Newlines.{countNewlines}
+use Rattle.text.specs.declared.space.Found.{Found}
 use Rattle.text.specs.declared.space.Found.the-variants.{At, Nowhere}
 use Rattle.tree.specs.Syntax.{Span}
 use Rattle.rows.specs.Node.{line, emptyLine}
@@ -302,10 +303,14 @@ module _ (g : Given) where
   unfolding popTrailingComment
   no-place s e = rw (e, popTrailingComment)
 
-  pub no-comment : (s : St) (place : ℕ) → something (g .source) (s .pos) ≡ At place → nth (g .comments) (s .placed) ≡ none
+  no-comment-at : (s : St) (found : Found) → something (g .source) (s .pos) ≡ found → nth (g .comments) (s .placed) ≡ none
       → popTrailingComment g s ≡ skip s
   unfolding popTrailingComment
-  no-comment s place e f = rw (e, popTrailingComment) (rw (f, popTrailingComment))
+  no-comment-at s Nowhere e f = no-place s e
+  no-comment-at s (At place) e f = rw (e, popTrailingComment) (rw (f, popTrailingComment))
+
+  pub no-comment : (s : St) → nth (g .comments) (s .placed) ≡ none → popTrailingComment g s ≡ skip s
+  no-comment s f = no-comment-at s _ refl f
 
   pub elsewhere : (s : St) (place : ℕ) (p : Span) → something (g .source) (s .pos) ≡ At place → nth (g .comments) (s .placed) ≡ some p
       → (p .start ≡ place → ⊥) → popTrailingComment g s ≡ skip s

@@ -254,11 +254,11 @@ pub fn pop_trailing_comment(store: &mut [u32], c: Cursor, source: &[u8], image: 
     requires { ⌜ Room (popTrailingComment (given (now source) (now image))) c ⌝ }
     ensures { λ r. ⌜ Laid (popTrailingComment (given (now (source .entry)) (now (image .entry)))) (now (store .entry)) c (now (store .exit)) r ⌝ }
 {
-    match something_from(source, c.pos as usize) {
-        Found::Nowhere => c,
-        Found::At(place) => match front(image, c) {
-            Pending::Nothing => c,
-            Pending::Comment(start, end) => {
+    match front(image, c) {
+        Pending::Nothing => c,
+        Pending::Comment(start, end) => match something_from(source, c.pos as usize) {
+            Found::Nowhere => c,
+            Found::At(place) => {
                 if start as usize != place {
                     return c;
                 }

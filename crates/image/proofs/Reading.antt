@@ -10,12 +10,13 @@ use lib.ListN.{length}
 use lib.Dec.{ltb, eqb}
 use borrow.Author.Tests.{lt-ltb, le-ltb, eq-eqb, ne-eqb}
 use Rattle.image.specs.Bytes.{be32}
-use Rattle.image.specs.Grammar.{bare, place, after, complete, rowUnder, firstChild}
+use Rattle.image.specs.Kinds.{TEXT}
+use Rattle.image.specs.Grammar.{bare, place, after, complete, rowOf, rowUnder, firstChild}
 use Rattle.image.specs.Read.{Read, got, bad, bind, Head, headAt, stopAt, kindAt, Tree, Trees, absent, node, nil, _▸_, opens, skips, childAt, recordAt, childrenAt, openOf, stepOf}
 use Rattle.image.specs.declared.records.Step.{Step}
 use Rattle.image.specs.declared.records.Step.the-variants.{Next, Fault}
 use Rattle.image.specs.declared.records.Open.the-variants.{Record, Wrong}
-use Rattle.image.proofs.Shapes.{Opened, opened, is-opened, skips-within}
+use Rattle.image.proofs.Shapes.{Opened, opened, is-opened, skips-within, kind-range}
 
 -- ---- one record
 pub record-bad : (s b : List ℕ) (v left p at end n q : ℕ) → opens s b v left p at end ≡ bad n q → recordAt s b v left p at end ≡ bad n q
@@ -93,6 +94,17 @@ turn one n row at stop h f = simp (lt-ltb at stop h, ne-eqb row 0 f)
 keeps : {A : Type 0} (f : Trees → A) (r : Read Trees) → stepOf (bind r (λ ts end. got (f ts) end)) ≡ stepOf r
 keeps f (got ts n) = refl
 keeps f (bad n p) = refl
+
+-- a text has no children: it is read to its end
+pub text-read : (s b : List ℕ) (v left at end : ℕ) → Opened s b v left TEXT at end → stepOf (recordAt s b v left TEXT at end) ≡ Next (stopAt b at)
+unfolding rowUnder firstChild rowOf
+text-read s b v zero at end o = absurd (o .more refl)
+text-read s b v (suc left) at end o =
+    let r = kind-range TEXT (kindAt b at) refl (o .right .kind) in
+    let k : kindAt b at ≡ TEXT = omega (arith, r .0, r .1) in
+    ap stepOf (record-opens s b v left TEXT at end o)
+    ∙ keeps (node (headAt b at)) (within s b v left TEXT at)
+    ∙ rw k (ap stepOf (ended (childAt s b v left) (length b) 0 (stopAt b at) (stopAt b at) (omega arith) refl))
 
 rest-bad : (one : ℕ → ℕ → ℕ → Read Tree) (n row stop : ℕ) (r : Read Tree) (m q : ℕ) → stepOf r ≡ Fault m q
     → stepOf (rest one n row stop r) ≡ Fault m q

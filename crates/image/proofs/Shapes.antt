@@ -12,6 +12,7 @@ use Rattle.text.specs.Utf8.{wellFormed}
 use Rattle.text.specs.Newlines.{isRange}
 use Rattle.laws.proofs.Booleans.{and-left, and-right}
 use Rattle.image.specs.Bytes.{be32, part}
+use Rattle.image.specs.Kinds.{TEXT}
 use Rattle.image.specs.Grammar.{isList, isOptional, kindFits, payloadFits, firstChild, hasByte, topByte}
 use Rattle.image.specs.Read.{Read, got, bad, Head, headAt, stopAt, kindAt, shape, opens, skips}
 
@@ -100,6 +101,14 @@ kind-range p k l e =
     let t₂ = leb k (p % 128 + p / 128 % 32) in
     let both : t₁ && t₂ ≡ true = simp l at e in
     (leb-true (p % 128) k (and-left t₁ t₂ both), leb-true k (p % 128 + p / 128 % 32) (and-right t₁ t₂ both))
+
+-- where only a text may stand, no other kind does
+pub not-text : (k : ℕ) → ¬ (k ≡ TEXT) → kindFits TEXT k ≡ false
+not-text k n = go (kindFits TEXT k) refl
+  where
+    go : (x : Bool) → kindFits TEXT k ≡ x → x ≡ false
+    go false e = refl
+    go true e = let r = kind-range TEXT k refl e in absurd (n (omega (arith, r .0, r .1)))
 
 -- ---- a record that passes the tests
 pub record Opened (s b : List ℕ) (v left p at end : ℕ) : Type 0 where

@@ -300,7 +300,7 @@ fn top_byte(p: usize, k: usize) -> usize
 }
 
 // Whether the bytes from `from` to `to` are well-formed UTF-8.
-fn is_text(b: &[u8], from: usize, to: usize) -> bool
+pub(crate) fn is_text(b: &[u8], from: usize, to: usize) -> bool
     requires { ⌜ (from ≤ to) × (to ≤ length (now b)) ⌝ }
     ensures { λ r. ⌜ r ≡ wellFormed (part from to (now (b .entry))) ⌝ }
 {

@@ -2,15 +2,18 @@
 ghost use mathlib.Core.Path.{_≡_};
 ghost use Prim.Native.Nat.{suc, _+_, _≤_};
 ghost use lib.ListN.{length};
+ghost use Rattle.image.specs.Kinds.{TEXT};
 ghost use Rattle.image.specs.Read.{shape, opens, skips, childAt, recordAt, childrenAt, openOf, stepOf};
 use crate::bytes::num32;
 use crate::bytes::wide;
 use crate::grammar::after_row;
 use crate::grammar::first_child;
 use crate::grammar::is_over;
+use crate::grammar::is_text;
 use crate::grammar::kind_fits;
 use crate::grammar::payload_fits;
 use crate::grammar::row_under;
+use crate::kinds::TEXT;
 
 // Where the reading goes on, or a refusal's number and place.
 pub enum Step {
@@ -87,6 +90,47 @@ fn skip_fits(b: &[u8], p: usize, at: usize, end: usize) -> bool
     false
 }
 
+// `shape_fits` at a place where only a text may stand.
+fn text_fits(b: &[u8], v: usize, at: usize, end: usize) -> bool
+    requires { ⌜ (at ≤ end) × (end ≤ length (now b)) ⌝ }
+    ensures { λ r. ⌜ r ≡ shape (now (b .entry)) v TEXT at end ⌝ }
+{
+    if end - at < 4 {
+        return false;
+    }
+    let n = num32(b, at);
+    if n < 9 {
+        return false;
+    }
+    if end < at + 4 + n {
+        return false;
+    }
+    if wide(b[at + 4]) != TEXT {
+        return false;
+    }
+    if n - 9 < v {
+        return false;
+    }
+    is_text(b, at + 13 + v, at + 4 + n)
+}
+
+// Reads a record where only a text may stand. About half of all records are texts; they have no children, so that nothing is called again.
+fn read_text(s: &[u8], b: &[u8], v: usize, left: u32, at: usize, end: usize) -> Step
+    requires { ⌜ (at ≤ end) × (end ≤ length (now b)) ⌝ }
+    ensures { λ r. ⌜ r ≡ stepOf (recordAt (now (s .entry)) (now (b .entry)) v left TEXT at end) ⌝ }
+{
+    if !text_fits(b, v, at, end) {
+        return Step::Fault(4, at);
+    }
+    if left == 0 {
+        return Step::Fault(5, at);
+    }
+    if !text::newlines::is_range(s, num32(b, at + 5), num32(b, at + 9)) {
+        return Step::Fault(6, at);
+    }
+    Step::Next(at + 4 + num32(b, at))
+}
+
 // Reads a child at place p: nothing or a record.
 fn read_child(s: &[u8], b: &[u8], v: usize, left: u32, p: usize, at: usize, end: usize) -> Step
     requires { ⌜ (at ≤ end) × (end ≤ length (now b)) ⌝ }
@@ -95,7 +139,11 @@ fn read_child(s: &[u8], b: &[u8], v: usize, left: u32, p: usize, at: usize, end:
     if skip_fits(b, p, at, end) {
         return Step::Next(at + 4);
     }
-    read_record(s, b, v, left, p % 16384, at, end)
+    let bare = p % 16384;
+    if bare == TEXT {
+        return read_text(s, b, v, left, at, end);
+    }
+    read_record(s, b, v, left, bare, at, end)
 }
 
 // Reads a record with all that is in it.

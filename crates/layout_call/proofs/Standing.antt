@@ -21,9 +21,10 @@ use Rattle.comments.proofs.Fronts.{count-of}
 use Rattle.layout.specs.Contracts.{Readable, Has, LaidAs, HasAll, LaidAll, InImage}
 use Rattle.layout.specs.Forms.{MaybeIdentAt, declarationsFrom}
 use Rattle.layout.specs.Layout.{shebangRule, declarationsRule}
+use Rattle.layout_facts.specs.Sound.{BYTE-GIVES, ROW-TAKES}
 use Rattle.layout_facts.specs.Accepted.{Stands}
 use Rattle.rows.specs.Rows.{sizes}
-use Rattle.layout_facts.proofs.Limits.{call-room, call-few}
+use Rattle.layout_facts.proofs.Limits.{call-room, few-rows as few}
 use Rattle.plain_run.proofs.Limits.{standing}
 use Rattle.layout_call.specs.Steps.{Accepts, SmallCursor, tree, declared, startOf, callAct}
 use Rattle.layout_call.specs.declared.LayoutState.{LayoutState}
@@ -171,10 +172,10 @@ module _ {s b : List ℕ} {d : Document} (a : Accepts s b d) where
         (k .number)
         (omega (arith, comments-count, k .placed))
 
-    pub few-rows : sizes (callAct s b state q (st c) .nodes) ≤ length b + 2 * n
+    pub few-rows : ROW-TAKES * sizes (callAct s b state q (st c) .nodes) ≤ BYTE-GIVES * length b
     few-rows =
-        let l =
-        call-few stands (take from ds) (ys from (q .stop) h) behind (not (state .begun)) (eqb from 0) (q .close) (parted from (q .stop) h) (st c)
+        few (given s b) (tree s b) at stands (take from ds) (ys from (q .stop) h) behind (parted from (q .stop) h) (not (state .begun)) (eqb from 0)
+        (q .close)
+        (st c)
         (omega (arith, comments-count, k .placed))
-        in
-        omega (arith, l, comments-count, stands .tree .end)
+        .rows

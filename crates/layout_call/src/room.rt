@@ -12,6 +12,11 @@ use crate::steps::lay;
 use rows::store::to_usize;
 use state::Cursor;
 
+// A tree has no more than five rows for each 13 bytes of its image: a byte gives 5 points, and a row takes 13.
+const BYTE_GIVES: usize = 5;
+
+const ROW_TAKES: usize = 13;
+
 // The row behind what a call lays, counted over a store that has no room for it.
 fn rows_needed(
     c: Cursor,
@@ -29,8 +34,7 @@ fn rows_needed(
     to_usize(d.row)
 }
 
-// The same if it is past `rows`, and else a row that is not. A tree has no more rows than its image has bytes, and two more for each comment:
-// where the store has that many, nothing is counted.
+// The same if it is past `rows`, and else a row that is not. Where the store has all the rows that the image's bytes give, nothing is counted.
 pub(crate) fn rows_wanted(
     c: Cursor,
     s: &[u8],
@@ -43,7 +47,7 @@ pub(crate) fn rows_wanted(
     requires { ⌜ Accepts (now s) (now b) doc × ((state .declaration ≤ args .stop) × ((args .stop ≤ length (declared (now s) (now b))) × SmallCursor c doc)) ⌝ }
     ensures { λ r. ⌜ Wanted rows (c .row + sizes (callAct (now (s .entry)) (now (b .entry)) state args (st c) .nodes)) r ⌝ }
 {
-    let most = to_usize(c.row) + b.len() + 2 * doc.comments;
+    let most = to_usize(c.row) + b.len() * BYTE_GIVES / ROW_TAKES;
     if most <= rows {
         return rows;
     }

@@ -18,25 +18,26 @@ use Rattle.comments.specs.Comments.{popWhitespace}
 use Rattle.layout.specs.declared.forms.WrapStyle.the-variants.{Tight, Wrap}
 use Rattle.layout.specs.Layout.{someTypeParams, Bottom, params, typeParams, identElems, fieldElems, opening, variantElems, declaration, declares, shebangRule}
 use Rattle.layout.specs.Layout.{declarationsRule, fmtParsed, importSpan, unlessEmpty}
-use Rattle.layout_facts.specs.Sound.{Ranged, Commented, Sounds}
+use Rattle.layout_facts.specs.Sound.{Ranged, Commented, BYTE-GIVES, ROW-TAKES, Sounds}
 use Rattle.layout_facts.specs.Height.{fieldsHeight, variantsHeight, declarationHeight, declarationsHeight, treeHeight}
 use Rattle.layout_facts.proofs.Steps.{_⨾_, fewer, sound-skip, sound-line, sound-emptyLine, sound-str, sound-when, sound-asks}
 use Rattle.layout_facts.proofs.Gaps.{sound-gap}
-use Rattle.layout_facts.proofs.Parts.{no-word, sound-says, ranged, from-start, sound-ident, All, none, also, sound-separated, sound-idents, sound-type}
+use Rattle.layout_facts.proofs.Parts.{no-word, sound-says, ranged, from-start, sound-ident, points, All, none, also, sound-separated, sound-idents, sound-type}
 use Rattle.layout_facts.proofs.Parts.{all-types, all-fields, last-ranged, import-ranged, import-long, sound-import}
 use Rattle.layout_facts.proofs.Exprs.{sound-expr, sound-block}
 
 module _ {g : Given} (commented : Commented g) where
-  sound-opening : {d : ℕ} (p : ℕ) (first : Bool) → p ≤ length (g .source) → Sounds g 2 d (opening g p first)
+  sound-opening : {d : ℕ} (p : ℕ) (first : Bool) → p ≤ length (g .source) → Sounds g (2 * ROW-TAKES) d (opening g p first)
   unfolding opening
-  sound-opening p first h =
-      sound-asks (popWhitespace g p (not first) true (not first)) (sound-gap commented p (not first) true (not first) h)
-      (λ whitespace. sound-when (not first && not whitespace) sound-line)
+  sound-opening p true h =
+      fewer (sound-asks (popWhitespace g p false true false) (sound-gap commented p false true false h) (λ whitespace. sound-skip)) (omega arith)
+  sound-opening p false h =
+      sound-asks (popWhitespace g p true true true) (sound-gap commented p true true true h) (λ whitespace. sound-when (not whitespace) sound-line)
 
   sound-params : (fs : Fields) (s : Span) (at : ℕ) {d : ℕ} → Head (g .source) (g .image) 3 s at
       → FieldsAt (g .source) (g .image) fs (at + 13) (past (g .source) (g .image) at) → 2 * (2 + fieldsHeight fs) ≤ d
-      → Sounds g (4 + be32 (g .image) at) d (params g (fieldElems g fs) s)
-  unfolding among
+      → Sounds g (2 * ROW-TAKES + points g at 0) d (params g (fieldElems g fs) s)
+  unfolding among points
   sound-params fs s at {d} l a h =
       fewer
       (sound-separated commented "(" ")" "," refl refl refl
@@ -49,18 +50,18 @@ module _ {g : Given} (commented : Commented g) where
   sound-unlessEmpty (i ∷ is) p = p
 
   sound-typeParams : (is : Idents) (at : ℕ) {d : ℕ} → 3 ≤ d → ListAt (g .source) (g .image) is at
-      → Sounds g (4 + be32 (g .image) at) d (typeParams g (identElems g (is .elems)) (is .span))
+      → Sounds g (2 * ROW-TAKES + points g at 0) d (typeParams g (identElems g (is .elems)) (is .span))
   unfolding among
   sound-typeParams is at h a = sound-idents commented "[" "]" refl refl is at h a
 
   some-params : (ps : Option Idents) (at : ℕ) {d : ℕ} → 3 ≤ d → Maybe (g .source) (g .image) (ListAt (g .source) (g .image)) ps at
-      → Sounds g (4 + be32 (g .image) at) d (someTypeParams g ps)
+      → Sounds g (2 * ROW-TAKES + points g at 0) d (someTypeParams g ps)
   unfolding Maybe
   some-params nothing at h a = fewer sound-skip (omega arith)
   some-params (some is) at h a = sound-unlessEmpty (is .elems) (sound-typeParams is at h a)
 
   all-variants : (vs : Variants) (at end : ℕ) {d : ℕ} → VariantsAt (g .source) (g .image) vs at end → 2 * variantsHeight vs ≤ d
-      → All g (end - at) d (variantElems g vs)
+      → All g (BYTE-GIVES * (end - at)) d (variantElems g vs)
   unfolding variantElems VariantsAt variantsHeight TypesAt among
   all-variants noVariants at end a h = none
   all-variants (variant s i noTypes vs) at end a h =
@@ -78,12 +79,12 @@ module _ {g : Given} (commented : Commented g) where
       (all-types commented (t ∷ᵗ ts) (v + 13) (past (g .source) (g .image) v) {d = d - 2} (a .3) (omega arith)) _ (last .fits) Tight
       (omega arith) (omega arith))
       (all-variants vs (past (g .source) (g .image) at) end (a .6) (omega arith))
-      (omega (arith, a .0 .long, a .2 .head .long, a .4 .same, a .5 .least))
+      (omega (arith, a .0 .long, a .1 .head .long, a .2 .head .long, a .4 .same, a .5 .least))
 
   -- ---- each declaration
   pub sound-declaration : (x : Declaration) (at : ℕ) {d : ℕ} (first : Bool) → DeclarationAt (g .source) (g .image) x at
-      → 2 * declarationHeight x ≤ d → Sounds g (be32 (g .image) at) d (declaration g x first)
-  unfolding declaration declares DeclarationAt declarationHeight Maybe among
+      → 2 * declarationHeight x ≤ d → Sounds g (points g at 0) d (declaration g x first)
+  unfolding declaration declares DeclarationAt declarationHeight Maybe among points
   sound-declaration (filterMap i s fs b) at first a h =
       let v : ℕ = past (g .source) (g .image) (at + 13) in
       fewer
@@ -161,8 +162,8 @@ module _ {g : Given} (commented : Commented g) where
       (omega (arith, import-long commented i at a))
 
   pub sound-declarations : (xs : List Declaration) (at end : ℕ) {d : ℕ} (first : Bool) → DeclarationsAt (g .source) (g .image) xs at end
-      → 2 * declarationsHeight xs ≤ d → Sounds g (end - at) d (declarationsRule g xs first)
-  unfolding declarationsRule DeclarationsAt declarationsHeight
+      → 2 * declarationsHeight xs ≤ d → Sounds g (BYTE-GIVES * (end - at)) d (declarationsRule g xs first)
+  unfolding declarationsRule DeclarationsAt declarationsHeight points
   sound-declarations [] at end first a h = fewer sound-skip (omega arith)
   sound-declarations (x ∷ xs) at end first a h =
       fewer
@@ -172,7 +173,7 @@ module _ {g : Given} (commented : Commented g) where
 
   -- ---- the whole document
   pub sound-shebang : (i : Option Ident) (at : ℕ) {d : ℕ} → Maybe (g .source) (g .image) (IdentAt (g .source) (g .image)) i at
-      → Sounds g 2 d (shebangRule g i)
+      → Sounds g (2 * ROW-TAKES) d (shebangRule g i)
   unfolding shebangRule Maybe
   sound-shebang nothing at a = fewer sound-skip (omega arith)
   sound-shebang (some i) at a =
@@ -185,8 +186,8 @@ module _ {g : Given} (commented : Commented g) where
       ⨾ sound-emptyLine
 
   pub sound-fmtParsed : (t : SyntaxTree) (at : ℕ) {d : ℕ} → TreeAt (g .source) (g .image) t at → 2 * treeHeight t ≤ d + 2
-      → Sounds g (be32 (g .image) at) d (fmtParsed g t)
-  unfolding fmtParsed treeHeight
+      → Sounds g (points g at 0) d (fmtParsed g t)
+  unfolding fmtParsed treeHeight points
   sound-fmtParsed t at a h =
       fewer
       (sound-shebang (t .shebang) (at + 13) (a .shebang)

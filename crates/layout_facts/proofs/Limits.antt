@@ -31,10 +31,11 @@ use Rattle.layout.specs.Layout.{fmtParsed}
 use Rattle.layout_facts.specs.Placing.{Places}
 use Rattle.layout_facts.specs.Sound.{Commented, Sounds}
 use Rattle.layout_facts.specs.Height.{declarationsHeight, treeHeight}
-use Rattle.layout_facts.specs.Accepted.{WordsDue, Stands, fresh, upTo, callRule, Within}
+use Rattle.layout_facts.specs.Accepted.{WordsDue, Few, FewRows, Stands, fresh, upTo, callRule, Within}
 use Rattle.layout_facts.proofs.Placing.{places-then}
 use Rattle.layout_facts.proofs.InOrder.{places-shebang, places-declarations, places-fmtParsed, places-call}
 use Rattle.layout_facts.proofs.Steps.{_⨾_, fewer, sound-when, sound-line}
+use Rattle.layout_facts.proofs.Parts.{points}
 use Rattle.layout_facts.proofs.Document.{sound-shebang, sound-declarations, sound-fmtParsed}
 use Rattle.layout_facts.proofs.Passes.{not-refused}
 use Rattle.layout_facts.proofs.Levels.{accepted-high}
@@ -101,10 +102,11 @@ module _ {g : Given} {t : SyntaxTree} {at : ℕ} (a : Stands g t at) where
   low = omega (arith, a .high)
 
   -- ---- the whole, what is laid up to a stop, and what is laid between two
-  pub whole-sound : Sounds g (be32 (g .image) at) 132 (fmtParsed g t)
+  pub whole-sound : Sounds g (points g at 0) 132 (fmtParsed g t)
   whole-sound = sound-fmtParsed (a .comments) t at (a .tree) (omega (arith, a .high))
 
-  pub upTo-sound : (xs ys : List Declaration) → xs ++ ys ≡ t .declarations → Sounds g (be32 (g .image) at) 132 (upTo g t xs)
+  pub upTo-sound : (xs ys : List Declaration) → xs ++ ys ≡ t .declarations → Sounds g (points g at 0) 132 (upTo g t xs)
+  unfolding points
   upTo-sound xs ys e =
       let from : ℕ = past (g .source) (g .image) (at + 13) in
       let p = parted (g .source) (g .image) xs ys from (past (g .source) (g .image) at) (rw e (a .tree .declarations)) in
@@ -115,7 +117,8 @@ module _ {g : Given} {t : SyntaxTree} {at : ℕ} (a : Stands g t at) where
       (omega (arith, p .order, a .tree .inside .least))
 
   pub call-sound : (xs ys zs : List Declaration) (begins first closes : Bool) → xs ++ (ys ++ zs) ≡ t .declarations
-      → Sounds g (be32 (g .image) at) 132 (callRule g t begins ys first closes)
+      → Sounds g (points g at 0) 132 (callRule g t begins ys first closes)
+  unfolding points
   call-sound xs ys zs begins first closes e =
       let from : ℕ = past (g .source) (g .image) (at + 13) in
       let end : ℕ = past (g .source) (g .image) at in
@@ -129,8 +132,9 @@ module _ {g : Given} {t : SyntaxTree} {at : ℕ} (a : Stands g t at) where
       ⨾ sound-when closes sound-line)
       (omega (arith, o, q .order, a .tree .inside .least))
 
-  -- ---- the limits, from the fresh state: two rows a comment are less than its eight bytes
-  within : {d : ℕ} (s : Act) → d ≤ 255 → Sounds g (be32 (g .image) at) d s → Places g s → Within g (s fresh)
+  -- ---- the limits, from the fresh state: three rows a comment are less than its eight bytes give
+  within : {d : ℕ} (s : Act) → d ≤ 255 → Sounds g (points g at 0) d s → Places g s → Within g (s fresh)
+  unfolding points
   within s h p q =
       let r = p .from fresh in
       let w = q .from fresh (omega arith) in
@@ -166,8 +170,9 @@ module _ {g : Given} {t : SyntaxTree} {at : ℕ} (a : Stands g t at) where
   due-passes {o} w store h fits = not-refused g (o .nodes) store 0 h (w .deep) (w .texts) (omega (arith, w .rows)) (omega arith)
 
   -- ---- room for the rows of a layout call, from any state that refusal 12 lets pass
-  room : {d : ℕ} (s : Act) → Sounds g (be32 (g .image) at) d s → Places g s → (c : Cursor) → c .row ≤ MAX-ROWS → c .number ≤ MAX-NUMBER
+  room : {d : ℕ} (s : Act) → Sounds g (points g at 0) d s → Places g s → (c : Cursor) → c .row ≤ MAX-ROWS → c .number ≤ MAX-NUMBER
       → c .placed ≤ length (g .comments) → Room s c
+  unfolding points
   room s p q c h i j =
       let r = p .from (st c) in
       let w = q .from (st c) j in
@@ -181,14 +186,20 @@ module _ {g : Given} {t : SyntaxTree} {at : ℕ} (a : Stands g t at) where
   call-room xs ys zs begins first closes e =
       room (callRule g t begins ys first closes) (call-sound xs ys zs begins first closes e) (places-call g t begins ys first closes)
 
-  -- no call takes more rows than the tree's record has bytes, and two more for each comment
-  pub call-few : (xs ys zs : List Declaration) (begins first closes : Bool) → xs ++ (ys ++ zs) ≡ t .declarations → (z : St)
-      → z .placed ≤ length (g .comments)
-      → sizes (callRule g t begins ys first closes z .nodes) ≤ be32 (g .image) at + 2 * length (g .comments)
-  call-few xs ys zs begins first closes e z h =
-      let r = call-sound xs ys zs begins first closes e .from z in
-      let w = places-call g t begins ys first closes .from z h in
-      omega (arith, r .rows, w .within)
+  -- no call takes more rows than the image's bytes give
+  call-few : (xs ys zs : List Declaration) (begins first closes : Bool) → xs ++ (ys ++ zs) ≡ t .declarations → (s : St)
+      → s .placed ≤ length (g .comments) → Few g (callRule g t begins ys first closes s)
+  unfolding points
+  call-few xs ys zs begins first closes e s h =
+      let r = call-sound xs ys zs begins first closes e .from s in
+      let w = places-call g t begins ys first closes .from s h in
+      record {
+        rows = omega (arith, r .rows, w .within, a .tree .end, a .place);
+        numbers = omega (arith, r .taken, a .tree .end, a .place);
+      }
+
+pub few-rows : FewRows
+few-rows g t at a xs ys zs e begins first closes s h = call-few a xs ys zs begins first closes e s h
 
 pub words-due : WordsDue
 words-due g t at a xs ys zs e begins first closes s = call-sound a xs ys zs begins first closes e .from s .texts

@@ -1,6 +1,6 @@
 -- Laws of sound steps: each way of joining steps has one.
 -- Assumes nothing.
-use Prim.Native.Nat.{ℕ, _+_, _≤_, _<_, max}
+use Prim.Native.Nat.{ℕ, _+_, _*_, _≤_, _<_, max}
 use mathlib.Core.Path.{_≡_, refl}
 use mathlib.Core.Bool.{Bool, true, false, cond}
 use native.Mathlib.Omega.{arith}
@@ -10,7 +10,7 @@ use Rattle.rows.specs.Rows.{size, sizes, depth, depths}
 use Rattle.state.specs.Act.{Given, St, Out, Act, Asking, next, _⨟_, _⨟?_, skip, when, push, moveTo, told, grouped, indented, indentedNext}
 use Rattle.state.specs.Act.{called}
 use Rattle.state.proofs.Joins.{sizes-join}
-use Rattle.layout_facts.specs.Sound.{Inside, TextsOf, TextsIn, Sound, Sounds}
+use Rattle.layout_facts.specs.Sound.{Inside, TextsOf, TextsIn, ROW-TAKES, Sound, Sounds}
 
 depths-join : (ns ms : Nodes) → depths (join ns ms) ≡ max (depths ns) (depths ms)
 unfolding depths join
@@ -85,7 +85,7 @@ sound-moveTo {g} {d} {p} h =
     }
 
 -- ---- a node without parts
-pub sound-push : {g : Given} {d : ℕ} (n : Node) → size n ≡ 1 → depth n ≡ 1 → TextsOf g n → Sounds g 1 d (push n)
+pub sound-push : {g : Given} {d : ℕ} (n : Node) → size n ≡ 1 → depth n ≡ 1 → TextsOf g n → Sounds g ROW-TAKES d (push n)
 unfolding sizes depths TextsIn
 sound-push n one top t =
     record {
@@ -101,35 +101,35 @@ sound-push n one top t =
           };
     }
 
-pub sound-line : {g : Given} {d : ℕ} → Sounds g 1 d (push line)
+pub sound-line : {g : Given} {d : ℕ} → Sounds g ROW-TAKES d (push line)
 unfolding size depth TextsOf
 sound-line = sound-push line refl refl tt
 
-pub sound-emptyLine : {g : Given} {d : ℕ} → Sounds g 1 d (push emptyLine)
+pub sound-emptyLine : {g : Given} {d : ℕ} → Sounds g ROW-TAKES d (push emptyLine)
 unfolding size depth TextsOf
 sound-emptyLine = sound-push emptyLine refl refl tt
 
-pub sound-lineOrSpace : {g : Given} {d : ℕ} → Sounds g 1 d (push lineOrSpace)
+pub sound-lineOrSpace : {g : Given} {d : ℕ} → Sounds g ROW-TAKES d (push lineOrSpace)
 unfolding size depth TextsOf
 sound-lineOrSpace = sound-push lineOrSpace refl refl tt
 
-pub sound-wrapParent : {g : Given} {d : ℕ} → Sounds g 1 d (push wrapParent)
+pub sound-wrapParent : {g : Given} {d : ℕ} → Sounds g ROW-TAKES d (push wrapParent)
 unfolding size depth TextsOf
 sound-wrapParent = sound-push wrapParent refl refl tt
 
-pub sound-ascii : {g : Given} {d : ℕ} {t : Text} → Inside g t → Sounds g 1 d (push (ascii t))
+pub sound-ascii : {g : Given} {d : ℕ} {t : Text} → Inside g t → Sounds g ROW-TAKES d (push (ascii t))
 unfolding size depth TextsOf
 sound-ascii {t = t} i = sound-push (ascii t) refl refl i
 
-pub sound-str : {g : Given} {d w : ℕ} {t : Text} → Inside g t → Sounds g 1 d (push (str w t))
+pub sound-str : {g : Given} {d w : ℕ} {t : Text} → Inside g t → Sounds g ROW-TAKES d (push (str w t))
 unfolding size depth TextsOf
 sound-str {w = w} {t = t} i = sound-push (str w t) refl refl i
 
-pub sound-comment : {g : Given} {d : ℕ} {t : Text} → Inside g t → Sounds g 1 d (push (comment t))
+pub sound-comment : {g : Given} {d : ℕ} {t : Text} → Inside g t → Sounds g ROW-TAKES d (push (comment t))
 unfolding size depth TextsOf
 sound-comment {t = t} i = sound-push (comment t) refl refl i
 
-pub sound-ifWrap : {g : Given} {d n : ℕ} {t u : Text} → 1 ≤ d → Inside g t → Inside g u → Sounds g 3 d (push (ifWrap n (ascii t) (ascii u)))
+pub sound-ifWrap : {g : Given} {d n : ℕ} {t u : Text} → 1 ≤ d → Inside g t → Inside g u → Sounds g (3 * ROW-TAKES) d (push (ifWrap n (ascii t) (ascii u)))
 unfolding size sizes depth depths TextsIn
 sound-ifWrap {d = d} h i j =
     record {
@@ -155,7 +155,7 @@ sound-cond true p q = p
 sound-cond false p q = q
 
 -- ---- nodes with parts: one level deeper
-pub sound-grouped : {g : Given} {a : ℕ → Act} {n c d : ℕ} → c < d → ((k : ℕ) → Sounds g n c (a k)) → Sounds g (1 + n) d (grouped a)
+pub sound-grouped : {g : Given} {a : ℕ → Act} {n c d : ℕ} → c < d → ((k : ℕ) → Sounds g n c (a k)) → Sounds g (ROW-TAKES + n) d (grouped a)
 unfolding grouped sizes depths TextsIn
 sound-grouped {g} {a} {n} {c} {d} h p =
     record {
@@ -173,7 +173,7 @@ sound-grouped {g} {a} {n} {c} {d} h p =
           };
     }
 
-pub sound-indented : {g : Given} {a : Act} {n c d : ℕ} → c < d → Sounds g n c a → Sounds g (1 + n) d (indented a)
+pub sound-indented : {g : Given} {a : Act} {n c d : ℕ} → c < d → Sounds g n c a → Sounds g (ROW-TAKES + n) d (indented a)
 unfolding indented sizes depths TextsIn
 sound-indented {g} {a} {n} {c} {d} h p =
     record {
@@ -190,7 +190,7 @@ sound-indented {g} {a} {n} {c} {d} h p =
           };
     }
 
-pub sound-indentedNext : {g : Given} {a : Act} {n c d : ℕ} → c < d → Sounds g n c a → Sounds g (1 + n) d (indentedNext a)
+pub sound-indentedNext : {g : Given} {a : Act} {n c d : ℕ} → c < d → Sounds g n c a → Sounds g (ROW-TAKES + n) d (indentedNext a)
 unfolding indentedNext sizes depths TextsIn
 sound-indentedNext {g} {a} {n} {c} {d} h p =
     record {
@@ -207,7 +207,7 @@ sound-indentedNext {g} {a} {n} {c} {d} h p =
           };
     }
 
-pub sound-called : {g : Given} {e a : Act} {m n c d : ℕ} → c < d → Sounds g m c e → Sounds g n c a → Sounds g (2 + (m + n)) d (called e a)
+pub sound-called : {g : Given} {e a : Act} {m n c d : ℕ} → c < d → Sounds g m c e → Sounds g n c a → Sounds g (2 * ROW-TAKES + (m + n)) d (called e a)
 unfolding called sizes depths TextsIn
 sound-called {g} {e} {a} {m} {n} {c} {d} h p q =
     record {

@@ -12,7 +12,7 @@ use Rattle.rows.specs.Node.{line}
 use Rattle.rows.specs.Rows.{sizes, depths}
 use Rattle.state.specs.Act.{Given, St, Out, Act, _⨟_, when, push}
 use Rattle.layout.specs.Layout.{shebangRule, declarationsRule}
-use Rattle.layout_facts.specs.Sound.{TextsIn, Commented}
+use Rattle.layout_facts.specs.Sound.{BYTE-GIVES, ROW-TAKES, TextsIn, Commented}
 use Rattle.layout_facts.specs.Height.{treeHeight}
 
 -- A tree that stands at `at` of an accepted image: the body is 1,048,576 bytes at most, the comments before it are 8,192 at most.
@@ -47,6 +47,18 @@ pub record Within (g : Given) (o : Out) : Type 0 where
   pub texts : TextsIn g (o .nodes)
   pub position : o .pos ≤ length (g .source)
   pub placed : o .placed ≤ length (g .comments)
+
+-- Five rows and five group numbers for each 13 bytes of the image are enough, the comments' bytes among them.
+pub record Few (g : Given) (o : Out) : Type 0 where
+  pub rows : ROW-TAKES * sizes (o .nodes) ≤ BYTE-GIVES * length (g .image)
+  pub numbers : ROW-TAKES * o .taken ≤ BYTE-GIVES * length (g .image)
+
+-- So it is of all that a layout call lays, from any state in which no more comments are placed than there are.
+abbrev pub FewRows : Type 0
+FewRows =
+    (g : Given) (t : SyntaxTree) (at : ℕ) → Stands g t at → (xs ys zs : List Declaration) → xs ++ (ys ++ zs) ≡ t .declarations
+    → (begins first closes : Bool) (s : St) → s .placed ≤ length (g .comments)
+    → Few g (callRule g t begins ys first closes s)
 
 -- "The layout rules pick the start of fixed words (origin 2); the word due is there": so it is of all that a layout call lays, from any state.
 abbrev pub WordsDue : Type 0

@@ -54,12 +54,19 @@ pub record Ranged (s : List ℕ) (p : Span) : Type 0 where
 pub record Commented (g : Given) : Type 0 where
   pub ranged : (k : ℕ) (c : Span) → nth (g .comments) k ≡ some c → Ranged (g .source) c
 
--- What a step gives from a state: at most n rows, and two more for each comment that it takes; at most n numbers; rows at most d deep below
--- the top ones; texts inside their origins; a position within the source, if it was there before.
+-- Rows are reckoned against the image's bytes in points: a byte gives 5 and a row takes 13. So a record's head, 13 bytes, gives five rows.
+abbrev pub BYTE-GIVES : ℕ
+BYTE-GIVES = 5
+
+abbrev pub ROW-TAKES : ℕ
+ROW-TAKES = 13
+
+-- What a step gives from a state: no more rows than n points allow, and three more for each comment that it takes; no more numbers than n
+-- points allow rows; rows at most d deep below the top ones; texts inside their origins; a position within the source, if it was there before.
 pub record Sound (g : Given) (n d : ℕ) (s : St) (o : Out) : Type 0 where
   pub more : s .placed ≤ o .placed
-  pub rows : sizes (o .nodes) ≤ n + 2 * (o .placed - s .placed)
-  pub taken : o .taken ≤ n
+  pub rows : ROW-TAKES * sizes (o .nodes) ≤ n + ROW-TAKES * (3 * (o .placed - s .placed))
+  pub taken : ROW-TAKES * o .taken ≤ n
   pub deep : depths (o .nodes) ≤ 1 + d
   pub texts : TextsIn g (o .nodes)
   pub position : s .pos ≤ length (g .source) → o .pos ≤ length (g .source)

@@ -3,12 +3,17 @@
 use mathlib.Core.Path.{_≡_, refl, ap, sym, _∙_}
 use Prim.Native.Nat.{ℕ, zero, suc, _+_, _*_, _-_, _≤_, _<_, min}
 use native.Mathlib.Omega.{arith}
-use mathlib.Core.Bool.{Bool, true, false, cond, _&&_}
+use mathlib.Core.Bool.{Bool, true, false, cond, not, _&&_, _||_}
 use mathlib.Core.List.{List, [], _∷_}
 use lib.ListN.{length, set}
 use lib.Dec.{ltb}
-use borrow.Author.Tests.{lt-ltb, le-ltb}
+use borrow.Author.Tests.{lt-ltb, le-ltb, ltb-true, not-true}
+use Rattle.laws.proofs.Booleans.{and-false, and-left, and-right, or-first}
 use Rattle.renderer.specs.Limits.{BEFORE-ROW, IN-ROW, MAX-MARGIN, MEASURED-LIMIT}
+use Rattle.rows.specs.View.{viewOf, nodesAt}
+use Rattle.rows.specs.Nesting.{Nested}
+use Rattle.rows.proofs.Nested.{nests-join, nests-le, nodes-join}
+use Rattle.rows.proofs.Widths.{widths-join}
 use Rattle.rows.specs.Node.{Nodes, widths, mustWraps, byteColumns}
 use Rattle.renderer_rules.specs.Page.{pageOf}
 use Rattle.renderer_rules.specs.Renderer.{freshRenderer, withMargin, virtualColumn, wraps, groupWraps, trailingCall, calleeWraps, indentMore, indentLess, nextIndentMore, nextIndentLess}
@@ -32,63 +37,86 @@ virtual-low p a b = go (ltb 0 (p .column .0))
     go true = b
     go false = omega arith
 
+-- rows that follow each other
+pub nested-both : {store : List ℕ} {from mid to : ℕ} → Nested store from mid → Nested store mid to → Nested store from to
+nested-both g h = record { room = h .room; few = h .few; nests = nests-join (g .nests) (h .nests) }
+
+pub widths-both : (store m : List ℕ) (from mid to : ℕ) → Nested store from mid → Nested store mid to
+    → widths byteColumns m (nodesAt (viewOf store) from to)
+    ≡ widths byteColumns m (nodesAt (viewOf store) from mid) + widths byteColumns m (nodesAt (viewOf store) mid to)
+widths-both store m from mid to g h =
+    ap (widths byteColumns m) (nodes-join to (g .nests) (nests-le (h .nests)))
+    ∙ widths-join (nodesAt (viewOf store) from mid) (nodesAt (viewOf store) mid to) byteColumns m
+
 module _ (max : ℕ) (p : Pen) (m : List ℕ) where
   pub group-must : (ns : Nodes) → true ≡ mustWraps ns → true ≡ groupWraps (pageOf max [] []) ns (freshRenderer p m)
   unfolding groupWraps wraps
   group-must ns e = rw (← e)
 
-  group-full : (ns : Nodes) (c w : ℕ) → false ≡ mustWraps ns → c ≡ virtualColumn p → w ≡ widths byteColumns m ns
-      → ltb max (c + w) ≡ groupWraps (pageOf max [] []) ns (freshRenderer p m)
-  unfolding groupWraps wraps virtualColumn
-  group-full ns c w e f g = rw (← e, f, g)
+  pub group-fits : (ns : Nodes) (over : Bool) → false ≡ mustWraps ns → over ≡ ltb max (virtualColumn p + widths byteColumns m ns)
+      → over ≡ groupWraps (pageOf max [] []) ns (freshRenderer p m)
+  unfolding groupWraps wraps
+  group-fits ns over e f = rw (← e, f)
 
-  pub group-wide : (ns : Nodes) (c w : ℕ) → false ≡ mustWraps ns → c ≡ virtualColumn p → w ≡ min (max + 1) (widths byteColumns m ns)
-      → ltb max (c + w) ≡ groupWraps (pageOf max [] []) ns (freshRenderer p m)
-  group-wide ns c w e f g =
-      ltb-same max (c + w) max (c + widths byteColumns m ns) (λ h. omega arith) (λ h. omega arith)
-      ∙ group-full ns c (widths byteColumns m ns) e f refl
+  -- nothing is measured past the line's end
+  pub past-end : (ns : Nodes) (start : ℕ) → max < start → start ≡ virtualColumn p → true ≡ ltb max (virtualColumn p + widths byteColumns m ns)
+  past-end ns start h e = sym (lt-ltb max (virtualColumn p + widths byteColumns m ns) (omega arith))
 
-  pub trail-callee : (e a : Nodes) → true ≡ mustWraps e → false ≡ trailingCall (pageOf max [] []) e a (freshRenderer p m)
-  unfolding trailingCall
-  trail-callee e a h = rw (← h)
+  pub in-room : (ns : Nodes) (start w : ℕ) → start ≤ max → start ≡ virtualColumn p → w ≡ min (max - start + 1) (widths byteColumns m ns)
+      → ltb (max - start) w ≡ ltb max (virtualColumn p + widths byteColumns m ns)
+  in-room ns start w h e f =
+      ltb-same (max - start) w max (virtualColumn p + widths byteColumns m ns) (λ l. omega arith) (λ l. omega arith)
 
-  pub trail-arguments : (e a : Nodes) → false ≡ mustWraps e → true ≡ mustWraps a → false ≡ trailingCall (pageOf max [] []) e a (freshRenderer p m)
-  unfolding trailingCall
-  trail-arguments e a h k = rw (← h, ← k)
+  -- which way a call goes; the callee and its arguments are as wide as both together
+  module _ (e a : Nodes) (over : Bool) (o : over ≡ ltb max (virtualColumn p + (widths byteColumns m e + widths byteColumns m a))) where
+    both : ltb max (virtualColumn p + widths byteColumns m e + widths byteColumns m a) ≡ over
+    both =
+        ltb-same max (virtualColumn p + widths byteColumns m e + widths byteColumns m a) max
+        (virtualColumn p + (widths byteColumns m e + widths byteColumns m a))
+        (λ l. omega arith)
+        (λ l. omega arith)
+        ∙ sym o
 
-  module _ (e a : Nodes) (c x y : ℕ) (h : false ≡ mustWraps e) (k : false ≡ mustWraps a) (f : c ≡ virtualColumn p)
-      (i : x ≡ min (max + 1) (widths byteColumns m e))
-      (j : y ≡ min (max + 1) (widths byteColumns m a))
-    where
-      trail-full : (t : Bool) → ltb max (c + widths byteColumns m e + widths byteColumns m a) ≡ t
-          → (t && ltb (c + widths byteColumns m e + 1) max) ≡ trailingCall (pageOf max [] []) e a (freshRenderer p m)
-      unfolding trailingCall virtualColumn
-      trail-full t l = sym (rw (← h, ← k, ← f, l))
+    pub trail-fits : over ≡ false → false ≡ trailingCall (pageOf max [] []) e a (freshRenderer p m)
+    unfolding trailingCall
+    trail-fits u = sym (simp (both ∙ u, and-false))
 
-      pub trail-long : max < c + x + y → ltb (c + x + 1) max ≡ trailingCall (pageOf max [] []) e a (freshRenderer p m)
-      trail-long l =
-          ltb-same (c + x + 1) max (c + widths byteColumns m e + 1) max (λ q. omega arith) (λ q. omega arith)
-          ∙ trail-full true (lt-ltb max (c + widths byteColumns m e + widths byteColumns m a) (omega arith))
+    pub trail-callee : true ≡ mustWraps e → false ≡ trailingCall (pageOf max [] []) e a (freshRenderer p m)
+    unfolding trailingCall
+    trail-callee h = rw (← h)
 
-      pub trail-short : c + x + y ≤ max → false ≡ trailingCall (pageOf max [] []) e a (freshRenderer p m)
-      trail-short l = trail-full false (le-ltb max (c + widths byteColumns m e + widths byteColumns m a) (omega arith))
+    pub trail-arguments : false ≡ mustWraps e → true ≡ mustWraps a → false ≡ trailingCall (pageOf max [] []) e a (freshRenderer p m)
+    unfolding trailingCall
+    trail-arguments h k = rw (← h, ← k)
 
-  pub callee-own : (t : Bool) (e a : Nodes) → t ≡ true → groupWraps (pageOf max [] []) e (freshRenderer p m) ≡ calleeWraps (pageOf max [] []) t e a (freshRenderer p m)
-  unfolding calleeWraps
-  callee-own t e a q = rw q
+    pub trail-long : (x : ℕ) → over ≡ true → false ≡ mustWraps e → false ≡ mustWraps a → x ≡ min (max + 1) (widths byteColumns m e)
+        → ltb (virtualColumn p + x + 1) max ≡ trailingCall (pageOf max [] []) e a (freshRenderer p m)
+    unfolding trailingCall
+    trail-long x u h k i =
+        ltb-same (virtualColumn p + x + 1) max (virtualColumn p + widths byteColumns m e + 1) max (λ q. omega arith) (λ q. omega arith)
+        ∙ sym (rw (← h, ← k, both ∙ u))
 
-  callee-full : (t : Bool) (e a : Nodes) (c x y : ℕ) → t ≡ false → c ≡ virtualColumn p → x ≡ widths byteColumns m e
-      → y ≡ widths byteColumns m a
-      → ltb max (c + (x + y)) ≡ calleeWraps (pageOf max [] []) t e a (freshRenderer p m)
-  unfolding calleeWraps wraps virtualColumn
-  callee-full t e a c x y q f i j = rw (q, f, i, j)
+    -- where the callee keeps its line it does not wrap
+    kept : trailingCall (pageOf max [] []) e a (freshRenderer p m) ≡ true → groupWraps (pageOf max [] []) e (freshRenderer p m) ≡ false
+    unfolding trailingCall groupWraps wraps
+    kept t =
+        let one = not (mustWraps e || mustWraps a) in
+        let two = ltb max (virtualColumn p + widths byteColumns m e + widths byteColumns m a) in
+        let three = ltb (virtualColumn p + widths byteColumns m e + 1) max in
+        let short = ltb-true (virtualColumn p + widths byteColumns m e + 1) max (and-right (one && two) three t) in
+        let neither = not-true (mustWraps e || mustWraps a) (and-left one two (and-left (one && two) three t)) in
+        rw (or-first (mustWraps e) (mustWraps a) neither) (le-ltb max (virtualColumn p + widths byteColumns m e) (omega arith))
 
-  pub callee-both : (t : Bool) (e a : Nodes) (c x y : ℕ) → t ≡ false → c ≡ virtualColumn p → x ≡ min (max + 1) (widths byteColumns m e)
-      → y ≡ min (max + 1) (widths byteColumns m a)
-      → ltb max (c + (x + y)) ≡ calleeWraps (pageOf max [] []) t e a (freshRenderer p m)
-  callee-both t e a c x y q f i j =
-      ltb-same max (c + (x + y)) max (c + (widths byteColumns m e + widths byteColumns m a)) (λ h. omega arith) (λ h. omega arith)
-      ∙ callee-full t e a c (widths byteColumns m e) (widths byteColumns m a) q f refl refl
+    pub callee-way : (t : Bool) → t ≡ trailingCall (pageOf max [] []) e a (freshRenderer p m)
+        → (not t && over) ≡ calleeWraps (pageOf max [] []) t e a (freshRenderer p m)
+    unfolding calleeWraps wraps
+    callee-way true r = sym (kept (sym r))
+    callee-way false r = o
+
+-- the made-up group wraps in the second branch alone
+pub made-up-once : (t over w : Bool) → w ≡ (not t && over) → w ≡ (not t && w)
+made-up-once true over w e = e
+made-up-once false over w e = refl
 
 -- a mark past the end is none
 set-past : (m : List ℕ) (n x : ℕ) → length m ≤ n → set m n x ≡ m
@@ -156,6 +184,3 @@ lower-column a h = omega arith
 
 pub lower-sum : (a b : ℕ) → a < BEFORE-ROW → b < MEASURED-LIMIT → a + b < IN-ROW
 lower-sum a b h k = omega arith
-
-pub lower-widths : (a b : ℕ) → a < MEASURED-LIMIT → b < MEASURED-LIMIT → a + b < IN-ROW
-lower-widths a b h k = omega arith

@@ -1,12 +1,14 @@
 // What fits: the column, and whether rows wrap there.
 ghost use mathlib.Core.Path.{_≡_};
-ghost use Prim.Native.Nat.{_≤_, _<_};
+ghost use Prim.Native.Nat.{_+_, _≤_, _<_};
 ghost use mathlib.Core.List.{[]};
+ghost use lib.Dec.{ltb};
+ghost use Rattle.rows.specs.Node.{widths, byteColumns};
 ghost use Rattle.renderer.specs.Limits.{MAX-MARGIN, BEFORE-ROW};
 ghost use Rattle.rows.specs.View.{viewOf, nodesAt};
 ghost use Rattle.rows.specs.Nesting.{Nested};
 ghost use Rattle.renderer_rules.specs.Page.{pageOf};
-ghost use Rattle.renderer_rules.specs.Renderer.{freshRenderer, groupWraps, trailingCall, calleeWraps, virtualColumn};
+ghost use Rattle.renderer_rules.specs.Renderer.{freshRenderer, groupWraps, trailingCall, virtualColumn};
 use crate::measure::width_past;
 use crate::writing::margin_columns;
 use renderer_rules::Pen;
@@ -24,6 +26,26 @@ fn virtual_column(p: Pen) -> Columns
     margin_columns(p.indent)
 }
 
+// Whether the rows from `from` up to `to` go past the line's end. Nothing is measured past it.
+pub(crate) fn exceeds(
+    p: Pen,
+    store: &[u32],
+    marks: &[u8],
+    from: usize,
+    to: usize,
+    max: usize,
+) -> bool
+    requires { ⌜ Nested (now store) from to × ((p .indent ≤ MAX-MARGIN) × (p .column .0 < BEFORE-ROW)) ⌝ }
+    ensures { λ r. ⌜ r ≡ ltb max (virtualColumn p + widths byteColumns (now (marks .entry)) (nodesAt (viewOf (now (store .entry))) from to)) ⌝ }
+{
+    let start = virtual_column(p).0;
+    if max < start {
+        return true;
+    }
+    let room = max - start;
+    room < width_past(store, marks, from, to, room).0
+}
+
 // Whether the group of the rows from `from` up to `to` wraps.
 pub(crate) fn group_wraps(
     p: Pen,
@@ -39,12 +61,13 @@ pub(crate) fn group_wraps(
     if must_wrap(store, from, to) {
         return true;
     }
-    let w = width_past(store, marks, from, to, max);
-    max < virtual_column(p).0 + w.0
+    exceeds(p, store, marks, from, to, max)
 }
 
-// Whether a call keeps its callee's line: the first branch of `Call`. The callee's rows are those up to `mid`, the arguments' up to `to`.
+// Whether a call keeps its callee's line: the first branch of `Call`. The callee's rows are those up to `mid`, the arguments' up to `to`;
+// `over` says whether they go past the line's end together.
 pub(crate) fn trailing_call(
+    over: bool,
     p: Pen,
     store: &[u32],
     marks: &[u8],
@@ -54,38 +77,17 @@ pub(crate) fn trailing_call(
     max: usize,
 ) -> bool
     requires { ⌜ Nested (now store) from mid × (Nested (now store) mid to × ((p .indent ≤ MAX-MARGIN) × (p .column .0 < BEFORE-ROW))) ⌝ }
+    requires { ⌜ over ≡ ltb max (virtualColumn p + widths byteColumns (now marks) (nodesAt (viewOf (now store)) from to)) ⌝ }
     ensures { λ r. ⌜ r ≡ trailingCall (pageOf max [] []) (nodesAt (viewOf (now (store .entry))) from mid) (nodesAt (viewOf (now (store .entry))) mid to) (freshRenderer p (now (marks .entry))) ⌝ }
 {
+    if !over {
+        return false;
+    }
     if must_wrap(store, from, mid) {
         return false;
     }
     if must_wrap(store, mid, to) {
         return false;
     }
-    let start = virtual_column(p).0 + width_past(store, marks, from, mid, max).0;
-    if max < start + width_past(store, marks, mid, to, max).0 {
-        return start + 1 < max;
-    }
-    false
-}
-
-// Whether the callee's parts wrap: as a group of their own, or as one with the arguments.
-pub(crate) fn callee_wraps(
-    p: Pen,
-    store: &[u32],
-    marks: &[u8],
-    trailing: bool,
-    from: usize,
-    mid: usize,
-    to: usize,
-    max: usize,
-) -> bool
-    requires { ⌜ Nested (now store) from mid × (Nested (now store) mid to × ((p .indent ≤ MAX-MARGIN) × (p .column .0 < BEFORE-ROW))) ⌝ }
-    ensures { λ r. ⌜ r ≡ calleeWraps (pageOf max [] []) trailing (nodesAt (viewOf (now (store .entry))) from mid) (nodesAt (viewOf (now (store .entry))) mid to) (freshRenderer p (now (marks .entry))) ⌝ }
-{
-    if trailing {
-        return group_wraps(p, store, marks, from, mid, max);
-    }
-    let w = width_past(store, marks, from, mid, max).0 + width_past(store, marks, mid, to, max).0;
-    max < virtual_column(p).0 + w
+    virtual_column(p).0 + width_past(store, marks, from, mid, max).0 + 1 < max
 }

@@ -18,7 +18,7 @@ ghost use Rattle.renderer_rules.specs.Frames.{wrapAt};
 ghost use Rattle.renderer_rules.specs.Machine.{frameOf, enter};
 ghost use Rattle.renderer.specs.Writing.{setPen};
 ghost use Rattle.renderer.specs.Run.{unpackedFrame, wholeRun, openedRun, Follows, Enters, Opening, GroupOpened, CallOpened, ArgumentsOpened};
-use crate::columns::callee_wraps;
+use crate::columns::exceeds;
 use crate::columns::group_wraps;
 use crate::columns::trailing_call;
 use crate::frames::pack;
@@ -162,27 +162,27 @@ fn enter_call(
     let mid = place(store, i, SECOND);
     let end = place(store, i, AFTER);
     let number = place(store, i, NUMBER);
-    let trailing = trailing_call(w.pen, store, marks, i + 1, mid, end, max);
-    let wraps = callee_wraps(w.pen, store, marks, trailing, i + 1, mid, end, max);
+    let over = exceeds(w.pen, store, marks, i + 1, end, max);
+    let trailing = trailing_call(over, w.pen, store, marks, i + 1, mid, end, max);
+    let wraps = made_up(trailing, over);
     insert(marks, number, wraps);
-    let deep = made_up(trailing, wraps);
     let f = Frame {
         row: i as u32,
         wrap: wraps,
         early: true,
-        deep: deep,
+        deep: wraps,
     };
-    opened(r, frames, f, i + 1, set_pen(w, indent_next(w.pen, deep)))
+    opened(r, frames, f, i + 1, set_pen(w, indent_next(w.pen, wraps)))
 }
 
-// Whether the group that the second branch of `Call` makes up wraps.
-fn made_up(trailing: bool, wraps: bool) -> bool
-    ensures { λ r. ⌜ r ≡ (not trailing && wraps) ⌝ }
+// Whether the group that the second branch of `Call` makes up wraps. In the first branch the callee has room on its line, and doesn't wrap.
+fn made_up(trailing: bool, over: bool) -> bool
+    ensures { λ r. ⌜ r ≡ (not trailing && over) ⌝ }
 {
     if trailing {
         return false;
     }
-    wraps
+    over
 }
 
 // The callee of a `Call` is done: its arguments are opened.

@@ -9,12 +9,13 @@ ghost use mathlib.Core.Path.{_≡_};
 ghost use Prim.Native.Nat.{_+_, _<_};
 ghost use Rattle.state.specs.Laid.{cursor};
 
-// The next row, the next group number, the position in the source, and how many comments are placed.
+// The position in the source, how many comments are placed, the next row, and the next group number. In this order what rarely changes is
+// copied at once.
 pub struct Cursor {
-    pub row: u32,
-    pub number: u32,
     pub pos: u32,
     pub placed: u32,
+    pub row: u32,
+    pub number: u32,
 }
 
 // What a step that answers leaves: the cursor, and its answer.

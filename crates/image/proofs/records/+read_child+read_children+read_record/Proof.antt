@@ -23,6 +23,7 @@ use Rattle.image.proofs.records.+read_child+read_children+read_record.L
 use Rattle.image.proofs.grammar.after_row.Reads as after-row-reads
 use Rattle.image.proofs.grammar.is_over.Reads as is-over-reads
 use Rattle.image.proofs.records.opening.Reads as opening-reads
+use Rattle.image.proofs.records.read_text.Reads as read-text-reads
 use Rattle.image.proofs.records.skip_fits.Reads as skip-fits-reads
 use Rattle.image.proofs.records.+read_child+read_children+read_record.{statement}
 use Rattle.image.proofs.records.+read_child+read_children+read_record.Tie.{close}
@@ -65,7 +66,7 @@ read-record-below t =
     and 2 read-record-kinds.ps (falls 2 read-record-kinds.ps _<_ μ-read-record t) read-record.Pre
 
 abbrev read-child-calls : ℕ → read-child-lts.Claims
-read-child-calls t = (skip-fits-reads.Asked, skip-fits-reads.Learnt, read-record-below t, read-record.Post)
+read-child-calls t = (skip-fits-reads.Asked, skip-fits-reads.Learnt, read-text-reads.Asked, read-text-reads.Learnt, read-record-below t, read-record.Post)
 
 abbrev read-children-calls : ℕ → read-children-lts.Claims
 read-children-calls t = (read-child-below t, read-child.Post, after-row-reads.Asked, after-row-reads.Learnt, is-over-reads.Asked, is-over-reads.Learnt)
@@ -76,17 +77,23 @@ read-record-calls t = (opening-reads.Asked, opening-reads.Learnt, read-children-
 read-child-skip-fits-requires : (t : ℕ) → read-child-lts.Need-skip-fits-requires (read-child-calls t) (read-child-at t) read-child.Post
 read-child-skip-fits-requires t c κs = search needs
 
-read-child-add-t9 : (t : ℕ) → read-child-lts.Need-add-t9 (read-child-calls t) (read-child-at t) read-child.Post
-read-child-add-t9 t c = omega (arith, skips-within _ _ _ _ (sym (c .before .skip-fits .ensures) ∙ c .if1 .taken))
+read-child-add-t10 : (t : ℕ) → read-child-lts.Need-add-t10 (read-child-calls t) (read-child-at t) read-child.Post
+read-child-add-t10 t c = omega (arith, skips-within _ _ _ _ (sym (c .before .skip-fits .ensures) ∙ c .if1 .taken))
 
 read-child-returns : (t : ℕ) → read-child-lts.Need-returns (read-child-calls t) (read-child-at t) read-child.Post
 read-child-returns t c = simp (sym (c .before .skip-fits .ensures) ∙ c .if1 .taken)
 
+read-child-read-text-requires : (t : ℕ) → read-child-lts.Need-read-text-requires (read-child-calls t) (read-child-at t) read-child.Post
+read-child-read-text-requires t c κs = search needs
+
+read-child-returns-2 : (t : ℕ) → read-child-lts.Need-returns-2 (read-child-calls t) (read-child-at t) read-child.Post
+read-child-returns-2 t c = simp (sym (c .before .before .before .skip-fits .ensures) ∙ c .before .before .if1 .left, c .before .if2 .taken) (c .read-text .ensures)
+
 read-child-read-record-requires : (t : ℕ) → read-child-lts.Need-read-record-requires (read-child-calls t) (read-child-at t) read-child.Post
 read-child-read-record-requires t c κs = (omega arith, omega arith)
 
-read-child-returns-2 : (t : ℕ) → read-child-lts.Need-returns-2 (read-child-calls t) (read-child-at t) read-child.Post
-read-child-returns-2 t c = simp (sym (c .before .before .skip-fits .ensures) ∙ c .before .if1 .left) (c .read-record .ensures)
+read-child-returns-3 : (t : ℕ) → read-child-lts.Need-returns-3 (read-child-calls t) (read-child-at t) read-child.Post
+read-child-returns-3 t c = simp (sym (c .before .before .before .skip-fits .ensures) ∙ c .before .before .if1 .left) (c .read-record .ensures)
 
 abbrev read-children-Inv-loop : read-children-lts.InvT-loop
 read-children-Inv-loop s b v left places first stop at₀ row₀ at row =
@@ -158,10 +165,12 @@ pub +read-child+read-children+read-record-spec : {M : Type 1} → statement M
     (read-child-at t)
     read-child.Post
     (read-child-skip-fits-requires t)
-    (read-child-add-t9 t)
+    (read-child-add-t10 t)
     (read-child-returns t)
+    (read-child-read-text-requires t)
+    (read-child-returns-2 t)
     (read-child-read-record-requires t)
-    (read-child-returns-2 t))
+    (read-child-returns-3 t))
     (λ t. read-children-lts.spec (read-children-calls t)
     (read-children-at t)
     read-children.Post

@@ -1,22 +1,15 @@
-use Rattle.layout_call.proofs.Standing.{few-rows, few-comments, stands}
+use Rattle.layout_call.proofs.Standing.{few-rows, stands}
 use native.Mathlib.Omega.{arith}
 use borrow.Author.Needs.{needs}
 use Rattle.layout_call.proofs.room.rows_wanted.Statement.{statement}
 use Rattle.layout_call.proofs.room.rows_wanted.Tie as tie
 
 mul-most : tie.Need-mul-most
-mul-most c = omega (arith, few-comments (c .before .before .before .before .pre .0))
-
-add-most-2 : tie.Need-add-most-2
-add-most-2 c = omega (arith, few-comments (c .before .before .before .before .pre .0), stands (c .before .before .before .before .pre .0) .small, c .before .to-usize .ensures, c .before .before .before .before .pre .1 .1 .1 .row)
+mul-most c = omega (arith, stands (c .before .before .before .pre .0) .small)
 
 returns : tie.Need-returns
-returns c = record { short = λ h. absurd (omega arith); enough = λ h. omega (arith, few-rows (c .before .before .before .before .before .pre .0) (c .before .before .before .before .before .args .state) (c .before .before .before .before .before .args .args) (c .before .before .before .before .before .pre .1 .0) (c .before .before .before .before .before .args .c) (c .before .before .before .before .before .pre .1 .1 .1), c .before .before .to-usize .ensures, c .if1 .taken) }
-
-returns-2 : tie.Need-returns-2
-returns-2 c = record { short = λ h. c .rows-needed .ensures; enough = λ h. omega (arith, c .rows-needed .ensures) }
+returns c = record { short = λ h. absurd (omega arith); enough = λ h. omega (arith, few-rows (c .before .before .before .before .pre .0) (c .before .before .before .before .args .state) (c .before .before .before .before .args .args) (c .before .before .before .before .pre .1 .0) (c .before .before .before .before .args .c) (c .before .before .before .before .pre .1 .1 .1), c .before .to-usize .ensures, c .if1 .taken) }
 
 pub rows-wanted-spec : {M : Type 1} → statement M
 rows-wanted-spec =
-    tie.close
-    (tie.spec (λ c κs. search needs) (λ c. search needs) mul-most add-most-2 returns (λ c κs. search needs) returns-2)
+    tie.close (tie.spec (λ c κs. search needs) mul-most (λ c. search needs) returns (λ c κs. search needs) (λ c. search needs))
