@@ -8,10 +8,9 @@
  * output, out) must overlap nothing else that it is given; source, image and state are only read. Nothing is kept after a call, and no
  * call shares anything with another: threads need nothing but buffers of their own. A call takes less than 256 KB of stack and no heap.
  *
- * Answers. out[0] is 0 if the call is accepted (rrufthim_newlines refuses nothing, and answers with two numbers); the other numbers are then
- * those named at each function. Else out[0] is the refusal's
+ * Answers. out[0] is 0 if the call is accepted; the other numbers are then those named at each function. Else out[0] is the refusal's
  * number and out[1] its place, and the rest of out is left as it was. A refused call changes no other buffer. An accepted one leaves what
- * lies behind the rows, marks and bytes that it writes as it was.
+ * lies behind the rows, marks and bytes that it writes as it was. (rrufthim_newlines refuses nothing, and its out has other numbers.)
  *
  * Flags. In state and close every number but 0 means yes; in out a flag is 0 or 1.
  *
@@ -127,9 +126,9 @@ void rrufthim_format(
     uint64_t out[RRUFTHIM_FORMAT_OUT]);
 
 /*
- * The newlines (0x0A) of the source from start up to end, end not included: to jump to the gap that made a blank line. It refuses nothing. Where
- * the range is reversed, ends past the source, or starts or ends inside a character (at a byte from 0x80 to 0xBF), none is counted; the source
- * need not be UTF-8.
+ * The newlines (0x0A) of the source from start up to end, that one not included: to jump to the gap that made a blank line. It refuses
+ * nothing. Where the range is reversed, ends past the source, or starts or ends inside a character (at a byte from 0x80 to 0xBF), none is
+ * counted. The source need not be UTF-8.
  *
  * out: [0] how many, [1] the place of the last one, or end if there is none.
  */
