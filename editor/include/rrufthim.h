@@ -10,7 +10,7 @@
  *
  * Answers. out[0] is 0 if the call is accepted; the other numbers are then those named at each function. Else out[0] is the refusal's
  * number and out[1] its place, and the rest of out is left as it was. A refused call changes no other buffer. An accepted one leaves what
- * lies behind the rows, marks and bytes that it writes as it was.
+ * lies behind the rows, marks and bytes that it writes as it was. (rrufthim_newlines refuses nothing, and its out has other numbers.)
  *
  * Flags. In state and close every number but 0 means yes; in out a flag is 0 or 1.
  *
@@ -60,6 +60,7 @@ typedef char rrufthim_lengths_have_64_bits[sizeof(size_t) == 8 ? 1 : -1];
 #define RRUFTHIM_LAYOUT_OUT 9
 #define RRUFTHIM_RENDER_OUT 7
 #define RRUFTHIM_FORMAT_OUT 5
+#define RRUFTHIM_NEWLINES_OUT 2
 
 /*
  * Whether a source and its tree image are accepted. Refusals 1 to 7.
@@ -123,6 +124,19 @@ void rrufthim_format(
     const uint8_t *image, size_t image_len,
     uint8_t *output, size_t output_len,
     uint64_t out[RRUFTHIM_FORMAT_OUT]);
+
+/*
+ * The newlines (0x0A) of the source from start up to end, that one not included: to jump to the gap that made a blank line. It refuses
+ * nothing. Where the range is reversed, ends past the source, or starts or ends inside a character (at a byte from 0x80 to 0xBF), none is
+ * counted. The source need not be UTF-8.
+ *
+ * out: [0] how many, [1] the place of the last one, or end if there is none.
+ */
+void rrufthim_newlines(
+    const uint8_t *source, size_t source_len,
+    uint64_t start,
+    uint64_t end,
+    uint64_t out[RRUFTHIM_NEWLINES_OUT]);
 
 #ifdef __cplusplus
 }

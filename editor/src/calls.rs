@@ -1,8 +1,10 @@
 //! The calls of the static library over slices that the caller lends.
 
 use crate::{
+    ast::Span,
     linked::{
-        rrufthim_check, rrufthim_format, rrufthim_layout, rrufthim_render,
+        rrufthim_check, rrufthim_format, rrufthim_layout, rrufthim_newlines,
+        rrufthim_render,
     },
     refusal::Refusal,
     states::{LayoutState, RenderState},
@@ -55,6 +57,15 @@ pub struct FileWritten {
     pub rows: u64,
     /// Marks that it took.
     pub numbers: u64,
+}
+
+/// What [`newlines`] finds in a range of a source.
+#[derive(Clone, Copy, Debug, PartialEq, Eq)]
+pub struct Newlines {
+    /// How many newlines there are.
+    pub count: usize,
+    /// Where the last of them is, or the range's end if there is none.
+    pub place: usize,
 }
 
 /// Whether a source and its tree image are accepted.
@@ -199,6 +210,27 @@ pub fn format_file(
         rows,
         numbers,
     })
+}
+
+/// The newlines of a range of the source, and where the last of them is: for
+/// who wants to jump to the gap that made a blank line.
+///
+/// Any range will do. None is counted in one that is reversed, ends past the
+/// source, or starts or ends inside a character.
+pub fn newlines(source: &[u8], range: Span) -> Newlines {
+    let mut out = [0; 2];
+    // Safety: as in `check`.
+    unsafe {
+        rrufthim_newlines(
+            source.as_ptr(),
+            source.len(),
+            range.start as u64,
+            range.end as u64,
+            &mut out,
+        );
+    }
+    let [count, place] = out.map(|number| number as usize);
+    Newlines { count, place }
 }
 
 /// An answer starts with 0, or with a refusal's number and place.

@@ -10,7 +10,7 @@
 //! Below that are the calls themselves, [`check`], [`layout`], [`render`] and
 //! [`format_file`], over slices that the caller lends; what they promise is
 //! proved, and any arguments that safe Rust can give them end in an answer or
-//! a [`Refusal`].
+//! a [`Refusal`]. [`newlines`] finds the gap that made a blank line.
 //!
 //! docs/01-scope.md of the repository has the rules.
 
@@ -36,8 +36,8 @@ mod writer;
 
 pub use ast::Span;
 pub use calls::{
-    Accepted, FileWritten, Laid, MAX_FILE_ROWS, ROW, Written, check,
-    format_file, layout, render,
+    Accepted, FileWritten, Laid, MAX_FILE_ROWS, Newlines, ROW, Written,
+    check, format_file, layout, newlines, render,
 };
 pub use encode::{
     EncodeError, MAX_BODY, MAX_COMMENTS, MAX_DEPTH, MAX_SOURCE, MAX_WIDTH,

@@ -53,4 +53,12 @@ unsafe extern "C" {
         output_len: usize,
         out: *mut [u64; 5],
     );
+
+    pub fn rrufthim_newlines(
+        source: *const u8,
+        source_len: usize,
+        start: u64,
+        end: u64,
+        out: *mut [u64; 2],
+    );
 }

@@ -21,7 +21,7 @@ use Rattle.comments.proofs.Pops.{ending}
 module _ (g : Given) where
   few-newlines : (position : ℕ) → Few 1 0 (told (newlines g position))
   unfolding newlines size
-  few-newlines position = record { at = λ s. both (countNewlines (g .source) (s .pos) position) .at s }
+  few-newlines position = record { at = λ s. both (countNewlines (g .source) (s .pos) position .count) .at s }
     where
       both : (n : ℕ) → Few 1 0 (cond (eqb n 0) skip (cond (eqb n 1) (push line) (push emptyLine)) ⨟ moveTo position)
       both n =

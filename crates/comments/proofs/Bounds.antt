@@ -32,7 +32,7 @@ module _ {s b : List ℕ} (l : Listed s b) where
 
   newlines-within : (position : ℕ) → position ≤ length s → Within (told (newlines (given s b) position))
   unfolding newlines
-  newlines-within position h = keeps-of (λ t. keeps-at (both (countNewlines s (t .pos) position)) t)
+  newlines-within position h = keeps-of (λ t. keeps-at (both (countNewlines s (t .pos) position .count)) t)
     where
       both : (n : ℕ) → Keeps (length (commentsOf b)) (length s)
           (cond (eqb n 0) skip (cond (eqb n 1) (push line) (push emptyLine)) ⨟ moveTo position)

@@ -43,11 +43,11 @@ module _ (g : Given) where
 
   -- ---- `newlines` and `ignore_newlines`
   pub room-newlines : (position : ℕ) {c : Cursor} → Room (told (newlines g position)) c
-      → (let n = countNewlines (g .source) (c .pos) position in Room (cond (eqb n 0) skip (cond (eqb n 1) (push line) (push emptyLine))) c)
+      → (let n = countNewlines (g .source) (c .pos) position .count in Room (cond (eqb n 0) skip (cond (eqb n 1) (push line) (push emptyLine))) c)
   unfolding newlines
   room-newlines position room = room-first (moveTo position) (room-same refl room)
 
-  pub laid-newlines : (position n : ℕ) {s s₁ : List ℕ} {c c₁ c₂ : Cursor} → n ≡ countNewlines (g .source) (c .pos) position
+  pub laid-newlines : (position n : ℕ) {s s₁ : List ℕ} {c c₁ c₂ : Cursor} → n ≡ countNewlines (g .source) (c .pos) position .count
       → Laid (cond (eqb n 0) skip (cond (eqb n 1) (push line) (push emptyLine))) s c s₁ c₁
       → c₂ ≡ cursor (c₁ .row) (c₁ .number) position (c₁ .placed)
       → LaidAsking (newlines g position) s c s₁ (record { cursor = c₂; answer = ltb 0 n })
@@ -70,7 +70,7 @@ module _ (g : Given) where
   -- ---- one comment of `pop_whitespace`
   newlines-placed : (position : ℕ) (s : St) → newlines g position s .0 .placed ≡ s .placed
   unfolding newlines _⨟_
-  newlines-placed position s = go (eqb (countNewlines (g .source) (s .pos) position) 0) (eqb (countNewlines (g .source) (s .pos) position) 1)
+  newlines-placed position s = go (eqb (countNewlines (g .source) (s .pos) position .count) 0) (eqb (countNewlines (g .source) (s .pos) position .count) 1)
     where
       go : (x y : Bool) → cond x skip (cond y (push line) (push emptyLine)) s .placed ≡ s .placed
       go true y = refl

@@ -30,7 +30,7 @@ module _ (g : Given) where
   -- `newlines`: a line for one newline before the position, an empty line for more; it answers whether there is any
   unfoldable pub newlines : ℕ → Asking
   newlines position s =
-      let n = countNewlines (g .source) (s .pos) position in
+      let n = countNewlines (g .source) (s .pos) position .count in
       ((cond (eqb n 0) skip (cond (eqb n 1) (push line) (push emptyLine)) ⨟ moveTo position) s, ltb 0 n)
 
   -- `ignore_newlines`: to the position, or to the front comment where that starts before it

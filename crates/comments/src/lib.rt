@@ -27,6 +27,7 @@ use state::leaves::empty_line;
 use state::leaves::line;
 use state::move_to;
 use state::with_placed;
+use text::newlines::Newlines;
 use text::space::Found;
 use text::space::trim_end;
 
@@ -73,15 +74,15 @@ fn push_comment(store: &mut [u32], c: Cursor, source: &[u8], start: u32, end: u3
     state::leaves::comment(store, c, start, size)
 }
 
-// A line for one newline, an empty line for more.
-fn break_line(store: &mut [u32], c: Cursor, n: usize) -> Cursor
-    requires { ⌜ Room (cond (eqb n 0) skip (cond (eqb n 1) (push line) (push emptyLine))) c ⌝ }
-    ensures { λ r. ⌜ Laid (cond (eqb n 0) skip (cond (eqb n 1) (push line) (push emptyLine))) (now (store .entry)) c (now (store .exit)) r ⌝ }
+// A line for one newline, an empty line for more. Where the last of them was doesn't matter here.
+fn break_line(store: &mut [u32], c: Cursor, n: Newlines) -> Cursor
+    requires { ⌜ Room (cond (eqb (n .count) 0) skip (cond (eqb (n .count) 1) (push line) (push emptyLine))) c ⌝ }
+    ensures { λ r. ⌜ Laid (cond (eqb (n .count) 0) skip (cond (eqb (n .count) 1) (push line) (push emptyLine))) (now (store .entry)) c (now (store .exit)) r ⌝ }
 {
-    if n == 0 {
+    if n.count == 0 {
         return c;
     }
-    if n == 1 {
+    if n.count == 1 {
         return line(store, c);
     }
     empty_line(store, c)
@@ -96,7 +97,7 @@ fn newlines(store: &mut [u32], c: Cursor, source: &[u8], position: u32) -> Asked
     let d = break_line(store, c, n);
     Asked {
         cursor: move_to(d, position),
-        answer: 0 < n,
+        answer: 0 < n.count,
     }
 }
 

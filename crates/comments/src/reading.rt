@@ -3,6 +3,7 @@
 ghost use mathlib.Core.Path.{_≡_};
 ghost use Rattle.text.specs.Newlines.{countNewlines};
 ghost use Rattle.text.specs.Space.{something};
+use text::newlines::Newlines;
 use text::newlines::count_newlines;
 use text::space::Found;
 use text::space::find_something;
@@ -20,7 +21,7 @@ fn read_from<'a>(source: &'a [u8], at: usize) -> Reading<'a>
 }
 
 // The newlines from the position up to `to`.
-fn newlines_up_to<'a>(r: Reading<'a>, to: usize) -> usize
+fn newlines_up_to<'a>(r: Reading<'a>, to: usize) -> Newlines
     ensures { λ n. ⌜ n ≡ countNewlines (now (r .entry .source)) (r .entry .at) to ⌝ }
 {
     count_newlines(r.source, r.at, to)
@@ -34,7 +35,7 @@ fn next_something<'a>(r: Reading<'a>) -> Found
 }
 
 // The newlines of the source from `at` up to `to`.
-pub(crate) fn newlines_from(source: &[u8], at: usize, to: usize) -> usize
+pub(crate) fn newlines_from(source: &[u8], at: usize, to: usize) -> Newlines
     ensures { λ n. ⌜ n ≡ countNewlines (now (source .entry)) at to ⌝ }
 {
     newlines_up_to(read_from(source, at), to)

@@ -6,6 +6,7 @@ use mathlib.Core.List.{List, [], _∷_}
 use lib.Dec.{eqb}
 use lib.ListN.{getD}
 use lib.Seq.{sets}
+use Rattle.text.specs.declared.newlines.Newlines.{Newlines}
 use Rattle.image.specs.Read as image
 use Rattle.cut_rule.specs.Run.{Answer, refused, laidOut, written}
 use Rattle.plain_run.specs.Demands.{rulesOf}
@@ -78,3 +79,7 @@ toldCall s b (written t n) out =
 abbrev pub toldFile : file.FileAnswer → List ℕ → List ℕ
 toldFile (file.refused r) out = sets out 0 (r .number ∷ r .place ∷ [])
 toldFile (file.formatted bytes left rows numbers) out = sets out 0 (0 ∷ bytes ∷ left ∷ rows ∷ numbers ∷ [])
+
+-- the newlines of a range: how many, and the place of the last or the range's end
+abbrev pub toldNewlines : Newlines → List ℕ → List ℕ
+toldNewlines found out = sets out 0 (found .count ∷ found .place ∷ [])

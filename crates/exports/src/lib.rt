@@ -5,7 +5,8 @@ ghost use mathlib.Core.Path.{_≡_};
 ghost use lib.ListN.{length};
 ghost use Rattle.image.specs.Read.{readAll, outcome};
 ghost use Rattle.layout_call.specs.Steps.{declared};
-ghost use Rattle.exports.specs.Numbers.{toldRead};
+ghost use Rattle.text.specs.Newlines.{countNewlines};
+ghost use Rattle.exports.specs.Numbers.{toldRead, toldNewlines};
 ghost use Rattle.exports.specs.Calls.{Lays, Renders, FormatsFile};
 use crate::numbers::flag;
 use crate::numbers::layout_state;
@@ -24,6 +25,7 @@ use layout_call::steps::count_declarations;
 use render_call::RenderArgs;
 use render_call::Rendering;
 use render_call::render_call;
+use text::newlines::count_newlines;
 
 // Whether a source and an image are accepted. `out` gets the refusal's number and place, or 0, the number of comments, the tree's offset and
 // the number of declarations.
@@ -128,4 +130,15 @@ pub extern "C" fn rrufthim_format(
             numbers,
         } => put_formatted(out, bytes, left, rows, numbers),
     }
+}
+
+// The newlines of a range of the source, UTF-8 or not. `out` gets how many there are and the place of the last, or the range's end if there is
+// none; none is counted where the range is outside the source, reversed or off a boundary.
+#[no_mangle]
+pub extern "C" fn rrufthim_newlines(source: &[u8], start: u64, end: u64, out: &mut [u64; 2])
+    ensures { λ r. ⌜ now (out .exit) ≡ toldNewlines (countNewlines (now (source .entry)) start end) (now (out .entry)) ⌝ }
+{
+    let found = count_newlines(source, start as usize, end as usize);
+    out[0] = found.count as u64;
+    out[1] = found.place as u64;
 }

@@ -36,7 +36,7 @@ module _ {g : Given} (commented : Commented g) where
 
   sound-newlines : {d : ℕ} (p : ℕ) → p ≤ length (g .source) → Sounds g ROW-TAKES d (told (newlines g p))
   unfolding newlines
-  sound-newlines {d} p h = record { from = λ s. counted (countNewlines (g .source) (s .pos) p) .from s }
+  sound-newlines {d} p h = record { from = λ s. counted (countNewlines (g .source) (s .pos) p .count) .from s }
     where
       counted : (n : ℕ) → Sounds g ROW-TAKES d (cond (eqb n 0) skip (cond (eqb n 1) (push line) (push emptyLine)) ⨟ moveTo p)
       counted n =
@@ -58,7 +58,7 @@ module _ {g : Given} (commented : Commented g) where
 
   newlines-free : (p : ℕ) (s : St) → Free s (told (newlines g p) s)
   unfolding newlines _⨟_
-  newlines-free p s = counted (eqb (countNewlines (g .source) (s .pos) p) 0) (eqb (countNewlines (g .source) (s .pos) p) 1)
+  newlines-free p s = counted (eqb (countNewlines (g .source) (s .pos) p .count) 0) (eqb (countNewlines (g .source) (s .pos) p .count) 1)
     where
       counted : (t u : Bool) → Free s ((cond t skip (cond u (push line) (push emptyLine)) ⨟ moveTo p) s)
       counted true u = record { taken = refl; placed = refl }

@@ -205,9 +205,9 @@ quiet-newlines g p =
       same = λ s. kept s .same s;
     }
   where
-    kept : (s : St) → Quiet (cond (eqb (countNewlines (g .source) (s .pos) p) 0) skip (cond (eqb (countNewlines (g .source) (s .pos) p) 1) (push line) (push emptyLine)) ⨟ moveTo p)
+    kept : (s : St) → Quiet (cond (eqb (countNewlines (g .source) (s .pos) p .count) 0) skip (cond (eqb (countNewlines (g .source) (s .pos) p .count) 1) (push line) (push emptyLine)) ⨟ moveTo p)
     kept s =
-        let n = countNewlines (g .source) (s .pos) p in
+        let n = countNewlines (g .source) (s .pos) p .count in
         quiet-then (quiet-cond (eqb n 0) quiet-skip (quiet-cond (eqb n 1) (quiet-push refl) (quiet-push refl))) quiet-moveTo
 
 quiet-ignoreNewlines : (g : Given) (p : ℕ) → Quiet (ignoreNewlines g p)

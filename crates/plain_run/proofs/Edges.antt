@@ -16,7 +16,7 @@ use Rattle.rows.specs.View.{viewOf, nodeOf, decode, nodesAt}
 use Rattle.comments.specs.Listed.{commentsOf, pairsAt}
 use Rattle.rows.specs.Words.{placeIn, word, joined, words}
 use Rattle.state.specs.Act.{_⨟_, _⨟?_, _⨟!_, grouped, indented as indents}
-use Rattle.text.specs.Newlines.{countNewlines, newlines}
+use Rattle.text.specs.Newlines.{countNewlines, newlinePlaces}
 use Rattle.text.specs.Utf8.{charAt, decoded, scalar, charBefore, ending, ends}
 use Rattle.text.specs.Space.{something, seek, oneOf, trimEnd, trim}
 use Rattle.comments.specs.Comments as comments
@@ -36,7 +36,7 @@ unfolding header commentFits commentsFrom commentList shape opens childrenAt ski
     mustWrap mustWraps width widths size sizes rowsOf rows viewOf nodeOf decode nodesAt commentsOf pairsAt pushStr atColumn newLine margin comment text
     virtualColumn insert indentMore indentLess nextIndentMore nextIndentLess wraps groupWraps trailingCall calleeWraps renderNode renderNodes originText textBytes
     reaches partsFit rowFits firstWrong wrongRow placesFit wrongPlace marksNeeded placeIn word
-    joined words _⨟_ _⨟?_ _⨟!_ join grouped indents countNewlines newlines charAt decoded scalar something seek oneOf trimEnd trim charBefore ending ends shebangRule declaration declares
+    joined words _⨟_ _⨟?_ _⨟!_ join grouped indents countNewlines newlinePlaces charAt decoded scalar something seek oneOf trimEnd trim charBefore ending ends shebangRule declaration declares
     opening typeExpr typeForm typeArgs pathRule pathMore exprWithPrecedence literalRule comments.nth comments.newlines comments.ignoreNewlines
     comments.popComment comments.popComments comments.popWhitespace comments.popTrailingComment
 edges-hold = refl

@@ -8,7 +8,7 @@ use native.Mathlib.Omega.{arith}
 use lib.Dec.{eqb}
 use borrow.Author.Tests.{eqb-true, eqb-false, ne-eqb}
 use Rattle.text.specs.Utf8.{sequence, boundary, ending, wellFormed, run, prefix, rowIn, within, followed, ends}
-use Rattle.text.specs.Newlines.{newlines, isRange, countNewlines}
+use Rattle.text.specs.Newlines.{newlinePlaces, counted, isRange, countNewlines}
 use Rattle.text.proofs.Boundaries.{first-boundary, inner-none}
 use Rattle.text.proofs.Characters.{ending-fits}
 use Rattle.text.proofs.Counts.{count-none, range-off-start}
@@ -26,8 +26,8 @@ before-end s from to h = let w = ending-fits s from to h in go (ending s from to
         let last : to - n + (n - 1) ≡ to - 1 = omega arith in
         rw last at (inner-none s (to - n) (n - 1) (omega arith) (omega arith))
 
--- otherwise a count from there is 0
-pub count-before-end : (s : List ℕ) (from to stop : ℕ) → 1 < ending s from to → countNewlines s (to - 1) stop ≡ 0
+-- otherwise a count from there has none
+pub count-before-end : (s : List ℕ) (from to stop : ℕ) → 1 < ending s from to → countNewlines s (to - 1) stop ≡ counted stop []
 count-before-end s from to stop h =
     let off = before-end s from to (omega arith) ∙ ne-eqb (ending s from to) 1 (omega arith) in
     count-none s (to - 1) stop (range-off-start s (to - 1) stop off)
@@ -36,6 +36,6 @@ count-before-end s from to stop h =
 abbrev accent : List ℕ
 accent = 0xC3 ∷ 0xA9 ∷ 0x0A ∷ []
 
-accent-ends : (wellFormed accent ≡ true) × (ending accent 0 2 ≡ 2) × (countNewlines accent 2 3 ≡ 1) × (countNewlines accent 1 3 ≡ 0)
-unfolding wellFormed prefix run sequence followed rowIn within ending ends countNewlines isRange boundary newlines
+accent-ends : (wellFormed accent ≡ true) × (ending accent 0 2 ≡ 2) × (countNewlines accent 2 3 ≡ counted 3 (2 ∷ [])) × (countNewlines accent 1 3 ≡ counted 3 [])
+unfolding wellFormed prefix run sequence followed rowIn within ending ends countNewlines isRange boundary newlinePlaces
 accent-ends = (refl, refl, refl, refl)

@@ -1,38 +1,44 @@
--- Laws of ranges and of the newline count.
+-- Laws of ranges, and of the newline count and its place.
 -- Assumes nothing.
-use mathlib.Core.Path.{_≡_, sym, ap}
+use mathlib.Core.Path.{_≡_, refl, ap, _∙_}
 use mathlib.Core.Bool.{Bool, true, false, cond, _&&_}
-use mathlib.Core.List.{List}
+use mathlib.Core.List.{List, [], _∷_, _++_}
 use Prim.Native.Nat.{ℕ, zero, suc, _+_, _-_, _≤_, _<_}
 use native.Mathlib.Omega.{arith}
 use native.Mathlib.Nat.{zero-add, add-zero, suc-add}
-use lib.ListN.{length, getD}
+use lib.ListN.{length, getD, length-append}
 use lib.Dec.{leb, eqb}
 use borrow.Author.Tests.{leb-true, le-leb, lt-leb}
 use Rattle.text.specs.Utf8.{boundary}
-use Rattle.text.specs.Newlines.{newlines, isRange, countNewlines}
+use Rattle.text.specs.Newlines.{newlinePlaces, counted, isRange, countNewlines}
 use Rattle.text.proofs.Boundaries.{boundary-inside, outside}
 use Rattle.laws.proofs.Booleans.{and-left, and-right, and-false}
 
-pub newlines-next : (m n : ℕ) (s : List ℕ) (at : ℕ) → m ≡ suc n → newlines m s at ≡ cond (eqb (getD s at 0) 0x0A) 1 0 + newlines n s (at + 1)
-unfolding newlines
-newlines-next m n s at e = rw e
+pub places-next : (m n : ℕ) (s : List ℕ) (at : ℕ) → m ≡ suc n
+    → newlinePlaces m s at ≡ cond (eqb (getD s at 0) 0x0A) (at ∷ newlinePlaces n s (at + 1)) (newlinePlaces n s (at + 1))
+unfolding newlinePlaces
+places-next m n s at e = rw e
 
--- counts over adjoining ranges add up
-pub newlines-join : (m n : ℕ) (s : List ℕ) (at : ℕ) → newlines (m + n) s at ≡ newlines m s at + newlines n s (at + m)
-unfolding newlines
-newlines-join zero n s at = rw (zero-add n, add-zero at) (sym (zero-add (newlines n s at)))
-newlines-join (suc m) n s at =
+-- the newlines of adjoining ranges
+pub places-join : (m n : ℕ) (s : List ℕ) (at : ℕ) → newlinePlaces (m + n) s at ≡ newlinePlaces m s at ++ newlinePlaces n s (at + m)
+unfolding newlinePlaces
+places-join zero n s at = rw (zero-add n, add-zero at) refl
+places-join (suc m) n s at =
     let step : at + 1 + m ≡ at + suc m = omega arith in
-    rw suc-add (omega (arith, newlines-join m n s (at + 1), ap (λ k. newlines n s k) step))
+    let rest = places-join m n s (at + 1) ∙ ap (λ (k : ℕ). newlinePlaces m s (at + 1) ++ newlinePlaces n s k) step in
+    rw suc-add (go (eqb (getD s at 0) 0x0A) _ _ _ rest)
+  where
+    go : (t : Bool) (xs ys zs : List ℕ) → xs ≡ ys ++ zs → cond t (at ∷ xs) xs ≡ cond t (at ∷ ys) ys ++ zs
+    go true xs ys zs e = ap (λ (l : List ℕ). at ∷ l) e
+    go false xs ys zs e = e
 
 -- no more newlines than bytes
-pub newlines-few : (n : ℕ) (s : List ℕ) (at : ℕ) → newlines n s at ≤ n
-unfolding newlines
-newlines-few zero s at = omega arith
-newlines-few (suc n) s at = go (eqb (getD s at 0) 0x0A) (newlines-few n s (at + 1))
+pub places-few : (n : ℕ) (s : List ℕ) (at : ℕ) → length (newlinePlaces n s at) ≤ n
+unfolding newlinePlaces
+places-few zero s at = omega arith
+places-few (suc n) s at = go (eqb (getD s at 0) 0x0A) (places-few n s (at + 1))
   where
-    go : (t : Bool) → newlines n s (at + 1) ≤ n → cond t 1 0 + newlines n s (at + 1) ≤ suc n
+    go : (t : Bool) → length (newlinePlaces n s (at + 1)) ≤ n → length (cond t (at ∷ newlinePlaces n s (at + 1)) (newlinePlaces n s (at + 1))) ≤ suc n
     go true h = omega arith
     go false h = omega arith
 
@@ -73,21 +79,46 @@ range-off-end s from to e = simp (e, and-false)
 pub range-outside : (s : List ℕ) (from to : ℕ) → length s < to → isRange s from to ≡ false
 range-outside s from to h = range-off-end s from to (outside s to h)
 
--- there the count is 0
-pub count-none : (s : List ℕ) (from to : ℕ) → isRange s from to ≡ false → countNewlines s from to ≡ 0
+-- there none is counted, and the place is the range's end as given
+pub count-none : (s : List ℕ) (from to : ℕ) → isRange s from to ≡ false → countNewlines s from to ≡ counted to []
 unfolding countNewlines
 count-none s from to e = simp e
 
-pub count-range : (s : List ℕ) (from to : ℕ) → isRange s from to ≡ true → countNewlines s from to ≡ newlines (to - from) s from
+pub count-range : (s : List ℕ) (from to : ℕ) → isRange s from to ≡ true → countNewlines s from to ≡ counted to (newlinePlaces (to - from) s from)
 unfolding countNewlines
 count-range s from to e = simp e
 
 -- counts over adjoining ranges add up
-pub count-join : (s : List ℕ) (a b c : ℕ) → isRange s a b ≡ true → isRange s b c ≡ true → countNewlines s a c ≡ countNewlines s a b + countNewlines s b c
+pub count-join : (s : List ℕ) (a b c : ℕ) → isRange s a b ≡ true → isRange s b c ≡ true
+    → countNewlines s a c .count ≡ countNewlines s a b .count + countNewlines s b c .count
 count-join s a b c p q =
     let h = range-order s a b p in
     let k = range-order s b c q in
     let whole = range-is s a c (omega arith) (range-start s a b p) (range-end s b c q) in
     let parts : c - a ≡ (b - a) + (c - b) = omega arith in
     let there : a + (b - a) ≡ b = omega arith in
-    rw (count-range s a c whole, count-range s a b p, count-range s b c q, parts, newlines-join, there)
+    rw (count-range s a c whole, count-range s a b p, count-range s b c q, parts, places-join, there) (length-append (newlinePlaces (b - a) s a) (newlinePlaces (c - b) s b))
+
+-- ---- the count before request 1, which knew no places
+-- how many of the n bytes from `at` on are U+000A
+unfoldable pub newlines : ℕ → List ℕ → ℕ → ℕ
+newlines zero s at = 0
+newlines (suc n) s at = cond (eqb (getD s at 0) 0x0A) 1 0 + newlines n s (at + 1)
+
+as-many : (n : ℕ) (s : List ℕ) (at : ℕ) → length (newlinePlaces n s at) ≡ newlines n s at
+unfolding newlinePlaces newlines
+as-many zero s at = refl
+as-many (suc n) s at = go (eqb (getD s at 0) 0x0A) (newlinePlaces n s (at + 1)) (as-many n s (at + 1))
+  where
+    go : (t : Bool) (more : List ℕ) → length more ≡ newlines n s (at + 1) → length (cond t (at ∷ more) more) ≡ cond t 1 0 + newlines n s (at + 1)
+    go true more e = omega arith
+    go false more e = omega arith
+
+-- it is the same in every range
+pub count-as-before : (s : List ℕ) (from to : ℕ) → countNewlines s from to .count ≡ cond (isRange s from to) (newlines (to - from) s from) 0
+unfolding countNewlines
+count-as-before s from to = go (isRange s from to)
+  where
+    go : (t : Bool) → length (cond t (newlinePlaces (to - from) s from) []) ≡ cond t (newlines (to - from) s from) 0
+    go true = as-many (to - from) s from
+    go false = refl

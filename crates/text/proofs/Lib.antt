@@ -3,6 +3,7 @@ pub mod Bytes
 pub mod Characters
 pub mod CommentEnds
 pub mod Counts
+pub mod LastNewline
 pub mod Parts
 pub mod Prefixes
 pub mod Ranges

@@ -8,7 +8,7 @@ use native.Mathlib.Numerals.{add-one}
 use Rattle.text_replay.specs.Counts.{OneOrFour}
 use Rattle.text_replay.specs.Sections.{width}
 use Rattle.text_replay.specs.declared.questions.Question.{Question}
-use Rattle.text_replay.specs.declared.questions.Question.the-variants.{Newlines, Trimmed, Search, First, Last}
+use Rattle.text_replay.specs.declared.questions.Question.the-variants.{Newlines, Trimmed, Search, First, Last, LastNewline}
 
 -- a square of places is small
 pub square-small : (k : ℕ) → k < 258 → k * k < 66564
@@ -21,6 +21,7 @@ width-is Trimmed = record { four = λ h. absurd (h refl) }
 width-is Search = record { four = λ h. absurd (h refl) }
 width-is First = record { four = λ h. refl }
 width-is Last = record { four = λ h. refl }
+width-is LastNewline = record { four = λ h. absurd (h refl) }
 
 pub times-next : (w i : ℕ) → w * (i + 1) ≡ w * i + w
 times-next w i = rw (add-one i) (mul-suc w i)

@@ -12,7 +12,7 @@ use Rattle.text_replay.specs.Counts.{differs}
 use Rattle.text_replay.specs.Sections.{places, checkAnswer, answers, differing, answerCount, answerBytes, allDiffering, withAnswers, checkedSample, sample}
 use Rattle.text_replay.specs.declared.outcome.Outcome.the-variants.{Cut, Done}
 use Rattle.text_replay.specs.declared.questions.Question.{Question}
-use Rattle.text_replay.specs.declared.questions.Question.the-variants.{Newlines, Trimmed, Search, First, Last}
+use Rattle.text_replay.specs.declared.questions.Question.the-variants.{Newlines, Trimmed, Search, First, Last, LastNewline}
 use Rattle.text_replay.proofs.Sizes.{square-small}
 use Rattle.text_replay.proofs.Sums.{differs-one, sum-few}
 
@@ -27,6 +27,7 @@ answers-small s Trimmed h = square-small (places s) (omega arith)
 answers-small s Search h = omega arith
 answers-small s First h = omega arith
 answers-small s Last h = omega arith
+answers-small s LastNewline h = square-small (places s) (omega arith)
 
 pub differing-small : (s : List ℕ) (q : Question) (d : List ℕ) (at n : ℕ) → length s < 256 → n ≡ differing s q d at → n < 66564
 differing-small s q d at n h e = omega (arith, differing-few s q d at, answers-small s q h)
@@ -43,6 +44,7 @@ all-few s d at =
       differing-few s Search d (at + 2 * square),
       differing-few s First d (at + 2 * square + k),
       differing-few s Last d (at + 2 * square + 5 * k),
+      differing-few s LastNewline d (at + 2 * square + 9 * k),
     )
 
 -- an outcome from `at` on whose numbers are in order

@@ -15,7 +15,7 @@ use Rattle.text.specs.declared.space.Found.the-variants.{At, Nowhere}
 use Rattle.text_replay.specs.declared.outcome.Outcome.{Outcome}
 use Rattle.text_replay.specs.declared.outcome.Outcome.the-variants.{Cut, Done}
 use Rattle.text_replay.specs.declared.questions.Question.{Question}
-use Rattle.text_replay.specs.declared.questions.Question.the-variants.{Newlines, Trimmed, Search, First, Last}
+use Rattle.text_replay.specs.declared.questions.Question.the-variants.{Newlines, Trimmed, Search, First, Last, LastNewline}
 use Rattle.text_replay.specs.Counts.{short, long, number, differs, sum}
 
 -- a check in one byte: 255 for well-formed, else the length of the longest well-formed prefix
@@ -60,11 +60,12 @@ point Nothing = 0xFFFFFFFF
 
 -- answer i to a question about a sample
 unfoldable pub answer : List ℕ → Question → ℕ → ℕ
-answer s Newlines i = countNewlines s (i / places s) (i % places s)
+answer s Newlines i = countNewlines s (i / places s) (i % places s) .count
 answer s Trimmed i = cond (isRange s (i / places s) (i % places s)) (trimEnd s (i / places s) (i % places s)) 255
 answer s Search i = place (something s i)
 answer s First i = point (charAt s i)
 answer s Last i = point (charBefore s 0 i)
+answer s LastNewline i = countNewlines s (i / places s) (i % places s) .place
 
 -- how many answers a question has, and how many bytes each is stored in
 unfoldable pub answers : List ℕ → Question → ℕ
@@ -73,6 +74,7 @@ answers s Trimmed = places s * places s
 answers s Search = places s
 answers s First = places s
 answers s Last = places s
+answers s LastNewline = places s * places s
 
 unfoldable pub width : Question → ℕ
 width Newlines = 1
@@ -80,6 +82,7 @@ width Trimmed = 1
 width Search = 1
 width First = 4
 width Last = 4
+width LastNewline = 1
 
 -- how many answers to a question differ, where the first is stored at `at`
 unfoldable pub differing : List ℕ → Question → List ℕ → ℕ → ℕ
@@ -87,10 +90,10 @@ differing s q d at = sum (answers s q) (λ i. differs (number (width q) d (at + 
 
 -- the answers about a well-formed sample: how many, in how many bytes, and how many differ
 abbrev pub answerCount : List ℕ → ℕ
-answerCount s = 2 * (places s * places s) + 3 * places s
+answerCount s = 3 * (places s * places s) + 3 * places s
 
 abbrev pub answerBytes : List ℕ → ℕ
-answerBytes s = 2 * (places s * places s) + 9 * places s
+answerBytes s = 3 * (places s * places s) + 9 * places s
 
 unfoldable pub allDiffering : List ℕ → List ℕ → ℕ → ℕ
 allDiffering s d at =
@@ -99,6 +102,7 @@ allDiffering s d at =
     + differing s Search d (at + 2 * (places s * places s))
     + differing s First d (at + 2 * (places s * places s) + places s)
     + differing s Last d (at + 2 * (places s * places s) + 5 * places s)
+    + differing s LastNewline d (at + 2 * (places s * places s) + 9 * places s)
 
 -- a sample whose check, at `to`, says well-formed, with the answers about it
 unfoldable pub withAnswers : List ℕ → List ℕ → ℕ → Outcome

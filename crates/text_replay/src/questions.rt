@@ -18,9 +18,9 @@ use text::utf8::Decoded;
 use text::utf8::char_at;
 use text::utf8::char_before;
 
-// Each is asked at every place a, the first two at every two places a and b.
+// Each is asked at every place a, those about a range at every two places a and b.
 pub enum Question {
-    // the newlines from a to b
+    // how many newlines there are from a to b
     Newlines,
     // where the text from a to b ends without the white space at its end
     Trimmed,
@@ -30,6 +30,8 @@ pub enum Question {
     First,
     // the character that ends at a
     Last,
+    // where the last newline from a to b is
+    LastNewline,
 }
 
 fn trimmed(s: &[u8], a: usize, b: usize) -> usize
@@ -67,11 +69,12 @@ fn answer(s: &[u8], q: Question, i: usize) -> usize
 {
     let k = s.len() + 2;
     match q {
-        Question::Newlines => count_newlines(s, i / k, i % k),
+        Question::Newlines => count_newlines(s, i / k, i % k).count,
         Question::Trimmed => trimmed(s, i / k, i % k),
         Question::Search => place(find_something(s, i)),
         Question::First => point(char_at(s, i)),
         Question::Last => point(char_before(s, 0, i)),
+        Question::LastNewline => count_newlines(s, i / k, i % k).place,
     }
 }
 
@@ -87,6 +90,7 @@ fn answers(s: &[u8], q: Question) -> usize
         Question::Search => k,
         Question::First => k,
         Question::Last => k,
+        Question::LastNewline => k * k,
     }
 }
 
@@ -100,6 +104,7 @@ fn width(q: Question) -> usize
         Question::Search => 1,
         Question::First => 4,
         Question::Last => 4,
+        Question::LastNewline => 1,
     }
 }
 

@@ -26,6 +26,7 @@ fn all_differing(s: &[u8], d: &[u8], at: usize) -> usize
         + differing(s, Question::Search, d, search)
         + differing(s, Question::First, d, search + k)
         + differing(s, Question::Last, d, search + 5 * k)
+        + differing(s, Question::LastNewline, d, search + 9 * k)
 }
 
 // A sample whose check, at `to`, says well-formed, with the answers about it.
@@ -36,14 +37,14 @@ fn with_answers(s: &[u8], d: &[u8], to: usize) -> Outcome
 {
     let k = s.len() + 2;
     let square = k * k;
-    let bytes = 2 * square + 9 * k;
+    let bytes = 3 * square + 9 * k;
     let at = to + 1;
     if d.len() - at < bytes {
         return Outcome::Cut;
     }
     Outcome::Done {
         next: at + bytes,
-        compared: 1 + (2 * square + 3 * k),
+        compared: 1 + (3 * square + 3 * k),
         differ: differs(255, check_answer(s)) + all_differing(s, d, at),
     }
 }

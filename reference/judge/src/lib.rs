@@ -27,6 +27,7 @@ pub mod frame;
 pub mod generate;
 pub mod grammar;
 pub mod image;
+pub mod newlines;
 pub mod program;
 pub mod random;
 pub mod reader;

@@ -59,10 +59,24 @@ fn text_answers_are_laid_out_as_described() {
             well_formed += 1;
             let places = length + 2;
             input.bytes(2 * places * places + places + 8 * places);
+            check_places(&mut input, sample);
         }
     }
     assert!(input.0.is_empty());
     assert!(samples > 2_500 && well_formed > 1_200, "{samples}");
+}
+
+/// Where the last newline of each range is, found by going back from its end.
+fn check_places(input: &mut Input, sample: &[u8]) {
+    let text = std::str::from_utf8(sample).expect("well-formed");
+    for a in 0..=text.len() + 1 {
+        for b in 0..=text.len() + 1 {
+            let there = text.is_char_boundary(a) && text.is_char_boundary(b);
+            let newline = |place: &usize| there && sample[*place] == b'\n';
+            let due = (a..b).rev().find(newline).unwrap_or(b);
+            assert_eq!(input.number(1), due, "{a}..{b} of {text:?}");
+        }
+    }
 }
 
 #[test]

@@ -33,6 +33,16 @@ pub fn check(source: &[u8], image: &[u8]) -> Result<Accepted, Refusal> {
     })
 }
 
+/// The newlines of a range: how many, and where the last is. Nothing if a
+/// place behind the answer was touched.
+#[cfg(feature = "calls")]
+pub fn newlines(source: &[u8], start: u64, end: u64) -> Option<[u64; 2]> {
+    let mut out = Out::<3>::new();
+    port::newlines(source, start, end, out.places());
+    let [count, place, behind] = out.0;
+    (behind == UNTOUCHED).then_some([count, place])
+}
+
 /// What a reader of results must know: who answered, and to what.
 pub const NOTICE: Option<&str> = if cfg!(feature = "stand-in") {
     Some("not the port: the judge stands in for it")

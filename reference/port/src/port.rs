@@ -2,7 +2,7 @@
 //! in, numbers out. With the feature `stand-in` the judge answers in their place.
 
 #[cfg(feature = "stand-in")]
-pub use crate::stand_in::{check, format, layout, render};
+pub use crate::stand_in::{check, format, layout, newlines, render};
 
 #[cfg(not(feature = "stand-in"))]
 pub use linked::*;
@@ -56,6 +56,13 @@ mod linked {
             output: *mut u8,
             output_len: usize,
             out: *mut [u64; 5],
+        );
+        fn rrufthim_newlines(
+            source: *const u8,
+            source_len: usize,
+            start: u64,
+            end: u64,
+            out: *mut [u64; 2],
         );
     }
 
@@ -157,6 +164,15 @@ mod linked {
                 output.len(),
                 out,
             );
+        }
+    }
+
+    /// `out`: how many, and the place of the last or the range's end.
+    #[cfg(feature = "calls")]
+    pub fn newlines(source: &[u8], start: u64, end: u64, out: &mut [u64; 2]) {
+        // Safety: as in `check`.
+        unsafe {
+            rrufthim_newlines(source.as_ptr(), source.len(), start, end, out);
         }
     }
 }

@@ -9,6 +9,7 @@ use judge::{
         render_call,
     },
     driver::{Pen, Stop},
+    newlines,
     program::{MARKS, ROWS},
     reader,
     refusal::Refusal,
@@ -60,10 +61,14 @@ pub enum Fault {
     WholeBytes,
     /// The whole run writes its output before 10.
     OutputBeforeRefusal,
+    /// The first newline in place of the last.
+    FirstNewline,
+    /// The range's start where no newline is counted.
+    NoNewline,
 }
 
 impl Fault {
-    pub const ALL: [Fault; 20] = [
+    pub const ALL: [Fault; 22] = [
         Fault::CheckPlace,
         Fault::Declarations,
         Fault::CommentsLeft,
@@ -84,6 +89,8 @@ impl Fault {
         Fault::PastAnswer,
         Fault::WholeBytes,
         Fault::OutputBeforeRefusal,
+        Fault::FirstNewline,
+        Fault::NoNewline,
     ];
 }
 
@@ -361,4 +368,18 @@ pub fn format(
     }
     let bytes = shown[1] + u64::from(planted(Fault::WholeBytes));
     put(out, &[0, bytes, laid[1], rows, numbers]);
+}
+
+pub fn newlines(source: &[u8], start: u64, end: u64, out: &mut [u64; 2]) {
+    let found = newlines::newlines(source, start as usize, end as usize);
+    let [count, mut place] = [found.count, found.place].map(|n| n as u64);
+    if planted(Fault::FirstNewline) && count > 0 {
+        let from = start as usize;
+        let first = source[from..].iter().position(|byte| *byte == b'\n');
+        place = (from + first.expect("a newline")) as u64;
+    }
+    if planted(Fault::NoNewline) && count == 0 {
+        place = start;
+    }
+    put(out, &[count, place]);
 }

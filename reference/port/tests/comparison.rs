@@ -59,6 +59,7 @@ fn items_are_repeated_by_their_names() {
     let wild = Item::from_words("wild", 3);
     assert!(matches!(wild, Some(Item::Frame(_, 3))));
     assert_eq!(Item::from_words("list", 4), Some(Item::List(4)));
+    assert_eq!(Item::from_words("ranges", 5), Some(Item::Ranges(5)));
     assert_eq!(Item::from_words("other", 4), None);
 }
 

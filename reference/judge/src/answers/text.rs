@@ -4,6 +4,8 @@ mod samples;
 
 pub use samples::samples;
 
+use crate::newlines::in_text;
+
 /// Well-formed, or no answer.
 const NONE: u8 = 255;
 
@@ -67,8 +69,7 @@ fn put_sample(out: &mut Vec<u8>, sample: &[u8]) {
     let places = 0..=text.len() + 1;
     for a in places.clone() {
         for b in places.clone() {
-            let part = text.get(a..b).unwrap_or("");
-            out.push(small(part.chars().filter(|c| *c == '\n').count()));
+            out.push(small(in_text(text, a, b).count));
         }
     }
     for a in places.clone() {
@@ -83,11 +84,16 @@ fn put_sample(out: &mut Vec<u8>, sample: &[u8]) {
     for a in places.clone() {
         put_char(out, text.get(a..).and_then(|part| part.chars().next()));
     }
-    for a in places {
+    for a in places.clone() {
         put_char(
             out,
             text.get(..a).and_then(|part| part.chars().next_back()),
         );
+    }
+    for a in places.clone() {
+        for b in places.clone() {
+            out.push(small(in_text(text, a, b).place));
+        }
     }
 }
 

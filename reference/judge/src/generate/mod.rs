@@ -4,6 +4,7 @@ mod damaged;
 mod edges;
 mod lists;
 mod random_rows;
+mod ranges;
 mod realistic;
 mod rendering;
 mod shape;
@@ -19,6 +20,7 @@ use crate::{
 };
 
 pub use lists::{CallCase, case as call_case, cut_case, unreadable_case};
+pub use ranges::{RangeCase, case as range_case};
 pub use rendering::cases as rendering_cases;
 pub use sizes::{
     Case as SizeCase, call_cases as size_call_cases, cases as size_cases,

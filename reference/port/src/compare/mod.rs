@@ -9,6 +9,8 @@ mod frames;
 mod large;
 #[cfg(feature = "calls")]
 mod lists;
+#[cfg(feature = "calls")]
+mod ranges;
 mod tally;
 mod work;
 

@@ -36,11 +36,14 @@ pub enum Item {
     /// A case of the fixed list of rendering calls.
     #[cfg(feature = "calls")]
     Rendering(usize),
+    /// A text with ranges to count newlines in.
+    #[cfg(feature = "calls")]
+    Ranges(u64),
 }
 
-/// All items of a run: so many frames of each class but `sizes`, all sizes
-/// and rendering answers once, and so many lists. With lists come the largest
-/// stores.
+/// All items of a run: so many frames of each class but `sizes`, and as many
+/// texts with ranges, all sizes and rendering answers once, and so many lists.
+/// With lists come the largest stores.
 #[derive(Clone, Copy, Debug)]
 pub struct Plan {
     pub seed: u64,
@@ -74,6 +77,8 @@ impl Plan {
         for class in CLASSES {
             items.extend((0..self.frames).map(|i| Item::Frame(class, i)));
         }
+        #[cfg(feature = "calls")]
+        items.extend((0..self.frames).map(Item::Ranges));
         #[cfg(feature = "calls")]
         for index in 0..self.lists {
             items.extend([Item::List(index), Item::Stretched(index)]);
@@ -165,6 +170,11 @@ fn compare(tally: &mut Tally, item: Item, seed: u64) {
             let case = &rendering_cases()[place];
             super::lists::compare(tally, "rendering answers", case);
         }
+        #[cfg(feature = "calls")]
+        Item::Ranges(index) => {
+            let case = generate::range_case(seed, index);
+            super::ranges::compare(tally, &case);
+        }
     }
 }
 
@@ -195,6 +205,8 @@ fn name(item: Item, seed: u64) -> String {
         Item::SizeCalls(place) => ("size-calls", place as u64),
         #[cfg(feature = "calls")]
         Item::Rendering(place) => ("rendering", place as u64),
+        #[cfg(feature = "calls")]
+        Item::Ranges(index) => ("ranges", index),
     };
     format!("{kind} {seed} {index}")
 }
@@ -214,6 +226,8 @@ impl Item {
             "size-calls" => Some(Item::SizeCalls(index as usize)),
             #[cfg(feature = "calls")]
             "rendering" => Some(Item::Rendering(index as usize)),
+            #[cfg(feature = "calls")]
+            "ranges" => Some(Item::Ranges(index)),
             _ => Class::from_name(kind).map(|c| Item::Frame(c, index)),
         }
     }

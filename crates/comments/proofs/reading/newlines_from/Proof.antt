@@ -38,6 +38,9 @@ use denote.Triple.Walked.{says, Stays, stay-none, stay-none-slice, walkOf, goes-
 use denote.Exit.{yes}
 use denote.Triple.Clauses.{ensured, lasts}
 use Rattle.text.specs.Newlines.{countNewlines}
+use Rattle.text.specs.declared.newlines.Newlines.{Newlines}
+use Rattle.text.proofs.newlines.Newlines as N
+use Rattle.text.proofs.newlines.Newlines.Laws as N′
 use Rattle.comments.specs.declared.reading.Reading.{Reading}
 use Rattle.comments.proofs.reading.Reading as T
 use Rattle.comments.proofs.reading.Reading.Laws as T′
@@ -74,7 +77,7 @@ module _ {M : Type 1} (𝓤 : URA M) (H : Heap 𝓤) (A : Atoms 𝓤) (W : Given
   abbrev v : Val
   v = sliceVal (s .ptr) (length (s .now))
 
-  abbrev found : ℕ
+  abbrev found : Newlines
   found = countNewlines (now s) n m
 
   -- the struct's type as a local of a body has it
@@ -107,12 +110,12 @@ module _ {M : Type 1} (𝓤 : URA M) (H : Heap 𝓤) (A : Atoms 𝓤) (W : Given
   goes-ask : (r : Reading) (u : Val) → ent 𝓤 (⋆ 𝓤 H A (‵ (B (κ, tt) .own r (u ∷ [])) ∷ (‵ (flft κ q) ⊛ ‵ ftrue) ∷ [])) (Asked 𝓤 H A mem run .pre (to-ask r u))
   goes-ask r u = qed W (‵ (B (κ, tt) .own r (u ∷ [])) ∷ (‵ (flft κ q) ⊛ ‵ ftrue) ∷ []) ∵ nothing ! $ owned ! usize (Is usize) (uint-makes 𝓤 H A W w64) m _ (refl, m-fits) $ fjoin ! $ move ! (1 ∷ 0 ∷ []) $ fjoin ! $ move ! (1 ∷ 0 ∷ []) $ join ! $ frame ! $ done !
 
-  ask-said : (r : Reading) (t : ℕ) → ent 𝓤 (ensured 𝓤 H A newlines-up-to.ended (newlines-up-to.clauses 𝓤 H A mem run) (κ, tt) (r, (m, tt)) tt t) (fact 𝓤 (t ≡ countNewlines (now (r .source)) (r .at) m))
+  ask-said : (r : Reading) (t : Newlines) → ent 𝓤 (ensured 𝓤 H A newlines-up-to.ended (newlines-up-to.clauses 𝓤 H A mem run) (κ, tt) (r, (m, tt)) tt t) (fact 𝓤 (t ≡ countNewlines (now (r .source)) (r .at) m))
   ask-said r t = exE 𝓤 _ (λ ws. snd∗ 𝓤 (sem 𝓤 H A (lasts newlines-up-to.ended (κ, tt) (r, (m, tt)) ws)) (fact 𝓤 (t ≡ countNewlines (now (r .source)) (r .at) m)))
 
-  exits : (t : ℕ) (u : Val) → t ≡ found → ent 𝓤 (⋆ 𝓤 H A (‵ (usize .own t (u ∷ [])) ∷ (‵ (flft κ q) ⊛ ‵ ftrue) ∷ ‵ Own ∷ [])) (Post u)
+  exits : (t : Newlines) (u : Val) → t ≡ found → ent 𝓤 (⋆ 𝓤 H A (‵ (N.the-row .own t (u ∷ [])) ∷ (‵ (flft κ q) ⊛ ‵ ftrue) ∷ ‵ Own ∷ [])) (Post u)
   exits t u e =
-      qed W (‵ (usize .own t (u ∷ [])) ∷ (‵ (flft κ q) ⊛ ‵ ftrue) ∷ ‵ Own ∷ []) ∵
+      qed W (‵ (N.the-row .own t (u ∷ [])) ∷ (‵ (flft κ q) ⊛ ‵ ftrue) ∷ ‵ Own ∷ []) ∵
       suffices ! _ (ends-at 𝓤 H A newlines-from.ended stayed (newlines-from.clauses 𝓤 H A mem run) W (((κ, tt), (q, tt), tt, (s, (n, (m, tt))), (v ∷ [], (vint w64 n ∷ [], (vint w64 m ∷ [], tt)))), tt) u t (tt, (tt, (tt, tt))) (tt, (tt, (tt, tt)))) $ says ! e $
       move ! (1 ∷ []) $ frame ! $ nothing ! $ owned ! usize (Is usize) (uint-makes 𝓤 H A W w64) m _ (refl, m-fits) $ fjoin ! $ owned ! usize (Is usize) (uint-makes 𝓤 H A W w64) n _ (refl, n-fits) $ fjoin ! $ move ! (2 ∷ 0 ∷ []) $ fjoin ! $ frame ! $ done !
 
@@ -130,11 +133,11 @@ module _ {M : Type 1} (𝓤 : URA M) (H : Heap 𝓤) (A : Atoms 𝓤) (W : Given
         land ! (from ! (stop !)) (init ! 3 refl (LL.lawful (T.the-type αᵉ) (T′.the-laws αᵉ) 𝓤 H A W .typed r _ is .0)) $
         use2 W (raw (Asked 𝓤 H A mem run .pre (to-ask r u))) (goes-ask r u) $
         calls-at ! fm (Asked 𝓤 H A mem run) known-ask (to-ask r u) (and-then ! (load ! (from ! (stop !)) (look ! 2 refl)) (and-then ! (load ! (from ! (stop !)) (look ! 4 refl)) (no-more !))) (λ u′.
-        use1 W (later (some (λ (t : ℕ). ((‵ (flft κ q) ⊛ ‵ ftrue) ⊛ ‵ (usize .own t (u′ ∷ []))) ⊛ raw (ensured 𝓤 H A newlines-up-to.ended (newlines-up-to.clauses 𝓤 H A mem run) (κ, tt) (r, (m, tt)) tt t)))) (id⊢ 𝓤 _) $ await ! tt $ pick ! (λ t.
+        use1 W (later (some (λ (t : Newlines). ((‵ (flft κ q) ⊛ ‵ ftrue) ⊛ ‵ (N.the-row .own t (u′ ∷ []))) ⊛ raw (ensured 𝓤 H A newlines-up-to.ended (newlines-up-to.clauses 𝓤 H A mem run) (κ, tt) (r, (m, tt)) tt t)))) (id⊢ 𝓤 _) $ await ! tt $ pick ! (λ t.
         split ! $ move ! (1 ∷ []) $ use1 W (raw (fact 𝓤 (t ≡ countNewlines (now (r .source)) (r .at) m))) (ask-said r t) $ heard ! (t ≡ countNewlines (now (r .source)) (r .at) m) (λ e′. split ! $ move ! (1 ∷ []) $
         -- [the result; the token; what s owns; _4; …; _3; …; _2; …; _1; …; room for _0; …]
-        peeks ! usize (Is usize) (shows 𝓤 H A usize) t (u′ ∷ []) (λ is′.
-        land ! (from ! (stop !)) (init ! 11 refl (uint-lawful 𝓤 H A W w64 .typed t _ is′ .0)) $
+        peeks ! N.the-row (Is N.the-row) (shows 𝓤 H A N.the-row) t (u′ ∷ []) (λ is′.
+        land ! (from ! (stop !)) (init ! 11 refl (LL.lawful N.the-type N′.the-laws 𝓤 H A W .typed t _ is′ .0)) $
         returns ! (look ! 11 refl) $ forget ! 3 refl $ forget ! 5 refl $ forget ! 7 refl $ forget ! 9 refl $ forget ! 11 refl $ move ! (11 ∷ 12 ∷ []) $ free1 ! $ move ! (9 ∷ 10 ∷ []) $ free1 ! $ move ! (7 ∷ 8 ∷ []) $ free1 ! $ move ! (5 ∷ 6 ∷ []) $ free1 ! $ move ! (3 ∷ 4 ∷ []) $ free1 ! $ free0 ! $
         by ! (exits t u′ (e′ ∙ (ap (λ (x : RefT (List ℕ)). countNewlines (now x) (r .at) m) (e .0) ∙ ap (λ (k : ℕ). countNewlines (now s) k m) (e .1)))))))))))))))))
 

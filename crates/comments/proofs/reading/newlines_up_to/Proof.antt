@@ -43,6 +43,9 @@ use denote.Triple.Walked.{says, Stays, stay-none, walkOf, goes-none, Walks, ends
 use denote.Exit.{yes}
 use denote.Triple.Clauses.{ensured, lasts}
 use Rattle.text.specs.Newlines.{countNewlines}
+use Rattle.text.specs.declared.newlines.Newlines.{Newlines}
+use Rattle.text.proofs.newlines.Newlines as N
+use Rattle.text.proofs.newlines.Newlines.Laws as N′
 use Rattle.comments.specs.declared.reading.Reading.{Reading}
 use Rattle.comments.proofs.reading.Reading as T
 use Rattle.comments.proofs.reading.Reading.Laws as T′
@@ -75,7 +78,7 @@ module _ {M : Type 1} (𝓤 : URA M) (H : Heap 𝓤) (A : Atoms 𝓤) (W : Given
   abbrev v : Val
   v = sliceVal (d .source .ptr) (length (d .source .now))
 
-  abbrev found : ℕ
+  abbrev found : Newlines
   found = countNewlines (now (d .source)) (d .at) n
 
   abbrev Post : Val → SProp 𝓤
@@ -115,12 +118,12 @@ module _ {M : Type 1} (𝓤 : URA M) (H : Heap 𝓤) (A : Atoms 𝓤) (W : Given
       move ! (2 ∷ 0 ∷ []) $ use2 W (raw (Count 𝓤 H A mem run .pre to)) asked $ frame ! $ done !)
 
   -- of the callee's `ensured`, the clause alone: it has no `&mut`, so what is said of last values is dropped
-  said : (r : ℕ) → ent 𝓤 (ensured 𝓤 H A count-newlines.ended (count-newlines.clauses 𝓤 H A mem run) (κ, tt) (d .source, (d .at, (n, tt))) tt r) (fact 𝓤 (r ≡ found))
+  said : (r : Newlines) → ent 𝓤 (ensured 𝓤 H A count-newlines.ended (count-newlines.clauses 𝓤 H A mem run) (κ, tt) (d .source, (d .at, (n, tt))) tt r) (fact 𝓤 (r ≡ found))
   said r = exE 𝓤 _ (λ ws. snd∗ 𝓤 (sem 𝓤 H A (lasts count-newlines.ended (κ, tt) (d .source, (d .at, (n, tt))) ws)) (fact 𝓤 (r ≡ found)))
 
-  exits : (r : ℕ) (u : Val) → r ≡ found → ent 𝓤 (⋆ 𝓤 H A (‵ (usize .own r (u ∷ [])) ∷ (‵ (flft κ q) ⊛ ‵ ftrue) ∷ ‵ Own ∷ [])) (Post u)
+  exits : (r : Newlines) (u : Val) → r ≡ found → ent 𝓤 (⋆ 𝓤 H A (‵ (N.the-row .own r (u ∷ [])) ∷ (‵ (flft κ q) ⊛ ‵ ftrue) ∷ ‵ Own ∷ [])) (Post u)
   exits r u e =
-      qed W (‵ (usize .own r (u ∷ [])) ∷ (‵ (flft κ q) ⊛ ‵ ftrue) ∷ ‵ Own ∷ []) ∵
+      qed W (‵ (N.the-row .own r (u ∷ [])) ∷ (‵ (flft κ q) ⊛ ‵ ftrue) ∷ ‵ Own ∷ []) ∵
       suffices ! _ (ends-at 𝓤 H A newlines-up-to.ended stayed (newlines-up-to.clauses 𝓤 H A mem run) W (((κ, tt), (q, tt), tt, (d, (n, tt)), (mach ∷ [], (vint w64 n ∷ [], tt))), tt) u r (tt, (tt, tt)) (tt, (tt, tt))) $ says ! e $
       move ! (1 ∷ []) $ frame ! $ nothing ! $ owned ! usize (Is usize) (uint-makes 𝓤 H A W w64) n _ (refl, fits) $ fjoin ! $ move ! (2 ∷ 0 ∷ []) $ fjoin ! $ frame ! $ done !
 
@@ -133,11 +136,11 @@ module _ {M : Type 1} (𝓤 : URA M) (H : Heap 𝓤) (A : Atoms 𝓤) (W : Given
         assigns ! (of-opd ! (load ! (from ! (fld ! refl (stop !))) (look-in ! 6 (sub ! 1 refl (whole !))))) (from ! (stop !)) (init ! 0 refl (tt, wt .1 .1 .0)) $
         move ! (10 ∷ []) $ use1 W (raw (Count 𝓤 H A mem run .pre to) ⊛ ‵ Own) (apart (wt .1 .1 .0 .fits)) $ split ! $
         calls-at ! fm (Count 𝓤 H A mem run) known to (and-then ! (load ! (from ! (stop !)) (look ! 4 refl)) (and-then ! (load ! (from ! (stop !)) (look ! 2 refl)) (and-then ! (load ! (from ! (stop !)) (look ! 6 refl)) (no-more !)))) (λ u.
-        use1 W (later (some (λ (r : ℕ). ((‵ (flft κ q) ⊛ ‵ ftrue) ⊛ ‵ (usize .own r (u ∷ []))) ⊛ raw (ensured 𝓤 H A count-newlines.ended (count-newlines.clauses 𝓤 H A mem run) (κ, tt) (d .source, (d .at, (n, tt))) tt r)))) (id⊢ 𝓤 _) $ await ! tt $ pick ! (λ r.
+        use1 W (later (some (λ (r : Newlines). ((‵ (flft κ q) ⊛ ‵ ftrue) ⊛ ‵ (N.the-row .own r (u ∷ []))) ⊛ raw (ensured 𝓤 H A count-newlines.ended (count-newlines.clauses 𝓤 H A mem run) (κ, tt) (d .source, (d .at, (n, tt))) tt r)))) (id⊢ 𝓤 _) $ await ! tt $ pick ! (λ r.
         split ! $ move ! (1 ∷ []) $ use1 W (raw (fact 𝓤 (r ≡ found))) (said r) $ heard ! (r ≡ found) (λ e. split ! $ move ! (1 ∷ []) $
         -- [the result; the token; what the struct owns; _4; …; _3; …; _2; …; _1; …; room for _0; …]
-        peeks ! usize (Is usize) (shows 𝓤 H A usize) r (u ∷ []) (λ is.
-        land ! (from ! (stop !)) (init ! 11 refl (uint-lawful 𝓤 H A W w64 .typed r _ is .0)) $
+        peeks ! N.the-row (Is N.the-row) (shows 𝓤 H A N.the-row) r (u ∷ []) (λ is.
+        land ! (from ! (stop !)) (init ! 11 refl (LL.lawful N.the-type N′.the-laws 𝓤 H A W .typed r _ is .0)) $
         returns ! (look ! 11 refl) $ forget ! 3 refl $ forget ! 5 refl $ forget ! 7 refl $ forget ! 9 refl $ forget ! 11 refl $
         move ! (11 ∷ 12 ∷ []) $ free1 ! $ move ! (9 ∷ 10 ∷ []) $ free1 ! $ move ! (7 ∷ 8 ∷ []) $ free1 ! $ move ! (5 ∷ 6 ∷ []) $ free1 ! $ move ! (3 ∷ 4 ∷ []) $ free1 ! $ free0 ! $ by ! (exits r u e))))))))))
 

@@ -1,5 +1,6 @@
 -- Each case of the match is one clause of the definition.
 use mathlib.Core.Path.{ap, _∙_}
+use Rattle.text.specs.declared.newlines.Newlines.{Newlines}
 use Rattle.text_replay.specs.Sections.{answer, place, point}
 use borrow.Author.Needs.{needs}
 use Rattle.text_replay.proofs.questions.answer.Statement.{statement}
@@ -7,7 +8,7 @@ use Rattle.text_replay.proofs.questions.answer.Tie as tie
 
 returns : tie.Need-returns
 unfolding answer
-returns c = rw (c .before .enum-told .given .1) (c .count-newlines .ensures)
+returns c = rw (c .before .enum-told .given .1) (ap (λ (n : Newlines). n .count) (c .count-newlines .ensures))
 
 returns-2 : tie.Need-returns-2
 unfolding answer
@@ -24,6 +25,10 @@ returns-4 c = rw (c .before .before .enum-told4 .given .1) (c .point .ensures �
 returns-5 : tie.Need-returns-5
 unfolding answer
 returns-5 c = rw (c .before .before .enum-told5 .given .1) (c .point2 .ensures ∙ ap point (c .before .char-before .ensures))
+
+returns-6 : tie.Need-returns-6
+unfolding answer
+returns-6 c = rw (c .before .enum-told6 .given .1) (ap (λ (n : Newlines). n .place) (c .count-newlines2 .ensures))
 
 pub answer-spec : {M : Type 1} → statement M
 answer-spec =
@@ -47,8 +52,13 @@ answer-spec =
     (λ c. search needs)
     (λ c κs. search needs)
     (λ c κs. search needs)
+    (λ c. search needs)
+    (λ c. search needs)
+    (λ c. search needs)
+    (λ c κs. search needs)
     returns
     returns-2
     returns-3
     returns-4
-    returns-5)
+    returns-5
+    returns-6)

@@ -9,10 +9,13 @@ use Rattle.text_replay.proofs.questions.answers.Statement.{statement}
 use Rattle.text_replay.proofs.questions.answers.Tie as tie
 
 mul-result : tie.Need-mul-result
-mul-result c = omega (arith, square-small (length (c .before .before .args .s .now) + 2) (omega arith))
+mul-result c = omega (arith, square-small (length (c .before .before .args .s .now) + 2) (omega (arith, c .before .before .pre)))
 
 mul-result-2 : tie.Need-mul-result-2
-mul-result-2 c = omega (arith, square-small (length (c .before .before .args .s .now) + 2) (omega arith))
+mul-result-2 c = omega (arith, square-small (length (c .before .before .args .s .now) + 2) (omega (arith, c .before .before .pre)))
+
+mul-result-3 : tie.Need-mul-result-3
+mul-result-3 c = omega (arith, square-small (length (c .before .before .args .s .now) + 2) (omega (arith, c .before .before .pre)))
 
 returns : tie.Need-returns
 unfolding answers
@@ -34,6 +37,10 @@ returns-5 : tie.Need-returns-5
 unfolding answers
 returns-5 c = sym (ap (answers (c .before .before .args .s .now)) (c .enum-told5 .given .1))
 
+returns-6 : tie.Need-returns-6
+unfolding answers
+returns-6 c = sym (ap (answers (c .before .before .args .s .now)) (c .enum-told6 .given .1))
+
 pub answers-spec : {M : Type 1} → statement M
 answers-spec =
     tie.close
@@ -46,8 +53,11 @@ answers-spec =
     (λ c. search needs)
     (λ c. search needs)
     (λ c. search needs)
+    (λ c. search needs)
+    mul-result-3
     returns
     returns-2
     returns-3
     returns-4
-    returns-5)
+    returns-5
+    returns-6)

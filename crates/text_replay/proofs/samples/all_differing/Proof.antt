@@ -1,4 +1,4 @@
--- The five blocks follow one another: each starts where the one before ends, and the last ends with the sample.
+-- The six blocks follow one another: each starts where the one before ends, and the last ends with the sample.
 use native.Mathlib.Omega.{arith}
 use Rattle.text_replay.specs.Sections.{answers, width, allDiffering}
 use Rattle.text_replay.proofs.Soundness.{differing-small}
@@ -38,9 +38,16 @@ differing-requires-5 c κs = (c .before .before .before .before .before .before 
 add-result-4 : tie.Need-add-result-4
 add-result-4 c = omega (arith, differing-small _ _ _ _ _ (c .before .before .before .before .before .before .before .pre .0) (c .before .before .before .before .differing .ensures), differing-small _ _ _ _ _ (c .before .before .before .before .before .before .before .pre .0) (c .before .before .before .differing2 .ensures), differing-small _ _ _ _ _ (c .before .before .before .before .before .before .before .pre .0) (c .before .before .differing3 .ensures), differing-small _ _ _ _ _ (c .before .before .before .before .before .before .before .pre .0) (c .before .differing4 .ensures), differing-small _ _ _ _ _ (c .before .before .before .before .before .before .before .pre .0) (c .differing5 .ensures))
 
+differing-requires-6 : tie.Need-differing-requires-6
+unfolding answers width
+differing-requires-6 c κs = (c .before .before .before .before .before .before .before .pre .0, omega (arith, c .before .before .before .before .before .before .before .pre .1))
+
+add-result-5 : tie.Need-add-result-5
+add-result-5 c = omega (arith, differing-small _ _ _ _ _ (c .before .before .before .before .before .before .before .before .pre .0) (c .before .before .before .before .before .differing .ensures), differing-small _ _ _ _ _ (c .before .before .before .before .before .before .before .before .pre .0) (c .before .before .before .before .differing2 .ensures), differing-small _ _ _ _ _ (c .before .before .before .before .before .before .before .before .pre .0) (c .before .before .before .differing3 .ensures), differing-small _ _ _ _ _ (c .before .before .before .before .before .before .before .before .pre .0) (c .before .before .differing4 .ensures), differing-small _ _ _ _ _ (c .before .before .before .before .before .before .before .before .pre .0) (c .before .differing5 .ensures), differing-small _ _ _ _ _ (c .before .before .before .before .before .before .before .before .pre .0) (c .differing6 .ensures))
+
 returns : tie.Need-returns
 unfolding allDiffering
-returns c = rw (c .before .before .before .before .differing .ensures, c .before .before .before .differing2 .ensures, c .before .before .differing3 .ensures, c .before .differing4 .ensures, c .differing5 .ensures)
+returns c = rw (c .before .before .before .before .before .differing .ensures, c .before .before .before .before .differing2 .ensures, c .before .before .before .differing3 .ensures, c .before .before .differing4 .ensures, c .before .differing5 .ensures, c .differing6 .ensures)
 
 pub all-differing-spec : {M : Type 1} → statement M
 all-differing-spec =
@@ -63,4 +70,8 @@ all-differing-spec =
     (λ c. search needs)
     differing-requires-5
     add-result-4
+    (λ c. search needs)
+    (λ c. search needs)
+    differing-requires-6
+    add-result-5
     returns)
