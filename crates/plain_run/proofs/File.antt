@@ -32,7 +32,7 @@ use Rattle.cut_rule.specs.Tests.{rowsIn, renderTests, placesTests, limitTests, 
 use Rattle.cut_rule.specs.Parts.{layoutTests, rowsNeeded, drawnOf, beforeMarks, renderTable}
 use Rattle.plain_run.specs.Parts.{readRefusal, renderImage, acceptedTree, drawn, partsOf}
 use Rattle.plain_run.specs.Demands.{rulesOf, laidTo, closingAt}
-use Rattle.plain_run.specs.File.{built, rowsDue, marksDue, drawnDue, laidRefusal, refusalIn}
+use Rattle.plain_run.specs.File.{built, rowsDue, marksDue, drawnDue, laidRefusal, refusalIn, storeLeft, marksLeft, outputLeft}
 use Rattle.plain_run.proofs.Whole.{fmt-parsed}
 use Rattle.plain_run.proofs.Limits.{all-limited}
 use Rattle.plain_run.proofs.RenderParts.{render-parts}
@@ -50,18 +50,6 @@ fits-header b h =
       eq-eqb (5 + be32 b 1) (length b) (h .size),
       le-leb (be32 b 1) 1048576 (h .short),
     )
-
--- what the two calls leave of store, marks and output: where 9 or 10 refuses, the rows are laid already
-abbrev pub storeLeft : List ℕ → List ℕ → List ℕ → List ℕ
-storeLeft s b store = unless (laidRefusal s b (rowsIn store)) store (writeFront (rows (built s b .nodes) 0) store)
-
-abbrev pub marksLeft : List ℕ → List ℕ → List ℕ → List ℕ → List ℕ → List ℕ
-marksLeft s b store marks out =
-    unless (refusalIn s b (rowsIn store) (length marks) (length out)) marks (writeFront (drawnDue s b .marks) marks)
-
-abbrev pub outputLeft : List ℕ → List ℕ → List ℕ → List ℕ → List ℕ → List ℕ
-outputLeft s b store marks out =
-    unless (refusalIn s b (rowsIn store) (length marks) (length out)) out (writeFront (drawnDue s b .text) out)
 
 first-none : (a b : Option Refusal) → first (a ∷ b ∷ []) ≡ none → a ≡ none
 first-none none b e = refl

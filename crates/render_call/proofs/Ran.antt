@@ -52,7 +52,7 @@ module _ (source image : List ℕ) (state : RenderState) (args : RenderArgs) (st
       ≡ withPast gives past
   ran past =
       ap drawnBy
-      (renders-ext [] past (pageOf 80 source image) (nodesAt (viewOf store) (state .row) (args .stop)) true (rendererOf (toState state .pen) inUse) under)
+      (renders-ext [] past 0 (pageOf 80 source image) (nodesAt (viewOf store) (state .row) (args .stop)) true (rendererOf (toState state .pen) inUse) under)
 
   -- what the run leaves of the marks is as many as it took up, so with the buffer's own behind them the buffer is as the call leaves it
   pub marks-onto : gives .marks ++ drop (length inUse) marks ≡ writeFront (gives .marks) marks

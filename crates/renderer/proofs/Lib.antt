@@ -5,6 +5,7 @@ pub mod Followed
 pub mod Framed
 pub mod Leaves
 pub mod Loan
+pub mod Measured
 pub mod Opening
 pub mod Outcome
 pub mod Packed

@@ -58,13 +58,14 @@ module _ (store source image : List ℕ) (max limit stop : ℕ) where
     pub base : ℕ
     pub low : base ≤ 128
     pub text : List ℕ
+    pub widest : ℕ
     pub entered : ℕ
     pub wrote : Wrote limit out0 out (r .writing .at .0) text
-    pub fine : Fine v pg stop (machineOf r marks text entered)
-    pub safe : Safe v base (machineOf r marks text entered)
-    pub mean : means v pg stop (machineOf r marks text entered) ≡ final
+    pub fine : Fine v pg stop (machineOf r marks text widest entered)
+    pub safe : Safe v base (machineOf r marks text widest entered)
+    pub mean : means v pg stop (machineOf r marks text widest entered) ≡ final
 
-  pub going-start : (out marks : List ℕ) (p : Writing) (from : ℕ) (fs : List Frame) → length fs ≡ MAX-DEPTH → SmallTexts v pg → Starting store limit from stop out p
+  unfoldable pub going-start : (out marks : List ℕ) (p : Writing) (from : ℕ) (fs : List Frame) → length fs ≡ MAX-DEPTH → SmallTexts v pg → Starting store limit from stop out p
       → Going (renderNodes pg (nodesAt v from stop) true (freshRenderer (p .pen) marks)) out marks out (withFrames fs (record { depth = 0; next = from; writing = p }))
   unfolding machineOf meaning rest partLimit wrapAt Under steps ins writtenOver
   going-start out marks p from fs e s g =
@@ -77,6 +78,7 @@ module _ (store source image : List ℕ) (max limit stop : ℕ) where
         base = p .pen .indent + p .pen .«next_indent»;
         low = g .margin;
         text = [];
+        widest = 0;
         entered = 0;
         wrote = record { bytes = g .at; written = refl };
         fine = record { good = g .nested .nests; under = tt; low = omega arith; size = e; deep = omega arith };
@@ -111,7 +113,7 @@ module _ (store source image : List ℕ) (max limit stop : ℕ) where
           safe = record { sum = s .sum; low = s .low; column = s .column; bytes = s .bytes };
         }
 
-    not-done : (0 < r .depth) ⊎ (r .next < stop) → isDone v pg stop (machineOf r marks (g .text) (g .entered)) ≡ false
+    pub not-done : (0 < r .depth) ⊎ (r .next < stop) → isDone v pg stop (machineOf r marks (g .text) (g .widest) (g .entered)) ≡ false
     unfolding isDone machineOf
     not-done (inl h) = rw (ne-eqb (r .depth) 0 (λ e. omega arith))
     not-done (inr h) = go (eqb (r .depth) 0) (ne-eqb (r .next) stop (λ e. omega arith))
@@ -122,14 +124,14 @@ module _ (store source image : List ℕ) (max limit stop : ℕ) where
 
     module _ (marks2 out2 : List ℕ) (q : Running) (f : Follows limit (turn v pg) marks out r marks2 out2 q) (n : (0 < r .depth) ⊎ (r .next < stop)) where
       m : Machine
-      m = turn v pg (machineOf r marks (g .text) (g .entered))
+      m = turn v pg (machineOf r marks (g .text) (g .widest) (g .entered))
 
-      shown : Shows limit out0 marks2 out2 q (turn v pg (machineOf r marks (g .text) (g .entered)))
-      shown = f .goes out0 (g .text) (g .entered) (g .wrote)
+      pub shown : Shows limit out0 marks2 out2 q (turn v pg (machineOf r marks (g .text) (g .widest) (g .entered)))
+      shown = f .goes out0 (g .text) (g .widest) (g .entered) (g .wrote)
 
-      pub going-on : Going final out0 marks2 out2 q
+      unfoldable pub going-on : Going final out0 marks2 out2 q
       going-on =
-          let t = turned v pg stop (machineOf r marks (g .text) (g .entered)) (g .fine) (not-done n) in
+          let t = turned v pg stop (machineOf r marks (g .text) (g .widest) (g .entered)) (g .fine) (not-done n) in
           let s = shown in
           record {
             room = g .room;
@@ -138,21 +140,22 @@ module _ (store source image : List ℕ) (max limit stop : ℕ) where
             small = g .small;
             base = g .base;
             low = g .low;
-            text = turn v pg (machineOf r marks (g .text) (g .entered)) .state .buf;
-            entered = turn v pg (machineOf r marks (g .text) (g .entered)) .entered;
+            text = turn v pg (machineOf r marks (g .text) (g .widest) (g .entered)) .state .buf;
+            widest = turn v pg (machineOf r marks (g .text) (g .widest) (g .entered)) .state .widest;
+            entered = turn v pg (machineOf r marks (g .text) (g .widest) (g .entered)) .entered;
             wrote = s .wrote;
             fine = subst (λ (x : Machine). Fine v pg stop x) (s .same) (t .fine);
-            safe = subst (λ (x : Machine). Safe v (g .base) x) (s .same) (turn-safe v pg stop (g .base) (machineOf r marks (g .text) (g .entered)) (g .fine) (not-done n) (g .small) (g .low) (g .safe));
+            safe = subst (λ (x : Machine). Safe v (g .base) x) (s .same) (turn-safe v pg stop (g .base) (machineOf r marks (g .text) (g .widest) (g .entered)) (g .fine) (not-done n) (g .small) (g .low) (g .safe));
             mean = ap (means v pg stop) (sym (s .same)) ∙ t .same ∙ g .mean;
           }
 
       pub going-less : (stop - q .next) * 3 + weight (q .frames) (q .depth) < (stop - r .next) * 3 + weight (r .frames) (r .depth)
       unfolding machineOf
       going-less =
-          let t = turned v pg stop (machineOf r marks (g .text) (g .entered)) (g .fine) (not-done n) in
+          let t = turned v pg stop (machineOf r marks (g .text) (g .widest) (g .entered)) (g .fine) (not-done n) in
           subst (λ (x : Machine). left stop x < (stop - r .next) * 3 + weight (r .frames) (r .depth)) (shown .same) (t .less)
 
-    is-done : r .depth ≤ 0 → stop ≤ r .next → isDone v pg stop (machineOf r marks (g .text) (g .entered)) ≡ true
+    pub is-done : r .depth ≤ 0 → stop ≤ r .next → isDone v pg stop (machineOf r marks (g .text) (g .widest) (g .entered)) ≡ true
     unfolding isDone machineOf partLimit
     is-done d e =
         let k : r .depth ≡ 0 = omega arith in
@@ -164,5 +167,5 @@ module _ (store source image : List ℕ) (max limit stop : ℕ) where
     unfolding machineOf
     going-end d e =
         let z = is-done d e in
-        subst (λ (s : Renderer). Ended limit s out0 marks out (r .writing)) (sym (done-means v pg stop (machineOf r marks (g .text) (g .entered)) z) ∙ g .mean)
+        subst (λ (s : Renderer). Ended limit s out0 marks out (r .writing)) (sym (done-means v pg stop (machineOf r marks (g .text) (g .widest) (g .entered)) z) ∙ g .mean)
         (record { pen = refl; bytes = g .wrote .bytes; marks = refl; written = g .wrote .written })

@@ -133,9 +133,12 @@ ended limit t out p q n out2 out3 e m a b =
     along : (a n : ℕ) → a + n + 1 ≡ a + (n + 1)
     along a n = omega arith
 
-over-column : (c : ℕ) (t : List ℕ) (s : Renderer) → atColumn 0 (pushStr t (atColumn c s)) ≡ atColumn 0 (pushStr t s)
-unfolding atColumn pushStr
-over-column c t s = refl
+-- a column that is set anew leaves no trace in what is written
+over-column : (limit c : ℕ) (t : List ℕ) (s : Renderer) (out : List ℕ) (p : Writing) (out2 : List ℕ) (q : Writing)
+    → Writes limit (atColumn 0 (pushStr t (atColumn c s))) out p out2 q
+    → Writes limit (atColumn 0 (pushStr t s)) out p out2 q
+unfolding atColumn pushStr writingAfter
+over-column limit c t s out p out2 q d = record { after = d .after; written = d .written }
 
 -- `text`, `comment` and `EmptyLine` from what they are made of
 pub text-writes-on : (limit : ℕ) (t : List ℕ) (w : ℕ) (out : List ℕ) (p : Writing) (out2 : List ℕ) (q : Writing) → 0 < p .pen .column .0
@@ -158,8 +161,9 @@ pub comment-writes-on : (limit : ℕ) (t : List ℕ) (c : ℕ) (out : List ℕ) 
     → Writes limit (atColumn 0 (pushStr (t ++ (0x0A ∷ [])) (freshRenderer (q .pen) []))) out2 q out3 r
     → Writes limit (comment t (freshRenderer (p .pen) [])) out p out3 r
 comment-writes-on limit t c out p out2 q out3 r h a b =
-    rw (comment-on t p h, ← over-column c (t ++ (0x0A ∷ [])) (pushStr (0x20 ∷ []) (freshRenderer (p .pen) [])))
-    (then-put limit (atColumn c (pushStr (0x20 ∷ []) (freshRenderer (p .pen) []))) (t ++ (0x0A ∷ [])) 0 out p out2 q out3 r a b)
+    rw (comment-on t p h)
+    (over-column limit c (t ++ (0x0A ∷ [])) (pushStr (0x20 ∷ []) (freshRenderer (p .pen) [])) out p out3 r
+    (then-put limit (atColumn c (pushStr (0x20 ∷ []) (freshRenderer (p .pen) []))) (t ++ (0x0A ∷ [])) 0 out p out2 q out3 r a b))
 
 pub comment-writes-new : (limit : ℕ) (t out : List ℕ) (p : Writing) (out2 : List ℕ) (q : Writing) (out3 : List ℕ) (r : Writing) → p .pen .column .0 ≤ 0
     → Writes limit (margin (freshRenderer (p .pen) [])) out p out2 q

@@ -1,0 +1,236 @@
+-- From what the run of a file ensures to what counting it answers.
+-- Assumes nothing.
+use mathlib.Core.Path.{_≡_, refl, sym, ap, ap₂, subst, subst₂, _∙_}
+use mathlib.Core.Bool.{Bool, true, false, not}
+use mathlib.Core.Option.{Option, none, some}
+use mathlib.Core.List.{List, [], _∷_, _++_}
+use Prim.Native.Nat.{ℕ, _+_, _*_, _-_, _/_, _≤_}
+use native.Mathlib.Nat.{add-zero}
+use native.Mathlib.Omega.{arith}
+use lib.Dec.{ltb}
+use lib.ListN.{length, take, drop, replicate, length-append, length-replicate}
+use lib.Seq.{take-at}
+use Rattle.image.specs.Read.{readAll, answerOf}
+use Rattle.image.specs.declared.Answer.the-variants as checked
+use Rattle.rows.specs.Places.{PLACES}
+use Rattle.rows.specs.Rows.{rows}
+use Rattle.rows.specs.View.{viewOf, nodesAt}
+use Rattle.rows.specs.Nesting.{Nested}
+use Rattle.rows.specs.declared.units.Bytes.{Bytes}
+use Rattle.comments.specs.Listed.{commentsOf}
+use Rattle.renderer_rules.specs.Widest.{greatestColumn}
+use Rattle.refusals.specs.Refusals.{Refusal, any, unless, orElse, first, refuseIf}
+use Rattle.cut_rule.specs.Run.{writeFront}
+use Rattle.plain_run.specs.Parts.{page}
+use Rattle.plain_run.specs.File.{fileRows, fileMarks, built, rowsDue, drawnDue, laidRefusal, refusalIn, fileRefusal, refused, formatted, fileAnswerBy, fileAnswer}
+use Rattle.plain_run.proofs.Refused.{read-refused}
+use Rattle.layout_call.specs.Steps.{Accepts}
+use Rattle.layout_call.specs.declared.Document.{Document}
+use Rattle.layout_call.proofs.Standing.{stands, comments-count}
+use Rattle.file.specs.Whole.{RunsFile, formattedAnswer}
+use Rattle.file.specs.declared.Formatted.{Formatted}
+use Rattle.file.specs.declared.Formatted.the-variants as format
+use Rattle.tallies.specs.declared.Figures.{Figures}
+use Rattle.tallies.specs.declared.Tallies.{Tallies}
+use Rattle.tallies.specs.declared.Fraction.{Fraction}
+use Rattle.tallies.specs.Tallies.{Within, added, tallyTests, tallyRefusal}
+use Rattle.tallies.specs.Fraction.{reduced}
+use Rattle.figures.specs.Figures.{FILE-OUTPUT, occurs, figuresOf, counted, countAnswerBy, countAnswer, countedAnswer, CountAnswer}
+use Rattle.figures.specs.declared.Counted.the-variants as answer
+use Rattle.figures.proofs.Occurring.{occurs-append, occurs-cleared}
+use Rattle.figures.proofs.Laid.{nested, column-due}
+use Rattle.figures.proofs.Bounds.{nines, laid-passes, marks-fit, placed-in, within}
+
+abbrev at : ℕ → ℕ → Refusal
+at n p = record { number = n; place = p }
+
+-- ---- 14
+pub tallies-refused : (t : Tallies) (f : Figures) (x : Bool) → x ≡ not (any (tallyTests t)) → not x ≡ true
+    → countedAnswer (answer.Refused 14 0) ≡ countAnswerBy (tallyRefusal t) f t
+tallies-refused t f x e h = sym (ap (λ (b : Bool). countAnswerBy (refuseIf b 14 0) f t) (go (any (tallyTests t)) x e h))
+  where
+    go : (b x : Bool) → x ≡ not b → not x ≡ true → b ≡ true
+    go true x e h = refl
+    go false x e h = sym (ap not e) ∙ h
+
+pub tallies-pass : (t : Tallies) (x : Bool) → x ≡ not (any (tallyTests t)) → not x ≡ false → any (tallyTests t) ≡ false
+tallies-pass t x e h = go (any (tallyTests t)) x e h
+  where
+    go : (b x : Bool) → x ≡ not b → not x ≡ false → b ≡ false
+    go true x e h = sym (ap not e) ∙ h
+    go false x e h = refl
+
+pub figures-counted : (t new : Tallies) (f : Figures) (q : Fraction) → any (tallyTests t) ≡ false → new ≡ added f t
+    → q ≡ reduced (new .all .wrapped) (new .all .given)
+    → countedAnswer (answer.File f new q) ≡ countAnswerBy (tallyRefusal t) f t
+figures-counted t new f q e g h =
+    (λ i. counted f (g i) (h i))
+    ∙ (λ i. counted f (added f t) (reduced (g i .all .wrapped) (g i .all .given)))
+    ∙ sym (ap (λ (b : Bool). countAnswerBy (refuseIf b 14 0) f t) e)
+
+-- ---- an answer taken apart
+refusal-told : (o : Option Refusal) (a b c d : ℕ) (r : Refusal) → refused r ≡ fileAnswerBy o (formatted a b c d) → o ≡ some r
+refusal-told (some q) a b c d r e = cc
+refusal-told none a b c d r e = let z : _≡_ {A = ℕ} 0 1 = cc in absurd (omega arith)
+
+record TextTold (o : Option Refusal) (a b c d x y z w : ℕ) : Type 0 where
+  passes : o ≡ none
+  bytes : x ≡ a
+  left : y ≡ b
+  rows : z ≡ c
+  numbers : w ≡ d
+
+text-told : (o : Option Refusal) (a b c d x y z w : ℕ) → formatted x y z w ≡ fileAnswerBy o (formatted a b c d) → TextTold o a b c d x y z w
+text-told (some q) a b c d x y z w e = let z : _≡_ {A = ℕ} 0 1 = cc in absurd (omega arith)
+text-told none a b c d x y z w e = record { passes = refl; bytes = cc; left = cc; rows = cc; numbers = cc }
+
+or-nothing : (o : Option Refusal) → orElse o none ≡ o
+or-nothing (some r) = refl
+or-nothing none = refl
+
+module _ (s b : List ℕ) where
+  abbrev leftDue : ℕ
+  leftDue = length (commentsOf b) - built s b .placed
+
+  abbrev textDue : ℕ
+  textDue = length (drawnDue s b .text)
+
+  -- a file that document 01 refuses is not counted, whatever the tallies are
+  file-refused : (t : Tallies) (n p : ℕ) → fileRefusal s b FILE-OUTPUT ≡ some (at n p) → countedAnswer (answer.Refused n p) ≡ countAnswer s b t
+  file-refused t n p e = sym (ap (λ (x : Option Refusal). countAnswerBy (first (x ∷ tallyRefusal t ∷ [])) (figuresOf s b) t) e)
+
+  -- 1 to 7
+  pub check-refused : (t : Tallies) (n p : ℕ) → answerOf (readAll s b) ≡ checked.Refused n p → countedAnswer (answer.Refused n p) ≡ countAnswer s b t
+  check-refused t n p e =
+      file-refused t n p
+      (ap (λ (x : Option Refusal). first (first (x ∷ refuseIf (ltb fileRows (rowsDue s b)) 8 (rowsDue s b) ∷ []) ∷ nines s b))
+      (read-refused (readAll s b) n p e))
+
+  -- ---- the run in cleared rows and marks
+  module _ (store marks out : List ℕ) (rowed : store ≡ replicate (fileRows * PLACES) 0) (marked : marks ≡ replicate fileMarks 0) (room : FILE-OUTPUT ≡ length out)
+      (r : Formatted) (store2 marks2 out2 : List ℕ) (ran : RunsFile s b store marks out r store2 marks2 out2) where
+    marks-many : length marks ≡ fileMarks
+    marks-many = ap length marked ∙ length-replicate {A = ℕ} fileMarks 0
+
+    rows-many : length store / PLACES ≡ fileRows
+    rows-many = ap (λ (l : List ℕ). length l / PLACES) rowed ∙ ap (λ (n : ℕ). n / PLACES) (length-replicate {A = ℕ} (fileRows * PLACES) 0)
+
+    table-same : refusalIn s b (length store / PLACES) (length marks) (length out) ≡ fileRefusal s b FILE-OUTPUT
+    table-same = λ i. refusalIn s b (rows-many i) (marks-many i) (sym room i)
+
+    told : formattedAnswer r ≡ fileAnswer s b FILE-OUTPUT
+    told = ran .answer ∙ ap (λ (o : Option Refusal). fileAnswerBy o (formatted textDue leftDue (rowsDue s b) (built s b .taken))) table-same
+
+    -- 8 to 10
+    pub run-refused : (t : Tallies) (n p : ℕ) → r ≡ format.Refused n p → countedAnswer (answer.Refused n p) ≡ countAnswer s b t
+    run-refused t n p e =
+        file-refused t n p
+        (refusal-told (fileRefusal s b FILE-OUTPUT) textDue leftDue (rowsDue s b) (built s b .taken) (at n p) (ap formattedAnswer (sym e) ∙ told))
+
+    module _ (bytes : Bytes) (left rows′ numbers : ℕ) (is : r ≡ format.Text bytes left rows′ numbers) where
+      known : TextTold (fileRefusal s b FILE-OUTPUT) textDue leftDue (rowsDue s b) (built s b .taken) (bytes .0) left rows′ numbers
+      known =
+          text-told (fileRefusal s b FILE-OUTPUT) textDue leftDue (rowsDue s b) (built s b .taken) (bytes .0) left rows′ numbers
+          (ap formattedAnswer (sym is) ∙ told)
+
+      bytes-due : bytes .0 ≡ textDue
+      bytes-due = known .bytes
+
+      left-due : left ≡ leftDue
+      left-due = known .left
+
+      rows-due : rows′ ≡ rowsDue s b
+      rows-due = known .rows
+
+      numbers-due : numbers ≡ built s b .taken
+      numbers-due = known .numbers
+
+      -- nothing refuses
+      passes-in : {A : Type 0} (f : Option Refusal → A) → f (fileRefusal s b FILE-OUTPUT) ≡ f none
+      passes-in f = ap f (known .passes)
+
+      -- ---- what store, marks and output hold
+      store-due : store2 ≡ writeFront (rows (built s b .nodes) 0) store
+      store-due =
+          ran .store-left
+          ∙ ap (λ (n : ℕ). unless (laidRefusal s b n) store (writeFront (rows (built s b .nodes) 0) store)) rows-many
+          ∙ ap (λ (o : Option Refusal). unless o store (writeFront (rows (built s b .nodes) 0) store)) (laid-passes s b (known .passes))
+
+      output-due : out2 ≡ writeFront (drawnDue s b .text) out
+      output-due =
+          ran .output-left
+          ∙ ap (λ (o : Option Refusal). unless o out (writeFront (drawnDue s b .text) out)) table-same
+          ∙ passes-in (λ o. unless o out (writeFront (drawnDue s b .text) out))
+
+      text-due : take (bytes .0) out2 ≡ drawnDue s b .text
+      text-due = ap (take (bytes .0)) output-due ∙ take-at (drawnDue s b .text) (drop textDue out) (bytes .0) (sym bytes-due)
+
+      wrapped-due : occurs 1 marks2 ≡ occurs 1 (drawnDue s b .marks)
+      wrapped-due =
+          let m = drawnDue s b .marks in
+          ap (occurs 1)
+          (ran .marks-left
+          ∙ ap (λ (o : Option Refusal). unless o marks (writeFront m marks)) table-same
+          ∙ passes-in (λ o. unless o marks (writeFront m marks))
+          ∙ ap (λ (l : List ℕ). m ++ drop (length m) l) marked)
+          ∙ occurs-append 1 m (drop (length m) (replicate fileMarks 0))
+          ∙ ap (λ (n : ℕ). occurs 1 m + n) (occurs-cleared fileMarks (length m))
+          ∙ add-zero (occurs 1 m)
+
+      -- ---- counted
+      module _ (d : Document) (a : Accepts s b d) where
+        pub rows-nest : Nested store2 0 rows′
+        rows-nest = subst₂ (λ (l : List ℕ) (n : ℕ). Nested l 0 n) (sym store-due) (sym rows-due) (nested s b (d .tree) (stands a) store)
+
+        pub text-inside : bytes .0 ≤ length out2
+        text-inside =
+            let l = ap length output-due ∙ length-append (drawnDue s b .text) (drop textDue out) in
+            omega (arith, bytes-due)
+
+        pub left-fits : left ≤ d .comments
+        left-fits = omega (arith, left-due, comments-count a)
+
+        module _ (newlines column wrapped : ℕ) (n : newlines ≡ occurs 0x0A (take (bytes .0) out2))
+            (c : column ≡ greatestColumn (page s b) (nodesAt (viewOf store2) 0 rows′) (replicate fileMarks 0))
+            (w : wrapped ≡ occurs 1 marks2) where
+          abbrev figures : Figures
+          figures = record {
+            bytes = bytes .0;
+            newlines = newlines;
+            column = column;
+            given = numbers;
+            wrapped = wrapped;
+            placed = d .comments - left;
+            left = left;
+          }
+
+          figures-due : figures ≡ figuresOf s b
+          figures-due =
+              let e = n ∙ ap (occurs 0x0A) text-due in
+              let f =
+              c
+              ∙ ap₂ (λ (l : List ℕ) (k : ℕ). greatestColumn (page s b) (nodesAt (viewOf l) 0 k) (replicate fileMarks 0)) store-due rows-due
+              ∙ column-due s b fileMarks (marks-fit s b (known .passes)) store
+              in
+              let g = w ∙ wrapped-due in
+              let h : d .comments - left ≡ built s b .placed = omega (arith, left-due, comments-count a, placed-in s b (d .tree) (stands a)) in
+              λ i.
+              record {
+                bytes = bytes-due i;
+                newlines = e i;
+                column = f i;
+                given = numbers-due i;
+                wrapped = g i;
+                placed = h i;
+                left = left-due i;
+              }
+
+          pub figures-within : Within figures
+          figures-within = subst Within (sym figures-due) (within s b (d .tree) (stands a) (known .passes))
+
+          pub file-counted : (t : Tallies) (x : CountAnswer) → x ≡ countAnswerBy (tallyRefusal t) figures t → x ≡ countAnswer s b t
+          file-counted t x h =
+              h
+              ∙ ap (λ (g : Figures). countAnswerBy (tallyRefusal t) g t) figures-due
+              ∙ ap (λ (o : Option Refusal). countAnswerBy o (figuresOf s b) t) (sym (or-nothing (tallyRefusal t)))
+              ∙ sym (passes-in (λ o. countAnswerBy (first (o ∷ tallyRefusal t ∷ [])) (figuresOf s b) t))
