@@ -40,13 +40,13 @@ module _ (s b : List ℕ) where
   nines = refuseIf (ltb fileMarks (marksDue s b)) 9 (marksDue s b) ∷ tens
 
   module _ (passes : fileRefusal s b FILE-OUTPUT ≡ none) where
-    pub laid-passes : laidRefusal s b fileRows ≡ none
+    laid-passes : laidRefusal s b fileRows ≡ none
     laid-passes = passes-line (laidRefusal s b fileRows) nines passes
 
     later : first nines ≡ none
     later = passes-others (laidRefusal s b fileRows) nines passes
 
-    pub marks-fit : marksDue s b ≤ fileMarks
+    marks-fit : marksDue s b ≤ fileMarks
     marks-fit = ltb-false fileMarks (marksDue s b) (not-if (ltb fileMarks (marksDue s b)) 9 (marksDue s b) (passes-line _ tens later))
 
     text-fits : textDue ≤ FILE-OUTPUT

@@ -1,6 +1,6 @@
 -- From what the run of a file ensures to what counting it answers.
 -- Assumes nothing.
-use mathlib.Core.Path.{_≡_, refl, sym, ap, ap₂, subst, subst₂, _∙_}
+use mathlib.Core.Path.{_≡_, refl, sym, ap, subst, _∙_}
 use mathlib.Core.Bool.{Bool, true, false, not}
 use mathlib.Core.Option.{Option, none, some}
 use mathlib.Core.List.{List, [], _∷_, _++_}
@@ -13,23 +13,19 @@ use lib.Seq.{take-at}
 use Rattle.image.specs.Read.{readAll, answerOf}
 use Rattle.image.specs.declared.Answer.the-variants as checked
 use Rattle.rows.specs.Places.{PLACES}
-use Rattle.rows.specs.Rows.{rows}
-use Rattle.rows.specs.View.{viewOf, nodesAt}
-use Rattle.rows.specs.Nesting.{Nested}
 use Rattle.rows.specs.declared.units.Bytes.{Bytes}
+use Rattle.rows.specs.declared.units.Columns.{Columns}
 use Rattle.comments.specs.Listed.{commentsOf}
-use Rattle.renderer_rules.specs.Widest.{greatestColumn}
 use Rattle.refusals.specs.Refusals.{Refusal, any, unless, orElse, first, refuseIf}
 use Rattle.cut_rule.specs.Run.{writeFront}
-use Rattle.plain_run.specs.Parts.{page}
-use Rattle.plain_run.specs.File.{fileRows, fileMarks, built, rowsDue, drawnDue, laidRefusal, refusalIn, fileRefusal, refused, formatted, fileAnswerBy, fileAnswer}
+use Rattle.plain_run.specs.File.{fileRows, fileMarks, built, rowsDue, drawnDue, columnDue, refusalIn, fileRefusal, refused, formatted, fileAnswerBy, fileAnswer}
 use Rattle.plain_run.proofs.Refused.{read-refused}
 use Rattle.layout_call.specs.Steps.{Accepts}
 use Rattle.layout_call.specs.declared.Document.{Document}
 use Rattle.layout_call.proofs.Standing.{stands, comments-count}
-use Rattle.file.specs.Whole.{RunsFile, formattedAnswer}
-use Rattle.file.specs.declared.Formatted.{Formatted}
-use Rattle.file.specs.declared.Formatted.the-variants as format
+use Rattle.file.specs.Whole.{RunsFile, formattedAnswer, formattedOf, widestOf}
+use Rattle.file.specs.declared.FileRun.{FileRun}
+use Rattle.file.specs.declared.FileRun.the-variants as run
 use Rattle.tallies.specs.declared.Figures.{Figures}
 use Rattle.tallies.specs.declared.Tallies.{Tallies}
 use Rattle.tallies.specs.declared.Fraction.{Fraction}
@@ -38,8 +34,7 @@ use Rattle.tallies.specs.Fraction.{reduced}
 use Rattle.figures.specs.Figures.{FILE-OUTPUT, occurs, figuresOf, counted, countAnswerBy, countAnswer, countedAnswer, CountAnswer}
 use Rattle.figures.specs.declared.Counted.the-variants as answer
 use Rattle.figures.proofs.Occurring.{occurs-append, occurs-cleared}
-use Rattle.figures.proofs.Laid.{nested, column-due}
-use Rattle.figures.proofs.Bounds.{nines, laid-passes, marks-fit, placed-in, within}
+use Rattle.figures.proofs.Bounds.{nines, placed-in, within}
 
 abbrev at : ℕ → ℕ → Refusal
 at n p = record { number = n; place = p }
@@ -108,7 +103,7 @@ module _ (s b : List ℕ) where
 
   -- ---- the run in cleared rows and marks
   module _ (store marks out : List ℕ) (rowed : store ≡ replicate (fileRows * PLACES) 0) (marked : marks ≡ replicate fileMarks 0) (room : FILE-OUTPUT ≡ length out)
-      (r : Formatted) (store2 marks2 out2 : List ℕ) (ran : RunsFile s b store marks out r store2 marks2 out2) where
+      (r : FileRun) (store2 marks2 out2 : List ℕ) (ran : RunsFile s b store marks out r store2 marks2 out2) where
     marks-many : length marks ≡ fileMarks
     marks-many = ap length marked ∙ length-replicate {A = ℕ} fileMarks 0
 
@@ -118,29 +113,26 @@ module _ (s b : List ℕ) where
     table-same : refusalIn s b (length store / PLACES) (length marks) (length out) ≡ fileRefusal s b FILE-OUTPUT
     table-same = λ i. refusalIn s b (rows-many i) (marks-many i) (sym room i)
 
-    told : formattedAnswer r ≡ fileAnswer s b FILE-OUTPUT
+    told : formattedAnswer (formattedOf r) ≡ fileAnswer s b FILE-OUTPUT
     told = ran .answer ∙ ap (λ (o : Option Refusal). fileAnswerBy o (formatted textDue leftDue (rowsDue s b) (built s b .taken))) table-same
 
     -- 8 to 10
-    pub run-refused : (t : Tallies) (n p : ℕ) → r ≡ format.Refused n p → countedAnswer (answer.Refused n p) ≡ countAnswer s b t
+    pub run-refused : (t : Tallies) (n p : ℕ) → r ≡ run.Refused n p → countedAnswer (answer.Refused n p) ≡ countAnswer s b t
     run-refused t n p e =
         file-refused t n p
-        (refusal-told (fileRefusal s b FILE-OUTPUT) textDue leftDue (rowsDue s b) (built s b .taken) (at n p) (ap formattedAnswer (sym e) ∙ told))
+        (refusal-told (fileRefusal s b FILE-OUTPUT) textDue leftDue (rowsDue s b) (built s b .taken) (at n p) (ap (λ (x : FileRun). formattedAnswer (formattedOf x)) (sym e) ∙ told))
 
-    module _ (bytes : Bytes) (left rows′ numbers : ℕ) (is : r ≡ format.Text bytes left rows′ numbers) where
+    module _ (bytes : Bytes) (left rows′ numbers : ℕ) (widest : Columns) (is : r ≡ run.Text bytes left rows′ numbers widest) where
       known : TextTold (fileRefusal s b FILE-OUTPUT) textDue leftDue (rowsDue s b) (built s b .taken) (bytes .0) left rows′ numbers
       known =
           text-told (fileRefusal s b FILE-OUTPUT) textDue leftDue (rowsDue s b) (built s b .taken) (bytes .0) left rows′ numbers
-          (ap formattedAnswer (sym is) ∙ told)
+          (ap (λ (x : FileRun). formattedAnswer (formattedOf x)) (sym is) ∙ told)
 
       bytes-due : bytes .0 ≡ textDue
       bytes-due = known .bytes
 
       left-due : left ≡ leftDue
       left-due = known .left
-
-      rows-due : rows′ ≡ rowsDue s b
-      rows-due = known .rows
 
       numbers-due : numbers ≡ built s b .taken
       numbers-due = known .numbers
@@ -149,13 +141,14 @@ module _ (s b : List ℕ) where
       passes-in : {A : Type 0} (f : Option Refusal → A) → f (fileRefusal s b FILE-OUTPUT) ≡ f none
       passes-in f = ap f (known .passes)
 
-      -- ---- what store, marks and output hold
-      store-due : store2 ≡ writeFront (rows (built s b .nodes) 0) store
-      store-due =
-          ran .store-left
-          ∙ ap (λ (n : ℕ). unless (laidRefusal s b n) store (writeFront (rows (built s b .nodes) 0) store)) rows-many
-          ∙ ap (λ (o : Option Refusal). unless o store (writeFront (rows (built s b .nodes) 0) store)) (laid-passes s b (known .passes))
+      widest-due : widest .0 ≡ columnDue s b
+      widest-due =
+          ap widestOf (sym is)
+          ∙ ran .widest
+          ∙ ap (λ (o : Option Refusal). unless o 0 (columnDue s b)) table-same
+          ∙ passes-in (λ o. unless o 0 (columnDue s b))
 
+      -- ---- what marks and output hold
       output-due : out2 ≡ writeFront (drawnDue s b .text) out
       output-due =
           ran .output-left
@@ -179,9 +172,6 @@ module _ (s b : List ℕ) where
 
       -- ---- counted
       module _ (d : Document) (a : Accepts s b d) where
-        pub rows-nest : Nested store2 0 rows′
-        rows-nest = subst₂ (λ (l : List ℕ) (n : ℕ). Nested l 0 n) (sym store-due) (sym rows-due) (nested s b (d .tree) (stands a) store)
-
         pub text-inside : bytes .0 ≤ length out2
         text-inside =
             let l = ap length output-due ∙ length-append (drawnDue s b .text) (drop textDue out) in
@@ -190,14 +180,12 @@ module _ (s b : List ℕ) where
         pub left-fits : left ≤ d .comments
         left-fits = omega (arith, left-due, comments-count a)
 
-        module _ (newlines column wrapped : ℕ) (n : newlines ≡ occurs 0x0A (take (bytes .0) out2))
-            (c : column ≡ greatestColumn (page s b) (nodesAt (viewOf store2) 0 rows′) (replicate fileMarks 0))
-            (w : wrapped ≡ occurs 1 marks2) where
+        module _ (newlines wrapped : ℕ) (n : newlines ≡ occurs 0x0A (take (bytes .0) out2)) (w : wrapped ≡ occurs 1 marks2) where
           abbrev figures : Figures
           figures = record {
             bytes = bytes .0;
             newlines = newlines;
-            column = column;
+            column = widest .0;
             given = numbers;
             wrapped = wrapped;
             placed = d .comments - left;
@@ -207,18 +195,13 @@ module _ (s b : List ℕ) where
           figures-due : figures ≡ figuresOf s b
           figures-due =
               let e = n ∙ ap (occurs 0x0A) text-due in
-              let f =
-              c
-              ∙ ap₂ (λ (l : List ℕ) (k : ℕ). greatestColumn (page s b) (nodesAt (viewOf l) 0 k) (replicate fileMarks 0)) store-due rows-due
-              ∙ column-due s b fileMarks (marks-fit s b (known .passes)) store
-              in
               let g = w ∙ wrapped-due in
               let h : d .comments - left ≡ built s b .placed = omega (arith, left-due, comments-count a, placed-in s b (d .tree) (stands a)) in
               λ i.
               record {
                 bytes = bytes-due i;
                 newlines = e i;
-                column = f i;
+                column = widest-due i;
                 given = numbers-due i;
                 wrapped = g i;
                 placed = h i;

@@ -4,12 +4,10 @@ use mathlib.Core.Bool.{cond}
 use mathlib.Core.List.{List, [], _∷_}
 use Prim.Native.Nat.{ℕ, suc, _-_}
 use lib.Dec.{eqb}
-use lib.ListN.{length, replicate}
+use lib.ListN.{length}
 use Rattle.comments.specs.Listed.{commentsOf}
-use Rattle.renderer_rules.specs.Widest.{greatestColumn}
 use Rattle.refusals.specs.Refusals.{Refusal, first}
-use Rattle.plain_run.specs.Parts.{page}
-use Rattle.plain_run.specs.File.{built, marksDue, drawnDue, fileRefusal}
+use Rattle.plain_run.specs.File.{built, drawnDue, columnDue, fileRefusal}
 use Rattle.tallies.specs.declared.Figures.{Figures}
 use Rattle.tallies.specs.declared.Tallies.{Tallies}
 use Rattle.tallies.specs.declared.Fraction.{Fraction}
@@ -33,7 +31,7 @@ abbrev pub figuresOf : List ℕ → List ℕ → Figures
 figuresOf s b = record {
   bytes = length (drawnDue s b .text);
   newlines = occurs 0x0A (drawnDue s b .text);
-  column = greatestColumn (page s b) (built s b .nodes) (replicate (marksDue s b) 0);
+  column = columnDue s b;
   given = built s b .taken;
   wrapped = occurs 1 (drawnDue s b .marks);
   placed = built s b .placed;

@@ -1,6 +1,5 @@
 // Request 2: the figures of one file, counted with those before it.
 mod occurrences;
-mod widest;
 
 ghost use mathlib.Core.Path.{_≡_};
 ghost use lib.ListN.{length};
@@ -8,8 +7,7 @@ ghost use Rattle.layout_call.specs.Steps.{Accepts};
 ghost use Rattle.tallies.specs.Tallies.{Within, tallyRefusal};
 ghost use Rattle.figures.specs.Figures.{FILE-OUTPUT, countAnswerBy, countAnswer, countedAnswer};
 use crate::occurrences::occurrences;
-use crate::widest::widest;
-use file::Formatted;
+use file::FileRun;
 use file::marks;
 use file::rows as no_rows;
 use file::run_file;
@@ -67,19 +65,19 @@ fn count_accepted(source: &[u8], image: &[u8], doc: Document, t: Tallies) -> Cou
     let mut used = marks();
     let mut out = output();
     match run_file(source, image, &mut store, &mut used, &mut out, doc) {
-        Formatted::Refused(number, place) => Counted::Refused(number, place),
-        Formatted::Text {
+        FileRun::Refused(number, place) => Counted::Refused(number, place),
+        FileRun::Text {
             bytes,
             left,
             rows,
             numbers,
+            widest,
         } => {
             let size = bytes.0;
-            let column = widest(source, image, &store, rows);
             let f = Figures {
                 bytes: size,
                 newlines: occurrences(NEWLINE, &out[..size]),
-                column: column.0,
+                column: widest.0,
                 given: numbers,
                 wrapped: occurrences(WRAPPED, &used),
                 placed: doc.comments - left,

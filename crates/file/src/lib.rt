@@ -8,7 +8,7 @@ ghost use Rattle.plain_run.specs.File.{fileRows, fileMarks};
 ghost use Rattle.layout_call.specs.Calls.{toState as laidState};
 ghost use Rattle.layout_call.specs.Steps.{Accepts};
 ghost use Rattle.render_call.specs.Calls.{toState as renderedState};
-ghost use Rattle.file.specs.Whole.{RunsFile, Formats, FormatsFrame};
+ghost use Rattle.file.specs.Whole.{formattedOf, RunsFile, Formats, FormatsFrame};
 use image::Answer;
 use image::bytes::num32;
 use image::check;
@@ -18,9 +18,9 @@ use layout_call::LayoutArgs;
 use layout_call::LayoutState;
 use layout_call::layout_accepted;
 use layout_call::steps::count_declarations;
+use render_call::Drawing;
 use render_call::RenderArgs;
 use render_call::RenderState;
-use render_call::Rendering;
 use render_call::render_checked;
 use rows::places::PLACES;
 use rows::units::Bytes;
@@ -46,6 +46,40 @@ pub enum Formatted {
     },
     // the number and the place
     Refused(u8, usize),
+}
+
+// A file's run, with the greatest value that `column` was set to.
+pub enum FileRun {
+    Text {
+        bytes: Bytes,
+        left: usize,
+        rows: usize,
+        numbers: usize,
+        widest: Columns,
+    },
+    // the number and the place
+    Refused(u8, usize),
+}
+
+// The answer without the greatest value.
+fn formatted_of(r: FileRun) -> Formatted
+    ensures { λ f. ⌜ f ≡ formattedOf r ⌝ }
+{
+    match r {
+        FileRun::Refused(number, place) => Formatted::Refused(number, place),
+        FileRun::Text {
+            bytes,
+            left,
+            rows,
+            numbers,
+            widest,
+        } => Formatted::Text {
+            bytes: bytes,
+            left: left,
+            rows: rows,
+            numbers: numbers,
+        },
+    }
 }
 
 // Nothing is laid out yet.
@@ -98,7 +132,7 @@ pub fn run_file(
     marks: &mut [u8],
     out: &mut [u8],
     doc: Document,
-) -> Formatted
+) -> FileRun
     requires { ⌜ Accepts (now source) (now image) doc ⌝ }
     ensures { λ r. ⌜ RunsFile (now (source .entry)) (now (image .entry)) (now (store .entry)) (now (marks .entry)) (now (out .entry)) r (now (store .exit)) (now (marks .exit)) (now (out .exit)) ⌝ }
 {
@@ -107,16 +141,17 @@ pub fn run_file(
         close: true,
     };
     match layout_accepted(source, image, store, doc, layout_fresh(), all) {
-        Laying::Refused(number, place) => Formatted::Refused(number, place),
+        Laying::Refused(number, place) => FileRun::Refused(number, place),
         Laying::Laid(state, left) => {
             let to = RenderArgs { stop: state.row };
             match render_checked(source, image, store, marks, out, render_fresh(), to) {
-                Rendering::Refused(number, place) => Formatted::Refused(number, place),
-                Rendering::Written(end, bytes) => Formatted::Text {
+                Drawing::Refused(number, place) => FileRun::Refused(number, place),
+                Drawing::Drawn(end, bytes, widest) => FileRun::Text {
                     bytes: bytes,
                     left: left,
                     rows: state.row,
                     numbers: state.number,
+                    widest: widest,
                 },
             }
         }
@@ -130,7 +165,8 @@ fn format_accepted(source: &[u8], image: &[u8], out: &mut [u8], doc: Document) -
 {
     let mut store = rows();
     let mut used = marks();
-    run_file(source, image, &mut store, &mut used, out, doc)
+    let r = run_file(source, image, &mut store, &mut used, out, doc);
+    formatted_of(r)
 }
 
 // Formats a file, or refuses to and leaves the output as it was.

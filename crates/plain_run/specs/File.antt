@@ -14,6 +14,7 @@ use Rattle.comments.specs.Listed.{commentsOf, given}
 use Rattle.layout.specs.Layout.{fmtParsed}
 use Rattle.layout_facts.specs.Accepted.{fresh}
 use Rattle.renderer_rules.specs.Renderer.{renderNodes}
+use Rattle.renderer_rules.specs.Widest.{greatestColumn}
 use Rattle.refusals.specs.Refusals.{Refusal, unless, first, refuseIf}
 use Rattle.cut_rule.specs.Run.{writeFront}
 use Rattle.cut_rule.specs.States.{renderFresh}
@@ -44,6 +45,10 @@ module _ (s b : List ℕ) where
   -- what `Renderer` makes of it, with that many marks, all cleared
   abbrev pub drawnDue : Drawn
   drawnDue = drawnBy (renderNodes (page s b) (built .nodes) true (rendererOf (renderFresh .pen) (replicate marksDue 0)))
+
+  -- "greatest value `column` takes"
+  abbrev pub columnDue : ℕ
+  columnDue = greatestColumn (page s b) (built .nodes) (replicate marksDue 0)
 
   -- 1 to 7, then 8, in a store of so many rows
   abbrev pub laidRefusal : ℕ → Option Refusal

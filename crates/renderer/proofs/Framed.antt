@@ -10,18 +10,18 @@ use lib.ListN.{replicate}
 use lib.Dec.{ltb}
 use Rattle.rows.specs.View.{View, nodeAt}
 use Rattle.rows.proofs.Decode.{node-parent, node-comment, node-str, node-ascii, node-line, node-empty, node-space}
-use Rattle.renderer_rules.specs.declared.Pen.{Pen}
 use Rattle.renderer_rules.specs.Renderer.{Page, Renderer, freshRenderer, withBuf, withMarks, withWidest, renderNode, pushStr, atColumn, newLine, margin, comment, text}
 use Rattle.renderer_rules.proofs.Widest.{max-of-three}
+use Rattle.renderer.specs.declared.writing.Writing.{Writing}
 use Rattle.renderer.specs.Run.{stateOf}
 
 -- s behind a text, with other marks, where `column` was u at most before
 unfoldable pub under : List ℕ → List ℕ → ℕ → Renderer → Renderer
 under b m u s = withWidest (max u (s .widest)) (withBuf (b ++ s .buf) (withMarks m s))
 
-pub fresh-under : (p : Pen) (m b : List ℕ) (u : ℕ) → stateOf p m b u ≡ under b m u (freshRenderer p [])
+pub fresh-under : (w : Writing) (m b : List ℕ) → stateOf w m b ≡ under b m (w .widest .0) (freshRenderer (w .pen) [])
 unfolding under
-fresh-under p m b u = rw (append-nil b, max-zero u)
+fresh-under w m b = rw (append-nil b, max-zero (w .widest .0))
 
 column-of : (b m : List ℕ) (u : ℕ) (s : Renderer) → under b m u s .pen .column .0 ≡ s .pen .column .0
 unfolding under

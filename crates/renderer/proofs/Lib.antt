@@ -5,7 +5,6 @@ pub mod Followed
 pub mod Framed
 pub mod Leaves
 pub mod Loan
-pub mod Measured
 pub mod Opening
 pub mod Outcome
 pub mod Packed

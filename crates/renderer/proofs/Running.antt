@@ -58,14 +58,13 @@ module _ (store source image : List ℕ) (max limit stop : ℕ) where
     pub base : ℕ
     pub low : base ≤ 128
     pub text : List ℕ
-    pub widest : ℕ
     pub entered : ℕ
     pub wrote : Wrote limit out0 out (r .writing .at .0) text
-    pub fine : Fine v pg stop (machineOf r marks text widest entered)
-    pub safe : Safe v base (machineOf r marks text widest entered)
-    pub mean : means v pg stop (machineOf r marks text widest entered) ≡ final
+    pub fine : Fine v pg stop (machineOf r marks text entered)
+    pub safe : Safe v base (machineOf r marks text entered)
+    pub mean : means v pg stop (machineOf r marks text entered) ≡ final
 
-  unfoldable pub going-start : (out marks : List ℕ) (p : Writing) (from : ℕ) (fs : List Frame) → length fs ≡ MAX-DEPTH → SmallTexts v pg → Starting store limit from stop out p
+  pub going-start : (out marks : List ℕ) (p : Writing) (from : ℕ) (fs : List Frame) → length fs ≡ MAX-DEPTH → SmallTexts v pg → Starting store limit from stop out p
       → Going (renderNodes pg (nodesAt v from stop) true (freshRenderer (p .pen) marks)) out marks out (withFrames fs (record { depth = 0; next = from; writing = p }))
   unfolding machineOf meaning rest partLimit wrapAt Under steps ins writtenOver
   going-start out marks p from fs e s g =
@@ -78,12 +77,11 @@ module _ (store source image : List ℕ) (max limit stop : ℕ) where
         base = p .pen .indent + p .pen .«next_indent»;
         low = g .margin;
         text = [];
-        widest = 0;
         entered = 0;
         wrote = record { bytes = g .at; written = refl };
         fine = record { good = g .nested .nests; under = tt; low = omega arith; size = e; deep = omega arith };
         safe = record { sum = plus-none (p .pen .indent + p .pen .«next_indent»); low = omega arith; column = omega arith; bytes = omega arith };
-        mean = refl;
+        mean = rw (g .widest) refl;
       }
     where
       plus-none : (n : ℕ) → n ≡ n + 0
@@ -113,7 +111,7 @@ module _ (store source image : List ℕ) (max limit stop : ℕ) where
           safe = record { sum = s .sum; low = s .low; column = s .column; bytes = s .bytes };
         }
 
-    pub not-done : (0 < r .depth) ⊎ (r .next < stop) → isDone v pg stop (machineOf r marks (g .text) (g .widest) (g .entered)) ≡ false
+    not-done : (0 < r .depth) ⊎ (r .next < stop) → isDone v pg stop (machineOf r marks (g .text) (g .entered)) ≡ false
     unfolding isDone machineOf
     not-done (inl h) = rw (ne-eqb (r .depth) 0 (λ e. omega arith))
     not-done (inr h) = go (eqb (r .depth) 0) (ne-eqb (r .next) stop (λ e. omega arith))
@@ -124,14 +122,14 @@ module _ (store source image : List ℕ) (max limit stop : ℕ) where
 
     module _ (marks2 out2 : List ℕ) (q : Running) (f : Follows limit (turn v pg) marks out r marks2 out2 q) (n : (0 < r .depth) ⊎ (r .next < stop)) where
       m : Machine
-      m = turn v pg (machineOf r marks (g .text) (g .widest) (g .entered))
+      m = turn v pg (machineOf r marks (g .text) (g .entered))
 
-      pub shown : Shows limit out0 marks2 out2 q (turn v pg (machineOf r marks (g .text) (g .widest) (g .entered)))
-      shown = f .goes out0 (g .text) (g .widest) (g .entered) (g .wrote)
+      shown : Shows limit out0 marks2 out2 q (turn v pg (machineOf r marks (g .text) (g .entered)))
+      shown = f .goes out0 (g .text) (g .entered) (g .wrote)
 
-      unfoldable pub going-on : Going final out0 marks2 out2 q
+      pub going-on : Going final out0 marks2 out2 q
       going-on =
-          let t = turned v pg stop (machineOf r marks (g .text) (g .widest) (g .entered)) (g .fine) (not-done n) in
+          let t = turned v pg stop (machineOf r marks (g .text) (g .entered)) (g .fine) (not-done n) in
           let s = shown in
           record {
             room = g .room;
@@ -140,22 +138,21 @@ module _ (store source image : List ℕ) (max limit stop : ℕ) where
             small = g .small;
             base = g .base;
             low = g .low;
-            text = turn v pg (machineOf r marks (g .text) (g .widest) (g .entered)) .state .buf;
-            widest = turn v pg (machineOf r marks (g .text) (g .widest) (g .entered)) .state .widest;
-            entered = turn v pg (machineOf r marks (g .text) (g .widest) (g .entered)) .entered;
+            text = turn v pg (machineOf r marks (g .text) (g .entered)) .state .buf;
+            entered = turn v pg (machineOf r marks (g .text) (g .entered)) .entered;
             wrote = s .wrote;
             fine = subst (λ (x : Machine). Fine v pg stop x) (s .same) (t .fine);
-            safe = subst (λ (x : Machine). Safe v (g .base) x) (s .same) (turn-safe v pg stop (g .base) (machineOf r marks (g .text) (g .widest) (g .entered)) (g .fine) (not-done n) (g .small) (g .low) (g .safe));
+            safe = subst (λ (x : Machine). Safe v (g .base) x) (s .same) (turn-safe v pg stop (g .base) (machineOf r marks (g .text) (g .entered)) (g .fine) (not-done n) (g .small) (g .low) (g .safe));
             mean = ap (means v pg stop) (sym (s .same)) ∙ t .same ∙ g .mean;
           }
 
       pub going-less : (stop - q .next) * 3 + weight (q .frames) (q .depth) < (stop - r .next) * 3 + weight (r .frames) (r .depth)
       unfolding machineOf
       going-less =
-          let t = turned v pg stop (machineOf r marks (g .text) (g .widest) (g .entered)) (g .fine) (not-done n) in
+          let t = turned v pg stop (machineOf r marks (g .text) (g .entered)) (g .fine) (not-done n) in
           subst (λ (x : Machine). left stop x < (stop - r .next) * 3 + weight (r .frames) (r .depth)) (shown .same) (t .less)
 
-    pub is-done : r .depth ≤ 0 → stop ≤ r .next → isDone v pg stop (machineOf r marks (g .text) (g .widest) (g .entered)) ≡ true
+    is-done : r .depth ≤ 0 → stop ≤ r .next → isDone v pg stop (machineOf r marks (g .text) (g .entered)) ≡ true
     unfolding isDone machineOf partLimit
     is-done d e =
         let k : r .depth ≡ 0 = omega arith in
@@ -167,5 +164,5 @@ module _ (store source image : List ℕ) (max limit stop : ℕ) where
     unfolding machineOf
     going-end d e =
         let z = is-done d e in
-        subst (λ (s : Renderer). Ended limit s out0 marks out (r .writing)) (sym (done-means v pg stop (machineOf r marks (g .text) (g .widest) (g .entered)) z) ∙ g .mean)
-        (record { pen = refl; bytes = g .wrote .bytes; marks = refl; written = g .wrote .written })
+        subst (λ (s : Renderer). Ended limit s out0 marks out (r .writing)) (sym (done-means v pg stop (machineOf r marks (g .text) (g .entered)) z) ∙ g .mean)
+        (record { pen = refl; bytes = g .wrote .bytes; widest = refl; marks = refl; written = g .wrote .written })

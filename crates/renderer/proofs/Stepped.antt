@@ -249,7 +249,7 @@ module _ (store source image : List ℕ) (max limit stop : ℕ) (marks out : Lis
       → Follows limit (turn v pg) marks out r marks2 out2 q
   unfolding machineOf
   turns marks2 out2 q n g =
-      record { goes = λ o b u k w. shows-as limit o marks2 out2 q _ _ (turn-enter v pg stop (machineOf r marks b u k) (n .inside)) (g .goes o b u k w) }
+      record { goes = λ o b k w. shows-as limit o marks2 out2 q _ _ (turn-enter v pg stop (machineOf r marks b k) (n .inside)) (g .goes o b k w) }
 
   module _ (y : Ready store source image max limit stop marks out r) where
     pub top-entering : r .depth ≡ 0 → r .next < stop → Entering store source image max limit stop marks out r

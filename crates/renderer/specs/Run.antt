@@ -19,12 +19,11 @@ use Rattle.renderer_rules.specs.Page.{pageOf}
 use Rattle.renderer_rules.specs.Frames.{partLimit, At}
 use Rattle.renderer_rules.specs.Machine.{Machine, frameOf}
 use Rattle.renderer_rules.specs.Safe.{Safe, SmallTexts}
-use Rattle.renderer_rules.specs.Widest.{freshPen}
 use Rattle.renderer.specs.declared.writing.Writing.{Writing}
 use Rattle.renderer.specs.declared.run.Run.{Run}
 use Rattle.renderer.specs.declared.run.Bounds.{Bounds}
 use Rattle.renderer.specs.Output.{writtenOver}
-use Rattle.renderer.specs.Writing.{setPen, writing}
+use Rattle.renderer.specs.Writing.{setPen}
 
 -- an open row from its number: the row times 8, and a bit for each flag
 unfoldable pub unpackedFrame : ℕ → Frame
@@ -48,22 +47,14 @@ wholeRun ns r = withFrames (map unpackedFrame ns) r
 abbrev pub bareRun : Running → Run
 bareRun r = record { depth = r .depth; next = r .next; writing = r .writing }
 
--- the renderer that has a pen, has written b and set `column` to u at most
-abbrev pub stateOf : Pen → List ℕ → List ℕ → ℕ → Renderer
-stateOf p marks b u = withWidest u (withBuf b (freshRenderer p marks))
+-- the renderer that has written b so far
+abbrev pub stateOf : Writing → List ℕ → List ℕ → Renderer
+stateOf w marks b = withWidest (w .widest .0) (withBuf b (freshRenderer (w .pen) marks))
 
--- the machine of a run that has written b, set `column` to u at most and entered n rows
-unfoldable pub machineOf : Running → List ℕ → List ℕ → ℕ → ℕ → Machine
-machineOf r marks b u n =
-    record { frames = r .frames; depth = r .depth; next = r .next; state = stateOf (r .writing .pen) marks b u; entered = n }
-
--- a run from a fresh pen, before its first turn
-abbrev pub freshRun : ℕ → Run
-freshRun from = record { depth = 0; next = from; writing = writing freshPen 0 }
-
--- the machine of a run's own numbers
-abbrev pub numbersOf : Run → Machine
-numbersOf r = machineOf (withFrames [] r) [] [] 0 0
+-- the machine of a run that has written b and entered n rows
+unfoldable pub machineOf : Running → List ℕ → List ℕ → ℕ → Machine
+machineOf r marks b n =
+    record { frames = r .frames; depth = r .depth; next = r .next; state = stateOf (r .writing) marks b; entered = n }
 
 -- b is what is written, over an output that was o
 pub record Wrote (limit : ℕ) (o out : List ℕ) (at : ℕ) (b : List ℕ) : Type 0 where
@@ -72,12 +63,12 @@ pub record Wrote (limit : ℕ) (o out : List ℕ) (at : ℕ) (b : List ℕ) : Ty
 
 -- the run has become machine m
 pub record Shows (limit : ℕ) (o marks out : List ℕ) (r : Running) (m : Machine) : Type 0 where
-  pub same : m ≡ machineOf r marks (m .state .buf) (m .state .widest) (m .entered)
+  pub same : m ≡ machineOf r marks (m .state .buf) (m .entered)
   pub wrote : Wrote limit o out (r .writing .at .0) (m .state .buf)
 
 -- from a run to the next as f turns the machine
 pub record Follows (limit : ℕ) (f : Machine → Machine) (marks out : List ℕ) (r : Running) (marks2 out2 : List ℕ) (q : Running) : Type 0 where
-  pub goes : (o b : List ℕ) (u n : ℕ) → Wrote limit o out (r .writing .at .0) b → Shows limit o marks2 out2 q (f (machineOf r marks b u n))
+  pub goes : (o b : List ℕ) (n : ℕ) → Wrote limit o out (r .writing .at .0) b → Shows limit o marks2 out2 q (f (machineOf r marks b n))
 
 -- the rows that are left nest, and the numbers are in range
 pub record Ready (store source image : List ℕ) (max limit stop : ℕ) (marks out : List ℕ) (r : Running) : Type 0 where
@@ -91,7 +82,7 @@ pub record Ready (store source image : List ℕ) (max limit stop : ℕ) (marks o
   pub before : List ℕ
   pub text : List ℕ
   pub wrote : Wrote limit before out (r .writing .at .0) text
-  pub safe : Safe (viewOf store) base (machineOf r marks text 0 0)
+  pub safe : Safe (viewOf store) base (machineOf r marks text 0)
 
 -- how a run goes on: a row is opened, with row k next; a row without parts is passed; the innermost row is f from here on
 abbrev pub openedRun : Running → Frame → ℕ → Writing → Running
@@ -215,10 +206,12 @@ pub record Starting (store : List ℕ) (limit from stop : ℕ) (out : List ℕ) 
   pub margin : w .pen .indent + w .pen .«next_indent» ≤ START-MARGIN
   pub column : w .pen .column .0 ≤ MAX-COLUMN
   pub at : w .at .0 ≡ 0
+  pub widest : w .widest .0 ≡ 0
 
 -- what s has is what the writing, the marks and the output have become
 pub record Ended (limit : ℕ) (s : Renderer) (out marks2 out2 : List ℕ) (q : Writing) : Type 0 where
   pub pen : q .pen ≡ s .pen
   pub bytes : q .at .0 ≡ length (s .buf)
+  pub widest : q .widest .0 ≡ s .widest
   pub marks : marks2 ≡ s .marks
   pub written : out2 ≡ writtenOver limit out 0 (s .buf)

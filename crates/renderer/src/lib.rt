@@ -12,5 +12,4 @@ mod open;
 pub mod output;
 mod row_text;
 pub mod run;
-pub mod widest;
 pub mod writing;

@@ -70,7 +70,7 @@ fn is_done(store: &[u32], f: Frame, depth: usize, next: usize) -> bool
 }
 
 // One turn: the innermost row is left, or the next row entered.
-pub(crate) fn step(
+fn step(
     r: Run,
     frames: &mut [u32; MAX_DEPTH],
     store: &[u32],
