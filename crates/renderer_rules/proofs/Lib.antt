@@ -12,3 +12,4 @@ pub mod Names
 pub mod Opened
 pub mod OwnMarks
 pub mod Safe
+pub mod Widest
