@@ -69,7 +69,8 @@ abbrev pub ROW-TAKES : ℕ
 ROW-TAKES = 13
 
 -- What a step gives from a state: no more rows than n points allow, and three more for each comment that it takes; no more numbers than n
--- points allow rows; rows at most d deep below the top ones; texts inside their origins; a position within the source, if it was there before.
+-- points allow rows; rows at most d deep below the top ones; texts inside their origins, of widths that are supplied; a position within the
+-- source, if it was there before.
 pub record Sound (g : Given) (n d : ℕ) (s : St) (o : Out) : Type 0 where
   pub more : s .placed ≤ o .placed
   pub rows : ROW-TAKES * sizes (o .nodes) ≤ n + ROW-TAKES * (3 * (o .placed - s .placed))

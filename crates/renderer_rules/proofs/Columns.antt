@@ -19,7 +19,7 @@ record Under (s : Renderer) (c : ℕ) : Type 0 where
   starts : 4 * (s .pen .indent + s .pen .«next_indent») ≤ c
 
 under-more : {s : Renderer} {a : ℕ} (b : ℕ) → a ≤ b → Under s a → Under s b
-under-more b h p = let x = p .widest in let y = p .column in let z = p .starts in record { widest = omega arith; column = omega arith; starts = omega arith }
+under-more b h p = record { widest = omega (arith, p .widest); column = omega (arith, p .column); starts = omega (arith, p .starts) }
 
 under-either : (b : Bool) {s t : Renderer} {c : ℕ} → Under s c → Under t c → Under (cond b s t) c
 under-either true p q = p
@@ -60,7 +60,7 @@ insert-under n c b s p = record { widest = p .widest; column = p .column; starts
 
 in-under : (b : Bool) (c : ℕ) (s : Renderer) → Under s c → Under (onPen (indentMore b) s) (c + 4)
 unfolding indentMore
-in-under true c s p = let x = p .widest in let y = p .column in let z = p .starts in record { widest = omega arith; column = omega arith; starts = omega arith }
+in-under true c s p = record { widest = omega (arith, p .widest); column = omega (arith, p .column); starts = omega (arith, p .starts) }
 in-under false c s p = under-more (c + 4) (omega arith) p
 
 out-under : (b : Bool) (c : ℕ) (s : Renderer) → Under s c → Under (onPen (indentLess b) s) c
@@ -70,7 +70,7 @@ out-under false c s p = p
 
 next-in-under : (b : Bool) (c : ℕ) (s : Renderer) → Under s c → Under (onPen (nextIndentMore b) s) (c + 4)
 unfolding nextIndentMore
-next-in-under true c s p = let x = p .widest in let y = p .column in let z = p .starts in record { widest = omega arith; column = omega arith; starts = omega arith }
+next-in-under true c s p = record { widest = omega (arith, p .widest); column = omega (arith, p .column); starts = omega (arith, p .starts) }
 next-in-under false c s p = under-more (c + 4) (omega arith) p
 
 next-out-under : (b : Bool) (c : ℕ) (s : Renderer) → Under s c → Under (onPen (nextIndentLess b) s) c
