@@ -1,6 +1,6 @@
 -- The figures of a file that is accepted are small.
 -- Assumes nothing.
-use mathlib.Core.Path.{_≡_, refl, ap, _∙_}
+use mathlib.Core.Path.{_≡_, _∙_}
 use mathlib.Core.Bool.{true}
 use mathlib.Core.Option.{Option, none}
 use mathlib.Core.List.{List, [], _∷_}
@@ -9,7 +9,7 @@ use native.Mathlib.Omega.{arith}
 use borrow.Author.Tests.{ltb-false}
 use lib.Dec.{ltb}
 use lib.ListN.{length, getD, replicate, length-replicate}
-use Rattle.image.specs.Read.{Read, got, bad, Image, readAll, answerOf}
+use Rattle.image.specs.Read.{readAll}
 use Rattle.comments.specs.Listed.{commentsOf, given}
 use Rattle.refusals.specs.Refusals.{Refusal, first, refuseIf}
 use Rattle.refusals.proofs.Groups.{passes-line, passes-others, not-if}
@@ -19,11 +19,13 @@ use Rattle.layout_facts.specs.Accepted.{Stands}
 use Rattle.layout_facts.specs.Accepted as limits
 use Rattle.layout_facts.proofs.Limits.{whole-within}
 use Rattle.layout_facts.proofs.Numbers.{numbers-below}
-use Rattle.plain_run.specs.Parts.{readRefusal, acceptedTree, page, rendererOf}
-use Rattle.plain_run.specs.File.{fileRows, fileMarks, built, rowsDue, marksDue, drawnDue, laidRefusal, fileRefusal}
+use Rattle.plain_run.specs.Parts.{acceptedTree, page, rendererOf}
+use Rattle.plain_run.specs.File.{fileRows, fileMarks, built, marksDue, drawnDue, laidRefusal, fileRefusal}
+use Rattle.plain_run.specs.FileLimits.{AreBytes}
 use Rattle.plain_run.proofs.Past.{renders-length}
-use Rattle.plain_run.proofs.Limits.{standing}
-use Rattle.tallies.specs.Tallies.{MAX-TALLY, Within}
+use Rattle.plain_run.proofs.Limits.{stood}
+use Rattle.plain_run.proofs.FileLimits.{laid-read, file-column-limited}
+use Rattle.tallies.specs.Tallies.{Within}
 use Rattle.tallies.specs.Order.{Small}
 use Rattle.figures.specs.Figures.{FILE-OUTPUT, figuresOf}
 use Rattle.figures.proofs.Occurring.{occurs-few, occurs-below, cleared-at}
@@ -99,30 +101,25 @@ module _ (s b : List ℕ) where
               (numbers-below (given s b) (acceptedTree b (readAll s b)) i h) .mark
               ∙ cleared-at (marksDue s b) i
 
-      -- all but the column
-      small-in : figuresOf s b .column ≤ MAX-TALLY → Small (figuresOf s b)
-      small-in column =
+      small-in : AreBytes b → Small (figuresOf s b)
+      small-in bytes =
           let t = text-fits passes in
           let n = occurs-few 0x0A (drawnDue s b .text) in
+          let k = file-column-limited (page s b .max) s b (replicate (marksDue s b) 0) bytes (laid-passes passes) in
           let c = a .count in
           let p = placed-in in
           let g = laid .numbers in
           record {
             bytes = omega arith;
             newlines = omega arith;
-            column = column;
+            column = omega arith;
             given = omega arith;
             wrapped = wrapped-given;
             placed = omega arith;
             left = omega arith;
           }
 
-  pub small : fileRefusal s b FILE-OUTPUT ≡ none → figuresOf s b .column ≤ MAX-TALLY → Small (figuresOf s b)
-  small passes = go (readAll s b) refl (passes-line (readRefusal (readAll s b)) eights (laid-passes passes))
-    where
-      eights : List (Option Refusal)
-      eights = refuseIf (ltb fileRows (rowsDue s b)) 8 (rowsDue s b) ∷ []
-
-      go : (r : Read Image) → readAll s b ≡ r → readRefusal r ≡ none → figuresOf s b .column ≤ MAX-TALLY → Small (figuresOf s b)
-      go (bad n p) e h = let z : _≡_ {A = ℕ} 0 1 = cc in absurd (omega arith)
-      go (got i end) e h = small-in (i .at) (standing s b (i .comments) (i .at) (ap answerOf e)) passes
+  pub small : AreBytes b → fileRefusal s b FILE-OUTPUT ≡ none → Small (figuresOf s b)
+  small bytes passes =
+      let a = stood s b (laid-read s b (laid-passes passes)) in
+      small-in (a .at) (a .stood) passes bytes

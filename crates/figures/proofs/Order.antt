@@ -15,7 +15,7 @@ use Rattle.tallies.specs.Order as tallied
 use Rattle.tallies.specs.Order.{AllSmall, countedBy, acceptedBy, accepted, totals}
 use Rattle.tallies.proofs.Order.{sums, any-order}
 use Rattle.figures.specs.Figures.{FILE-OUTPUT, figuresOf, countAnswerBy}
-use Rattle.figures.specs.Order.{File, figuresIn, Made, talliesAfter, after, Keeps, files, AllNarrow, Countable, TotalsAreSums, SameInAnyOrder}
+use Rattle.figures.specs.Order.{File, figuresIn, Made, talliesAfter, after, Keeps, files, Countable, TotalsAreSums, SameInAnyOrder}
 use Rattle.figures.proofs.Bounds.{small}
 
 -- ---- one file, by what is promised of it
@@ -41,9 +41,9 @@ kept-totals [] t k = refl
 kept-totals (m ∷ ms) t k = kept-totals ms (after t m) (k .1) ∙ ap (totals figuresIn (files ms)) (one-more t m (k .0))
 
 -- ---- files that are accepted are small
-small-file : (x : File) (fs : List Figures) → AllSmall fs → AllNarrow (acceptedBy (figuresIn x) fs) → AllSmall (acceptedBy (figuresIn x) fs)
-unfolding AllSmall AllNarrow
-small-file x fs h n = go (fileRefusal s b FILE-OUTPUT) refl n
+small-file : (x : File) (fs : List Figures) → AllSmall fs → AllSmall (acceptedBy (figuresIn x) fs)
+unfolding AllSmall
+small-file x fs h = go (fileRefusal s b FILE-OUTPUT) refl
   where
     s : List ℕ
     s = x .source
@@ -51,24 +51,17 @@ small-file x fs h n = go (fileRefusal s b FILE-OUTPUT) refl n
     b : List ℕ
     b = x .image
 
-    go : (o : Option Refusal) → fileRefusal s b FILE-OUTPUT ≡ o → AllNarrow (acceptedBy (unless o none (some (figuresOf s b))) fs)
-        → AllSmall (acceptedBy (unless o none (some (figuresOf s b))) fs)
-    go (some r) e n = h
-    go none e n = (small s b e (n .0), h)
+    go : (o : Option Refusal) → fileRefusal s b FILE-OUTPUT ≡ o → AllSmall (acceptedBy (unless o none (some (figuresOf s b))) fs)
+    go (some r) e = h
+    go none e = (small s b (x .bytes) e, h)
 
-narrow-rest : (o : Option Figures) (fs : List Figures) → AllNarrow (acceptedBy o fs) → AllNarrow fs
-unfolding AllNarrow
-narrow-rest none fs n = n
-narrow-rest (some f) fs n = n .1
-
-all-small : (xs : List File) → AllNarrow (accepted figuresIn xs) → AllSmall (accepted figuresIn xs)
+all-small : (xs : List File) → AllSmall (accepted figuresIn xs)
 unfolding accepted AllSmall
-all-small [] n = tt
-all-small (x ∷ xs) n =
-    small-file x (accepted figuresIn xs) (all-small xs (narrow-rest (figuresIn x) (accepted figuresIn xs) n)) n
+all-small [] = tt
+all-small (x ∷ xs) = small-file x (accepted figuresIn xs) (all-small xs)
 
 countable : (xs : List File) → Countable xs → tallied.Countable figuresIn xs
-countable xs c = record { few = c .few; small = all-small xs (c .narrow) }
+countable xs c = record { few = c .few; small = all-small xs }
 
 -- ---- the totals
 pub totals-are-sums : TotalsAreSums

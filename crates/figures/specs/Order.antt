@@ -2,22 +2,25 @@
 -- that keeps the promise of `count_file`. proofs/Order.antt proves it.
 use mathlib.Core.Path.{_≡_}
 use mathlib.Core.Option.{Option, none, some}
-use mathlib.Core.List.{List, [], _∷_, map}
+use mathlib.Core.List.{List, map}
 use Prim.Native.Nat.{ℕ, _≤_}
 use lib.ListN.{length}
 use Rattle.refusals.specs.Refusals.{unless}
 use Rattle.cut_rule.specs.Callers.{afterAll, AllKept}
 use Rattle.plain_run.specs.File.{fileRefusal}
+use Rattle.plain_run.specs.FileLimits.{AreBytes}
 use Rattle.tallies.specs.declared.Figures.{Figures}
 use Rattle.tallies.specs.declared.Tallies.{Tallies}
-use Rattle.tallies.specs.Tallies.{MAX-FILES, MAX-TALLY, freshTallies}
+use Rattle.tallies.specs.Tallies.{MAX-FILES, freshTallies}
 use Rattle.tallies.specs.Order.{Reordered, sum, accepted}
 use Rattle.figures.specs.Figures.{FILE-OUTPUT, figuresOf, CountAnswer, refused, counted, countAnswer, countedAnswer}
 use Rattle.figures.specs.declared.Counted.{Counted}
 
+-- A source and an image of bytes. (The column is bounded because widths stand in two bytes; of the source nothing is asked.)
 pub record File : Type 0 where
   pub source : List ℕ
   pub image : List ℕ
+  pub bytes : AreBytes image
 
 -- what a file gives by itself: its figures, or none where document 01 refuses it
 abbrev pub figuresIn : File → Option Figures
@@ -45,15 +48,9 @@ abbrev pub files : List Made → List File
 files ms = map (λ m. m .file) ms
 
 -- ---- the totals
--- no column over the tallies' bound
-unfoldable pub AllNarrow : List Figures → Type 0
-AllNarrow [] = Unit {0}
-AllNarrow (f ∷ fs) = (f .column ≤ MAX-TALLY) × AllNarrow fs
-
--- no more files than may be counted, and no column over the bound: all else of a file is small
+-- no more files than may be counted: what one gives is small
 pub record Countable (xs : List File) : Type 0 where
   pub few : length (accepted figuresIn xs) ≤ MAX-FILES
-  pub narrow : AllNarrow (accepted figuresIn xs)
 
 -- from fresh tallies, the totals are the sums over the files that document 01 does not refuse, and 14 refuses none of them
 abbrev pub TotalsAreSums : Type 0

@@ -140,7 +140,7 @@ module _ (s b : List ℕ) where
   renderArgs out = record { stop = rowsDue s b; room = length out; choice = onlyRenderChoice }
 
   -- 1 and 3
-  image-passes : readRefusal (readAll s b) ≡ none → renderImage s b ≡ none
+  pub image-passes : readRefusal (readAll s b) ≡ none → renderImage s b ≡ none
   image-passes h = go (readAll s b) refl h
     where
       go : (r : Read Image) → readAll s b ≡ r → readRefusal r ≡ none → renderImage s b ≡ none

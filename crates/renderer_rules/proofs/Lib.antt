@@ -2,6 +2,7 @@ pub mod Allot
 pub mod Call
 pub mod Checked
 pub mod Choices
+pub mod Columns
 pub mod CommentLine
 pub mod Joined
 pub mod Machine
