@@ -1,12 +1,13 @@
 /*
  * The proved formatter for Roto scripts, as C calls it. The functions are those of librrufthim.a: target/staticlib/libexports.a, which
  * `rt staticlib exports` writes (x86-64 Linux), under a name that no other library has. docs/01-scope.md has the rules: the tree image,
- * rows, marks, states and refusals.
+ * rows, marks, states and refusals; docs/02-change-requests.md those of tallies.
  *
- * Buffers. A pointer to bytes or rows goes with the number of its elements; state and out have a fixed number of places. No pointer may be
- * NULL, even where the number is 0. store must be aligned for uint32_t, state and out for uint64_t. What a call may change (store, marks,
- * output, out) must overlap nothing else that it is given; source, image and state are only read. Nothing is kept after a call, and no
- * call shares anything with another: threads need nothing but buffers of their own. A call takes less than 256 KB of stack and no heap.
+ * Buffers. A pointer to bytes or rows goes with the number of its elements; state, tallies and out have a fixed number of places. No
+ * pointer may be NULL, even where the number is 0. store must be aligned for uint32_t, state, tallies and out for uint64_t. What a call may
+ * change (store, marks, output, out) must overlap nothing else that it is given; source, image, state and tallies are only read. Nothing is
+ * kept after a call, and no call shares anything with another: threads need nothing but buffers of their own. A call takes less than 256 KB
+ * of stack and no heap.
  *
  * Answers. out[0] is 0 if the call is accepted; the other numbers are then those named at each function. Else out[0] is the refusal's
  * number and out[1] its place, and the rest of out is left as it was. A refused call changes no other buffer. An accepted one leaves what
@@ -43,6 +44,7 @@ typedef char rrufthim_lengths_have_64_bits[sizeof(size_t) == 8 ? 1 : -1];
 #define RRUFTHIM_MORE_OUTPUT 10     /* the output is too short: bytes needed */
 #define RRUFTHIM_BAD_ROW 11         /* a row can't be rendered: that row; or the stop is past the store or 2,097,152: 0 */
 #define RRUFTHIM_BAD_STATE 12       /* the state, the marks in use or the stop don't fit: 0 */
+#define RRUFTHIM_BAD_TALLIES 14     /* the tallies count 4,096 files, one is over 4,294,967,296, or more is wrapped than given: 0 */
 
 /* Limits: past them a file is refused. A text may be longer than a source: such a text can't be formatted again. */
 #define RRUFTHIM_MAX_SOURCE 65536    /* bytes of a source */
@@ -50,17 +52,22 @@ typedef char rrufthim_lengths_have_64_bits[sizeof(size_t) == 8 ? 1 : -1];
 #define RRUFTHIM_MAX_COMMENTS 8192
 #define RRUFTHIM_MAX_DEPTH 64        /* records in each other, the tree being 1 */
 #define RRUFTHIM_MAX_WIDTH 65535     /* columns of a text */
+#define RRUFTHIM_MAX_FILES 4096      /* files that tallies count */
+#define RRUFTHIM_MAX_TALLY 4294967296 /* each of the tallies handed in */
 
 /* Sizes. */
 #define RRUFTHIM_ROW 9               /* numbers of the store that a row takes; store_len / 9 rows, rounded down */
-#define RRUFTHIM_MAX_FILE_ROWS 1800  /* the rows, and the marks, that rrufthim_format has of its own */
+#define RRUFTHIM_MAX_FILE_ROWS 1800  /* the rows, and the marks, that rrufthim_format and rrufthim_count have of their own */
+#define RRUFTHIM_COUNT_OUTPUT 65536  /* bytes of output that rrufthim_count has of its own */
 #define RRUFTHIM_LAYOUT_STATE 7      /* places of a layout state */
 #define RRUFTHIM_RENDER_STATE 5      /* places of a rendering state */
+#define RRUFTHIM_TALLIES 8           /* places of tallies */
 #define RRUFTHIM_CHECK_OUT 4         /* places of each function's out */
 #define RRUFTHIM_LAYOUT_OUT 9
 #define RRUFTHIM_RENDER_OUT 7
 #define RRUFTHIM_FORMAT_OUT 5
 #define RRUFTHIM_NEWLINES_OUT 2
+#define RRUFTHIM_COUNT_OUT 18
 
 /*
  * Whether a source and its tree image are accepted. Refusals 1 to 7.
@@ -137,6 +144,22 @@ void rrufthim_newlines(
     uint64_t start,
     uint64_t end,
     uint64_t out[RRUFTHIM_NEWLINES_OUT]);
+
+/*
+ * Counts a file: formats it in 1,800 rows, 1,800 marks and 65,536 bytes of output of its own, and adds its figures to the tallies. The
+ * tallies of the same files are the same in any order. Refusals 1 to 10, then 14; a refused file counts nowhere.
+ *
+ * tallies: [0] files counted, and of them all [1] bytes and [2] newlines of the texts, [3] the greatest column, [4] group numbers given,
+ *          [5] groups wrapped, [6] comments in the texts, [7] comments that they don't hold. Fresh: all 0. Later: out[8] to out[15] of
+ *          the last accepted call.
+ * out:     [0] 0, [1] to [7] the figures of this file, in the order of tallies[1] to tallies[7], [8] to [15] the new tallies, [16] and
+ *          [17] groups wrapped over group numbers given of all files, as a reduced fraction: 0 and 1 if none is given.
+ */
+void rrufthim_count(
+    const uint8_t *source, size_t source_len,
+    const uint8_t *image, size_t image_len,
+    const uint64_t tallies[RRUFTHIM_TALLIES],
+    uint64_t out[RRUFTHIM_COUNT_OUT]);
 
 #ifdef __cplusplus
 }

@@ -234,7 +234,7 @@ pub fn newlines(source: &[u8], range: Span) -> Newlines {
 }
 
 /// An answer starts with 0, or with a refusal's number and place.
-fn refused(number: u64, place: u64) -> Result<(), Refusal> {
+pub(crate) fn refused(number: u64, place: u64) -> Result<(), Refusal> {
     match number {
         0 => Ok(()),
         _ => Err(Refusal::from_numbers(number, place)),

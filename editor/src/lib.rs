@@ -10,9 +10,11 @@
 //! Below that are the calls themselves, [`check`], [`layout`], [`render`] and
 //! [`format_file`], over slices that the caller lends; what they promise is
 //! proved, and any arguments that safe Rust can give them end in an answer or
-//! a [`Refusal`]. [`newlines`] finds the gap that made a blank line.
+//! a [`Refusal`]. [`newlines`] finds the gap that made a blank line. [`count`]
+//! and [`report`] give the figures of files and their totals.
 //!
-//! docs/01-scope.md of the repository has the rules.
+//! docs/01-scope.md and docs/02-change-requests.md of the repository have the
+//! rules.
 
 #![deny(missing_docs)]
 
@@ -24,6 +26,7 @@ mod buffers;
 mod calls;
 mod encode;
 mod error;
+mod figures;
 mod fmt;
 mod formatter;
 mod image;
@@ -44,6 +47,10 @@ pub use encode::{
     encode, encode_with_widths, simple_width,
 };
 pub use error::{Cause, FormatError};
+pub use figures::{
+    Counted, Figures, Fraction, MAX_FILES, MAX_TALLY, Report, Tallies, count,
+    report,
+};
 pub use fmt::{
     CommentsLeft, Formatted, fmt_parsed, fmt_parsed_with_widths, fmt_written,
 };

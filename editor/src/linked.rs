@@ -61,4 +61,13 @@ unsafe extern "C" {
         end: u64,
         out: *mut [u64; 2],
     );
+
+    pub fn rrufthim_count(
+        source: *const u8,
+        source_len: usize,
+        image: *const u8,
+        image_len: usize,
+        tallies: *const [u64; 8],
+        out: *mut [u64; 18],
+    );
 }

@@ -1,4 +1,5 @@
-//! Why a call is turned down: the table of docs/01-scope.md.
+//! Why a call is turned down: the table of docs/01-scope.md, and 14 of
+//! docs/02-change-requests.md.
 
 use std::{error::Error, fmt};
 
@@ -66,6 +67,9 @@ pub enum Refusal {
     /// 13: the program's frame is too long or cut off. No function of this
     /// crate answers it; the program `rotofmt` does.
     BadFrame,
+    /// 14: the tallies handed in count 4,096 files, or one of them is over
+    /// 4,294,967,296, or they have more groups wrapped than given.
+    BadTallies,
     /// A number that the table doesn't have: the static library isn't the
     /// one this crate was written for.
     Unknown {
@@ -95,6 +99,7 @@ impl Refusal {
             11 => BadRow { row: place },
             12 => BadState,
             13 => BadFrame,
+            14 => BadTallies,
             _ => Unknown { number, place },
         }
     }
@@ -115,6 +120,7 @@ impl Refusal {
             BadRow { .. } => 11,
             BadState => 12,
             BadFrame => 13,
+            BadTallies => 14,
             Unknown { number, .. } => number,
         }
     }
@@ -122,7 +128,7 @@ impl Refusal {
     /// The table's place: 0 where the cause has none.
     pub fn place(&self) -> u64 {
         match *self {
-            SourceTooLong | NoImage | BadState | BadFrame => 0,
+            SourceTooLong | NoImage | BadState | BadFrame | BadTallies => 0,
             SourceNotUtf8 { at }
             | BadRecord { at }
             | TooDeep { at }
@@ -179,6 +185,11 @@ impl Refusal {
             }
             BadState => "the state or the stop doesn't fit file and buffers",
             BadFrame => "the frame is over 32,768 bytes or cut off",
+            BadTallies => {
+                "no file can be counted on top of these tallies: 4,096 \
+                 files are counted, one of them is over 4,294,967,296, or \
+                 more groups are wrapped than given"
+            }
             Unknown { .. } => {
                 "the static library refuses for a cause that this crate \
                  doesn't know: it isn't the one for this crate"

@@ -2,8 +2,8 @@
 //! same functions, parameters in the same order, kinds and sizes.
 
 use rrufthim::{
-    MAX_BODY, MAX_COMMENTS, MAX_DEPTH, MAX_FILE_ROWS, MAX_SOURCE, MAX_WIDTH,
-    ROW, Refusal,
+    MAX_BODY, MAX_COMMENTS, MAX_DEPTH, MAX_FILE_ROWS, MAX_FILES, MAX_SOURCE,
+    MAX_TALLY, MAX_WIDTH, ROW, Refusal,
 };
 
 const HEADER: &str = include_str!("../include/rrufthim.h");
@@ -117,7 +117,7 @@ fn constants(header: &str) -> Vec<(String, u64)> {
 #[test]
 fn all_say_the_same() {
     let exported = exported();
-    assert_eq!(exported.len(), 5);
+    assert_eq!(exported.len(), 6);
     assert_eq!(linked(), exported);
     assert_eq!(declared(HEADER), exported);
 }
@@ -128,6 +128,7 @@ fn a_difference_is_found() {
     let changes = [
         ("uint64_t out[RRUFTHIM_CHECK_OUT]", "uint64_t out[3]"),
         ("_LAYOUT_STATE 7", "_LAYOUT_STATE 8"),
+        ("_TALLIES 8", "_TALLIES 7"),
         ("uint32_t *store", "uint64_t *store"),
         ("const uint64_t state", "uint64_t state"),
         (
@@ -162,7 +163,8 @@ fn as_constant(refusal: Refusal) -> String {
 #[test]
 fn refusals_and_sizes_have_their_names() {
     let constants = constants(HEADER);
-    for (place, number) in (1..=12).enumerate() {
+    // 13 is the program's.
+    for (place, number) in (1..=12).chain([14]).enumerate() {
         let name = as_constant(Refusal::from_numbers(number, 0));
         assert_eq!(constants[place], (format!("RRUFTHIM_{name}"), number));
     }
@@ -178,4 +180,6 @@ fn refusals_and_sizes_have_their_names() {
     assert_eq!(value("RRUFTHIM_MAX_COMMENTS"), MAX_COMMENTS as u64);
     assert_eq!(value("RRUFTHIM_MAX_DEPTH"), MAX_DEPTH as u64);
     assert_eq!(value("RRUFTHIM_MAX_WIDTH"), MAX_WIDTH as u64);
+    assert_eq!(value("RRUFTHIM_MAX_FILES"), MAX_FILES);
+    assert_eq!(value("RRUFTHIM_MAX_TALLY"), MAX_TALLY);
 }

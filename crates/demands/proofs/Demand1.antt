@@ -23,7 +23,11 @@ use Rattle.file.specs.Whole.{sourceOf, imageOf, frameFits, frameRefusal}
 use Rattle.layout_call.specs.Calls as layout
 use Rattle.render_call.specs.Calls as render
 use Rattle.reply.specs.Reply.{frameTable, programRoom}
-use Rattle.demands.specs.Demand1.{layoutNumbers, renderNumbers, fileNumbers, frameNumbers, readTold, callTold, fileTold, Answered, CheckAnswered, LayoutAnswered, RenderAnswered, FileAnswered, FrameAnswered, Demand1}
+use Rattle.demands.specs.Demand1.{layoutNumbers, renderNumbers, fileNumbers, frameNumbers, countNumbers, readTold, callTold, fileTold, countTold, Answered, CheckAnswered, LayoutAnswered, RenderAnswered, FileAnswered, FrameAnswered, CountAnswered, Demand1}
+use Rattle.tallies.specs.declared.Figures.{Figures}
+use Rattle.tallies.specs.declared.Tallies.{Tallies}
+use Rattle.tallies.specs.Tallies.{tallyTests, tallyRefusal}
+use Rattle.figures.specs.Figures.{FILE-OUTPUT, figuresOf, countRefusal, countAnswerBy}
 
 -- ---- refusals under a list of numbers
 pub record Under (ns : List ℕ) (o : Option Refusal) : Type 0 where
@@ -164,6 +168,10 @@ frame-told (some r) u bytes left rows numbers = refl
 frame-told none (some r) bytes left rows numbers = refl
 frame-told none none bytes left rows numbers = refl
 
+count-told : (o : Option Refusal) (f : Figures) (t : Tallies) → countTold (countAnswerBy o f t) ≡ o
+count-told (some r) f t = refl
+count-told none f t = refl
+
 -- what stands where a call is refused
 pub left-same : (o : Option Refusal) (r : Refusal) (old new : List ℕ) → o ≡ some r → unless o old new ≡ old
 left-same (some q) r old new e = refl
@@ -207,6 +215,16 @@ format-frame frame out r out2 p =
     answered (ap fileTold (p .answer) ∙ frame-told (frameRefusal frame) (fileRefusal s b (length out)) _ _ _ _) (frame-under frame (length out))
     (λ r f. p .output-left ∙ frame-same (frameRefusal frame) (fileRefusal s b (length out)) r out _ f)
 
+pub count-under : (s b : List ℕ) (t : Tallies) → Under countNumbers (countRefusal s b t)
+count-under s b t =
+    under-first countNumbers (fileRefusal s b FILE-OUTPUT ∷ tallyRefusal t ∷ []) (
+      under-more fileNumbers (14 ∷ []) (fileRefusal s b FILE-OUTPUT) (file-under s b FILE-OUTPUT),
+      (under-if countNumbers (any (tallyTests t)) 14 0 refl, tt),
+    )
+
+count-file : CountAnswered
+count-file s b t r e = answered (ap countTold e ∙ count-told (countRefusal s b t) (figuresOf s b) t) (count-under s b t) (λ r f. tt)
+
 pub demand-1 : Demand1
 demand-1 = record {
   check = check;
@@ -215,4 +233,5 @@ demand-1 = record {
   file = format-file;
   frame = format-frame;
   program = λ frame r e. frame-under frame programRoom .of r e;
+  count = count-file;
 }

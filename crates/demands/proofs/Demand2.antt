@@ -18,9 +18,9 @@ use Rattle.cut_rule.proofs.Table.{layout-told}
 use Rattle.cut_rule.proofs.Answers.{LaidTold, laid-told, written-told}
 use Rattle.plain_run.specs.Parts.{partsOf}
 use Rattle.plain_run.specs.Demands.{rulesOf, Gives, laidTo, stoppingAt}
-use Rattle.plain_run.specs.File.{drawnDue, laidRefusal, refusalIn, fileRefusal, fileAnswerBy, formatted}
+use Rattle.plain_run.specs.File.{drawnDue, laidRefusal, refusalIn, fileRefusal, fileAnswerBy, formatted, storeLeft}
 use Rattle.plain_run.proofs.Demands.{due-is-fmt-parsed, laid-within-limits}
-use Rattle.plain_run.proofs.File.{storeLeft, stateDue, renderedDue, layout-answer-due, layout-store-due, render-answer-due, render-marks-due, render-output-due}
+use Rattle.plain_run.proofs.File.{stateDue, renderedDue, layout-answer-due, layout-store-due, render-answer-due, render-marks-due, render-output-due}
 use Rattle.layout_call.specs.declared.LayoutState.{LayoutState}
 use Rattle.layout_call.specs.declared.LayoutArgs.{LayoutArgs}
 use Rattle.layout_call.specs.declared.Laying.the-variants as laying

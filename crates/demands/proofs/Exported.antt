@@ -24,11 +24,17 @@ use Rattle.plain_run.proofs.Demands.{rules-cut}
 use Rattle.layout_call.specs.Calls as layout
 use Rattle.layout_call.specs.Steps.{declared}
 use Rattle.render_call.specs.Calls as render
-use Rattle.exports.specs.Numbers.{flag, bit, layoutState, layoutArgs, renderState, renderArgs, toldCall, toldRead, toldFile}
+use Rattle.exports.specs.Numbers.{flag, bit, layoutState, layoutArgs, renderState, renderArgs, toldCall, toldRead, toldFile, talliesFrom, toldCount}
+use Rattle.tallies.specs.declared.Figures.{Figures}
+use Rattle.tallies.specs.declared.Tallies.{Tallies}
+use Rattle.tallies.specs.declared.Fraction.{Fraction}
+use Rattle.tallies.specs.Tallies.{added}
+use Rattle.tallies.specs.Fraction.{reduced}
+use Rattle.figures.specs.Figures.{figuresOf, countRefusal, countAnswerBy}
 use Rattle.exports.specs.Calls.{Lays, Renders}
-use Rattle.demands.specs.Demand1.{layoutNumbers, renderNumbers, fileNumbers}
+use Rattle.demands.specs.Demand1.{layoutNumbers, renderNumbers, fileNumbers, countNumbers}
 use Rattle.demands.specs.Exported.{Told, Linked1, Holder, freshHolder, LinkedCall, laid, rendered, LinkedPromised, ifAccepted, afterLinked, callLinked, heldLinked, Linked3}
-use Rattle.demands.proofs.Demand1.{Under, read-under, layout-under, render-under, file-under, left-same}
+use Rattle.demands.proofs.Demand1.{Under, read-under, layout-under, render-under, file-under, count-under, left-same}
 use Rattle.demands.proofs.Demand3.{held-as-due}
 
 -- numbers stored from the start of an array that has room for them stand at its start
@@ -76,6 +82,41 @@ file-tells (some q) n l k m out r e =
     let same : q ≡ r = cc in
     ap (λ (x : Refusal). sets out 0 (x .number ∷ x .place ∷ [])) same
 file-tells none n l k m out r e = let z : _≡_ {A = ℕ} 0 1 = cc in absurd (omega arith)
+
+-- the numbers of a file that is counted
+abbrev countedNumbers : Figures → Tallies → Fraction → List ℕ
+countedNumbers f t q =
+    0
+    ∷ f .bytes
+    ∷ f .newlines
+    ∷ f .column
+    ∷ f .given
+    ∷ f .wrapped
+    ∷ f .placed
+    ∷ f .left
+    ∷ t .files
+    ∷ t .all .bytes
+    ∷ t .all .newlines
+    ∷ t .all .column
+    ∷ t .all .given
+    ∷ t .all .wrapped
+    ∷ t .all .placed
+    ∷ t .all .left
+    ∷ q .over
+    ∷ q .under
+    ∷ []
+
+count-zero : (o : Option Refusal) (f : Figures) (t : Tallies) (out : List ℕ) → 18 ≤ length out → o ≡ none
+    → getD (toldCount (countAnswerBy o f t) out) 0 0 ≡ 0
+count-zero none f t out h e = ap (λ (x : List ℕ). getD x 0 0) (stored (countedNumbers f (added f t) (reduced (added f t .all .wrapped) (added f t .all .given))) out h)
+count-zero (some q) f t out h e = let z : _≡_ {A = ℕ} 0 1 = cc in absurd (omega arith)
+
+count-tells : (o : Option Refusal) (f : Figures) (t : Tallies) (out : List ℕ) (r : Refusal) → o ≡ some r
+    → toldCount (countAnswerBy o f t) out ≡ sets out 0 (r .number ∷ r .place ∷ [])
+count-tells (some q) f t out r e =
+    let same : q ≡ r = cc in
+    ap (λ (x : Refusal). sets out 0 (x .number ∷ x .place ∷ [])) same
+count-tells none f t out r e = let z : _≡_ {A = ℕ} 0 1 = cc in absurd (omega arith)
 
 module _ (s b : List ℕ) where
   -- the numbers of an accepted answer
@@ -150,6 +191,14 @@ linked-1 = record {
       (λ f. ap (λ (l : List ℕ). getD l 0 0) (p .told-as) ∙ file-zero o _ _ _ _ out (omega arith) f)
       (λ r f. p .told-as ∙ file-tells o _ _ _ _ out r f)
       (λ r f. p .output-left ∙ left-same o r output _ f);
+  count =
+      λ s b from out out2 h e.
+      let t : Tallies = talliesFrom from in
+      let o : Option Refusal = countRefusal s b t in
+      two countNumbers o out out2 (Unit {0}) (omega arith) (count-under s b t)
+      (λ f. ap (λ (l : List ℕ). getD l 0 0) e ∙ count-zero o (figuresOf s b) t out (omega arith) f)
+      (λ r f. e ∙ count-tells o (figuresOf s b) t out r f)
+      (λ r f. tt);
 }
 
 -- ---- demand 3

@@ -32,6 +32,9 @@ use Rattle.render_call.specs.Whole.{RenderCalled}
 use Rattle.file.specs.declared.Formatted.{Formatted}
 use Rattle.file.specs.Whole.{formattedAnswer, Formats, FormatsFrame}
 use Rattle.reply.specs.Reply.{frameTable, programRefusal}
+use Rattle.tallies.specs.declared.Tallies.{Tallies}
+use Rattle.figures.specs.declared.Counted.{Counted}
+use Rattle.figures.specs.Figures as count
 
 -- ---- the numbers of each entry, in the table's order
 -- "Layout uses 1 to 7, 12, 8"
@@ -50,6 +53,10 @@ fileNumbers = readNumbers ++ (8 ∷ 9 ∷ 10 ∷ [])
 abbrev pub frameNumbers : List ℕ
 frameNumbers = 13 ∷ fileNumbers
 
+-- a file that is counted: 14, "after all of 01's"
+abbrev pub countNumbers : List ℕ
+countNumbers = fileNumbers ++ (14 ∷ [])
+
 -- ---- what an answer tells: the refusal, or none
 abbrev pub readTold : Outcome → Option Refusal
 readTold (image.accepted n at) = none
@@ -63,6 +70,10 @@ callTold s b (written t n) = none
 abbrev pub fileTold : FileAnswer → Option Refusal
 fileTold (file.refused r) = some r
 fileTold (formatted bytes left rows numbers) = none
+
+abbrev pub countTold : count.CountAnswer → Option Refusal
+countTold (count.refused r) = some r
+countTold (count.counted f t q) = none
 
 -- ---- the demand
 -- an entry that refuses under these numbers, for arguments of which the table says `table`, told `told`; `Kept` says that its buffers are as they were
@@ -107,6 +118,11 @@ FrameAnswered = (frame out : List ℕ) (r : Formatted) (out2 : List ℕ) → For
 abbrev pub ProgramAnswered : Type 0
 ProgramAnswered = (frame : List ℕ) (r : Refusal) → programRefusal frame ≡ some r → isOneOf (r .number) frameNumbers ≡ true
 
+-- `figures::count_file`, which is lent nothing to change
+abbrev pub CountAnswered : Type 0
+CountAnswered = (s b : List ℕ) (t : Tallies) (r : Counted) → count.countedAnswer r ≡ count.countAnswer s b t
+    → Answered countNumbers (count.countRefusal s b t) (countTold (count.countedAnswer r)) (Unit {0})
+
 pub record Demand1 : Type 0 where
   pub check : CheckAnswered
   pub layout : LayoutAnswered
@@ -114,3 +130,4 @@ pub record Demand1 : Type 0 where
   pub file : FileAnswered
   pub frame : FrameAnswered
   pub program : ProgramAnswered
+  pub count : CountAnswered

@@ -18,9 +18,10 @@ use Rattle.plain_run.specs.File.{fileRefusal}
 use Rattle.layout_call.specs.Calls as layout
 use Rattle.layout_call.specs.Steps.{declared}
 use Rattle.render_call.specs.Calls as render
-use Rattle.exports.specs.Numbers.{layoutState, layoutArgs, renderState, renderArgs, toldRead}
+use Rattle.figures.specs.Figures.{countRefusal, countAnswer}
+use Rattle.exports.specs.Numbers.{layoutState, layoutArgs, renderState, renderArgs, toldRead, talliesFrom, toldCount}
 use Rattle.exports.specs.Calls.{Lays, Renders, FormatsFile}
-use Rattle.demands.specs.Demand1.{layoutNumbers, renderNumbers, fileNumbers}
+use Rattle.demands.specs.Demand1.{layoutNumbers, renderNumbers, fileNumbers, countNumbers}
 use Rattle.demands.specs.Demand3.{HeldAsDue}
 
 -- ---- demand 1
@@ -49,6 +50,8 @@ pub record Linked1 : Type 0 where
       ((store2 ≡ store) × (marks2 ≡ marks) × (output2 ≡ output))
   pub format : (s b output out output2 out2 : List ℕ) → length out ≡ 5 → FormatsFile s b output out output2 out2
       → Told fileNumbers (fileRefusal s b (length output)) out2 (output2 ≡ output)
+  pub count : (s b from out out2 : List ℕ) → length out ≡ 18 → out2 ≡ toldCount (countAnswer s b (talliesFrom from)) out
+      → Told countNumbers (countRefusal s b (talliesFrom from)) out2 (Unit {0})
 
 -- ---- demand 3
 -- what a caller holds: the buffers, both states as arrays, the text joined in call order, the comments left that it was told last

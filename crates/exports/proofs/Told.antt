@@ -19,7 +19,10 @@ use Rattle.render_call.specs.Whole as render
 use Rattle.plain_run.specs.File.{FileAnswer}
 use Rattle.file.specs.declared.Formatted.{Formatted}
 use Rattle.file.specs.Whole as file
-use Rattle.exports.specs.Numbers.{layoutState, layoutArgs, renderState, renderArgs, toldCall, toldFile, toldRead}
+use Rattle.tallies.specs.declared.Tallies.{Tallies}
+use Rattle.figures.specs.declared.Counted.{Counted}
+use Rattle.figures.specs.Figures.{CountAnswer, countAnswer, countedAnswer}
+use Rattle.exports.specs.Numbers.{layoutState, layoutArgs, renderState, renderArgs, toldCall, toldFile, toldRead, talliesFrom, toldCount}
 use Rattle.exports.specs.Calls.{Lays, Renders, FormatsFile}
 
 pub lays : (s b store state : List ℕ) (stop close : ℕ) (out store2 out2 : List ℕ) (z : LayoutState) (a : LayoutArgs) (r q : Laying)
@@ -53,3 +56,11 @@ formats s b output out output2 out2 r q p g h =
 pub reads : (s b out out2 : List ℕ) (d : ℕ) (r q : Answer) → outcomeOf r ≡ outcome (readAll s b) → r ≡ q → out2 ≡ toldRead (outcomeOf q) d out
     → out2 ≡ toldRead (outcome (readAll s b)) d out
 reads s b out out2 d r q p g h = h ∙ ap (λ (a : Outcome). toldRead a d out) (sym (ap outcomeOf g) ∙ p)
+
+pub counts : (s b from out out2 : List ℕ) (t : Tallies) (r q : Counted) → t ≡ talliesFrom from → countedAnswer r ≡ countAnswer s b t → r ≡ q
+    → out2 ≡ toldCount (countedAnswer q) out
+    → out2 ≡ toldCount (countAnswer s b (talliesFrom from)) out
+counts s b from out out2 t r q e p g h =
+    h
+    ∙ ap (λ (a : CountAnswer). toldCount a out)
+    (sym (ap countedAnswer g) ∙ p ∙ ap (λ (x : Tallies). countAnswer s b x) e)

@@ -1,6 +1,6 @@
 -- The numbers that the exported functions take and leave, in arrays of as many places as an answer or a state has. A refusal takes two places,
 -- and leaves the others as they were.
-use Prim.Native.Nat.{ℕ}
+use Prim.Native.Nat.{ℕ, _+_}
 use mathlib.Core.Bool.{Bool, cond, not}
 use mathlib.Core.List.{List, [], _∷_}
 use lib.Dec.{eqb}
@@ -11,6 +11,9 @@ use Rattle.image.specs.Read as image
 use Rattle.cut_rule.specs.Run.{Answer, refused, laidOut, written}
 use Rattle.plain_run.specs.Demands.{rulesOf}
 use Rattle.plain_run.specs.File as file
+use Rattle.figures.specs.Figures as count
+use Rattle.tallies.specs.declared.Figures.{Figures}
+use Rattle.tallies.specs.declared.Tallies.{Tallies}
 use Rattle.layout_call.specs.declared.LayoutState.{LayoutState}
 use Rattle.layout_call.specs.declared.LayoutArgs.{LayoutArgs}
 use Rattle.render_call.specs.declared.RenderState.{RenderState}
@@ -83,3 +86,45 @@ toldFile (file.formatted bytes left rows numbers) out = sets out 0 (0 ∷ bytes 
 -- the newlines of a range: how many, and the place of the last or the range's end
 abbrev pub toldNewlines : Newlines → List ℕ → List ℕ
 toldNewlines found out = sets out 0 (found .count ∷ found .place ∷ [])
+
+-- ---- request 2
+-- the seven figures, in document 02's order
+abbrev pub figuresFrom : ℕ → List ℕ → Figures
+figuresFrom at l = record {
+  bytes = getD l at 0;
+  newlines = getD l (at + 1) 0;
+  column = getD l (at + 2) 0;
+  given = getD l (at + 3) 0;
+  wrapped = getD l (at + 4) 0;
+  placed = getD l (at + 5) 0;
+  left = getD l (at + 6) 0;
+}
+
+-- the tallies: how many files, then their figures together
+abbrev pub talliesFrom : List ℕ → Tallies
+talliesFrom l = record { files = getD l 0 0; all = figuresFrom 1 l }
+
+-- a count's answer: a refusal's number and place; or 0, the file's figures, the new tallies, and wrapped over given of all
+abbrev pub toldCount : count.CountAnswer → List ℕ → List ℕ
+toldCount (count.refused r) out = sets out 0 (r .number ∷ r .place ∷ [])
+toldCount (count.counted f t q) out =
+    sets out 0
+    (0
+    ∷ f .bytes
+    ∷ f .newlines
+    ∷ f .column
+    ∷ f .given
+    ∷ f .wrapped
+    ∷ f .placed
+    ∷ f .left
+    ∷ t .files
+    ∷ t .all .bytes
+    ∷ t .all .newlines
+    ∷ t .all .column
+    ∷ t .all .given
+    ∷ t .all .wrapped
+    ∷ t .all .placed
+    ∷ t .all .left
+    ∷ q .over
+    ∷ q .under
+    ∷ [])

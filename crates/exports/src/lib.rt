@@ -1,4 +1,5 @@
 // The functions that other languages call: numbers and slices in, numbers out.
+mod count;
 mod numbers;
 
 ghost use mathlib.Core.Path.{_≡_};
@@ -6,14 +7,19 @@ ghost use lib.ListN.{length};
 ghost use Rattle.image.specs.Read.{readAll, outcome};
 ghost use Rattle.layout_call.specs.Steps.{declared};
 ghost use Rattle.text.specs.Newlines.{countNewlines};
-ghost use Rattle.exports.specs.Numbers.{toldRead, toldNewlines};
+ghost use Rattle.figures.specs.Figures.{countAnswer};
+ghost use Rattle.exports.specs.Numbers.{toldRead, toldNewlines, talliesFrom, toldCount};
 ghost use Rattle.exports.specs.Calls.{Lays, Renders, FormatsFile};
+use crate::count::put_counted;
+use crate::count::tallies_from;
 use crate::numbers::flag;
 use crate::numbers::layout_state;
 use crate::numbers::put_formatted;
 use crate::numbers::put_laid;
 use crate::numbers::put_written;
 use crate::numbers::render_state;
+use figures::Counted;
+use figures::count_file;
 use file::Formatted;
 use file::format_file;
 use image::Answer;
@@ -141,4 +147,25 @@ pub extern "C" fn rrufthim_newlines(source: &[u8], start: u64, end: u64, out: &m
     let found = count_newlines(source, start as usize, end as usize);
     out[0] = found.count as u64;
     out[1] = found.place as u64;
+}
+
+// Counts a file with those before it: its figures, the new tallies, and wrapped over given. The tallies: how many files, then bytes, newlines,
+// column, given, wrapped, placed, left. `out` gets the refusal's number and place, or 0, the seven figures, the eight tallies, and the
+// fraction's two numbers.
+#[no_mangle]
+pub extern "C" fn rrufthim_count(
+    source: &[u8],
+    image: &[u8],
+    tallies: &[u64; 8],
+    out: &mut [u64; 18],
+)
+    ensures { λ r. ⌜ now (out .exit) ≡ toldCount (countAnswer (now (source .entry)) (now (image .entry)) (talliesFrom (now (tallies .entry)))) (now (out .entry)) ⌝ }
+{
+    match count_file(source, image, tallies_from(tallies)) {
+        Counted::Refused(n, p) => {
+            out[0] = n as u64;
+            out[1] = p as u64;
+        }
+        Counted::File(f, t, q) => put_counted(out, f, t, q),
+    }
 }

@@ -6,26 +6,27 @@ use mathlib.Core.List.{List, [], _∷_}
 use Prim.Native.Nat.{ℕ, _-_}
 use native.Mathlib.Omega.{arith}
 use lib.Dec.{ltb}
-use lib.ListN.{length}
+use lib.ListN.{length, take}
 use Rattle.image.specs.Read.{readAll, answerOf}
 use Rattle.image.specs.declared.Answer.the-variants as checked
 use Rattle.rows.specs.Rows.{rows}
 use Rattle.rows.specs.declared.units.Bytes.{Bytes}
+use Rattle.rows.specs.declared.units.Columns.{Columns}
 use Rattle.comments.specs.Listed.{commentsOf}
 use Rattle.refusals.specs.Refusals.{Refusal, unless, first, refuseIf}
 use Rattle.cut_rule.specs.Run.{Answer, refused, laidOut, written, answerBy, writeFront}
-use Rattle.cut_rule.specs.Entries.{layoutAnswer, layoutStore, renderAnswer, renderOutput}
+use Rattle.cut_rule.specs.Entries.{layoutAnswer, layoutStore, renderAnswer, renderMarks, renderOutput}
 use Rattle.cut_rule.specs.States as states
 use Rattle.cut_rule.specs.Tests as tests
 use Rattle.cut_rule.specs.Rules as rules
 use Rattle.cut_rule.specs.States.{layoutFresh, renderFresh}
-use Rattle.cut_rule.specs.Parts.{beforeMarks}
+use Rattle.cut_rule.specs.Parts.{withCleared, beforeMarks}
 use Rattle.cut_rule.proofs.Answers.{refused-told, LaidTold, laid-told, written-told}
-use Rattle.plain_run.specs.Parts.{partsOf}
+use Rattle.plain_run.specs.Parts.{partsOf, widestDrawn}
 use Rattle.plain_run.specs.Demands.{rulesOf, closingAt}
-use Rattle.plain_run.specs.File.{fileRows, fileMarks, built, rowsDue, marksDue, drawnDue, laidRefusal, refusalIn, fileRefusal, formatted, fileAnswerBy}
+use Rattle.plain_run.specs.File.{fileRows, fileMarks, built, rowsDue, marksDue, drawnDue, columnDue, laidRefusal, refusalIn, fileRefusal, formatted, fileAnswerBy, storeLeft, marksLeft, outputLeft}
 use Rattle.plain_run.proofs.Refused.{read-refused}
-use Rattle.plain_run.proofs.File.{storeLeft, outputLeft, stateDue, renderedDue, layout-answer-due, layout-store-due, render-early-due, render-answer-due, render-output-due}
+use Rattle.plain_run.proofs.File.{stateDue, renderedDue, layout-answer-due, layout-store-due, render-early-due, render-answer-due, render-marks-due, render-output-due, render-widest-due}
 use Rattle.layout_call.specs.Calls as layouts
 use Rattle.layout_call.specs.Steps.{declared}
 use Rattle.layout_call.specs.Whole.{LayoutCalled}
@@ -34,13 +35,16 @@ use Rattle.layout_call.specs.declared.LayoutArgs.{LayoutArgs}
 use Rattle.layout_call.specs.declared.Laying.{Laying}
 use Rattle.layout_call.specs.declared.Laying.the-variants as laying
 use Rattle.render_call.specs.Calls as renders
-use Rattle.render_call.specs.Whole.{Checked, RenderCalled}
+use Rattle.render_call.specs.Whole.{Checked, Draws}
 use Rattle.render_call.specs.declared.RenderState.{RenderState}
 use Rattle.render_call.specs.declared.RenderArgs.{RenderArgs}
-use Rattle.render_call.specs.declared.Rendering.{Rendering}
-use Rattle.render_call.specs.declared.Rendering.the-variants as rendering
-use Rattle.file.specs.Whole.{Formats}
+use Rattle.render_call.specs.declared.Drawing.{Drawing}
+use Rattle.render_call.specs.declared.Drawing.the-variants as drawing
+use Rattle.file.specs.Whole.{formattedAnswer, formattedOf, RunsFile, Formats}
+use Rattle.file.specs.declared.Formatted.{Formatted}
 use Rattle.file.specs.declared.Formatted.the-variants as answer
+use Rattle.file.specs.declared.FileRun.{FileRun}
+use Rattle.file.specs.declared.FileRun.the-variants as run
 
 -- a refusal from its number and its place
 abbrev at : ℕ → ℕ → Refusal
@@ -70,8 +74,8 @@ module _ (s b : List ℕ) where
         output-left = sym (ap (λ (x : Option Refusal). unless x out (writeFront (drawnDue s b .text) out)) r);
       }
 
-  -- ---- the two calls, with rows and marks as many as a whole file has
-  module _ (store marks out : List ℕ) (rowed : tests.rowsIn store ≡ fileRows) (marked : length marks ≡ fileMarks) where
+  -- ---- the two calls
+  module _ (store marks out : List ℕ) where
     -- a refusal of layout is one of the run
     first-refused : (r : Refusal) → laidRefusal s b (tests.rowsIn store) ≡ some r → refusalIn s b (tests.rowsIn store) (length marks) (length out) ≡ some r
     first-refused r e =
@@ -79,25 +83,33 @@ module _ (s b : List ℕ) where
         first (x ∷ refuseIf (ltb (length marks) (marksDue s b)) 9 (marksDue s b) ∷ refuseIf (ltb (length out) textDue) 10 textDue ∷ []))
         e
 
-    -- the table for these buffers is a whole file's
-    table-same : refusalIn s b (tests.rowsIn store) (length marks) (length out) ≡ fileRefusal s b (length out)
-    table-same = ap₂ (λ (x y : ℕ). refusalIn s b x y (length out)) rowed marked
-
-    -- refused
-    refused-formats : (n p : ℕ) (out2 : List ℕ) → refusalIn s b (tests.rowsIn store) (length marks) (length out) ≡ some (at n p)
-        → out2 ≡ outputLeft s b store marks out
-        → Formats s b out (answer.Refused n p) out2
-    refused-formats n p out2 e h = record {
-      answer =
-          sym (ap (λ (x : Option Refusal). fileAnswerBy x (formatted textDue leftDue (rowsDue s b) (built s b .taken))) (sym table-same ∙ e));
-      output-left = h ∙ ap (λ (x : Option Refusal). unless x out (writeFront (drawnDue s b .text) out)) table-same;
-    }
+    -- rows and marks as many as a whole file has: its run
+    pub runs-whole : tests.rowsIn store ≡ fileRows → length marks ≡ fileMarks → (r : FileRun) (store2 marks2 out2 : List ℕ)
+        → RunsFile s b store marks out r store2 marks2 out2
+        → (a : Formatted)
+        → a ≡ formattedOf r
+        → Formats s b out a out2
+    runs-whole rowed marked r store2 marks2 out2 f a e =
+        let table-same : refusalIn s b (tests.rowsIn store) (length marks) (length out) ≡ fileRefusal s b (length out) =
+        ap₂ (λ (x y : ℕ). refusalIn s b x y (length out)) rowed marked
+        in
+        record {
+          answer = ap formattedAnswer e ∙ f .answer ∙ ap (λ (x : Option Refusal). fileAnswerBy x (formatted textDue leftDue (rowsDue s b) (built s b .taken))) table-same;
+          output-left = f .output-left ∙ ap (λ (x : Option Refusal). unless x out (writeFront (drawnDue s b .text) out)) table-same;
+        }
 
     -- refused by the layout call, or before it
-    laid-refused : (n p : ℕ) → laidRefusal s b (tests.rowsIn store) ≡ some (at n p) → Formats s b out (answer.Refused n p) out
-    laid-refused n p e =
+    laid-refused : (n p : ℕ) (store2 : List ℕ) → laidRefusal s b (tests.rowsIn store) ≡ some (at n p) → store2 ≡ storeLeft s b store
+        → RunsFile s b store marks out (run.Refused n p) store2 marks out
+    laid-refused n p store2 e h =
         let r = first-refused (at n p) e in
-        refused-formats n p out r (sym (ap (λ (x : Option Refusal). unless x out (writeFront (drawnDue s b .text) out)) r))
+        record {
+          answer = sym (ap (λ (x : Option Refusal). fileAnswerBy x (formatted textDue leftDue (rowsDue s b) (built s b .taken))) r);
+          widest = sym (ap (λ (x : Option Refusal). unless x 0 (columnDue s b)) r);
+          store-left = h;
+          marks-left = sym (ap (λ (x : Option Refusal). unless x marks (writeFront (drawnDue s b .marks) marks)) r);
+          output-left = sym (ap (λ (x : Option Refusal). unless x out (writeFront (drawnDue s b .text) out)) r);
+        }
 
     -- ---- the layout call
     module _ (state : LayoutState) (q : LayoutArgs) (r : Laying) (store2 : List ℕ) (fresh : layouts.toState state ≡ layoutFresh)
@@ -117,11 +129,12 @@ module _ (s b : List ℕ) where
       never-laid : (x : Refusal) (t : states.LayoutState) (l : ℕ) → _≡_ {A = Answer (rulesOf s b)} (refused x) (laidOut t l) → ⊥
       never-laid x t l e = let z : _≡_ {A = ℕ} 0 1 = cc in omega arith
 
-      pub layout-refused : (n p : ℕ) → r ≡ laying.Refused n p → Formats s b out (answer.Refused n p) out
+      pub layout-refused : (n p : ℕ) → r ≡ laying.Refused n p → RunsFile s b store marks out (run.Refused n p) store2 marks out
       layout-refused n p e =
-          laid-refused n p
+          laid-refused n p store2
           (refused-told (rulesOf s b) (laidRefusal s b (tests.rowsIn store)) (laidOut (stateDue s b) leftDue) (at n p) (ap (layouts.layingAnswer s b) (sym e) ∙ layout-answer)
           (never-laid (at n p) (stateDue s b) leftDue))
+          layout-left
 
       -- ---- the rendering call
       module _ (t : LayoutState) (left : ℕ) (is : r ≡ laying.Laid t left) (pen : RenderState) (blank : renders.toState pen ≡ renderFresh) where
@@ -144,39 +157,66 @@ module _ (s b : List ℕ) where
               ∙ render-early-due s b store marks [] (told .passes);
         }
 
-        module _ (o : Rendering) (store3 marks2 out2 : List ℕ) (drew : RenderCalled s b pen (record { stop = t .row }) store2 marks out o store3 marks2 out2) where
-          drawn-answer : renders.renderingAnswer s b o ≡ answerBy (rulesOf s b) (refusalIn s b (tests.rowsIn store) (length marks) (length out)) (written (renderedDue s b) textDue)
+        module _ (o : Drawing) (store3 marks2 out2 : List ℕ) (drew : Draws s b pen (record { stop = t .row }) store2 marks out o store3 marks2 out2) where
+          drawn-answer : renders.renderingAnswer s b (renders.renderingOf o) ≡ answerBy (rulesOf s b) (refusalIn s b (tests.rowsIn store) (length marks) (length out)) (written (renderedDue s b) textDue)
           drawn-answer =
-              drew .answer
+              drew .called .answer
               ∙ same (λ x q rows. renderAnswer (rulesOf s b) (renders.toArgs q (length out)) x rows marks)
               ∙ render-answer-due s b store marks out (told .passes)
 
+          store-same : store3 ≡ storeLeft s b store
+          store-same = drew .called .store-left ∙ layout-left
+
+          marks-same : marks2 ≡ marksLeft s b store marks out
+          marks-same =
+              drew .called .marks-left
+              ∙ same (λ x q rows. renderMarks (rulesOf s b) (renders.toArgs q (length out)) x rows marks)
+              ∙ render-marks-due s b store marks out (told .passes)
+
           output-same : out2 ≡ outputLeft s b store marks out
           output-same =
-              drew .output-left
+              drew .called .output-left
               ∙ same (λ x q rows. renderOutput (rulesOf s b) (renders.toArgs q (length out)) x rows marks out)
               ∙ render-output-due s b store marks out (told .passes)
+
+          widest-same : renders.widestOf o ≡ unless (refusalIn s b (tests.rowsIn store) (length marks) (length out)) 0 (columnDue s b)
+          widest-same =
+              drew .widest
+              ∙ same (λ x q rows.
+              unless (rulesOf s b .render-refusal (renders.toArgs q (length out)) x rows marks) 0
+              (widestDrawn s b (x .pen) (withCleared (partsOf s b) (take (x .in-use) marks) (partsOf s b .needed rows (x .row) (q .stop))) rows (x .row) (q .stop)))
+              ∙ render-widest-due s b store marks out (told .passes)
 
           never-written : (x : Refusal) (u : states.RenderState) (l : ℕ) → _≡_ {A = Answer (rulesOf s b)} (refused x) (written u l) → ⊥
           never-written x u l e = let z : _≡_ {A = ℕ} 0 1 = cc in omega arith
 
-          pub drawn-refused : (n p : ℕ) → o ≡ rendering.Refused n p → Formats s b out (answer.Refused n p) out2
+          pub drawn-refused : (n p : ℕ) → o ≡ drawing.Refused n p → RunsFile s b store marks out (run.Refused n p) store3 marks2 out2
           drawn-refused n p e =
-              refused-formats n p out2
-              (refused-told (rulesOf s b) (refusalIn s b (tests.rowsIn store) (length marks) (length out)) (written (renderedDue s b) textDue) (at n p) (ap (renders.renderingAnswer s b) (sym e) ∙ drawn-answer)
-              (never-written (at n p) (renderedDue s b) textDue))
-              output-same
+              let r : refusalIn s b (tests.rowsIn store) (length marks) (length out) ≡ some (at n p) =
+              refused-told (rulesOf s b) (refusalIn s b (tests.rowsIn store) (length marks) (length out)) (written (renderedDue s b) textDue) (at n p) (ap (λ (x : Drawing). renders.renderingAnswer s b (renders.renderingOf x)) (sym e) ∙ drawn-answer)
+              (never-written (at n p) (renderedDue s b) textDue)
+              in
+              record {
+                answer = sym (ap (λ (x : Option Refusal). fileAnswerBy x (formatted textDue leftDue (rowsDue s b) (built s b .taken))) r);
+                widest = ap renders.widestOf (sym e) ∙ widest-same;
+                store-left = store-same;
+                marks-left = marks-same;
+                output-left = output-same;
+              }
 
-          pub drawn-formats : (u : RenderState) (bytes : Bytes) → o ≡ rendering.Written u bytes
-              → Formats s b out (answer.Text bytes left (t .row) (t .number)) out2
-          drawn-formats u bytes e =
+          pub drawn-formats : (u : RenderState) (bytes : Bytes) (widest : Columns) → o ≡ drawing.Drawn u bytes widest
+              → RunsFile s b store marks out (run.Text bytes left (t .row) (t .number) widest) store3 marks2 out2
+          drawn-formats u bytes widest e =
               let w = written-told (rulesOf s b) (refusalIn s b (tests.rowsIn store) (length marks) (length out)) (renders.toState u) (bytes .0) (renderedDue s b) textDue
-              (ap (renders.renderingAnswer s b) (sym e) ∙ drawn-answer)
+              (ap (λ (x : Drawing). renders.renderingAnswer s b (renders.renderingOf x)) (sym e) ∙ drawn-answer)
               in
               let number : t .number ≡ built s b .taken = ap (λ (x : states.LayoutState). x .cursor .number) (told .state) in
               record {
                 answer =
                     (λ i. formatted (w .bytes i) (told .left i) (to-row i) (number i))
-                    ∙ sym (ap (λ (x : Option Refusal). fileAnswerBy x (formatted textDue leftDue (rowsDue s b) (built s b .taken))) (sym table-same ∙ w .passes));
-                output-left = output-same ∙ ap (λ (x : Option Refusal). unless x out (writeFront (drawnDue s b .text) out)) table-same;
+                    ∙ sym (ap (λ (x : Option Refusal). fileAnswerBy x (formatted textDue leftDue (rowsDue s b) (built s b .taken))) (w .passes));
+                widest = ap renders.widestOf (sym e) ∙ widest-same;
+                store-left = store-same;
+                marks-left = marks-same;
+                output-left = output-same;
               }

@@ -1,4 +1,5 @@
--- What the run of one file, or of one frame, answers and leaves: rows and marks are its own, the output is lent.
+-- What the run of one file, or of one frame, answers and leaves: rows and marks are its own, the output is lent. Below it stands the run in
+-- rows and marks that are lent too.
 use mathlib.Core.Path.{_≡_}
 use mathlib.Core.Bool.{Bool, not, _&&_}
 use mathlib.Core.Option.{Option}
@@ -8,16 +9,36 @@ use lib.Dec.{leb}
 use lib.ListN.{length, take, drop}
 use Rattle.image.specs.Bytes.{be32}
 use Rattle.refusals.specs.Refusals.{Refusal, unless, refuseIf}
-use Rattle.plain_run.specs.File.{FileAnswer, refused, formatted, fileAnswerBy, fileAnswer, fileOutput}
+use Rattle.cut_rule.specs.Tests.{rowsIn}
+use Rattle.plain_run.specs.File.{FileAnswer, refused, formatted, fileAnswerBy, answerIn, fileAnswer, fileOutput, columnDue, refusalIn, storeLeft, marksLeft, outputLeft}
 use Rattle.file.specs.declared.Formatted.{Formatted}
 use Rattle.file.specs.declared.Formatted.the-variants as answer
+use Rattle.file.specs.declared.FileRun.{FileRun}
+use Rattle.file.specs.declared.FileRun.the-variants as run
 
 -- An answer, case by case: the bytes written, the comments left, the rows and the group numbers; "Number and place are all that comes back."
 abbrev pub formattedAnswer : Formatted → FileAnswer
 formattedAnswer (answer.Text bytes left rows numbers) = formatted (bytes .0) left rows numbers
 formattedAnswer (answer.Refused n p) = refused (record { number = n; place = p })
 
--- the answer, and the output at exit, for one source and image
+-- A run with its greatest column: the answer, and that column, 0 where it is refused.
+abbrev pub formattedOf : FileRun → Formatted
+formattedOf (run.Text bytes left rows numbers widest) = answer.Text bytes left rows numbers
+formattedOf (run.Refused n p) = answer.Refused n p
+
+abbrev pub widestOf : FileRun → ℕ
+widestOf (run.Text bytes left rows numbers widest) = widest .0
+widestOf (run.Refused n p) = 0
+
+-- the answer with the greatest column, and store, marks and output at exit, for one source and image
+pub record RunsFile (source image store marks out : List ℕ) (r : FileRun) (store2 marks2 out2 : List ℕ) : Type 0 where
+  pub answer : formattedAnswer (formattedOf r) ≡ answerIn source image (rowsIn store) (length marks) (length out)
+  pub widest : widestOf r ≡ unless (refusalIn source image (rowsIn store) (length marks) (length out)) 0 (columnDue source image)
+  pub store-left : store2 ≡ storeLeft source image store
+  pub marks-left : marks2 ≡ marksLeft source image store marks out
+  pub output-left : out2 ≡ outputLeft source image store marks out
+
+-- the answer, and the output at exit, for one source and image, with rows and marks of its own
 pub record Formats (source image out : List ℕ) (r : Formatted) (out2 : List ℕ) : Type 0 where
   pub answer : formattedAnswer r ≡ fileAnswer source image (length out)
   pub output-left : out2 ≡ fileOutput source image out

@@ -1,14 +1,14 @@
 // Module 8: the whole run of one file, and of a frame that the program reads.
 ghost use mathlib.Core.Path.{_≡_};
 ghost use Prim.Native.Nat.{_*_};
-ghost use lib.ListN.{length};
+ghost use lib.ListN.{replicate};
 ghost use Rattle.rows.specs.Places.{PLACES};
 ghost use Rattle.cut_rule.specs.States.{layoutFresh, renderFresh};
 ghost use Rattle.plain_run.specs.File.{fileRows, fileMarks};
 ghost use Rattle.layout_call.specs.Calls.{toState as laidState};
 ghost use Rattle.layout_call.specs.Steps.{Accepts};
 ghost use Rattle.render_call.specs.Calls.{toState as renderedState};
-ghost use Rattle.file.specs.Whole.{Formats, FormatsFrame};
+ghost use Rattle.file.specs.Whole.{formattedOf, RunsFile, Formats, FormatsFrame};
 use image::Answer;
 use image::bytes::num32;
 use image::check;
@@ -18,9 +18,9 @@ use layout_call::LayoutArgs;
 use layout_call::LayoutState;
 use layout_call::layout_accepted;
 use layout_call::steps::count_declarations;
+use render_call::Drawing;
 use render_call::RenderArgs;
 use render_call::RenderState;
-use render_call::Rendering;
 use render_call::render_checked;
 use rows::places::PLACES;
 use rows::units::Bytes;
@@ -32,9 +32,9 @@ const MAX_FRAME: usize = 32768;
 // What a run has of its own: 1,800 rows and 1,800 marks.
 const ROWS: usize = 1800;
 
-const CELLS: usize = ROWS * PLACES;
+pub const CELLS: usize = ROWS * PLACES;
 
-const MARKS: usize = 1800;
+pub const MARKS: usize = 1800;
 
 pub enum Formatted {
     // the bytes written, the comments left, the rows and the group numbers
@@ -46,6 +46,40 @@ pub enum Formatted {
     },
     // the number and the place
     Refused(u8, usize),
+}
+
+// A file's run, with the greatest value that `column` was set to.
+pub enum FileRun {
+    Text {
+        bytes: Bytes,
+        left: usize,
+        rows: usize,
+        numbers: usize,
+        widest: Columns,
+    },
+    // the number and the place
+    Refused(u8, usize),
+}
+
+// The answer without the greatest value.
+fn formatted_of(r: FileRun) -> Formatted
+    ensures { λ f. ⌜ f ≡ formattedOf r ⌝ }
+{
+    match r {
+        FileRun::Refused(number, place) => Formatted::Refused(number, place),
+        FileRun::Text {
+            bytes,
+            left,
+            rows,
+            numbers,
+            widest,
+        } => Formatted::Text {
+            bytes: bytes,
+            left: left,
+            rows: rows,
+            numbers: numbers,
+        },
+    }
 }
 
 // Nothing is laid out yet.
@@ -77,54 +111,62 @@ fn render_fresh() -> RenderState
 }
 
 // The places of its rows.
-fn rows() -> [u32; CELLS]
-    ensures { λ r. ⌜ fileRows * PLACES ≡ length r ⌝ }
+pub fn rows() -> [u32; CELLS]
+    ensures { λ r. ⌜ r ≡ replicate (fileRows * PLACES) 0 ⌝ }
 {
     [0; CELLS]
 }
 
-// Its marks.
-fn marks() -> [u8; MARKS]
-    ensures { λ r. ⌜ fileMarks ≡ length r ⌝ }
+// Its marks, all cleared.
+pub fn marks() -> [u8; MARKS]
+    ensures { λ r. ⌜ r ≡ replicate fileMarks 0 ⌝ }
 {
     [0; MARKS]
 }
 
-// A file that is accepted: all declarations in one layout call, all rows in one rendering call. The rows
-// of a file that 9 or 10 refuses can't be taken back out of a lent store, so that rows and marks are of its own.
+// A file that is accepted, in rows and marks that are lent: all declarations in one layout call, all rows in one rendering call.
+pub fn run_file(
+    source: &[u8],
+    image: &[u8],
+    store: &mut [u32],
+    marks: &mut [u8],
+    out: &mut [u8],
+    doc: Document,
+) -> FileRun
+    requires { ⌜ Accepts (now source) (now image) doc ⌝ }
+    ensures { λ r. ⌜ RunsFile (now (source .entry)) (now (image .entry)) (now (store .entry)) (now (marks .entry)) (now (out .entry)) r (now (store .exit)) (now (marks .exit)) (now (out .exit)) ⌝ }
+{
+    let all = LayoutArgs {
+        stop: count_declarations(source, image, doc),
+        close: true,
+    };
+    match layout_accepted(source, image, store, doc, layout_fresh(), all) {
+        Laying::Refused(number, place) => FileRun::Refused(number, place),
+        Laying::Laid(state, left) => {
+            let to = RenderArgs { stop: state.row };
+            match render_checked(source, image, store, marks, out, render_fresh(), to) {
+                Drawing::Refused(number, place) => FileRun::Refused(number, place),
+                Drawing::Drawn(end, bytes, widest) => FileRun::Text {
+                    bytes: bytes,
+                    left: left,
+                    rows: state.row,
+                    numbers: state.number,
+                    widest: widest,
+                },
+            }
+        }
+    }
+}
+
+// A file that is accepted, with rows and marks of its own: the rows of a file that 9 or 10 refuses can't be taken back out of a lent store.
 fn format_accepted(source: &[u8], image: &[u8], out: &mut [u8], doc: Document) -> Formatted
     requires { ⌜ Accepts (now source) (now image) doc ⌝ }
     ensures { λ r. ⌜ Formats (now (source .entry)) (now (image .entry)) (now (out .entry)) r (now (out .exit)) ⌝ }
 {
     let mut store = rows();
     let mut used = marks();
-    let all = LayoutArgs {
-        stop: count_declarations(source, image, doc),
-        close: true,
-    };
-    match layout_accepted(source, image, &mut store, doc, layout_fresh(), all) {
-        Laying::Refused(number, place) => Formatted::Refused(number, place),
-        Laying::Laid(state, left) => {
-            let to = RenderArgs { stop: state.row };
-            match render_checked(
-                source,
-                image,
-                &mut store,
-                &mut used,
-                out,
-                render_fresh(),
-                to,
-            ) {
-                Rendering::Refused(number, place) => Formatted::Refused(number, place),
-                Rendering::Written(end, bytes) => Formatted::Text {
-                    bytes: bytes,
-                    left: left,
-                    rows: state.row,
-                    numbers: state.number,
-                },
-            }
-        }
-    }
+    let r = run_file(source, image, &mut store, &mut used, out, doc);
+    formatted_of(r)
 }
 
 // Formats a file, or refuses to and leaves the output as it was.

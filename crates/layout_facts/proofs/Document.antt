@@ -22,7 +22,7 @@ use Rattle.layout_facts.specs.Sound.{Ranged, Commented, BYTE-GIVES, ROW-
 use Rattle.layout_facts.specs.Height.{fieldsHeight, variantsHeight, declarationHeight, declarationsHeight, treeHeight}
 use Rattle.layout_facts.proofs.Steps.{_⨾_, fewer, sound-skip, sound-line, sound-emptyLine, sound-str, sound-when, sound-asks}
 use Rattle.layout_facts.proofs.Gaps.{sound-gap}
-use Rattle.layout_facts.proofs.Parts.{no-word, sound-says, ranged, from-start, sound-ident, points, All, none, also, sound-separated, sound-idents, sound-type}
+use Rattle.layout_facts.proofs.Parts.{no-word, sound-says, ranged, from-start, supplied, sound-ident, points, All, none, also, sound-separated, sound-idents, sound-type}
 use Rattle.layout_facts.proofs.Parts.{all-types, all-fields, last-ranged, import-ranged, import-long, sound-import}
 use Rattle.layout_facts.proofs.Exprs.{sound-expr, sound-block}
 
@@ -183,6 +183,7 @@ module _ {g : Given} (commented : Commented g) where
         fits = omega (arith, trim-before (g .image) (i .start) (i .start + i .size), a .ends, a .head .fits);
         due = no-word (omega arith);
       })
+      (supplied _ a)
       ⨾ sound-emptyLine
 
   pub sound-fmtParsed : (t : SyntaxTree) (at : ℕ) {d : ℕ} → TreeAt (g .source) (g .image) t at → 2 * treeHeight t ≤ d + 2

@@ -1,5 +1,7 @@
 pub mod Placing
+pub mod EveryRule
 pub mod InOrder
+pub mod Numbers
 pub mod Steps
 pub mod Gaps
 pub mod Parts

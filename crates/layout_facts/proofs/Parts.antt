@@ -2,7 +2,7 @@
 -- Assumes nothing.
 use Prim.Native.Nat.{ℕ, _+_, _*_, _-_, _≤_}
 use Prim.Native.String.{String}
-use mathlib.Core.Path.{_≡_, refl}
+use mathlib.Core.Path.{_≡_, refl, sym, ap}
 use mathlib.Core.Bool.{Bool, true, false, not, _&&_}
 use mathlib.Core.List.{List, [], _∷_}
 use mathlib.Core.Option.{none as nothing, some}
@@ -25,7 +25,7 @@ use Rattle.layout.specs.declared.forms.WrapStyle.the-variants.{Tight, Spaced, W
 use Rattle.layout.specs.Layout.{edge, isWrap, opens, ends, inside, beforeElem, pathNext, Elem, elements, separated, pathMore, pathRule, ident}
 use Rattle.layout.specs.Layout.{identElems, typeExpr, typeForm, typeArgs, typeElems, fieldElems, lastSpan, importPath, importGroup, importItems}
 use Rattle.layout.specs.Layout.{importElems, pattern, typeSpan, importSpan, isGroup, oneOr}
-use Rattle.layout_facts.specs.Sound.{Worded, Inside, Ranged, Commented, BYTE-GIVES, ROW-TAKES, Sounds}
+use Rattle.layout_facts.specs.Sound.{Worded, Inside, Supplied, Ranged, Commented, BYTE-GIVES, ROW-TAKES, Sounds}
 use Rattle.layout_facts.specs.Height.{typeHeight, typeFormHeight, argsHeight, typesHeight, fieldsHeight, importHeight, groupHeight, importsHeight}
 use Rattle.layout_facts.proofs.Steps.{_⨾_, fewer, sound-skip, sound-line, sound-lineOrSpace, sound-wrapParent, sound-ascii, sound-str, sound-ifWrap}
 use Rattle.layout_facts.proofs.Steps.{sound-when, sound-grouped, sound-indented}
@@ -57,8 +57,12 @@ ranged {s} {p = p} h =
 pub from-start : {s : List ℕ} {p : Span} → Ranged s p → p .start ≤ length s
 from-start r = omega (arith, r .ordered, r .fits)
 
+pub supplied : {g : Given} {at : ℕ} {i : Ident} (t : Text) → IdentAt (g .source) (g .image) i at → Supplied g (g .columns (i .width) t) t
+supplied {g} {at} t a = record { at = at + 13; same = ap (λ (n : ℕ). g .columns n t) (sym (a .wide)) }
+
 pub sound-ident : {g : Given} {d at : ℕ} {i : Ident} → IdentAt (g .source) (g .image) i at → Sounds g ROW-TAKES d (ident g i)
-sound-ident {i = i} a = sound-str (record { origin = omega arith; fits = omega (arith, a .ends, a .head .fits); due = no-word (omega arith) })
+sound-ident {i = i} a =
+    sound-str (record { origin = omega arith; fits = omega (arith, a .ends, a .head .fits); due = no-word (omega arith) }) (supplied _ a)
 
 -- what the bytes of the record at `at` give, less k rows that are left for what stands around it
 unfoldable pub points : Given → ℕ → ℕ → ℕ

@@ -30,7 +30,7 @@ mutual
   right-node (node.indentNext ns) g r t = more (indentNext (r + (1 + sizes ns))) (right-rows ns g (r + 1) t)
   right-node node.wrapParent g r t = right-one (wrapParent (r + 1))
   right-node (node.comment x) g r t = right-one (comment (r + 1) x t)
-  right-node (node.str w x) g r t = right-one (str (r + 1) x w t)
+  right-node (node.str w x) g r t = right-one (str (r + 1) x w (t .0))
   right-node (node.ascii x) g r t = right-one (ascii (r + 1) x t)
   right-node node.line g r t = right-one (line (r + 1))
   right-node node.emptyLine g r t = right-one (emptyLine (r + 1))

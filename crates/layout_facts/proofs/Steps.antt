@@ -10,7 +10,7 @@ use Rattle.rows.specs.Rows.{size, sizes, depth, depths}
 use Rattle.state.specs.Act.{Given, St, Out, Act, Asking, next, _⨟_, _⨟?_, skip, when, push, moveTo, told, grouped, indented, indentedNext}
 use Rattle.state.specs.Act.{called}
 use Rattle.state.proofs.Joins.{sizes-join}
-use Rattle.layout_facts.specs.Sound.{Inside, TextsOf, TextsIn, ROW-TAKES, Sound, Sounds}
+use Rattle.layout_facts.specs.Sound.{Inside, Supplied, TextsOf, TextsIn, ROW-TAKES, Sound, Sounds}
 
 depths-join : (ns ms : Nodes) → depths (join ns ms) ≡ max (depths ns) (depths ms)
 unfolding depths join
@@ -121,9 +121,9 @@ pub sound-ascii : {g : Given} {d : ℕ} {t : Text} → Inside g t → Sounds g R
 unfolding size depth TextsOf
 sound-ascii {t = t} i = sound-push (ascii t) refl refl i
 
-pub sound-str : {g : Given} {d w : ℕ} {t : Text} → Inside g t → Sounds g ROW-TAKES d (push (str w t))
+pub sound-str : {g : Given} {d w : ℕ} {t : Text} → Inside g t → Supplied g w t → Sounds g ROW-TAKES d (push (str w t))
 unfolding size depth TextsOf
-sound-str {w = w} {t = t} i = sound-push (str w t) refl refl i
+sound-str {w = w} {t = t} i p = sound-push (str w t) refl refl (i, p)
 
 pub sound-comment : {g : Given} {d : ℕ} {t : Text} → Inside g t → Sounds g ROW-TAKES d (push (comment t))
 unfolding size depth TextsOf

@@ -39,7 +39,7 @@ callRule g t begins ds first closes =
     when begins (shebangRule g (t .shebang)) ⨟ declarationsRule g ds first ⨟ when closes (push line)
 
 -- The rows and the state due are within the limits of document 01: rows and numbers for the next call's state, rows not over 256 deep, texts
--- inside their origins, the position in the source, the comments placed in the list.
+-- inside their origins, of widths that are supplied, the position in the source, the comments placed in the list.
 pub record Within (g : Given) (o : Out) : Type 0 where
   pub rows : sizes (o .nodes) ≤ 1048576
   pub numbers : o .taken ≤ MAX-NUMBER

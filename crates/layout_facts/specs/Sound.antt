@@ -1,10 +1,12 @@
--- What the layout rules keep to: how many rows and numbers they need, how deep the rows are, where the texts lie, where the position is.
+-- What the layout rules keep to: how many rows and numbers they need, how deep the rows are, where the texts lie and what they measure, where
+-- the position is.
 use Prim.Native.Nat.{ℕ, _+_, _*_, _-_, _≤_}
 use Prim.Native.String.{String}
 use mathlib.Core.Path.{_≡_}
 use mathlib.Core.List.{List, [], _∷_}
 use mathlib.Core.Option.{some}
 use lib.ListN.{length, getD}
+use Rattle.image.specs.Bytes.{be16}
 use Rattle.tree.specs.Syntax.{Span}
 use Rattle.rows.specs.Node.{Text, Node, Nodes, group, indent, indentNext, wrapParent, comment, str, ascii, line, emptyLine, lineOrSpace, ifWrap, call}
 use Rattle.rows.specs.Node.{none, _then_}
@@ -25,7 +27,12 @@ pub record Inside (g : Given) (t : Text) : Type 0 where
   pub fits : t .start + t .size ≤ length (getD (g .source ∷ g .image ∷ words ∷ []) (t .origin) [])
   pub due : t .origin ≡ 2 → Worded t
 
--- each text of a node and of nodes does
+-- a text of the image measures what `columns` makes of the width that the image supplies, in two of its bytes
+pub record Supplied (g : Given) (w : ℕ) (t : Text) : Type 0 where
+  pub at : ℕ
+  pub same : w ≡ g .columns (be16 (g .image) at) t
+
+-- each text of a node and of nodes lies there, and each width is supplied
 unfoldable mutual
   pub TextsOf : Given → Node → Type 0
   TextsOf g (group n ns) = TextsIn g ns
@@ -33,7 +40,7 @@ unfoldable mutual
   TextsOf g (indentNext ns) = TextsIn g ns
   TextsOf g wrapParent = Unit
   TextsOf g (comment t) = Inside g t
-  TextsOf g (str w t) = Inside g t
+  TextsOf g (str w t) = Inside g t × Supplied g w t
   TextsOf g (ascii t) = Inside g t
   TextsOf g line = Unit
   TextsOf g emptyLine = Unit
@@ -62,7 +69,8 @@ abbrev pub ROW-TAKES : ℕ
 ROW-TAKES = 13
 
 -- What a step gives from a state: no more rows than n points allow, and three more for each comment that it takes; no more numbers than n
--- points allow rows; rows at most d deep below the top ones; texts inside their origins; a position within the source, if it was there before.
+-- points allow rows; rows at most d deep below the top ones; texts inside their origins, of widths that are supplied; a position within the
+-- source, if it was there before.
 pub record Sound (g : Given) (n d : ℕ) (s : St) (o : Out) : Type 0 where
   pub more : s .placed ≤ o .placed
   pub rows : ROW-TAKES * sizes (o .nodes) ≤ n + ROW-TAKES * (3 * (o .placed - s .placed))

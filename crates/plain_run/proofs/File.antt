@@ -7,20 +7,24 @@ use mathlib.Core.Option.{Option, none, some}
 use mathlib.Core.List.{List, [], _∷_, _++_}
 use Prim.Native.Nat.{ℕ, _+_, _*_, _-_, _≤_, max}
 use native.Mathlib.Omega.{arith}
-use native.Mathlib.Nat.{sub-zero}
+use native.Mathlib.Nat.{sub-zero, zero-add}
 use lib.Dec.{ltb}
 use lib.ListN.{length, getD, drop, replicate}
-use lib.Seq.{take-append-le}
+use lib.Seq.{take-append-le, take-append-seam}
 use borrow.Author.Tests.{le-ltb, le-leb, eq-eqb}
 use Rattle.rows.specs.Places.{PLACES}
 use Rattle.image.specs.Bytes.{be32}
 use Rattle.image.specs.Read.{Read, got, bad, Image, header, sourceFits, readAll, answerOf}
 use Rattle.image.proofs.Accepted.{Header, accepted}
+use Rattle.rows.specs.Node.{Nodes}
 use Rattle.rows.specs.Rows.{rows}
+use Rattle.rows.specs.View.{viewOf, nodesAt}
 use Rattle.rows.proofs.Sizes.{length-rows}
+use Rattle.rows.proofs.Flatten.{holds-part, read-back}
 use Rattle.marks.specs.Marks.{marksNeeded}
 use Rattle.comments.specs.Listed.{commentsOf}
 use Rattle.renderer_rules.specs.Check.{wrongPlace}
+use Rattle.renderer_rules.specs.Widest.{greatestColumn}
 use Rattle.refusals.specs.Refusals.{Refusal, unless, first, refuseIf, refuseAt, any}
 use Rattle.refusals.proofs.Groups.{none-both}
 use Rattle.cut_rule.specs.Rules.{LayoutArgs, RenderArgs, LayoutResult, RenderResult}
@@ -29,10 +33,10 @@ use Rattle.cut_rule.specs.Run.{writeFront, answerBy, laidOut, written}
 use Rattle.cut_rule.specs.Entries.{layoutAnswer, layoutStore, renderGives, renderAnswer, renderMarks, renderOutput}
 use Rattle.cut_rule.specs.States.{LayoutState, RenderState, layoutFresh, renderFresh, LayoutChoice, RenderChoice, onlyRenderChoice}
 use Rattle.cut_rule.specs.Tests.{rowsIn, renderTests, placesTests, limitTests, begunTests, stopTests, rowTests, penTests, markTests}
-use Rattle.cut_rule.specs.Parts.{layoutTests, rowsNeeded, drawnOf, beforeMarks, renderTable}
-use Rattle.plain_run.specs.Parts.{readRefusal, renderImage, acceptedTree, drawn, partsOf}
+use Rattle.cut_rule.specs.Parts.{layoutTests, rowsNeeded, withCleared, drawnOf, beforeMarks, renderTable}
+use Rattle.plain_run.specs.Parts.{readRefusal, renderImage, acceptedTree, page, drawn, widestDrawn, partsOf}
 use Rattle.plain_run.specs.Demands.{rulesOf, laidTo, closingAt}
-use Rattle.plain_run.specs.File.{built, rowsDue, marksDue, drawnDue, laidRefusal, refusalIn}
+use Rattle.plain_run.specs.File.{built, rowsDue, marksDue, drawnDue, columnDue, laidRefusal, refusalIn, storeLeft, marksLeft, outputLeft}
 use Rattle.plain_run.proofs.Whole.{fmt-parsed}
 use Rattle.plain_run.proofs.Limits.{all-limited}
 use Rattle.plain_run.proofs.RenderParts.{render-parts}
@@ -50,18 +54,6 @@ fits-header b h =
       eq-eqb (5 + be32 b 1) (length b) (h .size),
       le-leb (be32 b 1) 1048576 (h .short),
     )
-
--- what the two calls leave of store, marks and output: where 9 or 10 refuses, the rows are laid already
-abbrev pub storeLeft : List ℕ → List ℕ → List ℕ → List ℕ
-storeLeft s b store = unless (laidRefusal s b (rowsIn store)) store (writeFront (rows (built s b .nodes) 0) store)
-
-abbrev pub marksLeft : List ℕ → List ℕ → List ℕ → List ℕ → List ℕ → List ℕ
-marksLeft s b store marks out =
-    unless (refusalIn s b (rowsIn store) (length marks) (length out)) marks (writeFront (drawnDue s b .marks) marks)
-
-abbrev pub outputLeft : List ℕ → List ℕ → List ℕ → List ℕ → List ℕ → List ℕ
-outputLeft s b store marks out =
-    unless (refusalIn s b (rowsIn store) (length marks) (length out)) out (writeFront (drawnDue s b .text) out)
 
 first-none : (a b : Option Refusal) → first (a ∷ b ∷ []) ≡ none → a ≡ none
 first-none none b e = refl
@@ -148,7 +140,7 @@ module _ (s b : List ℕ) where
   renderArgs out = record { stop = rowsDue s b; room = length out; choice = onlyRenderChoice }
 
   -- 1 and 3
-  image-passes : readRefusal (readAll s b) ≡ none → renderImage s b ≡ none
+  pub image-passes : readRefusal (readAll s b) ≡ none → renderImage s b ≡ none
   image-passes h = go (readAll s b) refl h
     where
       go : (r : Read Image) → readAll s b ≡ r → readRefusal r ≡ none → renderImage s b ≡ none
@@ -196,6 +188,17 @@ module _ (s b : List ℕ) where
         ∙ ap (λ (n : ℕ). drawn s b z (replicate n 0) (rows (built s b .nodes) 0) 0 (rowsDue s b)) (sub-zero m ∙ marks-due)
         ∙ ap₂ (λ (x : List ℕ) (n : ℕ). drawn s b z cleared x 0 n) (sym (g .rows-due)) (sym (g .row-due))
         ∙ g .drawn-due z cleared
+
+    -- the rows are read back as the nodes that they are of
+    nodes-due : nodesAt (viewOf rowed) 0 (rowsDue s b) ≡ built s b .nodes
+    nodes-due =
+        let r = rows (built s b .nodes) 0 in
+        ap (nodesAt (viewOf rowed) 0) (sym (zero-add (rowsDue s b)))
+        ∙ read-back (built s b .nodes) rowed 0 (holds-part rowed 0 r (take-append-seam r (drop (length r) store)))
+
+    widest-due : widestDrawn s b (renderFresh .pen) (withCleared (partsOf s b) [] (marksNeeded (rowsDue s b - 0) rowed 0)) rowed 0 (rowsDue s b) ≡ columnDue s b
+    widest-due =
+        ap₂ (λ (ns : Nodes) (m : ℕ). greatestColumn (page s b) ns (replicate m 0)) nodes-due (sub-zero (marksNeeded (rowsDue s b - 0) rowed 0) ∙ marks-due)
 
     render-table-due : (marks out : List ℕ)
         → first (renderTable (partsOf s b) (renderArgs out) renderFresh rowed marks)
@@ -280,3 +283,14 @@ module _ (s b : List ℕ) where
     pub render-output-due : renderOutput (rulesOf s b) (renderArgs out) renderFresh (storeLeft s b store) marks out ≡ outputLeft s b store marks out
     render-output-due =
         ap₂ (λ (r : Option Refusal) (l : RenderResult RenderState). unless r out (writeFront (l .text) out)) render-refusal-due gives-due
+
+    -- the greatest column that it tells
+    pub render-widest-due : unless (rulesOf s b .render-refusal (renderArgs out) renderFresh (storeLeft s b store) marks) 0
+        (widestDrawn s b (renderFresh .pen) (withCleared (partsOf s b) [] (marksNeeded (rowsDue s b - 0) (storeLeft s b store) 0)) (storeLeft s b store) 0 (rowsDue s b))
+        ≡ unless (refusalIn s b (rowsIn store) (length marks) (length out)) 0 (columnDue s b)
+    render-widest-due =
+        ap₂ (λ (r : Option Refusal) (n : ℕ). unless r 0 n) render-refusal-due
+        (ap (λ (x : List ℕ).
+        widestDrawn s b (renderFresh .pen) (withCleared (partsOf s b) [] (marksNeeded (rowsDue s b - 0) x 0)) x 0 (rowsDue s b))
+        left-store
+        ∙ widest-due store read)

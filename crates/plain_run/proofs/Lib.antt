@@ -9,4 +9,5 @@ pub mod Limits
 pub mod Demands
 pub mod Edges
 pub mod File
+pub mod FileLimits
 pub mod Refused

@@ -52,7 +52,7 @@ module _ (s b : List ℕ) where
     pub at : ℕ
     pub stood : Stands g (acceptedTree b r) at
 
-  stood : readRefusal (readAll s b) ≡ none → Stood (readAll s b)
+  pub stood : readRefusal (readAll s b) ≡ none → Stood (readAll s b)
   stood h = go (readAll s b) refl h
     where
       go : (r : Read Image) → readAll s b ≡ r → readRefusal r ≡ none → Stood (readAll s b)

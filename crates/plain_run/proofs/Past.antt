@@ -4,14 +4,15 @@
 use mathlib.Core.Path.{_≡_, refl, sym, ap, ap₂, subst, _∙_}
 use mathlib.Core.Bool.{Bool, true, false, cond, not, _&&_, _||_}
 use mathlib.Core.List.{List, [], _∷_, _++_, append-assoc}
-use Prim.Native.Nat.{ℕ, _+_, _-_, _*_, _<_}
+use Prim.Native.Nat.{ℕ, _+_, _-_, _*_, _<_, max}
 use lib.Dec.{ltb, eqb}
 use lib.ListN.{length, replicate, length-set, List·getD-append}
 use lib.Seq.{set-append-left}
 use Rattle.rows.specs.Node.{Text, Node, Nodes, group, indent, indentNext, wrapParent, comment as commentNode, str, ascii, line, emptyLine, lineOrSpace, ifWrap, call}
 use Rattle.rows.specs.Node.{none, _then_, wrapped, width, widths, mustWraps}
-use Rattle.renderer_rules.specs.Renderer.{Page, Renderer, withBuf, withMarks, onPen, pushStr, atColumn, newLine, margin, comment, text, virtualColumn, insert, indentMore, indentLess}
+use Rattle.renderer_rules.specs.Renderer.{Page, Renderer, withBuf, withMarks, withWidest, onPen, pushStr, atColumn, newLine, margin, comment, text, virtualColumn, insert, indentMore, indentLess}
 use Rattle.renderer_rules.proofs.Choices.{grouped, callee, called}
+use Rattle.renderer_rules.proofs.Widest.{max-of-three}
 use Rattle.renderer_rules.specs.Renderer.{nextIndentMore, nextIndentLess, wraps, groupWraps, trailingCall, calleeWraps, renderNode, renderNodes}
 
 -- the numbers of a node and of nodes are under b
@@ -111,10 +112,10 @@ module _ (columns : Text → ℕ) (m past : List ℕ) where
     widths-past none u = refl
     widths-past (n then ns) u = ap₂ _+_ (width-past n (u .0)) (widths-past ns (u .1))
 
--- ---- the same with text ahead and marks behind
-module _ (ahead past : List ℕ) where
+-- ---- the same with text ahead and marks behind, where `column` was `before` at most
+module _ (ahead past : List ℕ) (before : ℕ) where
   abbrev pub ext : Renderer → Renderer
-  ext r = withBuf (ahead ++ r .buf) (withMarks (r .marks ++ past) r)
+  ext r = withWidest (max before (r .widest)) (withBuf (ahead ++ r .buf) (withMarks (r .marks ++ past) r))
 
   cond-ext : (c : Bool) (x y : Renderer) → cond c (ext x) (ext y) ≡ ext (cond c x y)
   cond-ext true x y = refl
@@ -124,28 +125,38 @@ module _ (ahead past : List ℕ) where
   unfolding pushStr
   push-ext t r = ap (λ (x : List ℕ). withBuf x (ext r)) (append-assoc ahead (r .buf) t)
 
+  column-ext : (c : ℕ) (r : Renderer) → atColumn c (ext r) ≡ ext (atColumn c r)
+  unfolding atColumn
+  column-ext c r = ap (λ (x : ℕ). withWidest x (atColumn c (ext r))) (max-of-three before (r .widest) c)
+
   newLine-ext : (r : Renderer) → newLine (ext r) ≡ ext (newLine r)
   unfolding newLine
   newLine-ext r = ap (λ (x : List ℕ). withBuf x (ext (newLine r))) (append-assoc ahead (r .buf) (cond (ltb 0 (r .pen .column .0)) (0x0A ∷ []) []))
 
   margin-ext : (r : Renderer) → margin (ext r) ≡ ext (margin r)
-  unfolding margin atColumn
-  margin-ext r = ap (atColumn (4 * r .pen .indent)) (push-ext (replicate (4 * r .pen .indent) 0x20) r)
+  unfolding margin
+  margin-ext r =
+      ap (atColumn (4 * r .pen .indent)) (push-ext (replicate (4 * r .pen .indent) 0x20) r)
+      ∙ column-ext (4 * r .pen .indent) (pushStr (replicate (4 * r .pen .indent) 0x20) r)
 
   text-ext : (t : List ℕ) (w : ℕ) (r : Renderer) → text t w (ext r) ≡ ext (text t w r)
-  unfolding text atColumn
+  unfolding text
   text-ext t w r =
+      let x = cond (ltb 0 (r .pen .column .0)) r (margin r) in
       ap (λ (x : Renderer). atColumn (x .pen .column .0 + w) (pushStr t x))
       (ap (cond (ltb 0 (r .pen .column .0)) (ext r)) (margin-ext r) ∙ cond-ext (ltb 0 (r .pen .column .0)) r (margin r))
-      ∙ ap (atColumn (cond (ltb 0 (r .pen .column .0)) r (margin r) .pen .column .0 + w)) (push-ext t (cond (ltb 0 (r .pen .column .0)) r (margin r)))
+      ∙ ap (atColumn (x .pen .column .0 + w)) (push-ext t x)
+      ∙ column-ext (x .pen .column .0 + w) (pushStr t x)
 
   comment-ext : (t : List ℕ) (r : Renderer) → comment t (ext r) ≡ ext (comment t r)
-  unfolding comment atColumn
+  unfolding comment
   comment-ext t r =
+      let x = cond (ltb 0 (r .pen .column .0)) (pushStr (0x20 ∷ []) r) (margin r) in
       ap (λ (x : Renderer). atColumn 0 (pushStr (t ++ (0x0A ∷ [])) x))
       (ap₂ (cond (ltb 0 (r .pen .column .0))) (push-ext (0x20 ∷ []) r) (margin-ext r)
       ∙ cond-ext (ltb 0 (r .pen .column .0)) (pushStr (0x20 ∷ []) r) (margin r))
-      ∙ ap (atColumn 0) (push-ext (t ++ (0x0A ∷ [])) (cond (ltb 0 (r .pen .column .0)) (pushStr (0x20 ∷ []) r) (margin r)))
+      ∙ ap (atColumn 0) (push-ext (t ++ (0x0A ∷ [])) x)
+      ∙ column-ext 0 (pushStr (t ++ (0x0A ∷ [])) x)
 
   insert-ext : (w : Bool) (n : ℕ) (r : Renderer) → n < length (r .marks) → insert w n (ext r) ≡ ext (insert w n r)
   unfolding insert

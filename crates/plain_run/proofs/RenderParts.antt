@@ -7,12 +7,13 @@ use mathlib.Core.Option.{none}
 use mathlib.Core.List.{List, [], _++_, append-nil}
 use Prim.Native.Nat.{ℕ, _+_, _-_, _≤_, max}
 use native.Mathlib.Omega.{arith}
+use native.Mathlib.Nat.{max-zero}
 use lib.ListN.{length}
 use Rattle.image.specs.Read.{Read, Image}
 use Rattle.rows.specs.Node.{Nodes}
 use Rattle.rows.specs.View.{viewOf, nodesAt}
 use Rattle.marks.specs.Marks.{marksNeeded}
-use Rattle.renderer_rules.specs.Renderer.{Page, Renderer, withBuf, withMarks, renderNodes}
+use Rattle.renderer_rules.specs.Renderer.{Page, Renderer, withBuf, withMarks, withWidest, renderNodes}
 use Rattle.renderer_rules.specs.Check.{wrongPlace}
 use Rattle.renderer_rules.proofs.Joined.{renders-ranges}
 use Rattle.cut_rule.specs.Laws.{SameBefore}
@@ -52,17 +53,18 @@ withAhead r d = record { pen = d .pen; marks = d .marks; text = r .buf ++ d .tex
 abbrev penOf : Renderer → Pen
 penOf r = drawnBy r .pen
 
-abbrev remade : Renderer → List ℕ → List ℕ → Renderer
-remade r t m = withBuf t (withMarks m r)
+abbrev remade : Renderer → List ℕ → List ℕ → ℕ → Renderer
+remade r t m c = withBuf t (withMarks m (withWidest c r))
 
 -- to go on with a text is to go on without it, and to put it ahead
 resumed : (p : Page) (ns : Nodes) (r : Renderer) → Unders (length (r .marks)) ns
     → drawnBy (renderNodes p ns true r) ≡ withAhead r (drawnBy (renderNodes p ns true (rendererOf (penOf r) (r .marks))))
 resumed p ns r u =
     let t = rendererOf (penOf r) (r .marks) in
-    let e : _≡_ {A = Renderer} (ext (r .buf) [] t) r = ap₂ (remade r) (append-nil (r .buf)) (append-nil (r .marks)) in
+    let e : _≡_ {A = Renderer} (ext (r .buf) [] (r .widest) t) r =
+    ap₂ (λ (x m : List ℕ). remade r x m (max (r .widest) 0)) (append-nil (r .buf)) (append-nil (r .marks)) ∙ ap (remade r (r .buf) (r .marks)) (max-zero (r .widest)) in
     ap (λ (x : Renderer). drawnBy (renderNodes p ns true x)) (sym e)
-    ∙ ap drawnBy (renders-ext (r .buf) [] p ns true t u)
+    ∙ ap drawnBy (renders-ext (r .buf) [] (r .widest) p ns true t u)
     ∙ ap (λ (m : List ℕ). withAhead r (record { pen = penOf (renderNodes p ns true t); marks = m; text = renderNodes p ns true t .buf }))
     (append-nil (renderNodes p ns true t .marks))
 
@@ -76,7 +78,7 @@ module _ (s b : List ℕ) where
   draw-past : (z : Pen) (marks past store : List ℕ) (n : ℕ) → needed store 0 n ≤ length marks
       → drawn s b z (marks ++ past) store 0 n ≡ withPast (drawn s b z marks store 0 n) past
   draw-past z marks past store n h =
-      ap drawnBy (renders-ext [] past (page s b) (nodesAt (viewOf store) 0 n) true (rendererOf z marks) (under-marks store marks 0 n h))
+      ap drawnBy (renders-ext [] past 0 (page s b) (nodesAt (viewOf store) 0 n) true (rendererOf z marks) (under-marks store marks 0 n h))
 
   draw-join : (z : Pen) (marks store : List ℕ) (n m : ℕ) → n ≤ m → wrongPlace s b store 0 n ≡ none → needed store 0 m ≤ length marks
       → drawn s b z marks store 0 m ≡ thenDrawn (drawn s b z marks store 0 n) (λ y ms. drawn s b y ms store n m)

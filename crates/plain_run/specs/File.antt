@@ -14,9 +14,11 @@ use Rattle.comments.specs.Listed.{commentsOf, given}
 use Rattle.layout.specs.Layout.{fmtParsed}
 use Rattle.layout_facts.specs.Accepted.{fresh}
 use Rattle.renderer_rules.specs.Renderer.{renderNodes}
+use Rattle.renderer_rules.specs.Widest.{greatestColumn}
 use Rattle.refusals.specs.Refusals.{Refusal, unless, first, refuseIf}
 use Rattle.cut_rule.specs.Run.{writeFront}
 use Rattle.cut_rule.specs.States.{renderFresh}
+use Rattle.cut_rule.specs.Tests.{rowsIn}
 use Rattle.cut_rule.specs.Parts.{Drawn}
 use Rattle.plain_run.specs.Parts.{readRefusal, acceptedTree, rendererOf, drawnBy, page}
 
@@ -44,6 +46,10 @@ module _ (s b : List ℕ) where
   abbrev pub drawnDue : Drawn
   drawnDue = drawnBy (renderNodes (page s b) (built .nodes) true (rendererOf (renderFresh .pen) (replicate marksDue 0)))
 
+  -- "greatest value `column` takes"
+  abbrev pub columnDue : ℕ
+  columnDue = greatestColumn (page s b) (built .nodes) (replicate marksDue 0)
+
   -- 1 to 7, then 8, in a store of so many rows
   abbrev pub laidRefusal : ℕ → Option Refusal
   laidRefusal rows = first (readRefusal (readAll s b) ∷ refuseIf (ltb rows rowsDue) 8 rowsDue ∷ [])
@@ -60,7 +66,17 @@ module _ (s b : List ℕ) where
   abbrev pub fileRefusal : ℕ → Option Refusal
   fileRefusal room = refusalIn fileRows fileMarks room
 
-  -- what is left of the output
+  -- What a run in rows and marks that are lent leaves of them and of the output. Where 9 or 10 refuses, the rows are laid already.
+  abbrev pub storeLeft : List ℕ → List ℕ
+  storeLeft store = unless (laidRefusal (rowsIn store)) store (writeFront (rows (built .nodes) 0) store)
+
+  abbrev pub marksLeft : List ℕ → List ℕ → List ℕ → List ℕ
+  marksLeft store marks out = unless (refusalIn (rowsIn store) (length marks) (length out)) marks (writeFront (drawnDue .marks) marks)
+
+  abbrev pub outputLeft : List ℕ → List ℕ → List ℕ → List ℕ
+  outputLeft store marks out = unless (refusalIn (rowsIn store) (length marks) (length out)) out (writeFront (drawnDue .text) out)
+
+  -- what a whole file's run leaves of the output
   abbrev pub fileOutput : List ℕ → List ℕ
   fileOutput out = unless (fileRefusal (length out)) out (writeFront (drawnDue .text) out)
 
@@ -73,7 +89,11 @@ abbrev pub fileAnswerBy : Option Refusal → FileAnswer → FileAnswer
 fileAnswerBy (some r) a = refused r
 fileAnswerBy none a = a
 
-abbrev pub fileAnswer : List ℕ → List ℕ → ℕ → FileAnswer
-fileAnswer s b room =
-    fileAnswerBy (fileRefusal s b room)
+-- in so many rows, marks and bytes of output
+abbrev pub answerIn : List ℕ → List ℕ → ℕ → ℕ → ℕ → FileAnswer
+answerIn s b rows marks room =
+    fileAnswerBy (refusalIn s b rows marks room)
     (formatted (length (drawnDue s b .text)) (length (commentsOf b) - built s b .placed) (rowsDue s b) (built s b .taken))
+
+abbrev pub fileAnswer : List ℕ → List ℕ → ℕ → FileAnswer
+fileAnswer s b room = answerIn s b fileRows fileMarks room

@@ -77,6 +77,10 @@ page s b = pageOf 80 s b
 abbrev pub drawn : List ℕ → List ℕ → Pen → List ℕ → List ℕ → ℕ → ℕ → Drawn
 drawn s b z marks store i stop = drawnBy (renderNodes (page s b) (nodesAt (viewOf store) i stop) true (rendererOf z marks))
 
+-- the greatest value that `column` is set to there
+abbrev pub widestDrawn : List ℕ → List ℕ → Pen → List ℕ → List ℕ → ℕ → ℕ → ℕ
+widestDrawn s b z marks store i stop = renderNodes (page s b) (nodesAt (viewOf store) i stop) true (rendererOf z marks) .widest
+
 -- ---- the whole
 -- by what was read of the image: another way to read is another r
 abbrev pub partsBy : Read Image → List ℕ → List ℕ → RuleParts

@@ -19,10 +19,10 @@ use Rattle.renderer_rules.specs.Limits.{START-MARGIN}
 use Rattle.marks.specs.Marks.{marksNeeded}
 use Rattle.plain_run.specs.Parts.{partsOf}
 use Rattle.render_call.specs.Calls.{toState, toArgs, earlyRefusal, runRefusal}
-use Rattle.render_call.specs.Whole.{RenderCalled, Checked, Passing}
+use Rattle.render_call.specs.Whole.{Draws, Checked, Passing}
 use Rattle.render_call.specs.declared.RenderState.{RenderState}
 use Rattle.render_call.specs.declared.RenderArgs.{RenderArgs}
-use Rattle.render_call.specs.declared.Rendering.the-variants as rendering
+use Rattle.render_call.specs.declared.Drawing.the-variants as drawing
 use Rattle.render_call.proofs.Tests.{stop-within, few-rows}
 use Rattle.render_call.proofs.Whole.{ends-early}
 
@@ -68,7 +68,7 @@ module _ (source image : List ℕ) (state : RenderState) (args : RenderArgs) (st
 
     module _ (n : ℕ) (e : n ≡ marksNeeded (args .stop - state .row) store (state .row)) where
       pub marks-short : (out : List ℕ) → length marks < n
-          → RenderCalled source image state args store marks out (rendering.Refused 9 n) store marks out
+          → Draws source image state args store marks out (drawing.Refused 9 n) store marks out
       marks-short out l = ends-early source image state args store marks out 9 n (by-nine _ n e (lt-ltb (length marks) n l))
 
       pub marks-enough : n ≤ length marks → Passing source image state args store marks

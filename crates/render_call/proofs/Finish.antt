@@ -19,14 +19,14 @@ use Rattle.renderer_rules.specs.declared.Pen.{Pen}
 use Rattle.cut_rule.specs.Parts as cut
 use Rattle.cut_rule.specs.PartLaws.{withPast}
 use Rattle.marks.specs.Marks.{marksNeeded}
-use Rattle.plain_run.specs.Parts.{drawnBy}
+use Rattle.plain_run.specs.Parts.{rendererOf, drawnBy}
 use Rattle.render_call.specs.Calls.{toState, runRefusal}
-use Rattle.render_call.specs.Whole.{RenderCalled, Takes}
+use Rattle.render_call.specs.Whole.{widestDue, Draws, Takes}
 use Rattle.render_call.specs.declared.RenderState.{RenderState}
 use Rattle.render_call.specs.declared.RenderArgs.{RenderArgs}
-use Rattle.render_call.specs.declared.Rendering.the-variants as rendering
+use Rattle.render_call.specs.declared.Drawing.the-variants as drawing
 use Rattle.render_call.proofs.Whole.{bytes, ends-written}
-use Rattle.render_call.proofs.Ran.{inUse, gives, ran, marks-onto, started}
+use Rattle.render_call.proofs.Ran.{inUse, gives, ran, widest-same, marks-onto, started}
 
 -- t has the pen's numbers, the marks then in use, and the stop as its next row
 pub record Leaves (q : Writing) (used stop : ℕ) (t : RenderState) : Type 0 where
@@ -51,11 +51,15 @@ module _ (source image : List ℕ) (state : RenderState) (args : RenderArgs) (st
   rendered r = renderNodes (pageOf 80 source image) (nodesAt (viewOf store) (state .row) (args .stop)) true r
 
   module _ (p : Writing) (k : Takes state p) (past : List ℕ) where
+    begun : freshRenderer (p .pen) (taken ++ past) ≡ rendererOf (toState state .pen) (taken ++ past)
+    begun = started source image state args store marks ahead p (taken ++ past) (k .indent) (k .next) (k .column)
+
     pub same : drawnBy (rendered (freshRenderer (p .pen) (taken ++ past))) ≡ withPast given past
     same =
-        ap (λ (r : Renderer). drawnBy (rendered r))
-        (started source image state args store marks ahead p (taken ++ past) (k .indent) (k .next) (k .column))
-        ∙ ran source image state args store marks ahead past
+        ap (λ (r : Renderer). drawnBy (rendered r)) begun ∙ ran source image state args store marks ahead past
+
+    widest : rendered (freshRenderer (p .pen) (taken ++ past)) .widest ≡ widestDue source image state args store marks
+    widest = ap (λ (r : Renderer). rendered r .widest) begun ∙ widest-same source image state args store marks ahead past
 
   -- the run with room enough, over the buffer in which the new marks are cleared
   module _ (p : Writing) (k : Takes state p) (marks2 out2 : List ℕ) (q : Writing)
@@ -71,11 +75,12 @@ module _ (source image : List ℕ) (state : RenderState) (args : RenderArgs) (st
 
     pub finished : (t : RenderState) (n : Bytes) → runRefusal source image args state store marks ≡ none
         → n .0 ≡ bytes source image state args store marks out → n .0 ≤ length out → Leaves q (max (state .«in_use») needed) (args .stop) t
-        → RenderCalled source image state args store marks out (rendering.Written t n) store marks2 out2
+        → Draws source image state args store marks out (drawing.Drawn t n (q .widest)) store marks2 out2
     finished t n e f h l =
-        ends-written source image state args store marks out t n marks2 out2 e f h left-state
+        ends-written source image state args store marks out t n (q .widest) marks2 out2 e f h left-state
         (r .marks ∙ ap (λ (d : cut.Drawn). d .marks) end ∙ marks-onto source image state args store marks ahead)
         (r .written ∙ over-full (length out) out (after .buf) (let z = ap (λ (d : cut.Drawn). length (d .text)) end in omega arith) (omega arith) ∙ ap (λ (d : cut.Drawn). writeFront (d .text) out) end)
+        (r .widest ∙ widest p k behind)
       where
         pen-same : _≡_ {A = Pen} (record { indent = t .indent; «next_indent» = t .«next_indent»; column = t .column }) (drawnBy after .pen)
         pen-same = (λ i. record { indent = l .indent i; «next_indent» = l .next i; column = record { 0 = l .column i } }) ∙ r .pen

@@ -5,6 +5,7 @@ use mathlib.Core.Bool.{true}
 use mathlib.Core.List.{List, [], _++_}
 use Prim.Native.Nat.{ℕ, _+_, _-_, _≤_}
 use native.Mathlib.Omega.{arith}
+use native.Mathlib.Nat.{zero-max}
 use lib.ListN.{length, take, drop, replicate, length-append, length-replicate}
 use Rattle.rows.specs.View.{viewOf, nodesAt}
 use Rattle.renderer_rules.specs.Renderer.{Renderer, freshRenderer, renderNodes}
@@ -15,9 +16,10 @@ use Rattle.cut_rule.specs.Parts.{Drawn, withCleared, drawnOf}
 use Rattle.cut_rule.specs.PartLaws.{withPast}
 use Rattle.marks.specs.Marks.{marksNeeded}
 use Rattle.plain_run.specs.Parts.{partsOf, rendererOf, drawnBy}
-use Rattle.plain_run.proofs.Past.{Unders, renders-ext, renders-length}
+use Rattle.plain_run.proofs.Past.{Unders, ext, renders-ext, renders-length}
 use Rattle.plain_run.proofs.Marks.{nodes-under}
 use Rattle.render_call.specs.Calls.{toState}
+use Rattle.render_call.specs.Whole.{widestDue}
 use Rattle.render_call.specs.declared.RenderState.{RenderState}
 use Rattle.render_call.specs.declared.RenderArgs.{RenderArgs}
 
@@ -46,13 +48,19 @@ module _ (source image : List ℕ) (state : RenderState) (args : RenderArgs) (st
       (omega arith)
       (omega arith)
 
-  -- with any marks behind those in use
-  pub ran : (past : List ℕ)
-      → drawnBy (renderNodes (pageOf 80 source image) (nodesAt (viewOf store) (state .row) (args .stop)) true (rendererOf (toState state .pen) (inUse ++ past)))
-      ≡ withPast gives past
-  ran past =
-      ap drawnBy
-      (renders-ext [] past (pageOf 80 source image) (nodesAt (viewOf store) (state .row) (args .stop)) true (rendererOf (toState state .pen) inUse) under)
+  -- the rows rendered, with any marks behind those in use
+  abbrev rendered : List ℕ → Renderer
+  rendered m = renderNodes (pageOf 80 source image) (nodesAt (viewOf store) (state .row) (args .stop)) true (rendererOf (toState state .pen) m)
+
+  past-same : (past : List ℕ) → rendered (inUse ++ past) ≡ ext [] past 0 (rendered inUse)
+  past-same past =
+      renders-ext [] past 0 (pageOf 80 source image) (nodesAt (viewOf store) (state .row) (args .stop)) true (rendererOf (toState state .pen) inUse) under
+
+  pub ran : (past : List ℕ) → drawnBy (rendered (inUse ++ past)) ≡ withPast gives past
+  ran past = ap drawnBy (past-same past)
+
+  pub widest-same : (past : List ℕ) → rendered (inUse ++ past) .widest ≡ widestDue source image state args store marks
+  widest-same past = ap (λ (r : Renderer). r .widest) (past-same past) ∙ zero-max (rendered inUse .widest)
 
   -- what the run leaves of the marks is as many as it took up, so with the buffer's own behind them the buffer is as the call leaves it
   pub marks-onto : gives .marks ++ drop (length inUse) marks ≡ writeFront (gives .marks) marks

@@ -41,4 +41,4 @@ module _ (source image : List ℕ) (state : RenderState) (args : RenderArgs) (st
       let i = a .indent in
       let n = a .next in
       let c = a .column in
-      record { nested = nests; fits = l; margin = omega arith; column = omega arith; at = k .at }
+      record { nested = nests; fits = l; margin = omega arith; column = omega arith; at = k .at; widest = k .widest }

@@ -17,10 +17,12 @@ use Rattle.renderer.specs.declared.writing.Writing.{Writing}
 use Rattle.cut_rule.specs.Parts as cut
 use Rattle.marks.specs.Marks.{marksNeeded, clearFrom, held, putAside, putBack}
 use Rattle.plain_run.specs.Parts.{rendererOf}
-use Rattle.render_call.specs.Calls.{toState, verdictRefusal, earlyRefusal}
-use Rattle.render_call.specs.Whole.{RenderCalled, Checked, Counted, Passing, Fitting, Takes, mostOf}
+use Rattle.render_call.specs.Calls.{toState, renderingOf, verdictRefusal, earlyRefusal}
+use Rattle.render_call.specs.Whole.{RenderCalled, Draws, Checked, Counted, Passing, Fitting, Takes, mostOf}
 use Rattle.render_call.specs.declared.RenderState.{RenderState}
 use Rattle.render_call.specs.declared.RenderArgs.{RenderArgs}
+use Rattle.render_call.specs.declared.Drawing.{Drawing}
+use Rattle.render_call.specs.declared.Drawing.the-variants as drawing
 use Rattle.render_call.specs.declared.Rendering.{Rendering}
 use Rattle.render_call.specs.declared.Rendering.the-variants as rendering
 use Rattle.render_call.specs.declared.refusal.Verdict.{Verdict}
@@ -78,7 +80,7 @@ module _ (source image : List ℕ) (state : RenderState) (args : RenderArgs) (st
   -- too long a text
   pub ends-ten : (out : List ℕ) (n : Bytes) (store2 marks2 out2 : List ℕ) → Counted source image state args store marks out n store2 marks2 out2
       → length out2 < n .0
-      → RenderCalled source image state args store marks out (rendering.Refused 10 (n .0)) store2 marks2 out2
+      → Draws source image state args store marks out (drawing.Refused 10 (n .0)) store2 marks2 out2
   ends-ten out n store2 marks2 out2 c l =
       rw (c .store-left, c .marks-left, c .output-left)
       (ends-full source image state args store marks out (n .0) (h .passes) (c .bytes) (let z = ap length (c .output-left) in omega arith))
@@ -93,8 +95,8 @@ module _ (source image : List ℕ) (state : RenderState) (args : RenderArgs) (st
     pub still-needed : (n : ℕ) → n ≡ marksNeeded (args .stop - state .row) store (state .row) → n ≡ marksNeeded (args .stop - state .row) store2 (state .row)
     still-needed n e = rw (c .store-left) e
 
-    pub then-run : (r : Rendering) (marks3 out3 : List ℕ) → RenderCalled source image state args store2 marks2 out2 r store2 marks3 out3
-        → RenderCalled source image state args store marks out r store2 marks3 out3
+    pub then-run : (r : Drawing) (marks3 out3 : List ℕ) → Draws source image state args store2 marks2 out2 r store2 marks3 out3
+        → Draws source image state args store marks out r store2 marks3 out3
     then-run r marks3 out3 k = rw (c .store-left) (rw (c .store-left, c .marks-left, c .output-left) at k)
 
 -- ---- the true run
@@ -115,8 +117,8 @@ module _ (source image : List ℕ) (state : RenderState) (args : RenderArgs) (st
       → Ended (length out) (renderNodes (pageOf 80 source image) (nodesAt (viewOf store) (state .row) (args .stop)) true (freshRenderer (p .pen) marks2)) out marks3 out3 q
       → (used : ℕ)
       → used ≡ max (state .«in_use») n
-      → RenderCalled source image state args store marks out
-      (rendering.Written (record { indent = q .pen .indent; «next_indent» = q .pen .«next_indent»; column = q .pen .column; «in_use» = used; row = args .stop }) (q .at))
+      → Draws source image state args store marks out
+      (drawing.Drawn (record { indent = q .pen .indent; «next_indent» = q .pen .«next_indent»; column = q .pen .column; «in_use» = used; row = args .stop }) (q .at) (q .widest))
       store
       marks3
       out3
@@ -137,6 +139,14 @@ module _ (source image : List ℕ) (state : RenderState) (args : RenderArgs) (st
       finished source image state args store marks (fine .ahead) out p k marks3 out3 q run _ (q .at) (h .passing .passes) sized (omega arith)
       (record { indent = refl; next = refl; column = refl; in-use = g ∙ ap (λ (z : ℕ). max (state .«in_use») z) e; row = refl })
 
+-- a call's answer is the rendering without the greatest column
+pub called-as : (source image : List ℕ) (state : RenderState) (args : RenderArgs) (store marks out : List ℕ) (d : Drawing) (store2 marks2 out2 : List ℕ)
+    → Draws source image state args store marks out d store2 marks2 out2
+    → (r : Rendering)
+    → r ≡ renderingOf d
+    → RenderCalled source image state args store marks out r store2 marks2 out2
+called-as source image state args store marks out d store2 marks2 out2 h r e = rw e (h .called)
+
 -- ---- by what the first tests say
 module _ (source image : List ℕ) (state : RenderState) (args : RenderArgs) (store marks : List ℕ) (v : Verdict)
     (e : verdictRefusal v ≡ earlyRefusal source image args state store marks) where
@@ -144,4 +154,4 @@ module _ (source image : List ℕ) (state : RenderState) (args : RenderArgs) (st
   checked-by f = record { passes = sym e ∙ ap verdictRefusal f }
 
   pub refused-by : (out : List ℕ) (n p : ℕ) → v ≡ verdict.Refused n p → RenderCalled source image state args store marks out (rendering.Refused n p) store marks out
-  refused-by out n p f = ends-early source image state args store marks out n p (refused-early source image state args store marks _ (sym e ∙ ap verdictRefusal f))
+  refused-by out n p f = ends-early source image state args store marks out n p (refused-early source image state args store marks _ (sym e ∙ ap verdictRefusal f)) .called

@@ -13,6 +13,8 @@ use Rattle.render_call.specs.declared.RenderState.{RenderState}
 use Rattle.render_call.specs.declared.RenderArgs.{RenderArgs}
 use Rattle.render_call.specs.declared.Rendering.{Rendering}
 use Rattle.render_call.specs.declared.Rendering.the-variants as rendering
+use Rattle.render_call.specs.declared.Drawing.{Drawing}
+use Rattle.render_call.specs.declared.Drawing.the-variants as drawing
 use Rattle.render_call.specs.declared.refusal.Verdict.{Verdict}
 use Rattle.render_call.specs.declared.refusal.Verdict.the-variants as verdict
 
@@ -32,6 +34,15 @@ toArgs args room = record { stop = args .stop; room = room; choice = states.only
 abbrev pub renderingAnswer : (s b : List ℕ) → Rendering → Answer (rulesOf s b)
 renderingAnswer s b (rendering.Written t n) = written (toState t) (n .0)
 renderingAnswer s b (rendering.Refused n p) = refused (record { number = n; place = p })
+
+-- A rendering with its greatest column: the answer, and that column, 0 where it is refused.
+abbrev pub renderingOf : Drawing → Rendering
+renderingOf (drawing.Drawn t n w) = rendering.Written t n
+renderingOf (drawing.Refused n p) = rendering.Refused n p
+
+abbrev pub widestOf : Drawing → ℕ
+widestOf (drawing.Drawn t n w) = w .0
+widestOf (drawing.Refused n p) = 0
 
 -- A verdict, case by case: none, or number and place.
 abbrev pub verdictRefusal : Verdict → Option Refusal

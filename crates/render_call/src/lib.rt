@@ -5,7 +5,9 @@ mod refusal;
 mod room;
 mod run;
 
-ghost use Rattle.render_call.specs.Whole.{RenderCalled, Checked};
+ghost use mathlib.Core.Path.{_≡_};
+ghost use Rattle.render_call.specs.Calls.{renderingOf};
+ghost use Rattle.render_call.specs.Whole.{RenderCalled, Draws, Checked};
 use crate::refusal::Verdict;
 use crate::refusal::refusal;
 use crate::room::rows_need;
@@ -34,6 +36,24 @@ pub enum Rendering {
     Refused(u8, usize),
 }
 
+// A rendering, with the greatest value that `column` was set to.
+pub enum Drawing {
+    // the new state, the bytes written, the greatest value
+    Drawn(RenderState, Bytes, Columns),
+    // the number and the place
+    Refused(u8, usize),
+}
+
+// The answer without the greatest value.
+fn rendering_of(d: Drawing) -> Rendering
+    ensures { λ r. ⌜ r ≡ renderingOf d ⌝ }
+{
+    match d {
+        Drawing::Drawn(state, bytes, widest) => Rendering::Written(state, bytes),
+        Drawing::Refused(number, place) => Rendering::Refused(number, place),
+    }
+}
+
 // A rendering call that 1, 3, 11 and 12 do not refuse.
 pub fn render_checked(
     source: &[u8],
@@ -43,14 +63,14 @@ pub fn render_checked(
     out: &mut [u8],
     state: RenderState,
     args: RenderArgs,
-) -> Rendering
+) -> Drawing
     requires { ⌜ Checked (now source) (now image) state args (now store) (now marks) ⌝ }
-    ensures { λ r. ⌜ RenderCalled (now (source .entry)) (now (image .entry)) state args (now (store .entry)) (now (marks .entry)) (now (out .entry)) r (now (store .exit)) (now (marks .exit)) (now (out .exit)) ⌝ }
+    ensures { λ r. ⌜ Draws (now (source .entry)) (now (image .entry)) state args (now (store .entry)) (now (marks .entry)) (now (out .entry)) r (now (store .exit)) (now (marks .exit)) (now (out .exit)) ⌝ }
 {
     let from = state.row;
     let n = rows_need(store, from, args.stop, state.indent + state.next_indent);
     if marks.len() < n.marks {
-        return Rendering::Refused(9, n.marks);
+        return Drawing::Refused(9, n.marks);
     }
     render_accepted(source, image, store, marks, out, state, args, n)
 }
@@ -69,6 +89,9 @@ pub fn render_call(
 {
     match refusal(source, image, store, marks, state, args) {
         Verdict::Refused(number, place) => Rendering::Refused(number, place),
-        Verdict::Accepted => render_checked(source, image, store, marks, out, state, args),
+        Verdict::Accepted => {
+            let d = render_checked(source, image, store, marks, out, state, args);
+            rendering_of(d)
+        }
     }
 }

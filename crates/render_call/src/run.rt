@@ -2,10 +2,10 @@
 ghost use mathlib.Core.Path.{_≡_};
 ghost use Prim.Native.Nat.{_-_};
 ghost use Rattle.marks.specs.Marks.{marksNeeded};
-ghost use Rattle.render_call.specs.Whole.{RenderCalled, Passing, Fitting, Takes, mostOf};
+ghost use Rattle.render_call.specs.Whole.{Draws, Passing, Fitting, Takes, mostOf};
+use crate::Drawing;
 use crate::RenderArgs;
 use crate::RenderState;
-use crate::Rendering;
 use crate::dry_run::bytes_needed;
 use crate::room::Needs;
 use marks::count::clear_marks;
@@ -16,6 +16,7 @@ use renderer::run::RowRange;
 use renderer::writing::Writing;
 use renderer_rules::Pen;
 use rows::units::Bytes;
+use rows::units::Columns;
 
 // `max` of fmt.rs: the columns of a line.
 pub(crate) const MAX: usize = 80;
@@ -33,6 +34,7 @@ pub(crate) fn start_text(state: RenderState) -> Writing
     Writing {
         pen: pen,
         at: Bytes(0),
+        widest: Columns(0),
     }
 }
 
@@ -46,9 +48,9 @@ fn write_rows(
     state: RenderState,
     args: RenderArgs,
     needed: usize,
-) -> Rendering
+) -> Drawing
     requires { ⌜ Fitting (now source) (now image) state args (now store) (now marks) (now out) × (needed ≡ marksNeeded (args .stop - state .row) (now store) (state .row)) ⌝ }
-    ensures { λ r. ⌜ RenderCalled (now (source .entry)) (now (image .entry)) state args (now (store .entry)) (now (marks .entry)) (now (out .entry)) r (now (store .entry)) (now (marks .exit)) (now (out .exit)) ⌝ }
+    ensures { λ r. ⌜ Draws (now (source .entry)) (now (image .entry)) state args (now (store .entry)) (now (marks .entry)) (now (out .entry)) r (now (store .entry)) (now (marks .exit)) (now (out .exit)) ⌝ }
 {
     let rows = RowRange {
         from: state.row,
@@ -64,6 +66,7 @@ fn write_rows(
     let pen = end.pen;
     let column = pen.column;
     let bytes = end.at;
+    let widest = end.widest;
     let left = RenderState {
         indent: pen.indent,
         next_indent: pen.next_indent,
@@ -71,7 +74,7 @@ fn write_rows(
         in_use: larger(state.in_use, needed),
         row: args.stop,
     };
-    Rendering::Written(left, bytes)
+    Drawing::Drawn(left, bytes, widest)
 }
 
 // Counts the bytes first, and renders the rows or refuses with 10.
@@ -84,14 +87,14 @@ fn render_counted(
     state: RenderState,
     args: RenderArgs,
     needed: usize,
-) -> Rendering
+) -> Drawing
     requires { ⌜ Passing (now source) (now image) state args (now store) (now marks) × (needed ≡ marksNeeded (args .stop - state .row) (now store) (state .row)) ⌝ }
-    ensures { λ r. ⌜ RenderCalled (now (source .entry)) (now (image .entry)) state args (now (store .entry)) (now (marks .entry)) (now (out .entry)) r (now (store .exit)) (now (marks .exit)) (now (out .exit)) ⌝ }
+    ensures { λ r. ⌜ Draws (now (source .entry)) (now (image .entry)) state args (now (store .entry)) (now (marks .entry)) (now (out .entry)) r (now (store .exit)) (now (marks .exit)) (now (out .exit)) ⌝ }
 {
     let bytes = bytes_needed(source, image, store, marks, out, state, args);
     let size = bytes.0;
     if out.len() < size {
-        return Rendering::Refused(10, size);
+        return Drawing::Refused(10, size);
     }
     write_rows(source, image, store, marks, out, state, args, needed)
 }
@@ -107,9 +110,9 @@ pub(crate) fn render_accepted(
     state: RenderState,
     args: RenderArgs,
     n: Needs,
-) -> Rendering
+) -> Drawing
     requires { ⌜ Passing (now source) (now image) state args (now store) (now marks) × ((n .marks ≡ marksNeeded (args .stop - state .row) (now store) (state .row)) × (n .bytes .0 ≡ mostOf state args (now store))) ⌝ }
-    ensures { λ r. ⌜ RenderCalled (now (source .entry)) (now (image .entry)) state args (now (store .entry)) (now (marks .entry)) (now (out .entry)) r (now (store .exit)) (now (marks .exit)) (now (out .exit)) ⌝ }
+    ensures { λ r. ⌜ Draws (now (source .entry)) (now (image .entry)) state args (now (store .entry)) (now (marks .entry)) (now (out .entry)) r (now (store .exit)) (now (marks .exit)) (now (out .exit)) ⌝ }
 {
     if n.bytes.0 <= out.len() {
         return write_rows(source, image, store, marks, out, state, args, n.marks);

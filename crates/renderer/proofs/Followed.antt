@@ -46,22 +46,22 @@ pub shows-as : (limit : ℕ) (o marks out : List ℕ) (r : Running) (m m2 : Mach
 shows-as limit o marks out r m m2 e s = subst (λ (x : Machine). Shows limit o marks out r x) (sym e) s
 
 -- what groups and calls decide by is the pen and the marks
-group-same : (max : ℕ) (source image : List ℕ) (ns : Nodes) (p : Pen) (marks b : List ℕ)
-    → groupWraps (pageOf max source image) ns (stateOf p marks b) ≡ groupWraps (pageOf max [] []) ns (freshRenderer p marks)
+group-same : (max : ℕ) (source image : List ℕ) (ns : Nodes) (p : Writing) (marks b : List ℕ)
+    → groupWraps (pageOf max source image) ns (stateOf p marks b) ≡ groupWraps (pageOf max [] []) ns (freshRenderer (p .pen) marks)
 unfolding groupWraps wraps virtualColumn
 group-same max source image ns p marks b = refl
 
-trailing-same : (max : ℕ) (source image : List ℕ) (e a : Nodes) (p : Pen) (marks b : List ℕ)
-    → trailingCall (pageOf max source image) e a (stateOf p marks b) ≡ trailingCall (pageOf max [] []) e a (freshRenderer p marks)
+trailing-same : (max : ℕ) (source image : List ℕ) (e a : Nodes) (p : Writing) (marks b : List ℕ)
+    → trailingCall (pageOf max source image) e a (stateOf p marks b) ≡ trailingCall (pageOf max [] []) e a (freshRenderer (p .pen) marks)
 unfolding trailingCall virtualColumn
 trailing-same max source image e a p marks b = refl
 
-callee-same : (max : ℕ) (source image : List ℕ) (t : Bool) (e a : Nodes) (p : Pen) (marks b : List ℕ)
-    → calleeWraps (pageOf max source image) t e a (stateOf p marks b) ≡ calleeWraps (pageOf max [] []) t e a (freshRenderer p marks)
+callee-same : (max : ℕ) (source image : List ℕ) (t : Bool) (e a : Nodes) (p : Writing) (marks b : List ℕ)
+    → calleeWraps (pageOf max source image) t e a (stateOf p marks b) ≡ calleeWraps (pageOf max [] []) t e a (freshRenderer (p .pen) marks)
 unfolding calleeWraps groupWraps wraps virtualColumn
 callee-same max source image t e a p marks b = refl
 
-insert-same : (w : Bool) (n : ℕ) (p : Pen) (marks b : List ℕ) → insert w n (stateOf p marks b) ≡ stateOf p (inserted w n marks) b
+insert-same : (w : Bool) (n : ℕ) (p : Writing) (marks b : List ℕ) → insert w n (stateOf p marks b) ≡ stateOf p (inserted w n marks) b
 unfolding insert
 insert-same w n p marks b = refl
 
@@ -70,14 +70,14 @@ opened-shows : (limit : ℕ) (o out b : List ℕ) (n : ℕ) (r : Running) (marks
     → Wrote limit o out (r .writing .at .0) b
     → q ≡ openedRun r f k2 p
     → k ≡ k2
-    → t ≡ stateOf (p .pen) marks2 b
+    → t ≡ stateOf p marks2 b
     → p .at .0 ≡ r .writing .at .0
     → Shows limit o marks2 out q (opened (machineOf r marks b n) f k t)
 unfolding machineOf
 opened-shows limit o out b n r marks marks2 q f k k2 p t w e i s a =
     rw (e, i, s)
     (record {
-      same = ap (λ (d : ℕ). closedTo (opened (machineOf r marks b n) f k2 (stateOf (p .pen) marks2 b)) d k2 (stateOf (p .pen) marks2 b)) (sym (add-one (r .depth)));
+      same = ap (λ (d : ℕ). closedTo (opened (machineOf r marks b n) f k2 (stateOf p marks2 b)) d k2 (stateOf p marks2 b)) (sym (add-one (r .depth)));
       wrote = rw a w;
     })
 
@@ -96,13 +96,13 @@ module _ (store source image : List ℕ) (max limit : ℕ) (marks out : List ℕ
       → (o b : List ℕ) (n : ℕ) → Wrote limit o out (r .writing .at .0) b → Shows limit o marks2 out q (enterGroup v pg (machineOf r marks b n))
   unfolding enterGroup machineOf viewOf
   group-goes marks2 q g o b n w =
-      let c : groupWraps pg (nodesAt v (suc (r .next)) (v .after (r .next))) (stateOf (r .writing .pen) marks b) ≡ g .wraps =
-      group-same max source image (nodesAt v (suc (r .next)) (v .after (r .next))) (r .writing .pen) marks b
+      let c : groupWraps pg (nodesAt v (suc (r .next)) (v .after (r .next))) (stateOf (r .writing) marks b) ≡ g .wraps =
+      group-same max source image (nodesAt v (suc (r .next)) (v .after (r .next))) (r .writing) marks b
       ∙ sym (g .isWraps ∙ ap (λ (k : ℕ). groupWraps (pageOf max [] []) (nodesAt v k (v .after (r .next))) (freshRenderer (r .writing .pen) marks)) (add-one (r .next))) in
       rw c
       (opened-shows limit o out b n r marks marks2 q (frameOf (r .next) (g .wraps) false false) (suc (r .next)) (r .next + 1) (r .writing) _ w (g .run)
       (sym (add-one (r .next)))
-      (insert-same (g .wraps) (v .number (r .next)) (r .writing .pen) marks b ∙ ap (λ (m : List ℕ). stateOf (r .writing .pen) m b) (sym (g .marked)))
+      (insert-same (g .wraps) (v .number (r .next)) (r .writing) marks b ∙ ap (λ (m : List ℕ). stateOf (r .writing) m b) (sym (g .marked)))
       refl)
 
   pub group-follows : (marks2 : List ℕ) (q : Running) → cell store (r .next) KIND ≡ GROUP → GroupOpened store max marks r marks2 q
@@ -163,8 +163,8 @@ module _ (store source image : List ℕ) (max limit : ℕ) (marks out : List ℕ
           → q ≡ cond t (openedRun r (frameOf (r .next) x true false) (r .next + 1) (r .writing)) (openedRun r (frameOf (r .next) x false false) (cell store (r .next) SECOND) (r .writing))
           → Shows limit o marks out q
           (cond t
-          (opened m (frameOf (r .next) x true false) (suc (r .next)) (stateOf (r .writing .pen) marks b))
-          (opened m (frameOf (r .next) x false false) (cell store (r .next) SECOND) (stateOf (r .writing .pen) marks b)))
+          (opened m (frameOf (r .next) x true false) (suc (r .next)) (stateOf (r .writing) marks b))
+          (opened m (frameOf (r .next) x false false) (cell store (r .next) SECOND) (stateOf (r .writing) marks b)))
       go true h =
           opened-shows limit o out b n r marks marks q (frameOf (r .next) x true false) (suc (r .next)) (r .next + 1) (r .writing) _ w h (sym (add-one (r .next))) refl refl
       go false h =
@@ -186,11 +186,11 @@ module _ (store source image : List ℕ) (max limit : ℕ) (marks out : List ℕ
   call-goes marks2 q g o b n w =
       let e = nodesAt v (suc (r .next)) (v .second (r .next)) in
       let a = nodesAt v (v .second (r .next)) (v .after (r .next)) in
-      let t : trailingCall pg e a (stateOf (r .writing .pen) marks b) ≡ g .trails =
-      trailing-same max source image e a (r .writing .pen) marks b
+      let t : trailingCall pg e a (stateOf (r .writing) marks b) ≡ g .trails =
+      trailing-same max source image e a (r .writing) marks b
       ∙ sym (g .isTrails ∙ ap (λ (k : ℕ). trailingCall (pageOf max [] []) (nodesAt v k (v .second (r .next))) a (freshRenderer (r .writing .pen) marks)) (add-one (r .next))) in
-      let c : calleeWraps pg (g .trails) e a (stateOf (r .writing .pen) marks b) ≡ g .wraps =
-      callee-same max source image (g .trails) e a (r .writing .pen) marks b
+      let c : calleeWraps pg (g .trails) e a (stateOf (r .writing) marks b) ≡ g .wraps =
+      callee-same max source image (g .trails) e a (r .writing) marks b
       ∙ sym (g .isWraps ∙ ap (λ (k : ℕ). calleeWraps (pageOf max [] []) (g .trails) (nodesAt v k (v .second (r .next))) a (freshRenderer (r .writing .pen) marks)) (add-one (r .next))) in
       rw (t, c)
       (opened-shows limit o out b n r marks marks2 q (frameOf (r .next) (g .wraps) true (not (g .trails) && g .wraps)) (suc (r .next)) (r .next + 1)
@@ -199,7 +199,7 @@ module _ (store source image : List ℕ) (max limit : ℕ) (marks out : List ℕ
       w
       (g .run)
       (sym (add-one (r .next)))
-      (ap (onPen (nextIndentMore (not (g .trails) && g .wraps))) (insert-same (g .wraps) (v .number (r .next)) (r .writing .pen) marks b ∙ ap (λ (m : List ℕ). stateOf (r .writing .pen) m b) (sym (g .marked))))
+      (ap (onPen (nextIndentMore (not (g .trails) && g .wraps))) (insert-same (g .wraps) (v .number (r .next)) (r .writing) marks b ∙ ap (λ (m : List ℕ). stateOf (r .writing) m b) (sym (g .marked))))
       refl)
 
   pub call-follows : (marks2 : List ℕ) (q : Running) → cell store (r .next) KIND ≡ CALL → CallOpened store max marks r marks2 q
@@ -210,20 +210,20 @@ module _ (store source image : List ℕ) (max limit : ℕ) (marks out : List ℕ
 
   -- a row without parts
   leaf-state : (x : Bool) → WRAP-PARENT ≤ v .kind (r .next) → v .kind (r .next) ≤ LINE-OR-SPACE → (b : List ℕ)
-      → renderNode pg (nodeAt v (r .next)) x (stateOf (r .writing .pen) marks b) ≡ under b marks (renderNode pg (nodeAt v (r .next)) x (freshRenderer (r .writing .pen) []))
+      → renderNode pg (nodeAt v (r .next)) x (stateOf (r .writing) marks b) ≡ under b marks (r .writing .widest .0) (renderNode pg (nodeAt v (r .next)) x (freshRenderer (r .writing .pen) []))
   leaf-state x k l b =
-      ap (renderNode pg (nodeAt v (r .next)) x) (fresh-under (r .writing .pen) marks b)
-      ∙ leaf-under v pg (r .next) x (v .kind (r .next)) refl k l b marks (freshRenderer (r .writing .pen) [])
+      ap (renderNode pg (nodeAt v (r .next)) x) (fresh-under (r .writing) marks b)
+      ∙ leaf-under v pg (r .next) x (v .kind (r .next)) refl k l b marks (r .writing .widest .0) (freshRenderer (r .writing .pen) [])
 
   leaf-shows : (s : Renderer) (out2 : List ℕ) (p : Writing) → Writes limit s out (r .writing) out2 p → (o b : List ℕ) (n : ℕ)
       → Wrote limit o out (r .writing .at .0) b
       → Shows limit o marks out2 (passedRun r p)
-      (passed (machineOf r marks b n) (under b marks s))
+      (passed (machineOf r marks b n) (under b marks (r .writing .widest .0) s))
   unfolding machineOf under writingAfter
   leaf-shows s out2 p d o b n w =
       rw (d .after)
       (record {
-        same = ap (λ (k : ℕ). closedTo (passed (machineOf r marks b n) (under b marks s)) (r .depth) k (under b marks s)) (sym (add-one (r .next)));
+        same = ap (λ (k : ℕ). closedTo (passed (machineOf r marks b n) (under b marks (r .writing .widest .0) s)) (r .depth) k (under b marks (r .writing .widest .0) s)) (sym (add-one (r .next)));
         wrote = wrote-more limit o out (r .writing .at .0) b (s .buf) out2 (r .writing .at .0 + length (s .buf)) w (d .written) refl;
       })
 
@@ -261,15 +261,15 @@ module _ (store source image : List ℕ) (max limit : ℕ) (marks out : List ℕ
         → Shows limit o marks2 out q (leave v pg (machineOf r marks b n) (r .depth - 1))
     unfolding leave machineOf viewOf insert
     on-goes marks2 q k y g o b n w =
-        let c : groupWraps pg (nodesAt v (r .next) (v .after (f .row))) (stateOf (r .writing .pen) marks b) ≡ g .wraps =
-        group-same max source image (nodesAt v (r .next) (v .after (f .row))) (r .writing .pen) marks b ∙ sym (g .isWraps) in
+        let c : groupWraps pg (nodesAt v (r .next) (v .after (f .row))) (stateOf (r .writing) marks b) ≡ g .wraps =
+        group-same max source image (nodesAt v (r .next) (v .after (f .row))) (r .writing) marks b ∙ sym (g .isWraps) in
         rw (← i, k, y, c, g .run, g .marked)
         (record {
           same =
               ap
               (λ (d : ℕ).
-              closedTo (reopened (machineOf r marks b n) (r .depth - 1) (frameOf (f .row) (g .wraps) false (f .deep)) (stateOf (r .writing .pen) (inserted (g .wraps) (cell store (f .row) SECOND-NUMBER) marks) b)) d (r .next)
-              (stateOf (r .writing .pen) (inserted (g .wraps) (cell store (f .row) SECOND-NUMBER) marks) b))
+              closedTo (reopened (machineOf r marks b n) (r .depth - 1) (frameOf (f .row) (g .wraps) false (f .deep)) (stateOf (r .writing) (inserted (g .wraps) (cell store (f .row) SECOND-NUMBER) marks) b)) d (r .next)
+              (stateOf (r .writing) (inserted (g .wraps) (cell store (f .row) SECOND-NUMBER) marks) b))
               (sym deep);
           wrote = w;
         })
@@ -285,7 +285,7 @@ module _ (store source image : List ℕ) (max limit : ℕ) (marks out : List ℕ
         → (o b : List ℕ) (n : ℕ) → Wrote limit o out (r .writing .at .0) b
         → Shows limit o marks out q (leave v pg (machineOf r marks b n) (r .depth - 1))
     unfolding leave machineOf
-    off-goes s q e c g o b n w = rw (← i, e, c (stateOf (r .writing .pen) marks b), g) (record { same = refl; wrote = w })
+    off-goes s q e c g o b n w = rw (← i, e, c (stateOf (r .writing) marks b), g) (record { same = refl; wrote = w })
 
     pub closed-follows : (s : Pen → Pen) (q : Running) → (eqb (v .kind (f .row)) CALL && f .early) ≡ false
         → ((t : Renderer) → closing v pg f t ≡ onPen s t)

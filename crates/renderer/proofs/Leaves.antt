@@ -1,8 +1,9 @@
 -- A row without parts, by its kind: what `renderNode` does there, from the row's places.
 -- Assumes nothing.
-use mathlib.Core.Path.{_≡_, refl, ap, sym, _∙_}
+use mathlib.Core.Path.{_≡_, refl, ap₂, sym, _∙_}
 use Prim.Native.Nat.{ℕ, _+_}
 use native.Mathlib.Omega.{arith}
+use native.Mathlib.Nat.{max-zero}
 use mathlib.Core.Bool.{Bool, true, false, cond}
 use mathlib.Core.List.{List, [], _∷_}
 use Rattle.rows.specs.Kinds.{WRAP-PARENT, COMMENT, STR, ASCII, LINE, EMPTY-LINE, LINE-OR-SPACE}
@@ -23,7 +24,7 @@ pub writes-none : (limit : ℕ) (out : List ℕ) (p : Writing) → Writes limit 
 unfolding writingAfter writtenOver
 writes-none limit out p =
     record {
-      after = ap (writing (p .pen)) (plus-none (p .at .0));
+      after = ap₂ (writing (p .pen)) (plus-none (p .at .0)) (sym (max-zero (p .widest .0)));
       written = refl;
     }
   where

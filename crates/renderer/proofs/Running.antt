@@ -81,7 +81,7 @@ module _ (store source image : List ℕ) (max limit stop : ℕ) where
         wrote = record { bytes = g .at; written = refl };
         fine = record { good = g .nested .nests; under = tt; low = omega arith; size = e; deep = omega arith };
         safe = record { sum = plus-none (p .pen .indent + p .pen .«next_indent»); low = omega arith; column = omega arith; bytes = omega arith };
-        mean = refl;
+        mean = rw (g .widest) refl;
       }
     where
       plus-none : (n : ℕ) → n ≡ n + 0
@@ -165,4 +165,4 @@ module _ (store source image : List ℕ) (max limit stop : ℕ) where
     going-end d e =
         let z = is-done d e in
         subst (λ (s : Renderer). Ended limit s out0 marks out (r .writing)) (sym (done-means v pg stop (machineOf r marks (g .text) (g .entered)) z) ∙ g .mean)
-        (record { pen = refl; bytes = g .wrote .bytes; marks = refl; written = g .wrote .written })
+        (record { pen = refl; bytes = g .wrote .bytes; widest = refl; marks = refl; written = g .wrote .written })

@@ -1,8 +1,9 @@
 -- Laws of `Writes`: what a pen draws is what the rules renderNode, one thing behind another.
 -- Assumes nothing.
-use mathlib.Core.Path.{_≡_, refl, ap, _∙_, subst}
-use Prim.Native.Nat.{ℕ, _+_, _*_, _≤_, _<_}
+use mathlib.Core.Path.{_≡_, refl, ap, ap₂, sym, _∙_, subst}
+use Prim.Native.Nat.{ℕ, _+_, _*_, _≤_, _<_, max}
 use native.Mathlib.Omega.{arith}
+use native.Mathlib.Nat.{max-zero}
 use mathlib.Core.Bool.{Bool, true, false, cond}
 use mathlib.Core.List.{List, [], _∷_, _++_}
 use lib.ListN.{length, replicate, length-append, length-replicate}
@@ -16,13 +17,24 @@ use Rattle.renderer.specs.Output.{writtenOver}
 use Rattle.renderer.specs.Writing.{setPen, writing, movedTo, writingAfter, Writes, WritingRoom}
 use Rattle.renderer.proofs.Written.{over-length, over-join}
 
+-- from a renderer that set no column yet
+zero-max : (c : ℕ) → max 0 c ≡ c
+zero-max c = omega arith
+
+-- what is written takes no column
+pub push-writes : (limit : ℕ) (t out : List ℕ) (p : Writing) (out2 : List ℕ) (n : ℕ) → n ≡ length t
+    → out2 ≡ writtenOver limit out (p .at .0) t
+    → Writes limit (pushStr t (freshRenderer (p .pen) [])) out p out2 (writing (p .pen) (p .at .0 + n) (p .widest .0))
+unfolding pushStr writingAfter
+push-writes limit t out p out2 n e w = record { after = rw (e, max-zero (p .widest .0)); written = w }
+
 -- a text, c its last column
 pub put-writes : (limit : ℕ) (t : List ℕ) (c : ℕ) (out : List ℕ) (p : Writing) (out2 : List ℕ) (q : Writing) (n : ℕ) → n ≡ length t
     → q ≡ movedTo c (p .at .0 + n) p
     → out2 ≡ writtenOver limit out (p .at .0) t
     → Writes limit (atColumn c (pushStr t (freshRenderer (p .pen) []))) out p out2 q
 unfolding atColumn pushStr writingAfter
-put-writes limit t c out p out2 q n e m w = record { after = m ∙ rw e; written = w }
+put-writes limit t c out p out2 q n e m w = record { after = m ∙ rw (e, zero-max c); written = w }
 
 -- a margin of n bytes and c columns
 pub margin-writes : (limit : ℕ) (out : List ℕ) (p : Writing) (out2 : List ℕ) (q : Writing) (n c : ℕ) → n ≡ 4 * p .pen .indent → c ≡ 4 * p .pen .indent
@@ -31,18 +43,23 @@ pub margin-writes : (limit : ℕ) (out : List ℕ) (p : Writing) (out2 : List �
     → Writes limit (margin (freshRenderer (p .pen) [])) out p out2 q
 unfolding margin atColumn pushStr writingAfter
 margin-writes limit out p out2 q n c e f m w =
-    record { after = m ∙ rw (e, f, length-replicate {A = ℕ} (4 * p .pen .indent) 0x20); written = rw e at w }
+    record { after = m ∙ rw (e, f, length-replicate {A = ℕ} (4 * p .pen .indent) 0x20, zero-max (4 * p .pen .indent)); written = rw e at w }
 
-pub line-writes : (limit : ℕ) (out : List ℕ) (p : Writing) (out2 : List ℕ) (pen : Pen) → pen ≡ onNewLine (p .pen) → 0 < p .pen .column .0
-    → out2 ≡ writtenOver limit out (p .at .0) (0x0A ∷ [])
-    → Writes limit (newLine (freshRenderer (p .pen) [])) out p out2 (writing pen (p .at .0 + 1))
-unfolding newLine writingAfter
-line-writes limit out p out2 pen e h w = rw (e, lt-ltb 0 (p .pen .column .0) h) (record { after = refl; written = w })
+-- a line's end, and the pen on the next
+pub line-writes : (limit : ℕ) (out : List ℕ) (p : Writing) (pen : Pen) (out2 : List ℕ) (q r : Writing) → pen ≡ onNewLine (p .pen) → 0 < p .pen .column .0
+    → Writes limit (pushStr (0x0A ∷ []) (freshRenderer (p .pen) [])) out p out2 q
+    → r ≡ setPen pen q
+    → Writes limit (newLine (freshRenderer (p .pen) [])) out p out2 r
+unfolding newLine pushStr writingAfter
+line-writes limit out p pen out2 q r e h a m =
+    rw (lt-ltb 0 (p .pen .column .0) h) (record { after = m ∙ rw (e, a .after); written = a .written })
 
 pub none-writes : (limit : ℕ) (out : List ℕ) (p : Writing) (pen : Pen) (q : Writing) → pen ≡ onNewLine (p .pen) → q ≡ setPen pen p → p .pen .column .0 ≤ 0
     → Writes limit (newLine (freshRenderer (p .pen) [])) out p out q
 unfolding newLine writingAfter writtenOver
-none-writes limit out p pen q e m h = rw (m, e, le-ltb 0 (p .pen .column .0) h) (record { after = ap (writing (onNewLine (p .pen))) (plus-none (p .at .0)); written = refl })
+none-writes limit out p pen q e m h =
+    rw (m, e, le-ltb 0 (p .pen .column .0) h)
+    (record { after = ap₂ (writing (onNewLine (p .pen))) (plus-none (p .at .0)) (sym (max-zero (p .widest .0))); written = refl })
   where
     plus-none : (n : ℕ) → n ≡ n + 0
     plus-none n = omega arith
@@ -57,9 +74,12 @@ then-put limit s t c out p out2 q out3 r a b =
     let l = length-append (s .buf) t in
     let e = a .after in
     record {
-      after = b .after ∙ rw e (ap (writing (withColumn c (s .pen))) (omega arith));
+      after = b .after ∙ rw e (ap₂ (writing (withColumn c (s .pen))) (omega arith) (of-three (p .widest .0) (s .widest) c));
       written = b .written ∙ rw (e, a .written) (over-join limit out (p .at .0) (s .buf) t);
     }
+  where
+    of-three : (a b c : ℕ) → max (max a b) (max 0 c) ≡ max a (max b c)
+    of-three a b c = omega arith
 
 -- `text` and `comment` where the line has begun, and where not
 pub text-on : (t : List ℕ) (w : ℕ) (p : Writing) → 0 < p .pen .column .0 → text t w (freshRenderer (p .pen) []) ≡ atColumn (p .pen .column .0 + w) (pushStr t (freshRenderer (p .pen) []))
@@ -94,16 +114,15 @@ room-writes cap cap2 limit s out p out2 q r d a b c =
     let e = d .after in
     rw e (record { fits = omega arith; indent = a; column = b; at = c })
 
-pub room-put : (limit : ℕ) (t : List ℕ) (c : ℕ) (out : List ℕ) (p : Writing) (out2 : List ℕ) (q : Writing) → WritingRoom BEFORE-ROW limit out p
-    → Writes limit (atColumn c (pushStr t (freshRenderer (p .pen) []))) out p out2 q
+pub room-push : (limit : ℕ) (t out : List ℕ) (p : Writing) (out2 : List ℕ) (q : Writing) → WritingRoom BEFORE-ROW limit out p
+    → Writes limit (pushStr t (freshRenderer (p .pen) [])) out p out2 q
     → length t ≤ 1
-    → c ≤ p .pen .column .0
     → WritingRoom IN-ROW limit out2 q
-unfolding atColumn pushStr
-room-put limit t c out p out2 q r d h k =
+unfolding pushStr
+room-push limit t out p out2 q r d h =
     let a = r .column in
     let b = r .at in
-    room-writes BEFORE-ROW IN-ROW limit (atColumn c (pushStr t (freshRenderer (p .pen) []))) out p out2 q r d (r .indent) (omega arith) (omega arith)
+    room-writes BEFORE-ROW IN-ROW limit (pushStr t (freshRenderer (p .pen) [])) out p out2 q r d (r .indent) (omega arith) (omega arith)
 
 pub room-margin : (limit : ℕ) (out : List ℕ) (p : Writing) (out2 : List ℕ) (q : Writing) → WritingRoom BEFORE-ROW limit out p
     → Writes limit (margin (freshRenderer (p .pen) [])) out p out2 q
@@ -133,10 +152,6 @@ ended limit t out p q n out2 out3 e m a b =
     along : (a n : ℕ) → a + n + 1 ≡ a + (n + 1)
     along a n = omega arith
 
-over-column : (c : ℕ) (t : List ℕ) (s : Renderer) → atColumn 0 (pushStr t (atColumn c s)) ≡ atColumn 0 (pushStr t s)
-unfolding atColumn pushStr
-over-column c t s = refl
-
 -- `text`, `comment` and `EmptyLine` from what they are made of
 pub text-writes-on : (limit : ℕ) (t : List ℕ) (w : ℕ) (out : List ℕ) (p : Writing) (out2 : List ℕ) (q : Writing) → 0 < p .pen .column .0
     → Writes limit (atColumn (p .pen .column .0 + w) (pushStr t (freshRenderer (p .pen) []))) out p out2 q
@@ -153,13 +168,12 @@ text-writes-new limit t w out p out2 q out3 r h a b =
     (writes-column limit (margin (freshRenderer (p .pen) [])) out p out2 q a)
     (then-put limit (margin (freshRenderer (p .pen) [])) t (q .pen .column .0 + w) out p out2 q out3 r a b))
 
-pub comment-writes-on : (limit : ℕ) (t : List ℕ) (c : ℕ) (out : List ℕ) (p : Writing) (out2 : List ℕ) (q : Writing) (out3 : List ℕ) (r : Writing) → 0 < p .pen .column .0
-    → Writes limit (atColumn c (pushStr (0x20 ∷ []) (freshRenderer (p .pen) []))) out p out2 q
+pub comment-writes-on : (limit : ℕ) (t out : List ℕ) (p : Writing) (out2 : List ℕ) (q : Writing) (out3 : List ℕ) (r : Writing) → 0 < p .pen .column .0
+    → Writes limit (pushStr (0x20 ∷ []) (freshRenderer (p .pen) [])) out p out2 q
     → Writes limit (atColumn 0 (pushStr (t ++ (0x0A ∷ [])) (freshRenderer (q .pen) []))) out2 q out3 r
     → Writes limit (comment t (freshRenderer (p .pen) [])) out p out3 r
-comment-writes-on limit t c out p out2 q out3 r h a b =
-    rw (comment-on t p h, ← over-column c (t ++ (0x0A ∷ [])) (pushStr (0x20 ∷ []) (freshRenderer (p .pen) [])))
-    (then-put limit (atColumn c (pushStr (0x20 ∷ []) (freshRenderer (p .pen) []))) (t ++ (0x0A ∷ [])) 0 out p out2 q out3 r a b)
+comment-writes-on limit t out p out2 q out3 r h a b =
+    rw (comment-on t p h) (then-put limit (pushStr (0x20 ∷ []) (freshRenderer (p .pen) [])) (t ++ (0x0A ∷ [])) 0 out p out2 q out3 r a b)
 
 pub comment-writes-new : (limit : ℕ) (t out : List ℕ) (p : Writing) (out2 : List ℕ) (q : Writing) (out3 : List ℕ) (r : Writing) → p .pen .column .0 ≤ 0
     → Writes limit (margin (freshRenderer (p .pen) [])) out p out2 q
@@ -169,29 +183,34 @@ comment-writes-new limit t out p out2 q out3 r h a b =
     rw (comment-new t p h) (then-put limit (margin (freshRenderer (p .pen) [])) (t ++ (0x0A ∷ [])) 0 out p out2 q out3 r a b)
 
 pub empty-writes : (limit : ℕ) (out : List ℕ) (p : Writing) (out2 : List ℕ) (q : Writing) (out3 : List ℕ) (r : Writing)
-    → Writes limit (atColumn (p .pen .column .0 + 0) (pushStr (0x0A ∷ []) (freshRenderer (p .pen) []))) out p out2 q
+    → Writes limit (pushStr (0x0A ∷ []) (freshRenderer (p .pen) [])) out p out2 q
     → Writes limit (newLine (freshRenderer (q .pen) [])) out2 q out3 r
     → Writes limit (newLine (pushStr (0x0A ∷ []) (freshRenderer (p .pen) []))) out p out3 r
-unfolding newLine atColumn pushStr writingAfter
-empty-writes limit out p out2 q out3 r a b = go (ltb 0 (p .pen .column .0)) (rw (a .after, plus-none (p .pen .column .0)) at (b .after)) (rw (a .after, plus-none (p .pen .column .0), a .written) at (b .written))
+unfolding newLine pushStr writingAfter
+empty-writes limit out p out2 q out3 r a b = go (ltb 0 (p .pen .column .0)) (rw (a .after) at (b .after)) (rw (a .after, a .written) at (b .written))
   where
-    plus-none : (n : ℕ) → n + 0 ≡ n
-    plus-none n = omega arith
-
     lineEnd : Bool → List ℕ
     lineEnd b = cond b (0x0A ∷ []) []
-
-    penAt : ℕ → Writing
-    penAt n = writing (onNewLine (p .pen)) n
 
     ended : (b : Bool) → Renderer
     ended b = withBuf ((0x0A ∷ []) ++ lineEnd b) (freshRenderer (onNewLine (p .pen)) [])
 
-    go : (b : Bool) → r ≡ penAt (p .at .0 + 1 + length ([] ++ lineEnd b))
+    go : (b : Bool) → r ≡ writing (onNewLine (p .pen)) (p .at .0 + 1 + length ([] ++ lineEnd b)) (max (max (p .widest .0) 0) 0)
         → out3 ≡ writtenOver limit (writtenOver limit out (p .at .0) (0x0A ∷ [])) (p .at .0 + 1) ([] ++ lineEnd b)
         → Writes limit (ended b) out p out3 r
-    go true e w = record { after = e ∙ ap penAt (let a = p .at .0 in more a); written = w ∙ over-join limit out (p .at .0) (0x0A ∷ []) (0x0A ∷ []) }
+    go true e w =
+        record {
+          after = e ∙ ap₂ (writing (onNewLine (p .pen))) (more (p .at .0)) (max-zero (max (p .widest .0) 0));
+          written = w ∙ over-join limit out (p .at .0) (0x0A ∷ []) (0x0A ∷ []);
+        }
       where
         more : (a : ℕ) → a + 1 + 1 ≡ a + 2
         more a = omega arith
-    go false e w = record { after = e ∙ ap penAt (plus-none (p .at .0 + 1)); written = w ∙ over-join limit out (p .at .0) (0x0A ∷ []) [] }
+    go false e w =
+        record {
+          after = e ∙ ap₂ (writing (onNewLine (p .pen))) (plus-none (p .at .0 + 1)) (max-zero (max (p .widest .0) 0));
+          written = w ∙ over-join limit out (p .at .0) (0x0A ∷ []) [];
+        }
+      where
+        plus-none : (n : ℕ) → n + 0 ≡ n
+        plus-none n = omega arith

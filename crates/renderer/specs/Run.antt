@@ -14,7 +14,7 @@ use Rattle.rows.specs.View.{viewOf, cell, nodesAt}
 use Rattle.rows.specs.Nesting.{Nested}
 use Rattle.renderer_rules.specs.declared.Frame.{Frame}
 use Rattle.renderer_rules.specs.declared.Pen.{Pen}
-use Rattle.renderer_rules.specs.Renderer.{Renderer, freshRenderer, withBuf, groupWraps, trailingCall, calleeWraps, indentLess, nextIndentMore, nextIndentLess}
+use Rattle.renderer_rules.specs.Renderer.{Renderer, freshRenderer, withBuf, withWidest, groupWraps, trailingCall, calleeWraps, indentLess, nextIndentMore, nextIndentLess}
 use Rattle.renderer_rules.specs.Page.{pageOf}
 use Rattle.renderer_rules.specs.Frames.{partLimit, At}
 use Rattle.renderer_rules.specs.Machine.{Machine, frameOf}
@@ -47,14 +47,14 @@ wholeRun ns r = withFrames (map unpackedFrame ns) r
 abbrev pub bareRun : Running → Run
 bareRun r = record { depth = r .depth; next = r .next; writing = r .writing }
 
--- the renderer that has a pen, and has written b
-abbrev pub stateOf : Pen → List ℕ → List ℕ → Renderer
-stateOf p marks b = withBuf b (freshRenderer p marks)
+-- the renderer that has written b so far
+abbrev pub stateOf : Writing → List ℕ → List ℕ → Renderer
+stateOf w marks b = withWidest (w .widest .0) (withBuf b (freshRenderer (w .pen) marks))
 
 -- the machine of a run that has written b and entered n rows
 unfoldable pub machineOf : Running → List ℕ → List ℕ → ℕ → Machine
 machineOf r marks b n =
-    record { frames = r .frames; depth = r .depth; next = r .next; state = stateOf (r .writing .pen) marks b; entered = n }
+    record { frames = r .frames; depth = r .depth; next = r .next; state = stateOf (r .writing) marks b; entered = n }
 
 -- b is what is written, over an output that was o
 pub record Wrote (limit : ℕ) (o out : List ℕ) (at : ℕ) (b : List ℕ) : Type 0 where
@@ -206,10 +206,12 @@ pub record Starting (store : List ℕ) (limit from stop : ℕ) (out : List ℕ) 
   pub margin : w .pen .indent + w .pen .«next_indent» ≤ START-MARGIN
   pub column : w .pen .column .0 ≤ MAX-COLUMN
   pub at : w .at .0 ≡ 0
+  pub widest : w .widest .0 ≡ 0
 
 -- what s has is what the writing, the marks and the output have become
 pub record Ended (limit : ℕ) (s : Renderer) (out marks2 out2 : List ℕ) (q : Writing) : Type 0 where
   pub pen : q .pen ≡ s .pen
   pub bytes : q .at .0 ≡ length (s .buf)
+  pub widest : q .widest .0 ≡ s .widest
   pub marks : marks2 ≡ s .marks
   pub written : out2 ≡ writtenOver limit out 0 (s .buf)

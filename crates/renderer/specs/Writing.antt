@@ -1,5 +1,5 @@
 -- A text on its way, and what is written of it.
-use Prim.Native.Nat.{ℕ, _+_, _≤_, _<_}
+use Prim.Native.Nat.{ℕ, _+_, _≤_, _<_, max}
 use mathlib.Core.Path.{_≡_}
 use mathlib.Core.List.{List}
 use lib.ListN.{length}
@@ -11,19 +11,19 @@ use Rattle.renderer.specs.Output.{writtenOver}
 
 -- the same with another pen
 abbrev pub setPen : Pen → Writing → Writing
-setPen p w = record { pen = p; at = w .at }
+setPen p w = record { pen = p; at = w .at; widest = w .widest }
 
--- with a pen, once n bytes are written
-abbrev pub writing : Pen → ℕ → Writing
-writing p n = record { pen = p; at = record { 0 = n } }
+-- with a pen, once n bytes are written and `column` was set to c at most
+abbrev pub writing : Pen → ℕ → ℕ → Writing
+writing p n c = record { pen = p; at = record { 0 = n }; widest = record { 0 = c } }
 
 -- the pen at column c, once n bytes are written
 abbrev pub movedTo : ℕ → ℕ → Writing → Writing
-movedTo c n w = writing (withColumn c (w .pen)) n
+movedTo c n w = writing (withColumn c (w .pen)) n (max (w .widest .0) c)
 
 -- the same once s is rendered from there
 unfoldable pub writingAfter : Writing → Renderer → Writing
-writingAfter w s = writing (s .pen) (w .at .0 + length (s .buf))
+writingAfter w s = writing (s .pen) (w .at .0 + length (s .buf)) (max (w .widest .0) (s .widest))
 
 -- s, rendered from w, is what the output and w have become
 pub record Writes (limit : ℕ) (s : Renderer) (out : List ℕ) (w : Writing) (out2 : List ℕ) (q : Writing) : Type 0 where

@@ -1,6 +1,6 @@
 // A text on its way, and what `Renderer` of fmt.rs does to it: `new_line`, `comment` and `text`.
 ghost use mathlib.Core.Path.{_≡_};
-ghost use Prim.Native.Nat.{_+_, _*_, _≤_, _<_};
+ghost use Prim.Native.Nat.{_+_, _*_, _≤_, _<_, max as greaterOf};
 ghost use mathlib.Core.List.{[], _∷_, _++_};
 ghost use Rattle.rows.specs.Limits.{CELL-LIMIT};
 ghost use Rattle.renderer.specs.Limits.{MAX-MARGIN, BEFORE-ROW, IN-ROW};
@@ -16,10 +16,11 @@ use renderer_rules::Pen;
 use rows::units::Bytes;
 use rows::units::Columns;
 
-// A text on its way: the pen, and how many bytes are written.
+// A text on its way: the pen, how many bytes are written, and the greatest value that `column` was set to.
 pub struct Writing {
     pub pen: Pen,
     pub at: Bytes,
+    pub widest: Columns,
 }
 
 // The same with another pen.
@@ -27,7 +28,22 @@ pub(crate) fn set_pen(w: Writing, pen: Pen) -> Writing
     ensures { λ r. ⌜ r ≡ setPen pen w ⌝ }
 {
     let at = w.at;
-    Writing { pen: pen, at: at }
+    let widest = w.widest;
+    Writing {
+        pen: pen,
+        at: at,
+        widest: widest,
+    }
+}
+
+// The greater of two columns.
+fn greater(a: Columns, b: Columns) -> Columns
+    ensures { λ c. ⌜ c .0 ≡ greaterOf (a .0) (b .0) ⌝ }
+{
+    if a.0 < b.0 {
+        return b;
+    }
+    a
 }
 
 // The pen at a column, once `at` bytes are written.
@@ -39,17 +55,38 @@ fn moved_to(w: Writing, column: Columns, at: Bytes) -> Writing
         next_indent: w.pen.next_indent,
         column: column,
     };
-    Writing { pen: pen, at: at }
+    let widest = w.widest;
+    Writing {
+        pen: pen,
+        at: at,
+        widest: greater(widest, column),
+    }
 }
 
-// Writes one byte, `w` columns wide.
-fn put(p: Writing, out: &mut [u8], limit: usize, b: u8, w: Columns) -> Writing
-    requires { ⌜ WritingRoom IN-ROW limit (now out) p × (w .0 < CELL-LIMIT) ⌝ }
-    ensures { λ r. ⌜ Writes limit (atColumn (p .pen .column .0 + w .0) (pushStr (b ∷ []) (freshRenderer (p .pen) []))) (now (out .entry)) p (now (out .exit)) r ⌝ }
+// Writes one byte that takes no column.
+fn push(p: Writing, out: &mut [u8], limit: usize, b: u8) -> Writing
+    requires { ⌜ WritingRoom IN-ROW limit (now out) p ⌝ }
+    ensures { λ r. ⌜ Writes limit (pushStr (b ∷ []) (freshRenderer (p .pen) [])) (now (out .entry)) p (now (out .exit)) r ⌝ }
 {
     let at = p.at.0;
     emit(out, limit, at, b);
-    moved_to(p, Columns(p.pen.column.0 + w.0), Bytes(at + 1))
+    let pen = p.pen;
+    let widest = p.widest;
+    Writing {
+        pen: pen,
+        at: Bytes(at + 1),
+        widest: widest,
+    }
+}
+
+// Writes a blank of one column.
+fn put_blank(p: Writing, out: &mut [u8], limit: usize) -> Writing
+    requires { ⌜ WritingRoom IN-ROW limit (now out) p ⌝ }
+    ensures { λ r. ⌜ Writes limit (atColumn (p .pen .column .0 + 1) (pushStr (0x20 ∷ []) (freshRenderer (p .pen) []))) (now (out .entry)) p (now (out .exit)) r ⌝ }
+{
+    let at = p.at.0;
+    emit(out, limit, at, b' ');
+    moved_to(p, Columns(p.pen.column.0 + 1), Bytes(at + 1))
 }
 
 // Writes a row's text, `w` columns wide.
@@ -103,14 +140,9 @@ pub(crate) fn new_line(p: Writing, out: &mut [u8], limit: usize) -> Writing
     requires { ⌜ WritingRoom IN-ROW limit (now out) p ⌝ }
     ensures { λ r. ⌜ Writes limit (newLine (freshRenderer (p .pen) [])) (now (out .entry)) p (now (out .exit)) r ⌝ }
 {
-    let at = p.at.0;
     let pen = on_new_line(p.pen);
     if 0 < p.pen.column.0 {
-        emit(out, limit, at, 0x0A);
-        return Writing {
-            pen: pen,
-            at: Bytes(at + 1),
-        };
+        return set_pen(push(p, out, limit, 0x0A), pen);
     }
     set_pen(p, pen)
 }
@@ -120,7 +152,7 @@ pub(crate) fn empty_line(p: Writing, out: &mut [u8], limit: usize) -> Writing
     requires { ⌜ WritingRoom BEFORE-ROW limit (now out) p ⌝ }
     ensures { λ r. ⌜ Writes limit (newLine (pushStr (0x0A ∷ []) (freshRenderer (p .pen) []))) (now (out .entry)) p (now (out .exit)) r ⌝ }
 {
-    new_line(put(p, out, limit, 0x0A, Columns(0)), out, limit)
+    new_line(push(p, out, limit, 0x0A), out, limit)
 }
 
 // The blank of a `LineOrSpace`: `text(" ", 1)`.
@@ -129,9 +161,9 @@ pub(crate) fn space(p: Writing, out: &mut [u8], limit: usize) -> Writing
     ensures { λ r. ⌜ Writes limit (text (0x20 ∷ []) 1 (freshRenderer (p .pen) [])) (now (out .entry)) p (now (out .exit)) r ⌝ }
 {
     if 0 < p.pen.column.0 {
-        return put(p, out, limit, b' ', Columns(1));
+        return put_blank(p, out, limit);
     }
-    put(start_line(p, out, limit), out, limit, b' ', Columns(1))
+    put_blank(start_line(p, out, limit), out, limit)
 }
 
 // `text`
@@ -185,7 +217,7 @@ pub(crate) fn comment(
 {
     let column = p.pen.column.0;
     if 0 < column {
-        let q = put(p, out, limit, b' ', Columns(0));
+        let q = push(p, out, limit, b' ');
         return end_line(q, out, limit, source, image, t);
     }
     let q = start_line(p, out, limit);

@@ -2,6 +2,7 @@ pub mod Allot
 pub mod Call
 pub mod Checked
 pub mod Choices
+pub mod Columns
 pub mod CommentLine
 pub mod Joined
 pub mod Machine
@@ -12,3 +13,4 @@ pub mod Names
 pub mod Opened
 pub mod OwnMarks
 pub mod Safe
+pub mod Widest

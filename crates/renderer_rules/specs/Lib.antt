@@ -8,3 +8,4 @@ pub mod Most
 pub mod Page
 pub mod Renderer
 pub mod Safe
+pub mod Widest

@@ -1,5 +1,5 @@
 -- `Renderer` of fmt.rs: `render_node`, `new_line`, `comment` and `text`.
-use Prim.Native.Nat.{ℕ, _+_, _*_, _-_}
+use Prim.Native.Nat.{ℕ, _+_, _*_, _-_, max}
 use mathlib.Core.Bool.{Bool, true, false, cond, not, _&&_, _||_}
 use mathlib.Core.List.{List, [], _∷_, _++_}
 use lib.ListN.{set, replicate}
@@ -13,25 +13,30 @@ pub record Page : Type 0 where
   pub columns : Text → ℕ
   pub bytes : Text → List ℕ
 
--- The fields of `Renderer` but `max`: `indent`, `next_indent` and `column` as a pen, `wrapped` as marks.
+-- The fields of `Renderer` but `max`: `indent`, `next_indent` and `column` as a pen, `wrapped` as marks. And one that the Rust has not, the
+-- greatest value that `column` was set to.
 pub record Renderer : Type 0 where
   pub buf : List ℕ
   pub pen : Pen
   pub marks : List ℕ
+  pub widest : ℕ
 
--- `Renderer` before it writes anything
+-- `Renderer` before it writes anything. `column` was not set yet: a rendering that goes on from a pen counts for itself.
 abbrev pub freshRenderer : Pen → List ℕ → Renderer
-freshRenderer p marks = record { buf = []; pen = p; marks = marks }
+freshRenderer p marks = record { buf = []; pen = p; marks = marks; widest = 0 }
 
 -- One field set. No rule and no proof writes a record out but by these.
 abbrev pub withBuf : List ℕ → Renderer → Renderer
-withBuf b r = record { buf = b; pen = r .pen; marks = r .marks }
+withBuf b r = record { buf = b; pen = r .pen; marks = r .marks; widest = r .widest }
 
 abbrev pub withPen : Pen → Renderer → Renderer
-withPen p r = record { buf = r .buf; pen = p; marks = r .marks }
+withPen p r = record { buf = r .buf; pen = p; marks = r .marks; widest = r .widest }
 
 abbrev pub withMarks : List ℕ → Renderer → Renderer
-withMarks m r = record { buf = r .buf; pen = r .pen; marks = m }
+withMarks m r = record { buf = r .buf; pen = r .pen; marks = m; widest = r .widest }
+
+abbrev pub withWidest : ℕ → Renderer → Renderer
+withWidest c r = record { buf = r .buf; pen = r .pen; marks = r .marks; widest = c }
 
 abbrev pub withIndent : ℕ → Pen → Pen
 withIndent i p = record { indent = i; «next_indent» = p .«next_indent»; column = p .column }
@@ -53,10 +58,11 @@ onPen f r = withPen (f (r .pen)) r
 unfoldable pub pushStr : List ℕ → Renderer → Renderer
 pushStr t r = withBuf (r .buf ++ t) r
 
+-- `column` set, and the greatest value with it
 unfoldable pub atColumn : ℕ → Renderer → Renderer
-atColumn c r = onPen (withColumn c) r
+atColumn c r = withWidest (max (r .widest) c) (onPen (withColumn c) r)
 
--- `new_line`, and what it does to the pen
+-- `new_line`, and what it does to the pen. It sets `column` to 0, which is never a new greatest value.
 abbrev pub onNewLine : Pen → Pen
 onNewLine p = withMargin (p .indent + p .«next_indent») 0 (withColumn 0 p)
 

@@ -40,7 +40,7 @@ five-short v w x y z a b c d e =
     omega
     (arith, length-append v w, length-append (v ++ w) x, length-append (v ++ w ++ x) y, length-append (v ++ w ++ x ++ y) z)
 
-line-short : (r : Refusal) → length (refusedLine r) ≤ 64
+pub line-short : (r : Refusal) → length (refusedLine r) ≤ 64
 unfolding bytes
 line-short r =
     five-short (bytes "refused ") (decimal (r .number)) (bytes " at ") (decimal (r .place)) (bytes "\n") (omega arith) (decimal-short 20 (r .number))

@@ -1,5 +1,5 @@
 // What the program writes for a frame.
-mod line;
+pub mod line;
 
 ghost use Rattle.reply.specs.Reply.{Replies};
 use crate::line::refused_line;

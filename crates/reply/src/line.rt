@@ -6,10 +6,10 @@ ghost use lib.Seq.{sets};
 ghost use Rattle.reply.specs.Reply.{decimalIn, refusedLine};
 
 // A number of 64 bits has 20 digits at most.
-const DIGITS: usize = 20;
+pub const DIGITS: usize = 20;
 
 // Puts a text at a place, and answers where it ends.
-fn put_text(out: &mut [u8], at: usize, text: &[u8]) -> usize
+pub fn put_text(out: &mut [u8], at: usize, text: &[u8]) -> usize
     requires { ⌜ at + length (now text) ≤ length (now out) ⌝ }
     ensures { λ r. ⌜ (now (out .exit) ≡ sets (now (out .entry)) at (now (text .entry))) × (r ≡ at + length (now (text .entry))) ⌝ }
 {
@@ -22,7 +22,7 @@ fn put_text(out: &mut [u8], at: usize, text: &[u8]) -> usize
 }
 
 // Puts a number in decimal, of `most` digits at most, at a place, and answers where it ends.
-fn put_decimal(out: &mut [u8], at: usize, n: usize, most: usize) -> usize
+pub fn put_decimal(out: &mut [u8], at: usize, n: usize, most: usize) -> usize
     requires { ⌜ at + most ≤ length (now out) ⌝ }
     ensures { λ r. ⌜ (now (out .exit) ≡ sets (now (out .entry)) at (decimalIn most n)) × ((r ≡ at + length (decimalIn most n)) × (r ≤ at + most)) ⌝ }
 {
@@ -39,7 +39,7 @@ fn put_decimal(out: &mut [u8], at: usize, n: usize, most: usize) -> usize
 }
 
 // Puts the line at the start of the output, and answers where it ends.
-pub(crate) fn refused_line(out: &mut [u8], number: u8, place: usize) -> usize
+pub fn refused_line(out: &mut [u8], number: u8, place: usize) -> usize
     requires { ⌜ 64 ≤ length (now out) ⌝ }
     ensures { λ r. ⌜ (now (out .exit) ≡ sets (now (out .entry)) 0 (refusedLine (record { number = number; place = place }))) × (r ≡ length (refusedLine (record { number = number; place = place }))) ⌝ }
 {

@@ -1,4 +1,5 @@
-//! The judge: NLnet Labs' formatter, unchanged, run on tree images.
+//! The judge: NLnet Labs' formatter, but for the edits that README.md lists,
+//! run on tree images.
 //!
 //! Document 01 (docs/01-scope.md) sets the image, the refusals and the rows.
 //! What is formatted, and how, is left to `fmt_parsed` of src/fmt.rs.
@@ -23,6 +24,7 @@ pub mod answers;
 pub mod calls;
 pub mod examples;
 pub mod explain;
+pub mod figures;
 pub mod frame;
 pub mod generate;
 pub mod grammar;

@@ -8,7 +8,7 @@ use std::{
 
 use judge::{
     answers::{self, stored},
-    examples, explain, frame,
+    examples, explain, figures, frame,
     generate::{self, Class},
     program::{self, Widths},
     script, table,
@@ -33,6 +33,9 @@ usage: judge run [--true-widths] < frame      what the program must write
        judge replay-frames                    what replay_frames is run on
        judge replay-frames-counts             what it must write
        judge text-answers                     answers of Rust's text functions
+       judge report < files                   what the program report must write
+       judge report-sample                    what report is run on
+       judge report-sample-table              what it must write
 CLASS: realistic, wild, edges, damaged or sizes
 ";
 
@@ -104,6 +107,9 @@ fn command(words: &[&str]) -> Result<Pieces, String> {
         ["replay-frames"] => one(answers::replay::frames_input()),
         ["replay-frames-counts"] => one(answers::replay::frames_output()),
         ["text-answers"] => one(answers::text::answers()),
+        ["report"] => one(figures::report::output(&input())),
+        ["report-sample"] => one(answers::report::input()),
+        ["report-sample-table"] => one(answers::report::output()),
         ["table", seed, count] => {
             one(table::table(number(seed)?, number(count)?))
         }

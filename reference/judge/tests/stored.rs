@@ -3,7 +3,7 @@
 use std::collections::BTreeSet;
 
 use judge::{
-    answers::{calls, frames, replay, stored},
+    answers::{calls, frames, replay, report, stored},
     calls::Call,
     frame, program, reader, table,
 };
@@ -93,4 +93,13 @@ fn the_replay_has_these_answers() {
     assert!(
         read("replay_frames/stdout") == replay::frames_output().into_bytes()
     );
+}
+
+/// The same of the program `report`.
+#[test]
+fn the_report_has_its_sample() {
+    let at = concat!(env!("CARGO_MANIFEST_DIR"), "/../../crates/report");
+    let read = |name| std::fs::read(format!("{at}/{name}")).expect("there");
+    assert!(read("stdin") == report::input());
+    assert!(read("stdout") == report::output().into_bytes());
 }

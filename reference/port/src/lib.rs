@@ -1,11 +1,15 @@
 //! The port beside the judge: the same calls, answered in the same types.
 
 pub mod compare;
+#[cfg(feature = "calls")]
+mod figures;
 pub mod measure;
 pub mod port;
 #[cfg(feature = "stand-in")]
 pub mod stand_in;
 
+#[cfg(feature = "calls")]
+pub use figures::count;
 use judge::refusal::Refusal;
 #[cfg(feature = "calls")]
 pub use typed::{Formatted, format, layout, render};
@@ -90,7 +94,7 @@ impl<const N: usize> Out<N> {
         }
         match out {
             [0, rest @ ..] => Ok(*rest.first_chunk().expect("long enough")),
-            [number @ 1..=13, place, ..] => Err(Refusal {
+            [number @ 1..=14, place, ..] => Err(Refusal {
                 number: *number as u8,
                 place: *place,
             }),

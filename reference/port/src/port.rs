@@ -2,7 +2,7 @@
 //! in, numbers out. With the feature `stand-in` the judge answers in their place.
 
 #[cfg(feature = "stand-in")]
-pub use crate::stand_in::{check, format, layout, newlines, render};
+pub use crate::stand_in::{check, count, format, layout, newlines, render};
 
 #[cfg(not(feature = "stand-in"))]
 pub use linked::*;
@@ -63,6 +63,14 @@ mod linked {
             start: u64,
             end: u64,
             out: *mut [u64; 2],
+        );
+        fn rrufthim_count(
+            source: *const u8,
+            source_len: usize,
+            image: *const u8,
+            image_len: usize,
+            tallies: *const [u64; 8],
+            out: *mut [u64; 18],
         );
     }
 
@@ -173,6 +181,30 @@ mod linked {
         // Safety: as in `check`.
         unsafe {
             rrufthim_newlines(source.as_ptr(), source.len(), start, end, out);
+        }
+    }
+
+    /// `tallies`: files counted, then bytes, newlines, greatest column, group
+    /// numbers given, groups wrapped, comments placed, comments left. `out`:
+    /// 0, the seven of this file, the eight new tallies, wrapped over given
+    /// as two numbers; or number, place.
+    #[cfg(feature = "calls")]
+    pub fn count(
+        source: &[u8],
+        image: &[u8],
+        tallies: &[u64; 8],
+        out: &mut [u64; 18],
+    ) {
+        // Safety: as in `check`.
+        unsafe {
+            rrufthim_count(
+                source.as_ptr(),
+                source.len(),
+                image.as_ptr(),
+                image.len(),
+                tallies,
+                out,
+            );
         }
     }
 }

@@ -9,10 +9,13 @@ use judge::{
         render_call,
     },
     driver::{Pen, Stop},
+    figures::{self, Counted, Figures, Fraction, MOST_FILES, Tallies},
+    frame::Frame,
+    image::{self, node},
     newlines,
     program::{MARKS, ROWS},
     reader,
-    refusal::Refusal,
+    refusal::{Refusal, refusal},
     rows::Row,
 };
 
@@ -65,10 +68,22 @@ pub enum Fault {
     FirstNewline,
     /// The range's start where no newline is counted.
     NoNewline,
+    /// A file's greatest column is one too low.
+    GreatestColumn,
+    /// The greatest columns of files are added up.
+    ColumnsAdded,
+    /// The fraction isn't reduced.
+    Unreduced,
+    /// 14 comes before the file's own refusals.
+    TalliesFirst,
+    /// A file past the last is counted.
+    OneMoreFile,
+    /// As many wrapped as given are refused.
+    AllWrapped,
 }
 
 impl Fault {
-    pub const ALL: [Fault; 22] = [
+    pub const ALL: [Fault; 28] = [
         Fault::CheckPlace,
         Fault::Declarations,
         Fault::CommentsLeft,
@@ -91,6 +106,12 @@ impl Fault {
         Fault::OutputBeforeRefusal,
         Fault::FirstNewline,
         Fault::NoNewline,
+        Fault::GreatestColumn,
+        Fault::ColumnsAdded,
+        Fault::Unreduced,
+        Fault::TalliesFirst,
+        Fault::OneMoreFile,
+        Fault::AllWrapped,
     ];
 }
 
@@ -382,4 +403,69 @@ pub fn newlines(source: &[u8], start: u64, end: u64, out: &mut [u64; 2]) {
         place = start;
     }
     put(out, &[count, place]);
+}
+
+/// A file counted.
+pub fn count(
+    source: &[u8],
+    image: &[u8],
+    tallies: &[u64; 8],
+    out: &mut [u64; 18],
+) {
+    let [files, all @ ..] = *tallies;
+    let all = Figures::from_numbers(all);
+    let mut before = Tallies { files, all };
+    let early = planted(Fault::TalliesFirst) && !counts_nothing(&before);
+    let all_wrapped = planted(Fault::AllWrapped)
+        && all.wrapped == all.given
+        && all.given > 0;
+    if early || all_wrapped {
+        return put_refusal(out, refusal(14, 0));
+    }
+    if planted(Fault::OneMoreFile) && files == MOST_FILES {
+        before.files -= 1;
+    }
+    match figures::count(Frame { source, image }, &before) {
+        Ok(counted) => put_counted(out, counted, all.column),
+        Err(refusal) => put_refusal(out, refusal),
+    }
+}
+
+/// Whether a file without a byte is counted on top of these.
+fn counts_nothing(tallies: &Tallies) -> bool {
+    let image = image::write(&[], &node(1, 0..0, [None]));
+    let frame = Frame {
+        source: b"",
+        image: &image,
+    };
+    figures::count(frame, tallies).is_ok()
+}
+
+fn put_counted(out: &mut [u64], counted: Counted, column: u64) {
+    let Counted {
+        mut figures,
+        mut tallies,
+        mut fraction,
+    } = counted;
+    if planted(Fault::ColumnsAdded) {
+        tallies.all.column = column + figures.column;
+    }
+    if planted(Fault::GreatestColumn) {
+        figures.column = figures.column.saturating_sub(1);
+    }
+    if planted(Fault::Unreduced) {
+        fraction = Fraction {
+            over: tallies.all.wrapped,
+            under: tallies.all.given,
+        };
+    }
+    let all = tallies.all.numbers();
+    let numbers = [
+        &[0],
+        &figures.numbers()[..],
+        &[tallies.files],
+        &all,
+        &[fraction.over, fraction.under],
+    ];
+    put(out, &numbers.concat());
 }

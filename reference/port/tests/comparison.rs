@@ -13,12 +13,14 @@ const PLAN: Plan = Plan {
     seed: 5,
     frames: 150,
     lists: 300,
+    files: 100,
 };
 
 const SHORT: Plan = Plan {
     seed: 5,
     frames: 1,
     lists: 0,
+    files: 0,
 };
 
 /// One test, since a planted fault holds for all threads.
@@ -60,6 +62,7 @@ fn items_are_repeated_by_their_names() {
     assert!(matches!(wild, Some(Item::Frame(_, 3))));
     assert_eq!(Item::from_words("list", 4), Some(Item::List(4)));
     assert_eq!(Item::from_words("ranges", 5), Some(Item::Ranges(5)));
+    assert_eq!(Item::from_words("files", 90), Some(Item::Files(90)));
     assert_eq!(Item::from_words("other", 4), None);
 }
 

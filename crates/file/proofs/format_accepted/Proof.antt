@@ -1,24 +1,17 @@
--- One layout call and one rendering call, both from fresh, on rows and marks of its own.
-use mathlib.Core.Path.{sym, ap}
-use Prim.Native.Nat.{ℕ, _/_}
+-- The run of a file, in rows and marks of its own.
+use mathlib.Core.Path.{ap, _∙_}
+use mathlib.Core.List.{List}
+use Prim.Native.Nat.{ℕ, _*_, _/_}
+use lib.ListN.{length, length-replicate}
 use Rattle.rows.specs.Places.{PLACES}
-use Rattle.plain_run.specs.Demands.{closingAt}
-use Rattle.file.proofs.Steps.{layout-refused, drawn-starts, drawn-refused, drawn-formats}
+use Rattle.plain_run.specs.File.{fileRows, fileMarks}
+use Rattle.file.proofs.Steps.{runs-whole}
 use borrow.Author.Needs.{needs}
 use Rattle.file.proofs.format_accepted.Statement.{statement}
 use Rattle.file.proofs.format_accepted.Tie as tie
 
-render-checked-requires : tie.Need-render-checked-requires
-render-checked-requires c κs = drawn-starts _ _ _ _ (c .before .before .before .before .before .before .before .before .before .before .before .before .before .before .before .before .before .args .out .now) (ap (λ (n : ℕ). n / PLACES) (sym (c .before .before .before .before .before .before .before .before .before .before .before .before .before .rows .ensures))) (sym (c .before .before .before .before .before .before .before .before .before .before .before .before .marks .ensures)) _ _ _ _ (c .before .before .before .before .before .before .before .before .before .layout-fresh .ensures) (ap closingAt (c .before .before .before .before .before .before .before .before .before .before .before .count-declarations .ensures)) (c .before .before .before .before .before .before .before .before .layout-accepted .ensures) _ _ (c .before .before .before .before .before .state .given .1) _ (c .render-fresh .ensures)
-
 returns : tie.Need-returns
-returns c = layout-refused _ _ _ (c .before .before .before .before .before .before .before .before .marks .result) _ (ap (λ (n : ℕ). n / PLACES) (sym (c .before .before .before .before .before .before .before .before .before .rows .ensures))) (sym (c .before .before .before .before .before .before .before .before .marks .ensures)) _ _ _ _ (c .before .before .before .before .before .layout-fresh .ensures) (ap closingAt (c .before .before .before .before .before .before .before .count-declarations .ensures)) (c .before .before .before .before .layout-accepted .ensures) _ _ (c .before .number .given .1)
-
-returns-2 : tie.Need-returns-2
-returns-2 c = drawn-refused _ _ _ _ _ (ap (λ (n : ℕ). n / PLACES) (sym (c .before .before .before .before .before .before .before .before .before .before .before .before .before .before .before .before .before .before .before .before .before .rows .ensures))) (sym (c .before .before .before .before .before .before .before .before .before .before .before .before .before .before .before .before .before .before .before .before .marks .ensures)) _ _ _ _ (c .before .before .before .before .before .before .before .before .before .before .before .before .before .before .before .before .before .layout-fresh .ensures) (ap closingAt (c .before .before .before .before .before .before .before .before .before .before .before .before .before .before .before .before .before .before .before .count-declarations .ensures)) (c .before .before .before .before .before .before .before .before .before .before .before .before .before .before .before .before .layout-accepted .ensures) _ _ (c .before .before .before .before .before .before .before .before .before .before .before .before .before .state .given .1) _ (c .before .before .before .before .before .before .before .before .render-fresh .ensures) _ _ _ _ (c .before .before .before .before .before .before .before .render-checked .ensures) _ _ (c .before .number2 .given .1)
-
-returns-3 : tie.Need-returns-3
-returns-3 c = drawn-formats _ _ _ _ _ (ap (λ (n : ℕ). n / PLACES) (sym (c .before .before .before .before .before .before .before .before .before .before .before .before .before .before .before .before .before .before .before .before .before .rows .ensures))) (sym (c .before .before .before .before .before .before .before .before .before .before .before .before .before .before .before .before .before .before .before .before .marks .ensures)) _ _ _ _ (c .before .before .before .before .before .before .before .before .before .before .before .before .before .before .before .before .before .layout-fresh .ensures) (ap closingAt (c .before .before .before .before .before .before .before .before .before .before .before .before .before .before .before .before .before .before .before .count-declarations .ensures)) (c .before .before .before .before .before .before .before .before .before .before .before .before .before .before .before .before .layout-accepted .ensures) _ _ (c .before .before .before .before .before .before .before .before .before .before .before .before .before .state .given .1) _ (c .before .before .before .before .before .before .before .before .render-fresh .ensures) _ _ _ _ (c .before .before .before .before .before .before .before .render-checked .ensures) _ _ (c .before .end .given .1)
+returns c = runs-whole _ _ _ _ _ (ap (λ (l : List ℕ). length l / PLACES) (c .before .before .before .before .before .before .before .before .before .before .rows .ensures) ∙ ap (λ (n : ℕ). n / PLACES) (length-replicate {A = ℕ} (fileRows * PLACES) 0)) (ap length (c .before .before .before .before .before .before .before .before .before .marks .ensures) ∙ length-replicate {A = ℕ} fileMarks 0) _ _ _ _ (c .before .before .before .before .before .run-file .ensures) _ (c .formatted-of .ensures)
 
 pub format-accepted-spec : {M : Type 1} → statement M
 format-accepted-spec =
@@ -26,20 +19,9 @@ format-accepted-spec =
     (tie.spec
     (λ c κs. search needs)
     (λ c κs. search needs)
-    (λ c κs. search needs)
-    (λ c. search needs)
-    (λ c κs. search needs)
-    (λ c κs. search needs)
-    (λ c. search needs)
-    (λ c. search needs)
     (λ c. search needs)
     (λ c. search needs)
     (λ c κs. search needs)
-    render-checked-requires
+    (λ c κs. search needs)
     (λ c. search needs)
-    (λ c. search needs)
-    returns
-    (λ c. search needs)
-    returns-2
-    (λ c. search needs)
-    returns-3)
+    returns)

@@ -1,6 +1,6 @@
 -- By the verdict of the first tests.
 -- Assumes nothing.
-use Rattle.render_call.proofs.Steps.{checked-by, refused-by}
+use Rattle.render_call.proofs.Steps.{called-as, checked-by, refused-by}
 use borrow.Author.Needs.{needs}
 use Rattle.render_call.proofs.render_call.Statement.{statement}
 use Rattle.render_call.proofs.render_call.Tie as tie
@@ -11,6 +11,9 @@ render-checked-requires c κs = checked-by _ _ _ _ _ _ _ (c .before .before .bef
 returns : tie.Need-returns
 returns c = refused-by _ _ _ _ _ _ _ (c .before .before .before .refusal .ensures) _ _ _ (c .before .number .given .1)
 
+returns-2 : tie.Need-returns-2
+returns-2 c = called-as _ _ _ _ _ _ _ _ _ _ _ (c .before .before .before .before .before .before .before .render-checked .ensures) _ (c .rendering-of .ensures)
+
 pub render-call-spec : {M : Type 1} → statement M
 render-call-spec =
     tie.close
@@ -19,10 +22,11 @@ render-call-spec =
     (λ c. search needs)
     (λ c. search needs)
     render-checked-requires
+    (λ c κs. search needs)
     (λ c. search needs)
     (λ c. search needs)
     returns
     (λ c. search needs)
     (λ c. search needs)
     (λ c. search needs)
-    (λ c. search needs))
+    returns-2)

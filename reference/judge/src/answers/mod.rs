@@ -4,6 +4,7 @@
 pub mod calls;
 pub mod frames;
 pub mod replay;
+pub mod report;
 pub mod stored;
 pub mod text;
 

@@ -21,6 +21,7 @@ pub struct RenderedRows {
     pub text: Vec<u8>,
     pub marks: Vec<u8>,
     pub pen: Pen,
+    pub greatest_column: usize,
 }
 
 /// Renders the rows from `from` to the store's end, which must have passed
@@ -48,6 +49,7 @@ pub fn render_rows(
         text: pairs.map(|(high, low)| whole(high, low)).collect(),
         marks: high.marks,
         pen: high.pen,
+        greatest_column: high.greatest_column,
     }
 }
 

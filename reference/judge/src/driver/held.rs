@@ -42,6 +42,7 @@ impl<'s> Held<'s> {
             indent: 0,
             next_indent: 0,
             column: 0,
+            greatest: 0,
             max: 80,
             wrapped: HashSet::new(),
         };

@@ -47,6 +47,7 @@ pub fn run(input: &Input) -> Run {
         text: rendered.text,
         marks: rendered.marks,
         pen: rendered.pen,
+        greatest_column: rendered.greatest_column,
     }
 }
 

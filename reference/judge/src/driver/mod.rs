@@ -32,4 +32,7 @@ pub struct Run {
     pub marks: Vec<u8>,
     /// The rendering state at the end.
     pub pen: Pen,
+    /// The greatest value that `column` was set to, 0 before the first. The
+    /// build for timing doesn't keep it.
+    pub greatest_column: usize,
 }

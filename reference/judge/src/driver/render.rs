@@ -17,6 +17,8 @@ pub struct Rendered {
     pub text: String,
     pub marks: Vec<u8>,
     pub pen: Pen,
+    /// The greatest value that `column` was set to, 0 before the first.
+    pub greatest_column: usize,
 }
 
 /// How far a rendering came.
@@ -54,6 +56,7 @@ impl Rendering {
             indent: pen.indent,
             next_indent: pen.next_indent,
             column: pen.column,
+            greatest: 0,
             max: 80,
             wrapped: wrapped_numbers(marks),
         };
@@ -83,6 +86,7 @@ impl Rendering {
         Rendered {
             marks: self.marks(),
             pen: self.pen(),
+            greatest_column: self.renderer.greatest,
             text: self.renderer.buf,
         }
     }

@@ -5,8 +5,8 @@ use std::{env, process::ExitCode, time::Instant};
 use port::compare::{Item, Plan, Tally, one};
 
 const USAGE: &str = "\
-usage: compare SEED FRAMES [LISTS]    FRAMES frames of each class, LISTS lists of calls
-       compare KIND SEED INDEX        one of them again; KIND as a difference names it
+usage: compare SEED FRAMES [LISTS [FILES]]    FRAMES frames of each class, LISTS lists of calls, FILES files counted
+       compare KIND SEED INDEX                one of them again; KIND as a difference names it
 ";
 
 fn main() -> ExitCode {
@@ -34,15 +34,17 @@ fn compare(words: &[&str]) -> Option<Tally> {
     let number = |word: &str| word.parse::<u64>().ok();
     let numbers: Option<Vec<u64>> =
         words.iter().map(|word| number(word)).collect();
-    if let Some([seed, frames, lists @ ..]) = numbers.as_deref() {
+    if let Some([seed, frames, more @ ..]) = numbers.as_deref() {
+        let more = |place| more.get(place).copied().unwrap_or(0);
         let plan = Plan {
             seed: *seed,
             frames: *frames,
-            lists: lists.first().copied().unwrap_or(0),
+            lists: more(0),
+            files: more(1),
         };
         println!(
-            "{} frames of each class, {} lists",
-            plan.frames, plan.lists
+            "{} frames of each class, {} lists, {} files counted",
+            plan.frames, plan.lists, plan.files
         );
         return Some(plan.run());
     }

@@ -4,6 +4,8 @@
 mod buffers;
 #[cfg(feature = "calls")]
 mod cuts;
+#[cfg(feature = "calls")]
+mod files;
 mod frames;
 #[cfg(feature = "calls")]
 mod large;

@@ -39,16 +39,20 @@ pub enum Item {
     /// A text with ranges to count newlines in.
     #[cfg(feature = "calls")]
     Ranges(u64),
+    /// So many files counted one after another.
+    #[cfg(feature = "calls")]
+    Files(u64),
 }
 
 /// All items of a run: so many frames of each class but `sizes`, and as many
 /// texts with ranges, all sizes and rendering answers once, and so many lists.
-/// With lists come the largest stores.
+/// With lists come the largest stores. Last, so many files to count.
 #[derive(Clone, Copy, Debug)]
 pub struct Plan {
     pub seed: u64,
     pub frames: u64,
     pub lists: u64,
+    pub files: u64,
 }
 
 const CLASSES: [Class; 4] =
@@ -62,6 +66,10 @@ impl Plan {
     pub fn items(&self) -> Vec<Item> {
         // Those that take longest come first.
         let mut items = Vec::new();
+        #[cfg(feature = "calls")]
+        if self.files > 0 {
+            items.push(Item::Files(self.files));
+        }
         #[cfg(feature = "calls")]
         if self.lists > 0 {
             items.extend((0..super::large::COUNT).map(Item::Large));
@@ -175,6 +183,8 @@ fn compare(tally: &mut Tally, item: Item, seed: u64) {
             let case = generate::range_case(seed, index);
             super::ranges::compare(tally, &case);
         }
+        #[cfg(feature = "calls")]
+        Item::Files(count) => super::files::compare(tally, seed, count),
     }
 }
 
@@ -185,7 +195,7 @@ fn rendering_cases() -> &'static [CallCase] {
     &CASES
 }
 
-fn class_name(class: Class) -> &'static str {
+pub(super) fn class_name(class: Class) -> &'static str {
     let known = Class::ALL.into_iter().find(|(known, _)| *known == class);
     known.expect("all classes are listed").1
 }
@@ -207,6 +217,8 @@ fn name(item: Item, seed: u64) -> String {
         Item::Rendering(place) => ("rendering", place as u64),
         #[cfg(feature = "calls")]
         Item::Ranges(index) => ("ranges", index),
+        #[cfg(feature = "calls")]
+        Item::Files(count) => ("files", count),
     };
     format!("{kind} {seed} {index}")
 }
@@ -228,6 +240,8 @@ impl Item {
             "rendering" => Some(Item::Rendering(index as usize)),
             #[cfg(feature = "calls")]
             "ranges" => Some(Item::Ranges(index)),
+            #[cfg(feature = "calls")]
+            "files" => Some(Item::Files(index)),
             _ => Class::from_name(kind).map(|c| Item::Frame(c, index)),
         }
     }

@@ -12,7 +12,7 @@ run-rows-requires : tie.Need-run-rows-requires
 run-rows-requires c κs = run-starts _ _ _ _ _ _ _ (c .before .before .before .before .before .before .before .before .before .before .before .before .pre .0) _ (c .before .before .before .before .before .before .start-text .ensures)
 
 returns : tie.Need-returns
-returns c = run-ends _ _ _ _ _ _ _ (c .before .before .before .before .before .before .before .before .before .before .before .before .before .before .before .before .before .before .before .before .before .pre .0) _ _ (c .before .before .before .before .before .before .before .before .before .before .before .before .before .before .before .start-text .ensures) _ (c .before .before .before .before .before .before .before .before .before .before .before .before .before .before .before .before .before .before .before .before .before .pre .1) _ (c .before .before .before .before .before .before .before .before .before .before .before .before .before .clear-marks .ensures) _ _ (c .before .before .before .before .before .before .before .before .run-rows .ensures) _ (c .larger .ensures)
+returns c = run-ends _ _ _ _ _ _ _ (c .before .before .before .before .before .before .before .before .before .before .before .before .before .before .before .before .before .before .before .before .before .before .pre .0) _ _ (c .before .before .before .before .before .before .before .before .before .before .before .before .before .before .before .before .start-text .ensures) _ (c .before .before .before .before .before .before .before .before .before .before .before .before .before .before .before .before .before .before .before .before .before .before .pre .1) _ (c .before .before .before .before .before .before .before .before .before .before .before .before .before .before .clear-marks .ensures) _ _ (c .before .before .before .before .before .before .before .before .before .run-rows .ensures) _ (c .larger .ensures)
 
 pub write-rows-spec : {M : Type 1} → statement M
 write-rows-spec =

@@ -1,0 +1,125 @@
+-- The figures of a file that is accepted are small.
+-- Assumes nothing.
+use mathlib.Core.Path.{_≡_, _∙_}
+use mathlib.Core.Bool.{true}
+use mathlib.Core.Option.{Option, none}
+use mathlib.Core.List.{List, [], _∷_}
+use Prim.Native.Nat.{ℕ, _≤_}
+use native.Mathlib.Omega.{arith}
+use borrow.Author.Tests.{ltb-false}
+use lib.Dec.{ltb}
+use lib.ListN.{length, getD, replicate, length-replicate}
+use Rattle.image.specs.Read.{readAll}
+use Rattle.comments.specs.Listed.{commentsOf, given}
+use Rattle.refusals.specs.Refusals.{Refusal, first, refuseIf}
+use Rattle.refusals.proofs.Groups.{passes-line, passes-others, not-if}
+use Rattle.renderer_rules.proofs.Names.{renders-same}
+use Rattle.cut_rule.specs.States.{renderFresh}
+use Rattle.layout_facts.specs.Accepted.{Stands}
+use Rattle.layout_facts.specs.Accepted as limits
+use Rattle.layout_facts.proofs.Limits.{whole-within}
+use Rattle.layout_facts.proofs.Numbers.{numbers-below}
+use Rattle.plain_run.specs.Parts.{acceptedTree, page, rendererOf}
+use Rattle.plain_run.specs.File.{fileRows, fileMarks, built, marksDue, drawnDue, laidRefusal, fileRefusal}
+use Rattle.plain_run.specs.FileLimits.{AreBytes}
+use Rattle.plain_run.proofs.Past.{renders-length}
+use Rattle.plain_run.proofs.Limits.{stood}
+use Rattle.plain_run.proofs.FileLimits.{laid-read, file-column-limited}
+use Rattle.tallies.specs.Tallies.{Within}
+use Rattle.tallies.specs.Order.{Small}
+use Rattle.figures.specs.Figures.{FILE-OUTPUT, figuresOf}
+use Rattle.figures.proofs.Occurring.{occurs-few, occurs-below, cleared-at}
+
+module _ (s b : List ℕ) where
+  abbrev textDue : ℕ
+  textDue = length (drawnDue s b .text)
+
+  -- ---- what 9 and 10 let pass
+  abbrev tens : List (Option Refusal)
+  tens = refuseIf (ltb FILE-OUTPUT textDue) 10 textDue ∷ []
+
+  abbrev pub nines : List (Option Refusal)
+  nines = refuseIf (ltb fileMarks (marksDue s b)) 9 (marksDue s b) ∷ tens
+
+  module _ (passes : fileRefusal s b FILE-OUTPUT ≡ none) where
+    laid-passes : laidRefusal s b fileRows ≡ none
+    laid-passes = passes-line (laidRefusal s b fileRows) nines passes
+
+    later : first nines ≡ none
+    later = passes-others (laidRefusal s b fileRows) nines passes
+
+    marks-fit : marksDue s b ≤ fileMarks
+    marks-fit = ltb-false fileMarks (marksDue s b) (not-if (ltb fileMarks (marksDue s b)) 9 (marksDue s b) (passes-line _ tens later))
+
+    text-fits : textDue ≤ FILE-OUTPUT
+    text-fits =
+        ltb-false FILE-OUTPUT textDue
+        (not-if (ltb FILE-OUTPUT textDue) 10 textDue
+        (passes-line _ [] (passes-others (refuseIf (ltb fileMarks (marksDue s b)) 9 (marksDue s b)) tens later)))
+
+  -- as many marks as are needed
+  marks-many : length (drawnDue s b .marks) ≡ marksDue s b
+  marks-many =
+      renders-length (page s b) (built s b .nodes) true (rendererOf (renderFresh .pen) (replicate (marksDue s b) 0))
+      ∙ length-replicate (marksDue s b) 0
+
+  -- ---- what is known of a tree that stands in its image
+  module _ (at : ℕ) (a : Stands (given s b) (acceptedTree b (readAll s b)) at) where
+    laid : limits.Within (given s b) (built s b)
+    laid = whole-within a
+
+    pub placed-in : built s b .placed ≤ length (commentsOf b)
+    placed-in = laid .placed
+
+    module _ (passes : fileRefusal s b FILE-OUTPUT ≡ none) where
+      pub within : Within (figuresOf s b)
+      within =
+          let t = text-fits passes in
+          let m = marks-fit passes in
+          let n = occurs-few 0x0A (drawnDue s b .text) in
+          let w = occurs-few 1 (drawnDue s b .marks) in
+          let l = marks-many in
+          let c = a .count in
+          let p = placed-in in
+          let g = laid .numbers in
+          record {
+            bytes = omega arith;
+            newlines = omega arith;
+            given = omega arith;
+            wrapped = omega arith;
+            placed = omega arith;
+            left = omega arith;
+          }
+
+      -- a mark at 1 is that of a number given
+      wrapped-given : figuresOf s b .wrapped ≤ figuresOf s b .given
+      wrapped-given = occurs-below (drawnDue s b .marks) (built s b .taken) cleared
+        where
+          cleared : (i : ℕ) → built s b .taken ≤ i → getD (drawnDue s b .marks) i 0 ≡ 0
+          cleared i h =
+              renders-same i (built s b .nodes) (page s b) true (rendererOf (renderFresh .pen) (replicate (marksDue s b) 0))
+              (numbers-below (given s b) (acceptedTree b (readAll s b)) i h) .mark
+              ∙ cleared-at (marksDue s b) i
+
+      small-in : AreBytes b → Small (figuresOf s b)
+      small-in bytes =
+          let t = text-fits passes in
+          let n = occurs-few 0x0A (drawnDue s b .text) in
+          let k = file-column-limited (page s b .max) s b (replicate (marksDue s b) 0) bytes (laid-passes passes) in
+          let c = a .count in
+          let p = placed-in in
+          let g = laid .numbers in
+          record {
+            bytes = omega arith;
+            newlines = omega arith;
+            column = omega arith;
+            given = omega arith;
+            wrapped = wrapped-given;
+            placed = omega arith;
+            left = omega arith;
+          }
+
+  pub small : AreBytes b → fileRefusal s b FILE-OUTPUT ≡ none → Small (figuresOf s b)
+  small bytes passes =
+      let a = stood s b (laid-read s b (laid-passes passes)) in
+      small-in (a .at) (a .stood) passes bytes

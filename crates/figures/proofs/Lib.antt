@@ -1,0 +1,4 @@
+pub mod Occurring
+pub mod Bounds
+pub mod Told
+pub mod Order

@@ -1,0 +1,60 @@
+-- Document 02, 2/14: the figures of one file, and what counting it answers.
+use mathlib.Core.Option.{Option, none, some}
+use mathlib.Core.Bool.{cond}
+use mathlib.Core.List.{List, [], _∷_}
+use Prim.Native.Nat.{ℕ, suc, _-_}
+use lib.Dec.{eqb}
+use lib.ListN.{length}
+use Rattle.comments.specs.Listed.{commentsOf}
+use Rattle.refusals.specs.Refusals.{Refusal, first}
+use Rattle.plain_run.specs.File.{built, drawnDue, columnDue, fileRefusal}
+use Rattle.tallies.specs.declared.Figures.{Figures}
+use Rattle.tallies.specs.declared.Tallies.{Tallies}
+use Rattle.tallies.specs.declared.Fraction.{Fraction}
+use Rattle.tallies.specs.Tallies.{added, tallyRefusal}
+use Rattle.tallies.specs.Fraction.{reduced}
+use Rattle.figures.specs.declared.Counted.{Counted}
+use Rattle.figures.specs.declared.Counted.the-variants as answer
+
+-- "each with the program's rows, marks and output": "It has 1,800 rows, 1,800 marks and 65,536 output bytes."
+abbrev pub FILE-OUTPUT : ℕ
+FILE-OUTPUT = 65536
+
+-- how often a byte stands in a text, or a mark among marks
+unfoldable pub occurs : ℕ → List ℕ → ℕ
+occurs x [] = 0
+occurs x (y ∷ ys) = cond (eqb x y) (suc (occurs x ys)) (occurs x ys)
+
+-- "text bytes, newlines, greatest value `column` takes, group numbers given, groups wrapped (marks at 1), comments placed, comments left", by
+-- what `fmt_parsed` builds and `Renderer` makes of it
+abbrev pub figuresOf : List ℕ → List ℕ → Figures
+figuresOf s b = record {
+  bytes = length (drawnDue s b .text);
+  newlines = occurs 0x0A (drawnDue s b .text);
+  column = columnDue s b;
+  given = built s b .taken;
+  wrapped = occurs 1 (drawnDue s b .marks);
+  placed = built s b .placed;
+  left = length (commentsOf b) - built s b .placed;
+}
+
+-- 14 "after all of 01's"
+abbrev pub countRefusal : List ℕ → List ℕ → Tallies → Option Refusal
+countRefusal s b t = first (fileRefusal s b FILE-OUTPUT ∷ tallyRefusal t ∷ [])
+
+-- the answer: the file's figures, the new tallies, and wrapped over given of all; or number and place
+pub data CountAnswer : Type 0 where
+  refused : Refusal → CountAnswer
+  counted : Figures → Tallies → Fraction → CountAnswer
+
+abbrev pub countAnswerBy : Option Refusal → Figures → Tallies → CountAnswer
+countAnswerBy (some r) f t = refused r
+countAnswerBy none f t = counted f (added f t) (reduced (added f t .all .wrapped) (added f t .all .given))
+
+abbrev pub countAnswer : List ℕ → List ℕ → Tallies → CountAnswer
+countAnswer s b t = countAnswerBy (countRefusal s b t) (figuresOf s b) t
+
+-- an answer, case by case
+abbrev pub countedAnswer : Counted → CountAnswer
+countedAnswer (answer.File f t q) = counted f t q
+countedAnswer (answer.Refused n p) = refused (record { number = n; place = p })

@@ -1,0 +1,27 @@
+-- The line is put into what is left of the output.
+-- Assumes nothing.
+use Rattle.table.proofs.Parts.{puts-part}
+use Rattle.reply.proofs.Replied.{line-short}
+use mathlib.Core.Path.{refl}
+use native.Mathlib.Omega.{arith}
+use borrow.Author.Needs.{needs}
+use Rattle.table.proofs.put_refused.Statement.{statement}
+use Rattle.table.proofs.put_refused.Tie as tie
+
+add-result : tie.Need-add-result
+add-result c = omega (arith, c .before .before .refused-line .ensures .1, line-short (record { number = c .before .before .before .before .before .args .number; place = c .before .before .before .before .before .args .place }))
+
+returns : tie.Need-returns
+returns c = puts-part _ 64 _ _ _ _ _ (line-short _) (c .before .before .before .before .before .pre) refl (c .before .before .refused-line .ensures)
+
+pub put-refused-spec : {M : Type 1} → statement M
+put-refused-spec =
+    tie.close
+    (tie.spec
+    (λ c. search needs)
+    (λ c. search needs)
+    (λ c. search needs)
+    (λ c κs. search needs)
+    add-result
+    (λ c. search needs)
+    returns)

@@ -1,0 +1,103 @@
+// The lines of the report, each put at the front of an output that has room for every line.
+mod cells;
+
+ghost use lib.ListN.{length};
+ghost use Prim.Native.Nat.{_+_, _≤_};
+ghost use mathlib.Core.List.{_++_};
+ghost use Rattle.rows.specs.Ascii.{bytes};
+ghost use Rattle.reply.specs.Reply.{decimal, refusedLine};
+ghost use Rattle.table.specs.Table.{headsLine, fileLine, refusedFileLine, endsInsideLine, totalsLine, countedLine, fractionLine, Writes};
+ghost use Rattle.table.specs.Put.{Puts, CELL-ROOM, WORDS-ROOM};
+use crate::cells::put_cell;
+use crate::cells::put_figures;
+use crate::cells::put_number;
+use reply::line::DIGITS;
+use reply::line::put_decimal;
+use reply::line::put_text;
+use reply::line::refused_line;
+use tallies::Figures;
+use tallies::Fraction;
+
+// Room for every line: eight cells of 20 digits, the blanks between and the newline are 168 bytes.
+pub const LINE_ROOM: usize = 256;
+
+// The line of heads.
+pub fn heads_line(out: &mut [u8; LINE_ROOM]) -> usize
+    ensures { λ r. ⌜ Writes headsLine (now (out .entry)) r (now (out .exit)) ⌝ }
+{
+    put_text(
+        out,
+        0,
+        b"      file      bytes   newlines     column      given    wrapped     placed       left\n",
+    )
+}
+
+// The line of a file that is counted.
+pub fn file_line(out: &mut [u8; LINE_ROOM], file: usize, f: Figures) -> usize
+    ensures { λ r. ⌜ Writes (fileLine file f) (now (out .entry)) r (now (out .exit)) ⌝ }
+{
+    let a = put_number(out, 0, file);
+    let b = put_figures(out, a, f);
+    put_text(out, b, b"\n")
+}
+
+// Puts the line of a refusal behind what stands before a place, and answers where it ends.
+fn put_refused(out: &mut [u8], at: usize, number: u8, place: usize) -> usize
+    requires { ⌜ at + WORDS-ROOM ≤ length (now out) ⌝ }
+    ensures { λ r. ⌜ Puts (refusedLine (record { number = number; place = place })) WORDS-ROOM (now (out .entry)) at r (now (out .exit)) ⌝ }
+{
+    at + refused_line(&mut out[at..], number, place)
+}
+
+// The line of a refused file.
+pub fn refused_file_line(out: &mut [u8; LINE_ROOM], file: usize, number: u8, place: usize) -> usize
+    ensures { λ r. ⌜ Writes (refusedFileLine file (record { number = number; place = place })) (now (out .entry)) r (now (out .exit)) ⌝ }
+{
+    let a = put_number(out, 0, file);
+    let b = put_text(out, a, b" ");
+    put_refused(out, b, number, place)
+}
+
+// Puts words, a number and a newline at the front, and answers where they end.
+fn put_count(out: &mut [u8], words: &[u8], n: usize) -> usize
+    requires { ⌜ (length (now words) + (CELL-ROOM + 1) ≤ WORDS-ROOM) × (WORDS-ROOM ≤ length (now out)) ⌝ }
+    ensures { λ r. ⌜ Puts (now (words .entry) ++ decimal n ++ bytes "\n") WORDS-ROOM (now (out .entry)) 0 r (now (out .exit)) ⌝ }
+{
+    let a = put_text(out, 0, words);
+    let b = put_decimal(out, a, n, DIGITS);
+    put_text(out, b, b"\n")
+}
+
+// The line of an input that ends inside a file.
+pub fn ends_inside_line(out: &mut [u8; LINE_ROOM], file: usize) -> usize
+    ensures { λ r. ⌜ Writes (endsInsideLine file) (now (out .entry)) r (now (out .exit)) ⌝ }
+{
+    put_count(out, b"the input ends inside file ", file)
+}
+
+// The line of totals.
+pub fn totals_line(out: &mut [u8; LINE_ROOM], all: Figures) -> usize
+    ensures { λ r. ⌜ Writes (totalsLine all) (now (out .entry)) r (now (out .exit)) ⌝ }
+{
+    let a = put_cell(out, 0, b"total");
+    let b = put_figures(out, a, all);
+    put_text(out, b, b"\n")
+}
+
+// The line of files counted.
+pub fn counted_line(out: &mut [u8; LINE_ROOM], files: usize) -> usize
+    ensures { λ r. ⌜ Writes (countedLine files) (now (out .entry)) r (now (out .exit)) ⌝ }
+{
+    put_count(out, b"files counted: ", files)
+}
+
+// The line of the fraction.
+pub fn fraction_line(out: &mut [u8; LINE_ROOM], q: Fraction) -> usize
+    ensures { λ r. ⌜ Writes (fractionLine q) (now (out .entry)) r (now (out .exit)) ⌝ }
+{
+    let a = put_text(out, 0, b"wrapped over given, reduced: ");
+    let b = put_decimal(out, a, q.over, DIGITS);
+    let c = put_text(out, b, b" over ");
+    let d = put_decimal(out, c, q.under, DIGITS);
+    put_text(out, d, b"\n")
+}

@@ -1,0 +1,4 @@
+pub mod Divisor
+pub mod Order
+pub mod Ratio
+pub mod Tests

@@ -1,0 +1,72 @@
+//! What the port's program `report` is run on, and what it must write.
+
+use crate::{
+    examples,
+    figures::report::{framed, output as table},
+    frame::{Frame, split_any_size},
+    generate::{self, Class},
+    image::node,
+    script,
+};
+
+const TARIFF: &str = include_str!("../../../../samples/tariff.roto");
+
+/// A name and a list that are too long for their lines.
+const WIDE: &str = "\
+const SURCHARGE_FOR_LISTED_BUILDINGS_WITHOUT_SPRINKLERS_OR_NIGHT_WATCH: u32 = 25;
+fn rates() { [flood.reduced, flood.standard, fire.reduced, fire.standard, theft.reduced, theft.standard] }
+record Rates { reduced: u32, standard: u32 }
+";
+
+/// Twelve files, and the first bytes of one more.
+pub fn input() -> Vec<u8> {
+    let files = files();
+    let whole = files.iter().flat_map(|frame| framed(parts(frame)));
+    let cut = framed(parts(&files[0]));
+    whole.chain(cut[..cut.len() - 1].iter().copied()).collect()
+}
+
+/// Their table.
+pub fn output() -> String {
+    table(&input())
+}
+
+/// As frames of the program `rotofmt`, whose limit some may pass.
+fn files() -> [Vec<u8>; 12] {
+    let empty = examples::of_source("", vec![], vec![]);
+    let import = |span| node(16, span, [None, None]);
+    let of_one = |source, comments, tree| {
+        examples::of_source(source, comments, vec![tree])
+    };
+    [
+        script::frame(TARIFF).expect("a script"),
+        empty.clone(),
+        known("shebang"),
+        // Refused by 2, 3 and 4.
+        [&[0, 0, 0, 2, b'x', 0xFF], &empty[4..]].concat(),
+        known("version-2"),
+        of_one("", vec![], node(99, 0..0, [])),
+        script::frame(WIDE).expect("a script"),
+        // Refused by 6, 7 and 8.
+        of_one("x", vec![], import(0..2)),
+        of_one("x", vec![1..1], import(0..0)),
+        too_many_rows(),
+        known("comment-alone"),
+        generate::frame(Class::Realistic, 4, 0),
+    ]
+}
+
+fn known(name: &str) -> Vec<u8> {
+    examples::frame(name).expect("known")
+}
+
+/// The size of document 01 that 8 refuses.
+fn too_many_rows() -> Vec<u8> {
+    let mut cases = generate::size_cases().iter();
+    let case = cases.find(|case| case.refusal == 8).expect("there");
+    crate::frame::join(&case.source, &case.image)
+}
+
+fn parts(frame: &[u8]) -> Frame<'_> {
+    split_any_size(frame).expect("a frame")
+}
