@@ -10,3 +10,4 @@ pub mod Demands
 pub mod Edges
 pub mod File
 pub mod Refused
+pub mod Reference

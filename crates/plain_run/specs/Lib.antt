@@ -2,3 +2,4 @@ pub mod Parts
 pub mod Demands
 pub mod Edges
 pub mod File
+pub mod Reference
