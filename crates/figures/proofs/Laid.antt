@@ -22,6 +22,7 @@ use Rattle.renderer_rules.specs.Widest.{freshPen, greatestColumn}
 use Rattle.cut_rule.specs.Run.{writeFront}
 use Rattle.layout_facts.specs.Accepted.{Stands, Within}
 use Rattle.layout_facts.proofs.Limits.{whole-within}
+use Rattle.cut_rule.specs.Limits.{REFERENCE-WIDTH}
 use Rattle.plain_run.specs.Parts.{acceptedTree, page}
 use Rattle.plain_run.specs.File.{built, rowsDue, marksDue}
 use Rattle.plain_run.proofs.Marks.{nodes-under}
@@ -60,21 +61,21 @@ module _ (s b : List ℕ) where
       (nodes-under due (rowsDue s b) 0 0 (rowsDue s b) (marksDue s b) (omega arith) (omega arith) (omega arith))
 
   more-marks : (past : List ℕ)
-      → greatestColumn (page s b) (built s b .nodes) (replicate (marksDue s b) 0 ++ past)
-      ≡ greatestColumn (page s b) (built s b .nodes) (replicate (marksDue s b) 0)
+      → greatestColumn (page REFERENCE-WIDTH s b) (built s b .nodes) (replicate (marksDue s b) 0 ++ past)
+      ≡ greatestColumn (page REFERENCE-WIDTH s b) (built s b .nodes) (replicate (marksDue s b) 0)
   more-marks past =
       let m : List ℕ = replicate (marksDue s b) 0 in
       ap (λ (r : Renderer). r .widest)
-      (renders-ext [] past 0 (page s b) (built s b .nodes) true (freshRenderer freshPen m)
+      (renders-ext [] past 0 (page REFERENCE-WIDTH s b) (built s b .nodes) true (freshRenderer freshPen m)
       (subst (λ (n : ℕ). Unders n (built s b .nodes)) (sym (length-replicate (marksDue s b) 0)) under))
-      ∙ zero-max (greatestColumn (page s b) (built s b .nodes) m)
+      ∙ zero-max (greatestColumn (page REFERENCE-WIDTH s b) (built s b .nodes) m)
 
   pub column-due : (n : ℕ) → marksDue s b ≤ n → (store : List ℕ)
-      → greatestColumn (page s b) (nodesAt (viewOf (writeFront due store)) 0 (rowsDue s b)) (replicate n 0)
-      ≡ greatestColumn (page s b) (built s b .nodes) (replicate (marksDue s b) 0)
+      → greatestColumn (page REFERENCE-WIDTH s b) (nodesAt (viewOf (writeFront due store)) 0 (rowsDue s b)) (replicate n 0)
+      ≡ greatestColumn (page REFERENCE-WIDTH s b) (built s b .nodes) (replicate (marksDue s b) 0)
   column-due n h store =
       let e : marksDue s b + (n - marksDue s b) ≡ n = omega arith in
-      ap (λ (ns : Nodes). greatestColumn (page s b) ns (replicate n 0)) (nodes-back store)
-      ∙ ap (greatestColumn (page s b) (built s b .nodes))
+      ap (λ (ns : Nodes). greatestColumn (page REFERENCE-WIDTH s b) ns (replicate n 0)) (nodes-back store)
+      ∙ ap (greatestColumn (page REFERENCE-WIDTH s b) (built s b .nodes))
       (ap (λ (k : ℕ). replicate k 0) (sym e) ∙ sym (replicate-append-replicate (marksDue s b) (n - marksDue s b) 0))
       ∙ more-marks (replicate (n - marksDue s b) 0)

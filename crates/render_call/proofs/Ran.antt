@@ -37,7 +37,7 @@ module _ (source image : List ℕ) (state : RenderState) (args : RenderArgs) (st
   inUse = withCleared (partsOf source image) (take (state .«in_use») marks) needed
 
   abbrev pub gives : Drawn
-  gives = drawnOf (partsOf source image) (toState state) (take (state .«in_use») marks) store (args .stop)
+  gives = drawnOf (partsOf source image) (args .width) (toState state) (take (state .«in_use») marks) store (args .stop)
 
   under : Unders (length inUse) (nodesAt (viewOf store) (state .row) (args .stop))
   under =
@@ -48,17 +48,17 @@ module _ (source image : List ℕ) (state : RenderState) (args : RenderArgs) (st
 
   -- with any marks behind those in use
   pub ran : (past : List ℕ)
-      → drawnBy (renderNodes (pageOf 80 source image) (nodesAt (viewOf store) (state .row) (args .stop)) true (rendererOf (toState state .pen) (inUse ++ past)))
+      → drawnBy (renderNodes (pageOf (args .width) source image) (nodesAt (viewOf store) (state .row) (args .stop)) true (rendererOf (toState state .pen) (inUse ++ past)))
       ≡ withPast gives past
   ran past =
       ap drawnBy
-      (renders-ext [] past 0 (pageOf 80 source image) (nodesAt (viewOf store) (state .row) (args .stop)) true (rendererOf (toState state .pen) inUse) under)
+      (renders-ext [] past 0 (pageOf (args .width) source image) (nodesAt (viewOf store) (state .row) (args .stop)) true (rendererOf (toState state .pen) inUse) under)
 
   -- what the run leaves of the marks is as many as it took up, so with the buffer's own behind them the buffer is as the call leaves it
   pub marks-onto : gives .marks ++ drop (length inUse) marks ≡ writeFront (gives .marks) marks
   marks-onto =
       ap (λ (n : ℕ). gives .marks ++ drop n marks)
-      (sym (renders-length (pageOf 80 source image) (nodesAt (viewOf store) (state .row) (args .stop)) true (rendererOf (toState state .pen) inUse)))
+      (sym (renders-length (pageOf (args .width) source image) (nodesAt (viewOf store) (state .row) (args .stop)) true (rendererOf (toState state .pen) inUse)))
 
   -- the renderer that a pen with the state's numbers starts as
   pub started : (p : Writing) (m : List ℕ) → p .pen .indent ≡ state .indent → p .pen .«next_indent» ≡ state .«next_indent» → p .pen .column .0 ≡ state .column .0

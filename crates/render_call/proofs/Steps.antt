@@ -44,7 +44,7 @@ module _ (source image : List ℕ) (state : RenderState) (args : RenderArgs) (st
   pub fits-most : (out : List ℕ) (n : ℕ) → n ≡ mostOf state args store → n ≤ length out → Fitting source image state args store marks out
   fits-most out n f l =
       let m =
-      text-most 80 source image store (state .row) (args .stop) 0 (state .indent + state .«next_indent»)
+      text-most (args .width) source image store (state .row) (args .stop) 0 (state .indent + state .«next_indent»)
       (nested source image state args store marks may .nests)
       true
       (rendererOf (toState state .pen) (inUse source image state args store marks (may .ahead)))
@@ -69,7 +69,7 @@ module _ (source image : List ℕ) (state : RenderState) (args : RenderArgs) (st
         (may .ahead, omega arith)
 
     pub dry-ends : (p q : Writing) → Takes state p → ((k : ℕ) → getD marks k 0 < 256) → (out marks3 out3 rows4 marks4 : List ℕ)
-        → Ended 0 (renderNodes (pageOf 80 source image) (nodesAt (viewOf rows2) (state .row) (args .stop)) true (freshRenderer (p .pen) marks2)) out marks3 out3 q
+        → Ended 0 (renderNodes (pageOf (args .width) source image) (nodesAt (viewOf rows2) (state .row) (args .stop)) true (freshRenderer (p .pen) marks2)) out marks3 out3 q
         → held rows4 marks4 ≡ putBack (args .stop - state .row) (held rows2 marks3) (state .row)
         → Counted source image state args store marks out (q .at) rows4 marks4 out3
     dry-ends p q k b out marks3 out3 rows4 marks4 r f =
@@ -112,11 +112,11 @@ module _ (source image : List ℕ) (state : RenderState) (args : RenderArgs) (st
   pub run-ends : (p q : Writing) → Takes state p → (n : ℕ) → n ≡ marksNeeded (args .stop - state .row) store (state .row) → (marks2 : List ℕ)
       → marks2 ≡ clearFrom (n - state .«in_use») (state .«in_use») marks
       → (marks3 out3 : List ℕ)
-      → Ended (length out) (renderNodes (pageOf 80 source image) (nodesAt (viewOf store) (state .row) (args .stop)) true (freshRenderer (p .pen) marks2)) out marks3 out3 q
+      → Ended (length out) (renderNodes (pageOf (args .width) source image) (nodesAt (viewOf store) (state .row) (args .stop)) true (freshRenderer (p .pen) marks2)) out marks3 out3 q
       → (used : ℕ)
       → used ≡ max (state .«in_use») n
       → RenderCalled source image state args store marks out
-      (rendering.Written (record { indent = q .pen .indent; «next_indent» = q .pen .«next_indent»; column = q .pen .column; «in_use» = used; row = args .stop }) (q .at))
+      (rendering.Written (record { indent = q .pen .indent; «next_indent» = q .pen .«next_indent»; column = q .pen .column; «in_use» = used; row = args .stop; width = args .width }) (q .at))
       store
       marks3
       out3
@@ -125,7 +125,7 @@ module _ (source image : List ℕ) (state : RenderState) (args : RenderArgs) (st
       let run =
       subst
       (λ (m : List ℕ).
-      Ended (length out) (renderNodes (pageOf 80 source image) (nodesAt (viewOf store) (state .row) (args .stop)) true (freshRenderer (p .pen) m)) out marks3 out3 q)
+      Ended (length out) (renderNodes (pageOf (args .width) source image) (nodesAt (viewOf store) (state .row) (args .stop)) true (freshRenderer (p .pen) m)) out marks3 out3 q)
       over
       r
       in
@@ -135,7 +135,7 @@ module _ (source image : List ℕ) (state : RenderState) (args : RenderArgs) (st
       in
       let room = h .room in
       finished source image state args store marks (fine .ahead) out p k marks3 out3 q run _ (q .at) (h .passing .passes) sized (omega arith)
-      (record { indent = refl; next = refl; column = refl; in-use = g ∙ ap (λ (z : ℕ). max (state .«in_use») z) e; row = refl })
+      (record { indent = refl; next = refl; column = refl; in-use = g ∙ ap (λ (z : ℕ). max (state .«in_use») z) e; row = refl; width = refl })
 
 -- ---- by what the first tests say
 module _ (source image : List ℕ) (state : RenderState) (args : RenderArgs) (store marks : List ℕ) (v : Verdict)

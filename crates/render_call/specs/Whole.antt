@@ -30,7 +30,7 @@ pub record Counted (source image : List ℕ) (state : RenderState) (args : Rende
   pub marks-left : marks2 ≡ marks
   pub output-left : out2 ≡ out
 
--- 1, 3, 11 and 12 do not refuse the call
+-- 1, 3, 11, 12 and 15 do not refuse the call
 pub record Checked (source image : List ℕ) (state : RenderState) (args : RenderArgs) (store marks : List ℕ) : Type 0 where
   pub passes : earlyRefusal source image args state store marks ≡ none
 

@@ -17,9 +17,6 @@ use renderer::writing::Writing;
 use renderer_rules::Pen;
 use rows::units::Bytes;
 
-// `max` of fmt.rs: the columns of a line.
-pub(crate) const MAX: usize = 80;
-
 // A text with the state's pen, of which nothing is written yet.
 pub(crate) fn start_text(state: RenderState) -> Writing
     ensures { λ r. ⌜ Takes state r ⌝ }
@@ -55,7 +52,7 @@ fn write_rows(
         stop: args.stop,
     };
     let bounds = Bounds {
-        max: MAX,
+        max: args.width,
         limit: out.len(),
     };
     let start = start_text(state);
@@ -70,6 +67,7 @@ fn write_rows(
         column: column,
         in_use: larger(state.in_use, needed),
         row: args.stop,
+        width: args.width,
     };
     Rendering::Written(left, bytes)
 }
