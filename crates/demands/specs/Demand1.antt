@@ -29,8 +29,9 @@ use Rattle.render_call.specs.declared.RenderArgs.{RenderArgs}
 use Rattle.render_call.specs.declared.Rendering.{Rendering}
 use Rattle.render_call.specs.Calls as render
 use Rattle.render_call.specs.Whole.{RenderCalled}
+use Rattle.file.specs.declared.FileChoice.{FileChoice}
 use Rattle.file.specs.declared.Formatted.{Formatted}
-use Rattle.file.specs.Whole.{formattedAnswer, Formats, FormatsFrame}
+use Rattle.file.specs.Whole.{toChoice, formattedAnswer, Formats, FormatsFrame}
 use Rattle.reply.specs.Reply.{frameTable, programRefusal}
 use Rattle.tallies.specs.declared.Tallies.{Tallies}
 use Rattle.figures.specs.declared.Counted.{Counted}
@@ -41,21 +42,25 @@ use Rattle.figures.specs.Figures as count
 abbrev pub layoutNumbers : List ℕ
 layoutNumbers = readNumbers ++ (12 ∷ 8 ∷ [])
 
--- "rendering 1, 3 by the same tests, then 11, 12, 9, 10"
+-- "rendering 1, 3 by the same tests, then 11, 12, 9, 10", and 15 "directly after 12"
 abbrev pub renderNumbers : List ℕ
-renderNumbers = 1 ∷ 3 ∷ 11 ∷ 12 ∷ 9 ∷ 10 ∷ []
+renderNumbers = 1 ∷ 3 ∷ 11 ∷ 12 ∷ 15 ∷ 9 ∷ 10 ∷ []
 
--- a whole file, which is laid out and rendered from fresh
+-- a whole file, which is laid out and rendered from fresh, so that 12 refuses neither call
 abbrev pub fileNumbers : List ℕ
-fileNumbers = readNumbers ++ (8 ∷ 9 ∷ 10 ∷ [])
+fileNumbers = readNumbers ++ (15 ∷ 8 ∷ 9 ∷ 10 ∷ [])
+
+-- the same at 80, which 15 never refuses
+abbrev pub referenceNumbers : List ℕ
+referenceNumbers = readNumbers ++ (8 ∷ 9 ∷ 10 ∷ [])
 
 -- the program's frame: 13, "tested before all else"
 abbrev pub frameNumbers : List ℕ
-frameNumbers = 13 ∷ fileNumbers
+frameNumbers = 13 ∷ referenceNumbers
 
 -- a file that is counted: 14, "after all of 01's"
 abbrev pub countNumbers : List ℕ
-countNumbers = fileNumbers ++ (14 ∷ [])
+countNumbers = referenceNumbers ++ (14 ∷ [])
 
 -- ---- what an answer tells: the refusal, or none
 abbrev pub readTold : Outcome → Option Refusal
@@ -106,8 +111,8 @@ RenderAnswered = (s b : List ℕ) (state : RenderState) (args : RenderArgs) (sto
 
 -- `file::format_file`
 abbrev pub FileAnswered : Type 0
-FileAnswered = (s b out : List ℕ) (r : Formatted) (out2 : List ℕ) → Formats s b out r out2
-    → Answered fileNumbers (fileRefusal s b (length out)) (fileTold (formattedAnswer r)) (out2 ≡ out)
+FileAnswered = (s b : List ℕ) (choice : FileChoice) (out : List ℕ) (r : Formatted) (out2 : List ℕ) → Formats s b (toChoice choice) out r out2
+    → Answered fileNumbers (fileRefusal s b (toChoice choice) (length out)) (fileTold (formattedAnswer r)) (out2 ≡ out)
 
 -- `file::format_frame`
 abbrev pub FrameAnswered : Type 0
