@@ -18,8 +18,9 @@ use Rattle.cut_rule.specs.Run.{Call, layoutCall, renderCall, Carried, st
 use Rattle.cut_rule.specs.Plain.{atFirst, due, plain, AllReadLaid}
 use Rattle.rows.specs.Node.{Text}
 use Rattle.cut_rule.specs.CutRule.{commentsIn, CutRule}
-use Rattle.cut_rule.specs.States.{onlyLayoutChoice, onlyRenderChoice, Cursor}
-use Rattle.cut_rule.specs.Tests.{penTests, markTests}
+use Rattle.cut_rule.specs.States.{onlyLayoutChoice, Cursor}
+use Rattle.cut_rule.specs.Limits.{REFERENCE-WIDTH}
+use Rattle.cut_rule.specs.Tests.{penTests, markTests, widthTests}
 use Rattle.cut_rule.specs.Parts.{Piece, RuleParts, rules}
 use Rattle.cut_rule.specs.PartLaws.{Counts, LayoutPartLaws, PlacesNext, CommentPartLaws, RenderPartLaws}
 use Rattle.cut_rule.proofs.Document.{parts-cut}
@@ -56,7 +57,7 @@ small = record {
   final = line;
   wrong-row = λ store i n. inStore (leb (PLACES * n) (length store));
   needed = λ store i n. 1;
-  draw = λ z marks store i n. record { pen = z; marks = marks; text = drop (PLACES * i) (take (PLACES * n) store) };
+  draw = λ w z marks store i n. record { pen = z; marks = marks; text = drop (PLACES * i) (take (PLACES * n) store) };
 }
 
 placing-counts : (b : Bool) (c : Cursor) → Counts c (placing b c)
@@ -128,10 +129,10 @@ render-parts = record {
       let h : PLACES * n ≤ length store = stop-in n store f in
       right-in n other (omega (arith, ap length e, length-take (PLACES * n) store, length-take (PLACES * n) other));
   needed-local = λ store other i n e. refl;
-  draw-local = λ z marks store other i n e. ap (λ (r : List ℕ). record { pen = z; marks = marks; text = drop (PLACES * i) r }) e;
-  draw-marks = λ z marks store i n. refl;
-  draw-past = λ z marks past store n e h. refl;
-  draw-join = λ z marks store n m h e f g. ap (λ (t : List ℕ). record { pen = z; marks = marks; text = t }) (parts-join store n m h);
+  draw-local = λ w z marks store other i n e. ap (λ (r : List ℕ). record { pen = z; marks = marks; text = drop (PLACES * i) r }) e;
+  draw-marks = λ w z marks store i n. refl;
+  draw-past = λ w z marks past store n e h. refl;
+  draw-join = λ w z marks store n m h e f g. ap (λ (t : List ℕ). record { pen = z; marks = marks; text = t }) (parts-join store n m h);
 }
 
 -- the rule holds of the instance
@@ -143,8 +144,11 @@ example = parts-cut small listed layout-parts render-parts comment-parts
 abbrev layTo : ℕ → Bool → Call (rules small)
 layTo n b = layoutCall (record { stop = n; close = b; choice = onlyLayoutChoice })
 
+abbrev renderAt : ℕ → ℕ → ℕ → Call (rules small)
+renderAt width n room = renderCall (record { stop = n; room = room; choice = record { width = width } })
+
 abbrev renderTo : ℕ → ℕ → Call (rules small)
-renderTo n room = renderCall (record { stop = n; room = room; choice = onlyRenderChoice })
+renderTo n room = renderAt REFERENCE-WIDTH n room
 
 -- number and place of a refusal; 100 and the comments left; 200 and the bytes written
 abbrev asNumbers : List (Answer (rules small)) → List (List ℕ)
@@ -204,6 +208,28 @@ tried-pens = refl
 
 tried-used : any (markTests (0 ∷ 1 ∷ 2 ∷ []) 2) ∷ any (markTests (0 ∷ 1 ∷ 2 ∷ []) 3) ∷ any (markTests (0 ∷ 1 ∷ []) 3) ∷ [] ≡ false ∷ true ∷ true ∷ []
 tried-used = refl
+
+-- 15: under 40, over 200, the largest number; at both limits; differing from a carried width, and from one that no call could have chosen
+abbrev widthAt : ℕ → ℕ → Bool
+widthAt width carried = any (widthTests width carried)
+
+tried-widths : widthAt 39 0 ∷ widthAt 201 0 ∷ widthAt 0 0 ∷ widthAt 18446744073709551615 0 ∷ widthAt 100 80 ∷ widthAt 100 7 ∷ widthAt 7 7 ∷ []
+    ≡ true ∷ true ∷ true ∷ true ∷ true ∷ true ∷ true ∷ []
+tried-widths = refl
+
+tried-legal : widthAt 40 0 ∷ widthAt 200 0 ∷ widthAt 100 100 ∷ [] ≡ false ∷ false ∷ false ∷ []
+tried-legal = refl
+
+-- 15 comes after 11 and 12 and before 9 and 10; an accepted call that reads nothing chooses too
+tried-order : asNumbers (answers (rules small) (start (rules small) nines [])
+    (layTo 1 false ∷ renderAt 39 4 0 ∷ renderAt 39 1 0 ∷ renderTo 1 0 ∷ []))
+    ≡ (100 ∷ 1 ∷ []) ∷ (11 ∷ 0 ∷ []) ∷ (15 ∷ 0 ∷ []) ∷ (9 ∷ 1 ∷ []) ∷ []
+tried-order = refl
+
+tried-choice : asNumbers (answers (rules small) (start (rules small) nines fives)
+    (layTo 1 false ∷ renderAt 100 0 0 ∷ renderAt 80 1 0 ∷ renderAt 100 1 0 ∷ renderAt 100 1 9 ∷ renderAt 80 0 9 ∷ renderAt 80 1 9 ∷ []))
+    ≡ (100 ∷ 1 ∷ []) ∷ (200 ∷ 0 ∷ []) ∷ (15 ∷ 0 ∷ []) ∷ (10 ∷ 9 ∷ []) ∷ (200 ∷ 9 ∷ []) ∷ (12 ∷ 0 ∷ []) ∷ (15 ∷ 0 ∷ []) ∷ []
+tried-choice = refl
 
 -- Why no accepted call may read rows not yet laid out: this one writes what the store held at first, and due is then a row of layout's.
 abbrev early : List (Call (rules small))

@@ -1,23 +1,24 @@
--- What an accepted call tells: each line of the table lets it pass, and so does each group of tests of 12.
+-- What an accepted call tells: each line of the table lets it pass, and so does each group of tests of 12 and 15.
 -- Assumes nothing.
 use mathlib.Core.Path.{_≡_}
-use mathlib.Core.Bool.{Bool, false, _||_}
+use mathlib.Core.Bool.{Bool, false, not, _&&_, _||_}
 use mathlib.Core.Option.{none}
 use mathlib.Core.List.{List, [], _∷_, _++_}
 use Prim.Native.Nat.{ℕ, _≤_}
 use borrow.Author.Tests.{ltb-false}
-use lib.Dec.{ltb}
+use lib.Dec.{ltb, eqb}
 use lib.ListN.{length, take}
 use Rattle.laws.proofs.Booleans.{or-first, or-rest}
 use Rattle.rows.specs.Limits.{MAX-ROWS, MAX-NUMBER}
 use Rattle.renderer_rules.specs.Limits.{MAX-INDENT, MAX-COLUMN}
 use Rattle.refusals.specs.Refusals.{first, refuseIf, refuseAt, any}
 use Rattle.refusals.proofs.Groups.{none-left, none-right, passes-left, passes-right, passes-line, passes-others, not-if, not-at}
+use Rattle.cut_rule.specs.Limits.{MIN-WIDTH, MAX-WIDTH}
 use Rattle.cut_rule.specs.Rules.{LayoutArgs, RenderArgs}
 use Rattle.renderer_rules.specs.declared.Pen.{Pen}
 use Rattle.cut_rule.specs.States.{LayoutChoice, RenderChoice, LayoutState, RenderState}
-use Rattle.cut_rule.specs.Tests.{rowsIn, oddMark, placesTests, limitTests, begunTests, stopTests, layoutTestsIn, rowTests, penTests, markTests, renderTests}
-use Rattle.cut_rule.specs.Parts.{RuleParts, layoutTests, rowsNeeded, beforeRows, rowsLine, layoutTable, marksFor, beforeMarks, marksLine, beforeText, textLine, renderTable}
+use Rattle.cut_rule.specs.Tests.{rowsIn, oddMark, placesTests, limitTests, begunTests, stopTests, layoutTestsIn, rowTests, penTests, markTests, renderTests, widthTests}
+use Rattle.cut_rule.specs.Parts.{RuleParts, layoutTests, rowsNeeded, beforeRows, rowsLine, layoutTable, widthLine, marksFor, beforeMarks, marksLine, beforeText, textLine, renderTable}
 
 -- no test of a list holds, and the first is one of two numbers
 first-within : (a b : ℕ) (rest : Bool) → (ltb a b || rest) ≡ false → b ≤ a
@@ -142,6 +143,25 @@ render-fits q s store marks e =
       used = marks-fit marks (s .in-use) (none-right pen mark e2);
     }
 
+-- ---- 15
+-- a width that a caller may choose
+pub record LegalWidth (width : ℕ) : Type 0 where
+  pub least : MIN-WIDTH ≤ width
+  pub most : width ≤ MAX-WIDTH
+
+pub record WidthFits (width carried : ℕ) : Type 0 where
+  pub legal : LegalWidth width
+  pub same : (not (eqb carried 0) && not (eqb carried width)) ≡ false
+
+pub width-fits : (width carried : ℕ) → any (widthTests width carried) ≡ false → WidthFits width carried
+width-fits width carried e =
+    let e2 = or-rest (ltb width MIN-WIDTH) _ e in
+    let e3 = or-rest (ltb MAX-WIDTH width) _ e2 in
+    record {
+      legal = record { least = first-within width MIN-WIDTH _ e; most = first-within MAX-WIDTH width _ e2 };
+      same = or-first (not (eqb carried 0) && not (eqb carried width)) _ e3;
+    }
+
 -- ---- the lines
 module _ (P : RuleParts) where
   pub record LayoutTold (q : LayoutArgs LayoutChoice) (s : LayoutState) (store : List ℕ) : Type 0 where
@@ -170,6 +190,7 @@ module _ (P : RuleParts) where
   pub record RenderChecked (q : RenderArgs RenderChoice) (s : RenderState) (store marks : List ℕ) : Type 0 where
     pub right : P .wrong-row store (s .row) (q .stop) ≡ none
     pub fits : RenderFits q s store marks
+    pub width : WidthFits (q .choice .width) (s .width)
 
   pub render-checked : (q : RenderArgs RenderChoice) (s : RenderState) (store marks : List ℕ) → first (beforeMarks P q s store marks) ≡ none
       → RenderChecked q s store marks
@@ -178,10 +199,16 @@ module _ (P : RuleParts) where
       let tests = any (renderTests q s store marks) in
       let line-11 = refuseAt found 11 in
       let line-12 = refuseIf tests 12 0 in
-      let behind = passes-others (P .render-image) (line-11 ∷ line-12 ∷ []) e in
+      let line-15 = widthLine (q .choice) s in
+      let behind = passes-others (P .render-image) (line-11 ∷ line-12 ∷ line-15 ∷ []) e in
+      let after-11 = passes-others line-11 (line-12 ∷ line-15 ∷ []) behind in
+      let after-12 = passes-others line-12 (line-15 ∷ []) after-11 in
       record {
-        right = not-at found 11 (passes-line line-11 (line-12 ∷ []) behind);
-        fits = render-fits q s store marks (not-if tests 12 0 (passes-line line-12 [] (passes-others line-11 (line-12 ∷ []) behind)));
+        right = not-at found 11 (passes-line line-11 (line-12 ∷ line-15 ∷ []) behind);
+        fits = render-fits q s store marks (not-if tests 12 0 (passes-line line-12 (line-15 ∷ []) after-11));
+        width =
+            width-fits (q .choice .width) (s .width)
+            (not-if (any (widthTests (q .choice .width) (s .width))) 15 0 (passes-line line-15 [] after-12));
       }
 
   -- and 9

@@ -4,6 +4,7 @@ pub mod Plain
 pub mod CutRule
 pub mod Entries
 pub mod Laws
+pub mod Limits
 pub mod States
 pub mod Tests
 pub mod Parts

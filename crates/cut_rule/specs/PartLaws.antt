@@ -55,14 +55,14 @@ pub record RenderPartLaws (P : RuleParts) : Type 0 where
   -- rows from the stop on are not read
   pub right-local : (store other : List ℕ) (n : ℕ) → SameBefore n store other → P .wrong-row store 0 n ≡ none → P .wrong-row other 0 n ≡ none
   pub needed-local : (store other : List ℕ) (i n : ℕ) → SameBefore n store other → P .needed store i n ≡ P .needed other i n
-  pub draw-local : (z : Pen) (marks store other : List ℕ) (i n : ℕ) → SameBefore n store other
-      → P .draw z marks store i n ≡ P .draw z marks other i n
+  pub draw-local : (w : ℕ) (z : Pen) (marks store other : List ℕ) (i n : ℕ) → SameBefore n store other
+      → P .draw w z marks store i n ≡ P .draw w z marks other i n
   -- marks are changed in place
-  pub draw-marks : (z : Pen) (marks store : List ℕ) (i n : ℕ) → length (P .draw z marks store i n .marks) ≡ length marks
+  pub draw-marks : (w : ℕ) (z : Pen) (marks store : List ℕ) (i n : ℕ) → length (P .draw w z marks store i n .marks) ≡ length marks
   -- marks past the numbers of the rows are neither read nor changed: in one go they are cleared first, in a list of calls later
-  pub draw-past : (z : Pen) (marks past store : List ℕ) (n : ℕ) → P .wrong-row store 0 n ≡ none → P .needed store 0 n ≤ length marks
-      → P .draw z (marks ++ past) store 0 n ≡ withPast (P .draw z marks store 0 n) past
+  pub draw-past : (w : ℕ) (z : Pen) (marks past store : List ℕ) (n : ℕ) → P .wrong-row store 0 n ≡ none → P .needed store 0 n ≤ length marks
+      → P .draw w z (marks ++ past) store 0 n ≡ withPast (P .draw w z marks store 0 n) past
   -- top rows are rendered one after the other
-  pub draw-join : (z : Pen) (marks store : List ℕ) (n m : ℕ) → n ≤ m → P .wrong-row store 0 n ≡ none → P .wrong-row store 0 m ≡ none
+  pub draw-join : (w : ℕ) (z : Pen) (marks store : List ℕ) (n m : ℕ) → n ≤ m → P .wrong-row store 0 n ≡ none → P .wrong-row store 0 m ≡ none
       → P .needed store 0 m ≤ length marks
-      → P .draw z marks store 0 m ≡ thenDrawn (P .draw z marks store 0 n) (λ y ms. P .draw y ms store n m)
+      → P .draw w z marks store 0 m ≡ thenDrawn (P .draw w z marks store 0 n) (λ y ms. P .draw w y ms store n m)

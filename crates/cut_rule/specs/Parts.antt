@@ -10,7 +10,7 @@ use Rattle.refusals.specs.Refusals.{Refusal, refuseIf, refuseAt, any, first}
 use Rattle.cut_rule.specs.Rules.{LayoutArgs, RenderArgs, LayoutResult, RenderResult, Rules}
 use Rattle.renderer_rules.specs.declared.Pen.{Pen}
 use Rattle.cut_rule.specs.States.{LayoutChoice, RenderChoice, Cursor, LayoutState, RenderState, layoutFresh, renderFresh}
-use Rattle.cut_rule.specs.Tests.{rowsIn, layoutTestsIn, renderTests}
+use Rattle.cut_rule.specs.Tests.{rowsIn, layoutTestsIn, renderTests, widthTests}
 
 -- what a piece of layout gives: the cursor behind it, and the rows that it adds, nine numbers a row
 pub record Piece : Type 0 where
@@ -39,8 +39,8 @@ pub record RuleParts : Type 0 where
   pub wrong-row : List ℕ → ℕ → ℕ → Option ℕ
   -- "largest number in the rows plus 1", for the rows of a store from one up to a stop; 0 if none has one
   pub needed : List ℕ → ℕ → ℕ → ℕ
-  -- `Renderer` with its three numbers and marks enough, over the rows of a store from one up to a stop
-  pub draw : Pen → List ℕ → List ℕ → ℕ → ℕ → Drawn
+  -- `Renderer` with a width, its three numbers and marks enough, over the rows of a store from one up to a stop
+  pub draw : ℕ → Pen → List ℕ → List ℕ → ℕ → ℕ → Drawn
 
 -- the piece that adds nothing
 abbrev pub still : Cursor → Piece
@@ -49,6 +49,10 @@ still c = record { cursor = c; rows = [] }
 -- a piece, and then another from the cursor behind it
 abbrev pub andThen : Piece → (Cursor → Piece) → Piece
 andThen p g = record { cursor = g (p .cursor) .cursor; rows = p .rows ++ g (p .cursor) .rows }
+
+-- 15
+abbrev pub widthLine : RenderChoice → RenderState → Option Refusal
+widthLine c s = refuseIf (any (widthTests (c .width) (s .width))) 15 0
 
 module _ (P : RuleParts) where
   -- "The first call lays the shebang"
@@ -100,15 +104,21 @@ module _ (P : RuleParts) where
   abbrev pub withCleared : List ℕ → ℕ → List ℕ
   withCleared marks n = marks ++ replicate (n - length marks) 0
 
-  -- what the rows from the state's next row up to a stop give
-  abbrev pub drawnOf : RenderState → List ℕ → List ℕ → ℕ → Drawn
-  drawnOf s marks store stop = P .draw (s .pen) (withCleared marks (P .needed store (s .row) stop)) store (s .row) stop
+  -- what the rows from the state's next row up to a stop give, with a width
+  abbrev pub drawnOf : ℕ → RenderState → List ℕ → List ℕ → ℕ → Drawn
+  drawnOf width s marks store stop = P .draw width (s .pen) (withCleared marks (P .needed store (s .row) stop)) store (s .row) stop
 
+  -- "carried in the rendering state": the state after an accepted call holds the width that it chose
   abbrev pub renderedOf : RenderChoice → RenderState → List ℕ → List ℕ → ℕ → RenderResult RenderState
   renderedOf c s marks store stop = record {
-    state = record { pen = drawnOf s marks store stop .pen; in-use = max (s .in-use) (P .needed store (s .row) stop); row = stop };
-    marks = drawnOf s marks store stop .marks;
-    text = drawnOf s marks store stop .text;
+    state = record {
+      pen = drawnOf (c .width) s marks store stop .pen;
+      in-use = max (s .in-use) (P .needed store (s .row) stop);
+      row = stop;
+      width = c .width;
+    };
+    marks = drawnOf (c .width) s marks store stop .marks;
+    text = drawnOf (c .width) s marks store stop .text;
   }
 
   -- "largest number in the rows plus 1", and the bytes of the text, for the rows that a call reads
@@ -118,10 +128,14 @@ module _ (P : RuleParts) where
   abbrev pub bytesNeeded : RenderArgs RenderChoice → RenderState → List ℕ → List ℕ → ℕ
   bytesNeeded q s store marks = length (renderedOf (q .choice) s (take (s .in-use) marks) store (q .stop) .text)
 
-  -- "rendering 1, 3 by the same tests, then 11, 12, 9, 10", in parts: the lines before marks are counted, 9, and 10, which alone needs the text
+  -- "rendering 1, 3 by the same tests, then 11, 12, 9, 10", with 15 "directly after 12", in parts: the lines before marks are counted, 9, and 10, which alone needs the text
   abbrev pub beforeMarks : RenderArgs RenderChoice → RenderState → List ℕ → List ℕ → List (Option Refusal)
   beforeMarks q s store marks =
-      P .render-image ∷ refuseAt (P .wrong-row store (s .row) (q .stop)) 11 ∷ refuseIf (any (renderTests q s store marks)) 12 0 ∷ []
+      P .render-image
+      ∷ refuseAt (P .wrong-row store (s .row) (q .stop)) 11
+      ∷ refuseIf (any (renderTests q s store marks)) 12 0
+      ∷ widthLine (q .choice) s
+      ∷ []
 
   abbrev pub marksLine : RenderArgs RenderChoice → RenderState → List ℕ → List ℕ → List (Option Refusal)
   marksLine q s store marks = refuseIf (ltb (length marks) (marksFor q s store)) 9 (marksFor q s store) ∷ []

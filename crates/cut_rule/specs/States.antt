@@ -17,28 +17,27 @@ pub record LayoutState : Type 0 where
   pub declaration : ℕ
   pub cursor : Cursor
 
--- "Rendering state: `indent`, `next_indent`, `column`, marks in use, next row."
+-- "Rendering state: `indent`, `next_indent`, `column`, marks in use, next row"; and the width "carried in the rendering state (0: none yet)"
 pub record RenderState : Type 0 where
   pub pen : Pen
   pub in-use : ℕ
   pub row : ℕ
+  pub width : ℕ
 
 -- "Fresh is all 0."
 abbrev pub layoutFresh : LayoutState
 layoutFresh = record { begun = false; closed = false; declaration = 0; cursor = record { row = 0; number = 0; placed = 0; position = 0 } }
 
 abbrev pub renderFresh : RenderState
-renderFresh = record { pen = record { indent = 0; «next_indent» = 0; column = record { 0 = 0 } }; in-use = 0; row = 0 }
+renderFresh = record { pen = record { indent = 0; «next_indent» = 0; column = record { 0 = 0 } }; in-use = 0; row = 0; width = 0 }
 
--- What a call may choose beside its stop: nothing yet, so each has one value. Later tickets add fields.
+-- What a call may choose beside its stop. A layout call has nothing to choose yet, and so one value.
 abbrev pub LayoutChoice : Type 0
 LayoutChoice = Unit {0}
 
 abbrev pub onlyLayoutChoice : LayoutChoice
 onlyLayoutChoice = tt
 
-abbrev pub RenderChoice : Type 0
-RenderChoice = Unit {0}
-
-abbrev pub onlyRenderChoice : RenderChoice
-onlyRenderChoice = tt
+-- "The `max` of `Renderer` is 80. Let the caller choose": the width
+pub record RenderChoice : Type 0 where
+  pub width : ℕ

@@ -1,4 +1,4 @@
--- Refusal 12, in groups: a test more goes into its group, a group more into the list.
+-- Refusals 12 and 15, in groups: a test more goes into its group, a group more into the list.
 use mathlib.Core.Bool.{Bool, false, not, _&&_, _||_}
 use mathlib.Core.List.{List, [], _∷_, _++_}
 use Prim.Native.Nat.{ℕ, _/_}
@@ -7,6 +7,7 @@ use lib.ListN.{length, take}
 use Rattle.rows.specs.Places.{PLACES}
 use Rattle.rows.specs.Limits.{MAX-ROWS, MAX-NUMBER}
 use Rattle.renderer_rules.specs.Limits.{MAX-INDENT, MAX-COLUMN}
+use Rattle.cut_rule.specs.Limits.{MIN-WIDTH, MAX-WIDTH}
 use Rattle.cut_rule.specs.Rules.{LayoutArgs, RenderArgs}
 use Rattle.renderer_rules.specs.declared.Pen.{Pen}
 use Rattle.cut_rule.specs.States.{LayoutChoice, RenderChoice, LayoutState, RenderState}
@@ -76,3 +77,7 @@ markTests marks used = ltb (length marks) used ∷ oddMark (take used marks) ∷
 -- 12, as far as it is of rendering
 abbrev pub renderTests : RenderArgs RenderChoice → RenderState → List ℕ → List ℕ → List Bool
 renderTests q s store marks = rowTests (rowsIn store) (q .stop) (s .row) ++ (penTests (s .pen) ++ markTests marks (s .in-use))
+
+-- 15: "a chosen width outside 40 to 200, or one that differs from a carried width other than 0"
+abbrev pub widthTests : ℕ → ℕ → List Bool
+widthTests width carried = ltb width MIN-WIDTH ∷ ltb MAX-WIDTH width ∷ (not (eqb carried 0) && not (eqb carried width)) ∷ []

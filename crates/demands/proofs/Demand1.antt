@@ -18,12 +18,12 @@ use Rattle.cut_rule.specs.Tests as tests
 use Rattle.cut_rule.specs.Parts as cut
 use Rattle.plain_run.specs.Parts.{partsOf, readRefusal, renderImage}
 use Rattle.plain_run.specs.Demands.{rulesOf}
-use Rattle.plain_run.specs.File.{fileRows, fileMarks, fileAnswerBy, formatted, laidRefusal, fileRefusal, drawnDue, rowsDue, marksDue}
+use Rattle.plain_run.specs.File.{FileChoice, referenceChoice, renderChoice, fileRows, fileMarks, fileAnswerBy, formatted, laidRefusal, fileRefusal, drawnDue, rowsDue, marksDue}
 use Rattle.file.specs.Whole.{sourceOf, imageOf, frameFits, frameRefusal}
 use Rattle.layout_call.specs.Calls as layout
 use Rattle.render_call.specs.Calls as render
 use Rattle.reply.specs.Reply.{frameTable, programRoom}
-use Rattle.demands.specs.Demand1.{layoutNumbers, renderNumbers, fileNumbers, frameNumbers, countNumbers, readTold, callTold, fileTold, countTold, Answered, CheckAnswered, LayoutAnswered, RenderAnswered, FileAnswered, FrameAnswered, CountAnswered, Demand1}
+use Rattle.demands.specs.Demand1.{layoutNumbers, renderNumbers, fileNumbers, referenceNumbers, frameNumbers, countNumbers, readTold, callTold, fileTold, countTold, Answered, CheckAnswered, LayoutAnswered, RenderAnswered, FileAnswered, FrameAnswered, CountAnswered, Demand1}
 use Rattle.tallies.specs.declared.Figures.{Figures}
 use Rattle.tallies.specs.declared.Tallies.{Tallies}
 use Rattle.tallies.specs.Tallies.{tallyTests, tallyRefusal}
@@ -118,31 +118,47 @@ module _ (s b : List ℕ) where
           (
             under-if renderNumbers (any (tests.renderTests q z store marks)) 12 0 refl,
             (
-              under-if renderNumbers (ltb (length marks) needed) 9 needed refl,
-              (under-if renderNumbers (ltb (q .room) bytes) 10 bytes refl, tt),
+              under-if renderNumbers (any (tests.widthTests (q .choice .width) (z .width))) 15 0 refl,
+              (
+                under-if renderNumbers (ltb (length marks) needed) 9 needed refl,
+                (under-if renderNumbers (ltb (q .room) bytes) 10 bytes refl, tt),
+              ),
             ),
           ),
         ),
       )
 
-  pub file-under : (room : ℕ) → Under fileNumbers (fileRefusal s b room)
-  file-under room =
-      let text = length (drawnDue s b .text) in
-      let read : Under fileNumbers (readRefusal (readAll s b)) = under-more readNumbers (8 ∷ 9 ∷ 10 ∷ []) (readRefusal (readAll s b)) (read-under s b) in
-      let laid : Under fileNumbers (laidRefusal s b fileRows) =
-      under-first fileNumbers (readRefusal (readAll s b) ∷ refuseIf (ltb fileRows (rowsDue s b)) 8 (rowsDue s b) ∷ [])
-      (read, (under-if fileNumbers (ltb fileRows (rowsDue s b)) 8 (rowsDue s b) refl, tt))
-      in
-      under-first fileNumbers
-      (laidRefusal s b fileRows ∷ refuseIf (ltb fileMarks (marksDue s b)) 9 (marksDue s b) ∷ refuseIf (ltb room text) 10 text ∷ [])
-      (laid, (under-if fileNumbers (ltb fileMarks (marksDue s b)) 9 (marksDue s b) refl, (under-if fileNumbers (ltb room text) 10 text refl, tt)))
+  -- 9 and 10 behind what refuses before
+  later-under : (numbers : List ℕ) → isOneOf 9 numbers ≡ true → isOneOf 10 numbers ≡ true → (c : FileChoice) (room : ℕ)
+      → Under numbers (laidRefusal s b c fileRows)
+      → Under numbers (fileRefusal s b c room)
+  later-under numbers nine ten c room laid =
+      let text = length (drawnDue s b c .text) in
+      under-first numbers
+      (laidRefusal s b c fileRows ∷ refuseIf (ltb fileMarks (marksDue s b)) 9 (marksDue s b) ∷ refuseIf (ltb room text) 10 text ∷ [])
+      (laid, (under-if numbers (ltb fileMarks (marksDue s b)) 9 (marksDue s b) nine, (under-if numbers (ltb room text) 10 text ten, tt)))
+
+  pub file-under : (c : FileChoice) (room : ℕ) → Under fileNumbers (fileRefusal s b c room)
+  file-under c room =
+      let read : Under fileNumbers (readRefusal (readAll s b)) = under-more readNumbers (15 ∷ 8 ∷ 9 ∷ 10 ∷ []) (readRefusal (readAll s b)) (read-under s b) in
+      later-under fileNumbers refl refl c room
+      (under-first fileNumbers (readRefusal (readAll s b) ∷ cut.widthLine (renderChoice c) states.renderFresh ∷ refuseIf (ltb fileRows (rowsDue s b)) 8 (rowsDue s b) ∷ [])
+      (read, (under-if fileNumbers (any (tests.widthTests (c .width) 0)) 15 0 refl, (under-if fileNumbers (ltb fileRows (rowsDue s b)) 8 (rowsDue s b) refl, tt))))
+
+  -- at 80 the line of 15 computes to none
+  pub reference-under : (room : ℕ) → Under referenceNumbers (fileRefusal s b referenceChoice room)
+  reference-under room =
+      let read : Under referenceNumbers (readRefusal (readAll s b)) = under-more readNumbers (8 ∷ 9 ∷ 10 ∷ []) (readRefusal (readAll s b)) (read-under s b) in
+      later-under referenceNumbers refl refl referenceChoice room
+      (under-first referenceNumbers (readRefusal (readAll s b) ∷ refuseIf (ltb fileRows (rowsDue s b)) 8 (rowsDue s b) ∷ [])
+      (read, (under-if referenceNumbers (ltb fileRows (rowsDue s b)) 8 (rowsDue s b) refl, tt)))
 
 frame-under : (frame : List ℕ) (room : ℕ) → Under frameNumbers (frameTable frame room)
 frame-under frame room =
-    let whole = fileRefusal (sourceOf frame) (imageOf frame) room in
+    let whole = fileRefusal (sourceOf frame) (imageOf frame) referenceChoice room in
     under-first frameNumbers (frameRefusal frame ∷ whole ∷ []) (
       under-if frameNumbers (not (frameFits frame)) 13 0 refl,
-      (under-before 13 fileNumbers whole (file-under (sourceOf frame) (imageOf frame) room), tt),
+      (under-before 13 referenceNumbers whole (reference-under (sourceOf frame) (imageOf frame) room), tt),
     )
 
 -- ---- answers by a table
@@ -204,21 +220,21 @@ render-call s b state args store marks out r store2 marks2 out2 p =
     (λ r f. (p .store-left, p .marks-left ∙ left-same _ r marks _ f, p .output-left ∙ left-same _ r out _ f))
 
 format-file : FileAnswered
-format-file s b out r out2 p =
-    answered (ap fileTold (p .answer) ∙ file-told (fileRefusal s b (length out)) _ _ _ _) (file-under s b (length out))
+format-file s b c out r out2 p =
+    answered (ap fileTold (p .answer) ∙ file-told (fileRefusal s b c (length out)) _ _ _ _) (file-under s b c (length out))
     (λ r f. p .output-left ∙ left-same _ r out _ f)
 
 format-frame : FrameAnswered
 format-frame frame out r out2 p =
     let s = sourceOf frame in
     let b = imageOf frame in
-    answered (ap fileTold (p .answer) ∙ frame-told (frameRefusal frame) (fileRefusal s b (length out)) _ _ _ _) (frame-under frame (length out))
-    (λ r f. p .output-left ∙ frame-same (frameRefusal frame) (fileRefusal s b (length out)) r out _ f)
+    answered (ap fileTold (p .answer) ∙ frame-told (frameRefusal frame) (fileRefusal s b referenceChoice (length out)) _ _ _ _) (frame-under frame (length out))
+    (λ r f. p .output-left ∙ frame-same (frameRefusal frame) (fileRefusal s b referenceChoice (length out)) r out _ f)
 
 pub count-under : (s b : List ℕ) (t : Tallies) → Under countNumbers (countRefusal s b t)
 count-under s b t =
-    under-first countNumbers (fileRefusal s b FILE-OUTPUT ∷ tallyRefusal t ∷ []) (
-      under-more fileNumbers (14 ∷ []) (fileRefusal s b FILE-OUTPUT) (file-under s b FILE-OUTPUT),
+    under-first countNumbers (fileRefusal s b referenceChoice FILE-OUTPUT ∷ tallyRefusal t ∷ []) (
+      under-more referenceNumbers (14 ∷ []) (fileRefusal s b referenceChoice FILE-OUTPUT) (reference-under s b FILE-OUTPUT),
       (under-if countNumbers (any (tallyTests t)) 14 0 refl, tt),
     )
 

@@ -6,20 +6,23 @@ use mathlib.Core.List.{List}
 use Prim.Native.Nat.{ℕ}
 use native.Mathlib.Omega.{arith}
 use lib.ListN.{length}
+use borrow.Author.Tests.{le-ltb}
 use Rattle.image.specs.Read.{readAll}
 use Rattle.state.specs.Act.{Out}
-use Rattle.refusals.specs.Refusals.{Refusal, unless}
+use Rattle.refusals.specs.Refusals.{Refusal, unless, refuseIf, any}
+use Rattle.cut_rule.specs.Limits.{MIN-WIDTH, MAX-WIDTH}
 use Rattle.cut_rule.specs.Rules.{LayoutResult}
 use Rattle.cut_rule.specs.Run.{writeFront}
 use Rattle.cut_rule.specs.Entries.{renderAnswer, renderMarks, renderOutput}
 use Rattle.cut_rule.specs.States as states
 use Rattle.cut_rule.specs.Tests as tests
-use Rattle.cut_rule.proofs.Table.{layout-told}
+use Rattle.cut_rule.proofs.Table.{LegalWidth, layout-told, render-told}
 use Rattle.cut_rule.proofs.Answers.{LaidTold, laid-told, written-told}
 use Rattle.plain_run.specs.Parts.{partsOf}
 use Rattle.plain_run.specs.Demands.{rulesOf, Gives, laidTo, stoppingAt}
-use Rattle.plain_run.specs.File.{drawnDue, laidRefusal, refusalIn, fileRefusal, fileAnswerBy, formatted, storeLeft}
+use Rattle.plain_run.specs.File.{FileChoice, drawnDue, laidRefusal, refusalIn, fileRefusal, fileAnswerBy, formatted, storeLeft}
 use Rattle.plain_run.proofs.Demands.{due-is-fmt-parsed, laid-within-limits}
+use Rattle.plain_run.proofs.Reference.{reference-holds}
 use Rattle.plain_run.proofs.File.{stateDue, renderedDue, layout-answer-due, layout-store-due, render-answer-due, render-marks-due, render-output-due}
 use Rattle.layout_call.specs.declared.LayoutState.{LayoutState}
 use Rattle.layout_call.specs.declared.LayoutArgs.{LayoutArgs}
@@ -77,36 +80,44 @@ closed : ClosedDue
 closed s b store t left store2 p = laid-as s b store _ t left store2 p _ (due-is-fmt-parsed (readAll s b) s b .closed)
 
 -- ---- rendering
+-- 15 refuses no legal width from fresh
+width-passes : (width : ℕ) → LegalWidth width → refuseIf (any (tests.widthTests width 0)) 15 0 ≡ none
+width-passes width h = rw (le-ltb width MIN-WIDTH (h .least), le-ltb MAX-WIDTH width (h .most))
+
 rendered : RenderedDue
-rendered s b store t left store2 p marks out u n store3 marks2 out2 q =
-    let w = laid-told (rulesOf s b) (laidRefusal s b (tests.rowsIn store)) (layout.toState t) left (stateDue s b) _ (p .answer ∙ layout-answer-due s b store) in
+rendered s b store t left store2 p width marks out u n store3 marks2 out2 q =
+    let c : FileChoice = record { width = width } in
+    let to = render.toArgs (record { stop = t .row; width = width }) (length out) in
+    let a = written-told (rulesOf s b) (rulesOf s b .render-refusal to (render.toState freshRender) store2 marks) (render.toState u) (n .0) _ _ (q .answer) in
+    let legal = width-passes width (render-told (partsOf s b) to (render.toState freshRender) store2 marks (a .passes) .checked .width .legal) in
+    let w = laid-told (rulesOf s b) (laidRefusal s b c (tests.rowsIn store)) (layout.toState t) left (stateDue s b) _ (p .answer ∙ layout-answer-due s b c legal store) in
     let row : t .row ≡ _ = ap (λ (x : states.LayoutState). x .cursor .row) (w .state) in
-    let left-store : store2 ≡ storeLeft s b store = p .store-left ∙ layout-store-due s b store in
-    let v = written-told (rulesOf s b) (refusalIn s b (tests.rowsIn store) (length marks) (length out)) (render.toState u) (n .0) (renderedDue s b) _
+    let left-store : store2 ≡ storeLeft s b c store = p .store-left ∙ layout-store-due s b c legal store in
+    let v = written-told (rulesOf s b) (refusalIn s b c (tests.rowsIn store) (length marks) (length out)) (render.toState u) (n .0) (renderedDue s b c legal) _
     (q .answer
-    ∙ ap₂ (λ (i : ℕ) (l : List ℕ). renderAnswer (rulesOf s b) (render.toArgs (record { stop = i }) (length out)) (render.toState freshRender) l marks) row left-store
-    ∙ render-answer-due s b store marks out (w .passes))
+    ∙ ap₂ (λ (i : ℕ) (l : List ℕ). renderAnswer (rulesOf s b) (render.toArgs (record { stop = i; width = width }) (length out)) (render.toState freshRender) l marks) row left-store
+    ∙ render-answer-due s b c legal store marks out (w .passes))
     in
     record {
       marks-due =
           q .marks-left
-          ∙ ap₂ (λ (i : ℕ) (l : List ℕ). renderMarks (rulesOf s b) (render.toArgs (record { stop = i }) (length out)) (render.toState freshRender) l marks) row left-store
-          ∙ render-marks-due s b store marks out (w .passes)
-          ∙ ap (λ (x : Option Refusal). unless x marks (writeFront (drawnDue s b .marks) marks)) (v .passes);
+          ∙ ap₂ (λ (i : ℕ) (l : List ℕ). renderMarks (rulesOf s b) (render.toArgs (record { stop = i; width = width }) (length out)) (render.toState freshRender) l marks) row left-store
+          ∙ render-marks-due s b c legal store marks out (w .passes)
+          ∙ ap (λ (x : Option Refusal). unless x marks (writeFront (drawnDue s b c .marks) marks)) (v .passes);
       bytes-due = v .bytes;
       text-due =
           q .output-left
-          ∙ ap₂ (λ (i : ℕ) (l : List ℕ). renderOutput (rulesOf s b) (render.toArgs (record { stop = i }) (length out)) (render.toState freshRender) l marks out) row left-store
-          ∙ render-output-due s b store marks out (w .passes)
-          ∙ ap (λ (x : Option Refusal). unless x out (writeFront (drawnDue s b .text) out)) (v .passes);
+          ∙ ap₂ (λ (i : ℕ) (l : List ℕ). renderOutput (rulesOf s b) (render.toArgs (record { stop = i; width = width }) (length out)) (render.toState freshRender) l marks out) row left-store
+          ∙ render-output-due s b c legal store marks out (w .passes)
+          ∙ ap (λ (x : Option Refusal). unless x out (writeFront (drawnDue s b c .text) out)) (v .passes);
     }
 
 -- ---- a whole file
 file : FileDue
-file s b out n left count numbers out2 f =
-    let w = file-told (fileRefusal s b (length out)) (n .0) left count numbers _ _ _ _ (f .answer) in
+file s b c out n left count numbers out2 f =
+    let w = file-told (fileRefusal s b c (length out)) (n .0) left count numbers _ _ _ _ (f .answer) in
     record {
-      text-due = f .output-left ∙ ap (λ (x : Option Refusal). unless x out (writeFront (drawnDue s b .text) out)) (w .passes);
+      text-due = f .output-left ∙ ap (λ (x : Option Refusal). unless x out (writeFront (drawnDue s b c .text) out)) (w .passes);
       bytes-due = w .bytes;
       left-due = w .left;
       rows-due = w .rows;
@@ -114,4 +125,4 @@ file s b out n left count numbers out2 f =
     }
 
 pub demand-2 : Demand2
-demand-2 = record { at-stop = at-stop; closed = closed; rendered = rendered; file = file; within-limits = laid-within-limits }
+demand-2 = record { at-stop = at-stop; closed = closed; rendered = rendered; file = file; within-limits = laid-within-limits; reference = reference-holds }

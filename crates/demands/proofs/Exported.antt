@@ -24,7 +24,8 @@ use Rattle.plain_run.proofs.Demands.{rules-cut}
 use Rattle.layout_call.specs.Calls as layout
 use Rattle.layout_call.specs.Steps.{declared}
 use Rattle.render_call.specs.Calls as render
-use Rattle.exports.specs.Numbers.{flag, bit, layoutState, layoutArgs, renderState, renderArgs, toldCall, toldRead, toldFile, talliesFrom, toldCount}
+use Rattle.file.specs.Whole.{toChoice}
+use Rattle.exports.specs.Numbers.{flag, bit, layoutState, layoutArgs, renderState, renderArgs, fileChoice, toldCall, toldRead, toldFile, talliesFrom, toldCount}
 use Rattle.tallies.specs.declared.Figures.{Figures}
 use Rattle.tallies.specs.declared.Tallies.{Tallies}
 use Rattle.tallies.specs.declared.Fraction.{Fraction}
@@ -134,7 +135,7 @@ module _ (s b : List ℕ) where
       ∷ []
 
   abbrev writtenNumbers : states.RenderState → ℕ → List ℕ
-  writtenNumbers t n = 0 ∷ n ∷ t .pen .indent ∷ t .pen .«next_indent» ∷ t .pen .column .0 ∷ t .in-use ∷ t .row ∷ []
+  writtenNumbers t n = 0 ∷ n ∷ t .pen .indent ∷ t .pen .«next_indent» ∷ t .pen .column .0 ∷ t .in-use ∷ t .row ∷ t .width ∷ []
 
   laid-zero : (o : Option Refusal) (t : states.LayoutState) (n : ℕ) (out : List ℕ) → 9 ≤ length out → o ≡ none
       → getD (toldCall s b (answerBy (rulesOf s b) o (laidOut t n)) out) 0 0 ≡ 0
@@ -148,7 +149,7 @@ module _ (s b : List ℕ) where
       ap (λ (x : Refusal). sets out 0 (x .number ∷ x .place ∷ [])) same
   laid-tells none t n out r e = let z : _≡_ {A = ℕ} 0 1 = cc in absurd (omega arith)
 
-  written-zero : (o : Option Refusal) (t : states.RenderState) (n : ℕ) (out : List ℕ) → 7 ≤ length out → o ≡ none
+  written-zero : (o : Option Refusal) (t : states.RenderState) (n : ℕ) (out : List ℕ) → 8 ≤ length out → o ≡ none
       → getD (toldCall s b (answerBy (rulesOf s b) o (written t n)) out) 0 0 ≡ 0
   written-zero none t n out h e = ap (λ (x : List ℕ). getD x 0 0) (stored (writtenNumbers t n) out h)
   written-zero (some q) t n out h e = let z : _≡_ {A = ℕ} 0 1 = cc in absurd (omega arith)
@@ -177,17 +178,18 @@ linked-1 = record {
       (λ r f. p .told-as ∙ laid-tells s b o _ _ out r f)
       (λ r f. p .store-left ∙ left-same o r store _ f);
   render =
-      λ s b store marks output state stop out store2 marks2 output2 out2 h p.
-      let o = rulesOf s b .render-refusal (render.toArgs (renderArgs stop) (length output)) (render.toState (renderState state)) store marks in
+      λ s b store marks output state args out store2 marks2 output2 out2 h p.
+      let o = rulesOf s b .render-refusal (render.toArgs (renderArgs args) (length output)) (render.toState (renderState state)) store marks in
       two renderNumbers o out out2 ((store2 ≡ store) × (marks2 ≡ marks) × (output2 ≡ output)) (omega arith)
-      (render-under s b (render.toArgs (renderArgs stop) (length output)) (render.toState (renderState state)) store marks)
+      (render-under s b (render.toArgs (renderArgs args) (length output)) (render.toState (renderState state)) store marks)
       (λ f. ap (λ (l : List ℕ). getD l 0 0) (p .told-as) ∙ written-zero s b o _ _ out (omega arith) f)
       (λ r f. p .told-as ∙ written-tells s b o _ _ out r f)
       (λ r f. (p .store-left, p .marks-left ∙ left-same o r marks _ f, p .output-left ∙ left-same o r output _ f));
   format =
-      λ s b output out output2 out2 h p.
-      let o = fileRefusal s b (length output) in
-      two fileNumbers o out out2 (output2 ≡ output) (omega arith) (file-under s b (length output))
+      λ s b choice output out output2 out2 h p.
+      let c = toChoice (fileChoice choice) in
+      let o = fileRefusal s b c (length output) in
+      two fileNumbers o out out2 (output2 ≡ output) (omega arith) (file-under s b c (length output))
       (λ f. ap (λ (l : List ℕ). getD l 0 0) (p .told-as) ∙ file-zero o _ _ _ _ out (omega arith) f)
       (λ r f. p .told-as ∙ file-tells o _ _ _ _ out r f)
       (λ r f. p .output-left ∙ left-same o r output _ f);
@@ -247,21 +249,21 @@ module _ (s b : List ℕ) where
       ap (λ (l : List ℕ). ifAccepted l (some (getD l 1 0)) old) at
 
   -- the rendering state and the text that are kept of an answer
-  render-kept : (o : Option Refusal) (t : states.RenderState) (n : ℕ) → Under renderNumbers o → (out out2 : List ℕ) → 7 ≤ length out
+  render-kept : (o : Option Refusal) (t : states.RenderState) (n : ℕ) → Under renderNumbers o → (out out2 : List ℕ) → 8 ≤ length out
       → out2 ≡ toldCall s b (answerBy (rulesOf s b) o (written t n)) out
       → (old : List ℕ)
-      → render.toState (renderState (ifAccepted out2 (take 5 (drop 2 out2)) old))
+      → render.toState (renderState (ifAccepted out2 (take 6 (drop 2 out2)) old))
       ≡ renderNext (rulesOf s b) (answerBy (rulesOf s b) o (written t n)) (render.toState (renderState old))
   render-kept (some r) t n u out out2 h e old =
       let at : out2 ≡ (r .number ∷ r .place ∷ []) ++ drop 2 out = e ∙ stored (r .number ∷ r .place ∷ []) out (omega arith) in
-      ap (λ (l : List ℕ). render.toState (renderState (ifAccepted l (take 5 (drop 2 l)) old))) at
-      ∙ ap (λ (x : Bool). render.toState (renderState (cond x (take 5 (drop 2 ((r .number ∷ r .place ∷ []) ++ drop 2 out))) old)))
+      ap (λ (l : List ℕ). render.toState (renderState (ifAccepted l (take 6 (drop 2 l)) old))) at
+      ∙ ap (λ (x : Bool). render.toState (renderState (cond x (take 6 (drop 2 ((r .number ∷ r .place ∷ []) ++ drop 2 out))) old)))
       (not-zero renderNumbers r refl (u .of r refl))
   render-kept none t n u out out2 h e old =
-      let at : out2 ≡ writtenNumbers s b t n ++ drop 7 out = e ∙ stored (writtenNumbers s b t n) out h in
-      ap (λ (l : List ℕ). render.toState (renderState (ifAccepted l (take 5 (drop 2 l)) old))) at
+      let at : out2 ≡ writtenNumbers s b t n ++ drop 8 out = e ∙ stored (writtenNumbers s b t n) out h in
+      ap (λ (l : List ℕ). render.toState (renderState (ifAccepted l (take 6 (drop 2 l)) old))) at
 
-  text-kept : (o : Option Refusal) (t : states.RenderState) (n : ℕ) → Under renderNumbers o → (out out2 output2 : List ℕ) → 7 ≤ length out
+  text-kept : (o : Option Refusal) (t : states.RenderState) (n : ℕ) → Under renderNumbers o → (out out2 output2 : List ℕ) → 8 ≤ length out
       → out2 ≡ toldCall s b (answerBy (rulesOf s b) o (written t n)) out
       → ifAccepted out2 (take (getD out2 1 0) output2) [] ≡ writtenOf (rulesOf s b) (answerBy (rulesOf s b) o (written t n)) output2
   text-kept (some r) t n u out out2 output2 h e =
@@ -269,7 +271,7 @@ module _ (s b : List ℕ) where
       ap (λ (l : List ℕ). ifAccepted l (take (getD l 1 0) output2) []) at
       ∙ ap (λ (x : Bool). cond x (take (r .place) output2) []) (not-zero renderNumbers r refl (u .of r refl))
   text-kept none t n u out out2 output2 h e =
-      let at : out2 ≡ writtenNumbers s b t n ++ drop 7 out = e ∙ stored (writtenNumbers s b t n) out h in
+      let at : out2 ≡ writtenNumbers s b t n ++ drop 8 out = e ∙ stored (writtenNumbers s b t n) out h in
       ap (λ (l : List ℕ). ifAccepted l (take (getD l 1 0) output2) []) at
 
   -- one call
@@ -292,12 +294,12 @@ module _ (s b : List ℕ) where
         left = left i;
       }
 
-  render-held : (w : Holder) (stop : ℕ) (output out store2 marks2 output2 out2 : List ℕ) → length out ≡ 7
-      → Renders s b (w .store) (w .marks) output (w .render-state) stop out store2 marks2 output2 out2
-      → heldLinked s b (afterLinked w (rendered stop output out store2 marks2 output2 out2))
-      ≡ entryCall (rulesOf s b) (heldLinked s b w) output (renderCall (render.toArgs (renderArgs stop) (length output)))
-  render-held w stop output out store2 marks2 output2 out2 h p =
-      let q = render.toArgs (renderArgs stop) (length output) in
+  render-held : (w : Holder) (args output out store2 marks2 output2 out2 : List ℕ) → length out ≡ 8
+      → Renders s b (w .store) (w .marks) output (w .render-state) args out store2 marks2 output2 out2
+      → heldLinked s b (afterLinked w (rendered args output out store2 marks2 output2 out2))
+      ≡ entryCall (rulesOf s b) (heldLinked s b w) output (renderCall (render.toArgs (renderArgs args) (length output)))
+  render-held w args output out store2 marks2 output2 out2 h p =
+      let q = render.toArgs (renderArgs args) (length output) in
       let z = render.toState (renderState (w .render-state)) in
       let o = rulesOf s b .render-refusal q z (w .store) (w .marks) in
       let u = render-under s b q z (w .store) (w .marks) in
@@ -320,9 +322,9 @@ module _ (s b : List ℕ) where
   one-held w (laid stop close out store2 out2) p =
       layout-held w stop close out store2 out2 (p .0) (p .1)
       ∙ entries-are-calls (rulesOf s b) (heldLinked s b w) [] (layoutCall (layout.toArgs (layoutArgs stop close)))
-  one-held w (rendered stop output out store2 marks2 output2 out2) p =
-      render-held w stop output out store2 marks2 output2 out2 (p .0) (p .1)
-      ∙ entries-are-calls (rulesOf s b) (heldLinked s b w) output (renderCall (render.toArgs (renderArgs stop) (length output)))
+  one-held w (rendered args output out store2 marks2 output2 out2) p =
+      render-held w args output out store2 marks2 output2 out2 (p .0) (p .1)
+      ∙ entries-are-calls (rulesOf s b) (heldLinked s b w) output (renderCall (render.toArgs (renderArgs args) (length output)))
 
 pub linked-3 : Linked3
 linked-3 s b store₀ marks₀ made p h =

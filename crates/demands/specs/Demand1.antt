@@ -17,7 +17,7 @@ use Rattle.cut_rule.specs.Run.{Answer, laidOut, written}
 use Rattle.cut_rule.specs.Run as cut
 use Rattle.plain_run.specs.Parts.{readRefusal}
 use Rattle.plain_run.specs.Demands.{rulesOf}
-use Rattle.plain_run.specs.File.{FileAnswer, formatted, fileRefusal}
+use Rattle.plain_run.specs.File.{FileChoice, FileAnswer, formatted, fileRefusal}
 use Rattle.plain_run.specs.File as file
 use Rattle.layout_call.specs.declared.LayoutState.{LayoutState}
 use Rattle.layout_call.specs.declared.LayoutArgs.{LayoutArgs}
@@ -41,21 +41,25 @@ use Rattle.figures.specs.Figures as count
 abbrev pub layoutNumbers : List ℕ
 layoutNumbers = readNumbers ++ (12 ∷ 8 ∷ [])
 
--- "rendering 1, 3 by the same tests, then 11, 12, 9, 10"
+-- "rendering 1, 3 by the same tests, then 11, 12, 9, 10", and 15 "directly after 12"
 abbrev pub renderNumbers : List ℕ
-renderNumbers = 1 ∷ 3 ∷ 11 ∷ 12 ∷ 9 ∷ 10 ∷ []
+renderNumbers = 1 ∷ 3 ∷ 11 ∷ 12 ∷ 15 ∷ 9 ∷ 10 ∷ []
 
--- a whole file, which is laid out and rendered from fresh
+-- a whole file, which is laid out and rendered from fresh, so that 12 refuses neither call
 abbrev pub fileNumbers : List ℕ
-fileNumbers = readNumbers ++ (8 ∷ 9 ∷ 10 ∷ [])
+fileNumbers = readNumbers ++ (15 ∷ 8 ∷ 9 ∷ 10 ∷ [])
+
+-- the same at 80, which 15 never refuses
+abbrev pub referenceNumbers : List ℕ
+referenceNumbers = readNumbers ++ (8 ∷ 9 ∷ 10 ∷ [])
 
 -- the program's frame: 13, "tested before all else"
 abbrev pub frameNumbers : List ℕ
-frameNumbers = 13 ∷ fileNumbers
+frameNumbers = 13 ∷ referenceNumbers
 
 -- a file that is counted: 14, "after all of 01's"
 abbrev pub countNumbers : List ℕ
-countNumbers = fileNumbers ++ (14 ∷ [])
+countNumbers = referenceNumbers ++ (14 ∷ [])
 
 -- ---- what an answer tells: the refusal, or none
 abbrev pub readTold : Outcome → Option Refusal
@@ -104,10 +108,10 @@ RenderAnswered = (s b : List ℕ) (state : RenderState) (args : RenderArgs) (sto
     (callTold s b (render.renderingAnswer s b r))
     ((store2 ≡ store) × (marks2 ≡ marks) × (out2 ≡ out))
 
--- `file::format_file`
+-- `file::format_file`, whatever its caller chose
 abbrev pub FileAnswered : Type 0
-FileAnswered = (s b out : List ℕ) (r : Formatted) (out2 : List ℕ) → Formats s b out r out2
-    → Answered fileNumbers (fileRefusal s b (length out)) (fileTold (formattedAnswer r)) (out2 ≡ out)
+FileAnswered = (s b : List ℕ) (c : FileChoice) (out : List ℕ) (r : Formatted) (out2 : List ℕ) → Formats s b c out r out2
+    → Answered fileNumbers (fileRefusal s b c (length out)) (fileTold (formattedAnswer r)) (out2 ≡ out)
 
 -- `file::format_frame`
 abbrev pub FrameAnswered : Type 0

@@ -2,7 +2,8 @@
 --
 -- Of the two calls and of a whole file, by what they promise. What `fmt_parsed` builds: `fmtParsed` (crates/layout/specs/Layout.antt), what it has
 -- when its loop reaches a declaration: `upTo` (crates/layout_facts/specs/Accepted.antt); what `Renderer` makes of it: `renderNodes`
--- (crates/renderer_rules/specs/Renderer.antt), for a whole document `drawnDue` (crates/plain_run/specs/File.antt).
+-- (crates/renderer_rules/specs/Renderer.antt), for a whole document `drawnDue` (crates/plain_run/specs/File.antt), at every width that is accepted.
+-- That the Rust's own width gives what there was before a width could be chosen is `ReferenceHolds` (crates/plain_run/specs/Reference.antt).
 use mathlib.Core.Path.{_≡_}
 use mathlib.Core.Bool.{true, false}
 use mathlib.Core.List.{List}
@@ -16,7 +17,8 @@ use Rattle.layout.specs.Layout.{fmtParsed}
 use Rattle.layout_facts.specs.Accepted.{fresh, upTo}
 use Rattle.cut_rule.specs.Run.{writeFront}
 use Rattle.plain_run.specs.Demands.{LaidWithinLimits}
-use Rattle.plain_run.specs.File.{built, drawnDue}
+use Rattle.plain_run.specs.Reference.{ReferenceHolds}
+use Rattle.plain_run.specs.File.{FileChoice, built, drawnDue}
 use Rattle.layout_call.specs.declared.LayoutState.{LayoutState}
 use Rattle.layout_call.specs.declared.Laying.the-variants as laying
 use Rattle.layout_call.specs.Steps.{tree, declared}
@@ -52,30 +54,31 @@ ClosedDue = (s b store : List ℕ) (t : LayoutState) (left : ℕ) (store2 : List
 
 -- ---- rendering
 -- the marks, and the text at the start of the output; behind them both are as they were
-pub record DrawnAs (s b marks out : List ℕ) (bytes : ℕ) (marks2 out2 : List ℕ) : Type 0 where
-  pub marks-due : marks2 ≡ writeFront (drawnDue s b .marks) marks
-  pub bytes-due : bytes ≡ length (drawnDue s b .text)
-  pub text-due : out2 ≡ writeFront (drawnDue s b .text) out
+pub record DrawnAs (s b : List ℕ) (c : FileChoice) (marks out : List ℕ) (bytes : ℕ) (marks2 out2 : List ℕ) : Type 0 where
+  pub marks-due : marks2 ≡ writeFront (drawnDue s b c .marks) marks
+  pub bytes-due : bytes ≡ length (drawnDue s b c .text)
+  pub text-due : out2 ≡ writeFront (drawnDue s b c .text) out
 
--- a rendering call from fresh over all rows that such a layout call left
+-- a rendering call from fresh over all rows that such a layout call left, at the width that it chose
 abbrev pub RenderedDue : Type 0
 RenderedDue = (s b store : List ℕ) (t : LayoutState) (left : ℕ) (store2 : List ℕ)
     → LayoutCalled s b freshLayout (record { stop = length (declared s b); close = true }) store (laying.Laid t left) store2
-    → (marks out : List ℕ) (u : RenderState) (n : Bytes) (store3 marks2 out2 : List ℕ)
-    → RenderCalled s b freshRender (record { stop = t .row }) store2 marks out (rendering.Written u n) store3 marks2 out2
-    → DrawnAs s b marks out (n .0) marks2 out2
+    → (width : ℕ) (marks out : List ℕ) (u : RenderState) (n : Bytes) (store3 marks2 out2 : List ℕ)
+    → RenderCalled s b freshRender (record { stop = t .row; width = width }) store2 marks out (rendering.Written u n) store3 marks2 out2
+    → DrawnAs s b (record { width = width }) marks out (n .0) marks2 out2
 
 -- ---- a whole file
-pub record FileAs (s b out : List ℕ) (bytes left count numbers : ℕ) (out2 : List ℕ) : Type 0 where
-  pub text-due : out2 ≡ writeFront (drawnDue s b .text) out
-  pub bytes-due : bytes ≡ length (drawnDue s b .text)
+pub record FileAs (s b : List ℕ) (c : FileChoice) (out : List ℕ) (bytes left count numbers : ℕ) (out2 : List ℕ) : Type 0 where
+  pub text-due : out2 ≡ writeFront (drawnDue s b c .text) out
+  pub bytes-due : bytes ≡ length (drawnDue s b c .text)
   pub left-due : left ≡ length (commentsOf b) - built s b .placed
   pub rows-due : count ≡ sizes (built s b .nodes)
   pub numbers-due : numbers ≡ built s b .taken
 
 abbrev pub FileDue : Type 0
-FileDue = (s b out : List ℕ) (n : Bytes) (left count numbers : ℕ) (out2 : List ℕ) → Formats s b out (answer.Text n left count numbers) out2
-    → FileAs s b out (n .0) left count numbers out2
+FileDue = (s b : List ℕ) (c : FileChoice) (out : List ℕ) (n : Bytes) (left count numbers : ℕ) (out2 : List ℕ)
+    → Formats s b c out (answer.Text n left count numbers) out2
+    → FileAs s b c out (n .0) left count numbers out2
 
 -- ---- the demand
 pub record Demand2 : Type 0 where
@@ -85,3 +88,5 @@ pub record Demand2 : Type 0 where
   pub file : FileDue
   -- "That no accepted tree yields deeper rows is proved."
   pub within-limits : LaidWithinLimits
+  -- "80 is the reference"
+  pub reference : ReferenceHolds

@@ -18,8 +18,9 @@ use Rattle.plain_run.specs.File.{fileRefusal}
 use Rattle.layout_call.specs.Calls as layout
 use Rattle.layout_call.specs.Steps.{declared}
 use Rattle.render_call.specs.Calls as render
+use Rattle.file.specs.Whole.{toChoice}
 use Rattle.figures.specs.Figures.{countRefusal, countAnswer}
-use Rattle.exports.specs.Numbers.{layoutState, layoutArgs, renderState, renderArgs, toldRead, talliesFrom, toldCount}
+use Rattle.exports.specs.Numbers.{layoutState, layoutArgs, renderState, renderArgs, fileChoice, toldRead, talliesFrom, toldCount}
 use Rattle.exports.specs.Calls.{Lays, Renders, FormatsFile}
 use Rattle.demands.specs.Demand1.{layoutNumbers, renderNumbers, fileNumbers, countNumbers}
 use Rattle.demands.specs.Demand3.{HeldAsDue}
@@ -44,12 +45,12 @@ pub record Linked1 : Type 0 where
   pub layout : (s b store state : List ℕ) (stop close : ℕ) (out store2 out2 : List ℕ) → length out ≡ 9
       → Lays s b store state stop close out store2 out2
       → Told layoutNumbers (rulesOf s b .layout-refusal (layout.toArgs (layoutArgs stop close)) (layout.toState (layoutState state)) store) out2 (store2 ≡ store)
-  pub render : (s b store marks output state : List ℕ) (stop : ℕ) (out store2 marks2 output2 out2 : List ℕ) → length out ≡ 7
-      → Renders s b store marks output state stop out store2 marks2 output2 out2
-      → Told renderNumbers (rulesOf s b .render-refusal (render.toArgs (renderArgs stop) (length output)) (render.toState (renderState state)) store marks) out2
+  pub render : (s b store marks output state args out store2 marks2 output2 out2 : List ℕ) → length out ≡ 8
+      → Renders s b store marks output state args out store2 marks2 output2 out2
+      → Told renderNumbers (rulesOf s b .render-refusal (render.toArgs (renderArgs args) (length output)) (render.toState (renderState state)) store marks) out2
       ((store2 ≡ store) × (marks2 ≡ marks) × (output2 ≡ output))
-  pub format : (s b output out output2 out2 : List ℕ) → length out ≡ 5 → FormatsFile s b output out output2 out2
-      → Told fileNumbers (fileRefusal s b (length output)) out2 (output2 ≡ output)
+  pub format : (s b choice output out output2 out2 : List ℕ) → length out ≡ 5 → FormatsFile s b choice output out output2 out2
+      → Told fileNumbers (fileRefusal s b (toChoice (fileChoice choice)) (length output)) out2 (output2 ≡ output)
   pub count : (s b from out out2 : List ℕ) → length out ≡ 18 → out2 ≡ toldCount (countAnswer s b (talliesFrom from)) out
       → Told countNumbers (countRefusal s b (talliesFrom from)) out2 (Unit {0})
 
@@ -66,17 +67,17 @@ pub record Holder : Type 0 where
 -- "Fresh is all 0"
 abbrev pub freshHolder : List ℕ → List ℕ → Holder
 freshHolder store₀ marks₀ =
-    record { store = store₀; marks = marks₀; layout-state = replicate 7 0; render-state = replicate 5 0; text = []; left = none }
+    record { store = store₀; marks = marks₀; layout-state = replicate 7 0; render-state = replicate 6 0; text = []; left = none }
 
 -- a call that was made: its arguments, and the buffers at exit, the answer's array last
 pub data LinkedCall : Type 0 where
   laid : (stop close : ℕ) (out store2 out2 : List ℕ) → LinkedCall
-  rendered : (stop : ℕ) (output out store2 marks2 output2 out2 : List ℕ) → LinkedCall
+  rendered : (args output out store2 marks2 output2 out2 : List ℕ) → LinkedCall
 
 abbrev pub LinkedPromised : (s b : List ℕ) → Holder → LinkedCall → Type 0
 LinkedPromised s b w (laid stop close out store2 out2) = (length out ≡ 9) × Lays s b (w .store) (w .layout-state) stop close out store2 out2
-LinkedPromised s b w (rendered stop output out store2 marks2 output2 out2) =
-    (length out ≡ 7) × Renders s b (w .store) (w .marks) output (w .render-state) stop out store2 marks2 output2 out2
+LinkedPromised s b w (rendered args output out store2 marks2 output2 out2) =
+    (length out ≡ 8) × Renders s b (w .store) (w .marks) output (w .render-state) args out store2 marks2 output2 out2
 
 -- the first where the answer begins with 0, else the second
 abbrev pub ifAccepted : {A : Type 0} → List ℕ → A → A → A
@@ -92,11 +93,11 @@ afterLinked w (laid stop close out store2 out2) = record {
   text = w .text;
   left = ifAccepted out2 (some (getD out2 1 0)) (w .left);
 }
-afterLinked w (rendered stop output out store2 marks2 output2 out2) = record {
+afterLinked w (rendered args output out store2 marks2 output2 out2) = record {
   store = store2;
   marks = marks2;
   layout-state = w .layout-state;
-  render-state = ifAccepted out2 (take 5 (drop 2 out2)) (w .render-state);
+  render-state = ifAccepted out2 (take 6 (drop 2 out2)) (w .render-state);
   text = w .text ++ ifAccepted out2 (take (getD out2 1 0) output2) [];
   left = w .left;
 }
@@ -104,7 +105,7 @@ afterLinked w (rendered stop output out store2 marks2 output2 out2) = record {
 -- the same in the words of the cut rule
 abbrev pub callLinked : (s b : List ℕ) → LinkedCall → Call (rulesOf s b)
 callLinked s b (laid stop close out store2 out2) = layoutCall (layout.toArgs (layoutArgs stop close))
-callLinked s b (rendered stop output out store2 marks2 output2 out2) = renderCall (render.toArgs (renderArgs stop) (length output))
+callLinked s b (rendered args output out store2 marks2 output2 out2) = renderCall (render.toArgs (renderArgs args) (length output))
 
 abbrev pub heldLinked : (s b : List ℕ) → Holder → Carried (rulesOf s b)
 heldLinked s b w = record {

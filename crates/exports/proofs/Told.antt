@@ -13,16 +13,18 @@ use Rattle.layout_call.specs.declared.Laying.{Laying}
 use Rattle.layout_call.specs.Calls as laying
 use Rattle.layout_call.specs.Whole as layout
 use Rattle.render_call.specs.declared.RenderState.{RenderState}
+use Rattle.render_call.specs.declared.RenderArgs.{RenderArgs}
 use Rattle.render_call.specs.declared.Rendering.{Rendering}
 use Rattle.render_call.specs.Calls as rendering
 use Rattle.render_call.specs.Whole as render
 use Rattle.plain_run.specs.File.{FileAnswer}
+use Rattle.file.specs.declared.FileChoice.{FileChoice}
 use Rattle.file.specs.declared.Formatted.{Formatted}
 use Rattle.file.specs.Whole as file
 use Rattle.tallies.specs.declared.Tallies.{Tallies}
 use Rattle.figures.specs.declared.Counted.{Counted}
 use Rattle.figures.specs.Figures.{CountAnswer, countAnswer, countedAnswer}
-use Rattle.exports.specs.Numbers.{layoutState, layoutArgs, renderState, renderArgs, toldCall, toldFile, toldRead, talliesFrom, toldCount}
+use Rattle.exports.specs.Numbers.{layoutState, layoutArgs, renderState, renderArgs, fileChoice, toldCall, toldFile, toldRead, talliesFrom, toldCount}
 use Rattle.exports.specs.Calls.{Lays, Renders, FormatsFile}
 
 pub lays : (s b store state : List ℕ) (stop close : ℕ) (out store2 out2 : List ℕ) (z : LayoutState) (a : LayoutArgs) (r q : Laying)
@@ -33,12 +35,12 @@ lays s b store state stop close out store2 out2 z a r q e f p g h =
     let c = rw (e, f, g) at p in
     record { store-left = c .store-left; told-as = h ∙ ap (λ (a : cut.Answer (rulesOf s b)). toldCall s b a out) (c .answer) }
 
-pub renders : (s b store marks output state : List ℕ) (stop : ℕ) (out store2 marks2 output2 out2 : List ℕ) (z : RenderState) (r q : Rendering)
-    → z ≡ renderState state → render.RenderCalled s b z (renderArgs stop) store marks output r store2 marks2 output2 → r ≡ q
+pub renders : (s b store marks output state args out store2 marks2 output2 out2 : List ℕ) (z : RenderState) (a : RenderArgs) (r q : Rendering)
+    → z ≡ renderState state → a ≡ renderArgs args → render.RenderCalled s b z a store marks output r store2 marks2 output2 → r ≡ q
     → out2 ≡ toldCall s b (rendering.renderingAnswer s b q) out
-    → Renders s b store marks output state stop out store2 marks2 output2 out2
-renders s b store marks output state stop out store2 marks2 output2 out2 z r q e p g h =
-    let c = rw (e, g) at p in
+    → Renders s b store marks output state args out store2 marks2 output2 out2
+renders s b store marks output state args out store2 marks2 output2 out2 z a r q e f p g h =
+    let c = rw (e, f, g) at p in
     record {
       store-left = c .store-left;
       marks-left = c .marks-left;
@@ -46,11 +48,12 @@ renders s b store marks output state stop out store2 marks2 output2 out2 z r q e
       told-as = h ∙ ap (λ (a : cut.Answer (rulesOf s b)). toldCall s b a out) (c .answer);
     }
 
-pub formats : (s b output out output2 out2 : List ℕ) (r q : Formatted) → file.Formats s b output r output2 → r ≡ q
+pub formats : (s b choice output out output2 out2 : List ℕ) (a : FileChoice) (r q : Formatted) → a ≡ fileChoice choice
+    → file.Formats s b (file.toChoice a) output r output2 → r ≡ q
     → out2 ≡ toldFile (file.formattedAnswer q) out
-    → FormatsFile s b output out output2 out2
-formats s b output out output2 out2 r q p g h =
-    let c = rw g at p in
+    → FormatsFile s b choice output out output2 out2
+formats s b choice output out output2 out2 a r q e p g h =
+    let c = rw (e, g) at p in
     record { output-left = c .output-left; told-as = h ∙ ap (λ (a : FileAnswer). toldFile a out) (c .answer) }
 
 pub reads : (s b out out2 : List ℕ) (d : ℕ) (r q : Answer) → outcomeOf r ≡ outcome (readAll s b) → r ≡ q → out2 ≡ toldRead (outcomeOf q) d out

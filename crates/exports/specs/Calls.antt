@@ -8,7 +8,8 @@ use Rattle.plain_run.specs.Demands.{rulesOf}
 use Rattle.plain_run.specs.File.{fileOutput, fileAnswer}
 use Rattle.layout_call.specs.Calls as laying
 use Rattle.render_call.specs.Calls as rendering
-use Rattle.exports.specs.Numbers.{layoutState, layoutArgs, renderState, renderArgs, toldCall, toldFile}
+use Rattle.file.specs.Whole as whole
+use Rattle.exports.specs.Numbers.{layoutState, layoutArgs, renderState, renderArgs, fileChoice, toldCall, toldFile}
 
 -- a layout call: the store, and the answer's numbers
 pub record Lays (s b store state : List ℕ) (stop close : ℕ) (out store2 out2 : List ℕ) : Type 0 where
@@ -16,13 +17,13 @@ pub record Lays (s b store state : List ℕ) (stop close : ℕ) (out store2 out2
   pub told-as : out2 ≡ toldCall s b (layoutAnswer (rulesOf s b) (laying.toArgs (layoutArgs stop close)) (laying.toState (layoutState state)) store) out
 
 -- a rendering call: the store as it was, marks, output, and the answer's numbers
-pub record Renders (s b store marks output state : List ℕ) (stop : ℕ) (out store2 marks2 output2 out2 : List ℕ) : Type 0 where
+pub record Renders (s b store marks output state args out store2 marks2 output2 out2 : List ℕ) : Type 0 where
   pub store-left : store2 ≡ store
-  pub marks-left : marks2 ≡ renderMarks (rulesOf s b) (rendering.toArgs (renderArgs stop) (length output)) (rendering.toState (renderState state)) store marks
-  pub output-left : output2 ≡ renderOutput (rulesOf s b) (rendering.toArgs (renderArgs stop) (length output)) (rendering.toState (renderState state)) store marks output
-  pub told-as : out2 ≡ toldCall s b (renderAnswer (rulesOf s b) (rendering.toArgs (renderArgs stop) (length output)) (rendering.toState (renderState state)) store marks) out
+  pub marks-left : marks2 ≡ renderMarks (rulesOf s b) (rendering.toArgs (renderArgs args) (length output)) (rendering.toState (renderState state)) store marks
+  pub output-left : output2 ≡ renderOutput (rulesOf s b) (rendering.toArgs (renderArgs args) (length output)) (rendering.toState (renderState state)) store marks output
+  pub told-as : out2 ≡ toldCall s b (renderAnswer (rulesOf s b) (rendering.toArgs (renderArgs args) (length output)) (rendering.toState (renderState state)) store marks) out
 
 -- the run of one file: the output, and the answer's numbers
-pub record FormatsFile (s b output out output2 out2 : List ℕ) : Type 0 where
-  pub output-left : output2 ≡ fileOutput s b output
-  pub told-as : out2 ≡ toldFile (fileAnswer s b (length output)) out
+pub record FormatsFile (s b choice output out output2 out2 : List ℕ) : Type 0 where
+  pub output-left : output2 ≡ fileOutput s b (whole.toChoice (fileChoice choice)) output
+  pub told-as : out2 ≡ toldFile (fileAnswer s b (whole.toChoice (fileChoice choice)) (length output)) out

@@ -18,13 +18,14 @@ use Rattle.layout_call.specs.declared.LayoutState.{LayoutState}
 use Rattle.layout_call.specs.declared.LayoutArgs.{LayoutArgs}
 use Rattle.render_call.specs.declared.RenderState.{RenderState}
 use Rattle.render_call.specs.declared.RenderArgs.{RenderArgs}
+use Rattle.file.specs.declared.FileChoice.{FileChoice}
 
 -- a refusal's number and place; or 0, the number of comments, the tree's offset and the number of declarations
 abbrev pub toldRead : image.Outcome → ℕ → List ℕ → List ℕ
 toldRead (image.refused r) declarations out = sets out 0 (r .number ∷ r .place ∷ [])
 toldRead (image.accepted n at) declarations out = sets out 0 (0 ∷ n ∷ at ∷ declarations ∷ [])
 
--- ---- states, in document 01's order
+-- ---- states, in document 01's order, and what a request adds behind
 -- a flag is yes for every number but 0
 abbrev pub flag : ℕ → Bool
 flag n = not (eqb n 0)
@@ -50,14 +51,20 @@ renderState l = record {
   column = record { 0 = getD l 2 0 };
   «in_use» = getD l 3 0;
   row = getD l 4 0;
+  width = getD l 5 0;
 }
 
--- ---- arguments
+-- ---- arguments and choices
 abbrev pub layoutArgs : ℕ → ℕ → LayoutArgs
 layoutArgs stop close = record { stop = stop; close = flag close }
 
-abbrev pub renderArgs : ℕ → RenderArgs
-renderArgs stop = record { stop = stop }
+-- the row to stop before, and the width
+abbrev pub renderArgs : List ℕ → RenderArgs
+renderArgs l = record { stop = getD l 0 0; width = getD l 1 0 }
+
+-- of a whole file: the width
+abbrev pub fileChoice : List ℕ → FileChoice
+fileChoice l = record { width = getD l 0 0 }
 
 -- ---- answers
 -- a call's answer: a refusal's number and place; or 0, the comments left or the bytes written, and the new state
@@ -76,7 +83,7 @@ toldCall s b (laidOut t n) out =
     ∷ t .cursor .position
     ∷ [])
 toldCall s b (written t n) out =
-    sets out 0 (0 ∷ n ∷ t .pen .indent ∷ t .pen .«next_indent» ∷ t .pen .column .0 ∷ t .in-use ∷ t .row ∷ [])
+    sets out 0 (0 ∷ n ∷ t .pen .indent ∷ t .pen .«next_indent» ∷ t .pen .column .0 ∷ t .in-use ∷ t .row ∷ t .width ∷ [])
 
 -- a whole file's answer: a refusal's number and place; or 0, the bytes written, the comments left, the rows and the group numbers
 abbrev pub toldFile : file.FileAnswer → List ℕ → List ℕ

@@ -12,11 +12,13 @@ ghost use Rattle.exports.specs.Numbers.{toldRead, toldNewlines, talliesF
 ghost use Rattle.exports.specs.Calls.{Lays, Renders, FormatsFile};
 use crate::count::put_counted;
 use crate::count::tallies_from;
+use crate::numbers::file_choice;
 use crate::numbers::flag;
 use crate::numbers::layout_state;
 use crate::numbers::put_formatted;
 use crate::numbers::put_laid;
 use crate::numbers::put_written;
+use crate::numbers::render_args;
 use crate::numbers::render_state;
 use figures::Counted;
 use figures::count_file;
@@ -28,7 +30,6 @@ use layout_call::Laying;
 use layout_call::LayoutArgs;
 use layout_call::layout_call;
 use layout_call::steps::count_declarations;
-use render_call::RenderArgs;
 use render_call::Rendering;
 use render_call::render_call;
 use text::newlines::count_newlines;
@@ -85,8 +86,8 @@ pub extern "C" fn rrufthim_layout(
     }
 }
 
-// A rendering call. The state: indent, next indent, column, marks in use, next row. `out` gets the refusal's number and place, or 0, the
-// bytes written and the new state.
+// A rendering call. The state: indent, next indent, column, marks in use, next row, width. The arguments: the row to stop before, and the
+// width. `out` gets the refusal's number and place, or 0, the bytes written and the new state.
 #[no_mangle]
 pub extern "C" fn rrufthim_render(
     source: &[u8],
@@ -94,17 +95,15 @@ pub extern "C" fn rrufthim_render(
     store: &mut [u32],
     marks: &mut [u8],
     output: &mut [u8],
-    state: &[u64; 5],
-    stop: u64,
-    out: &mut [u64; 7],
+    state: &[u64; 6],
+    args: &[u64; 2],
+    out: &mut [u64; 8],
 )
-    ensures { λ r. ⌜ Renders (now (source .entry)) (now (image .entry)) (now (store .entry)) (now (marks .entry)) (now (output .entry)) (now (state .entry)) stop (now (out .entry)) (now (store .exit)) (now (marks .exit)) (now (output .exit)) (now (out .exit)) ⌝ }
+    ensures { λ r. ⌜ Renders (now (source .entry)) (now (image .entry)) (now (store .entry)) (now (marks .entry)) (now (output .entry)) (now (state .entry)) (now (args .entry)) (now (out .entry)) (now (store .exit)) (now (marks .exit)) (now (output .exit)) (now (out .exit)) ⌝ }
 {
     let from = render_state(state);
-    let args = RenderArgs {
-        stop: stop as usize,
-    };
-    match render_call(source, image, store, marks, output, from, args) {
+    let to = render_args(args);
+    match render_call(source, image, store, marks, output, from, to) {
         Rendering::Refused(n, p) => {
             out[0] = n as u64;
             out[1] = p as u64;
@@ -113,18 +112,19 @@ pub extern "C" fn rrufthim_render(
     }
 }
 
-// The run of one file: all is laid out and rendered, in rows and marks of its own. `out` gets the refusal's number and place, or 0, the bytes
-// written, the comments left, the rows and the group numbers.
+// The run of one file: all is laid out and rendered, in rows and marks of its own. The choice: the width. `out` gets the refusal's number and
+// place, or 0, the bytes written, the comments left, the rows and the group numbers.
 #[no_mangle]
 pub extern "C" fn rrufthim_format(
     source: &[u8],
     image: &[u8],
+    choice: &[u64; 1],
     output: &mut [u8],
     out: &mut [u64; 5],
 )
-    ensures { λ r. ⌜ FormatsFile (now (source .entry)) (now (image .entry)) (now (output .entry)) (now (out .entry)) (now (output .exit)) (now (out .exit)) ⌝ }
+    ensures { λ r. ⌜ FormatsFile (now (source .entry)) (now (image .entry)) (now (choice .entry)) (now (output .entry)) (now (out .entry)) (now (output .exit)) (now (out .exit)) ⌝ }
 {
-    match format_file(source, image, output) {
+    match format_file(source, image, output, file_choice(choice)) {
         Formatted::Refused(n, p) => {
             out[0] = n as u64;
             out[1] = p as u64;

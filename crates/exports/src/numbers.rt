@@ -2,8 +2,10 @@
 ghost use mathlib.Core.Path.{_≡_};
 ghost use mathlib.Core.List.{[], _∷_};
 ghost use lib.Seq.{sets};
-ghost use Rattle.exports.specs.Numbers.{flag as flagOf, bit as bitOf, layoutState, renderState};
+ghost use Rattle.exports.specs.Numbers.{flag as flagOf, bit as bitOf, layoutState, renderState, renderArgs, fileChoice};
+use file::FileChoice;
 use layout_call::LayoutState;
+use render_call::RenderArgs;
 use render_call::RenderState;
 use rows::units::Bytes;
 use rows::units::Columns;
@@ -38,7 +40,7 @@ pub(crate) fn layout_state(from: &[u64; 7]) -> LayoutState
     }
 }
 
-pub(crate) fn render_state(from: &[u64; 5]) -> RenderState
+pub(crate) fn render_state(from: &[u64; 6]) -> RenderState
     ensures { λ r. ⌜ r ≡ renderState (now (from .entry)) ⌝ }
 {
     RenderState {
@@ -47,6 +49,24 @@ pub(crate) fn render_state(from: &[u64; 5]) -> RenderState
         column: Columns(from[2] as usize),
         in_use: from[3] as usize,
         row: from[4] as usize,
+        width: from[5] as usize,
+    }
+}
+
+pub(crate) fn render_args(from: &[u64; 2]) -> RenderArgs
+    ensures { λ r. ⌜ r ≡ renderArgs (now (from .entry)) ⌝ }
+{
+    RenderArgs {
+        stop: from[0] as usize,
+        width: from[1] as usize,
+    }
+}
+
+pub(crate) fn file_choice(from: &[u64; 1]) -> FileChoice
+    ensures { λ r. ⌜ r ≡ fileChoice (now (from .entry)) ⌝ }
+{
+    FileChoice {
+        width: from[0] as usize,
     }
 }
 
@@ -66,8 +86,8 @@ pub(crate) fn put_laid(out: &mut [u64; 9], t: LayoutState, left: usize)
 }
 
 // What a rendering call that is accepted tells.
-pub(crate) fn put_written(out: &mut [u64; 7], t: RenderState, bytes: Bytes)
-    ensures { λ r. ⌜ now (out .exit) ≡ sets (now (out .entry)) 0 (0 ∷ bytes .0 ∷ t .indent ∷ t .«next_indent» ∷ t .column .0 ∷ t .«in_use» ∷ t .row ∷ []) ⌝ }
+pub(crate) fn put_written(out: &mut [u64; 8], t: RenderState, bytes: Bytes)
+    ensures { λ r. ⌜ now (out .exit) ≡ sets (now (out .entry)) 0 (0 ∷ bytes .0 ∷ t .indent ∷ t .«next_indent» ∷ t .column .0 ∷ t .«in_use» ∷ t .row ∷ t .width ∷ []) ⌝ }
 {
     out[0] = 0;
     out[1] = bytes.0 as u64;
@@ -76,6 +96,7 @@ pub(crate) fn put_written(out: &mut [u64; 7], t: RenderState, bytes: Bytes)
     out[4] = t.column.0 as u64;
     out[5] = t.in_use as u64;
     out[6] = t.row as u64;
+    out[7] = t.width as u64;
 }
 
 // What the run of a file that is accepted tells.

@@ -19,8 +19,9 @@ use Rattle.layout_facts.specs.Accepted.{Stands}
 use Rattle.layout_facts.specs.Accepted as limits
 use Rattle.layout_facts.proofs.Limits.{whole-within}
 use Rattle.layout_facts.proofs.Numbers.{numbers-below}
+use Rattle.cut_rule.specs.Limits.{REFERENCE-WIDTH}
 use Rattle.plain_run.specs.Parts.{acceptedTree, page, rendererOf}
-use Rattle.plain_run.specs.File.{fileRows, fileMarks, built, marksDue, drawnDue, laidRefusal, fileRefusal}
+use Rattle.plain_run.specs.File.{referenceChoice, fileRows, fileMarks, built, marksDue, drawnDue, laidRefusal, fileRefusal}
 use Rattle.plain_run.specs.FileLimits.{AreBytes}
 use Rattle.plain_run.proofs.Past.{renders-length}
 use Rattle.plain_run.proofs.Limits.{stood}
@@ -32,7 +33,7 @@ use Rattle.figures.proofs.Occurring.{occurs-few, occurs-below, cleared-
 
 module _ (s b : List ℕ) where
   abbrev textDue : ℕ
-  textDue = length (drawnDue s b .text)
+  textDue = length (drawnDue s b referenceChoice .text)
 
   -- ---- what 9 and 10 let pass
   abbrev tens : List (Option Refusal)
@@ -41,12 +42,12 @@ module _ (s b : List ℕ) where
   abbrev pub nines : List (Option Refusal)
   nines = refuseIf (ltb fileMarks (marksDue s b)) 9 (marksDue s b) ∷ tens
 
-  module _ (passes : fileRefusal s b FILE-OUTPUT ≡ none) where
-    laid-passes : laidRefusal s b fileRows ≡ none
-    laid-passes = passes-line (laidRefusal s b fileRows) nines passes
+  module _ (passes : fileRefusal s b referenceChoice FILE-OUTPUT ≡ none) where
+    laid-passes : laidRefusal s b referenceChoice fileRows ≡ none
+    laid-passes = passes-line (laidRefusal s b referenceChoice fileRows) nines passes
 
     later : first nines ≡ none
-    later = passes-others (laidRefusal s b fileRows) nines passes
+    later = passes-others (laidRefusal s b referenceChoice fileRows) nines passes
 
     marks-fit : marksDue s b ≤ fileMarks
     marks-fit = ltb-false fileMarks (marksDue s b) (not-if (ltb fileMarks (marksDue s b)) 9 (marksDue s b) (passes-line _ tens later))
@@ -58,9 +59,9 @@ module _ (s b : List ℕ) where
         (passes-line _ [] (passes-others (refuseIf (ltb fileMarks (marksDue s b)) 9 (marksDue s b)) tens later)))
 
   -- as many marks as are needed
-  marks-many : length (drawnDue s b .marks) ≡ marksDue s b
+  marks-many : length (drawnDue s b referenceChoice .marks) ≡ marksDue s b
   marks-many =
-      renders-length (page s b) (built s b .nodes) true (rendererOf (renderFresh .pen) (replicate (marksDue s b) 0))
+      renders-length (page REFERENCE-WIDTH s b) (built s b .nodes) true (rendererOf (renderFresh .pen) (replicate (marksDue s b) 0))
       ∙ length-replicate (marksDue s b) 0
 
   -- ---- what is known of a tree that stands in its image
@@ -71,13 +72,13 @@ module _ (s b : List ℕ) where
     pub placed-in : built s b .placed ≤ length (commentsOf b)
     placed-in = laid .placed
 
-    module _ (passes : fileRefusal s b FILE-OUTPUT ≡ none) where
+    module _ (passes : fileRefusal s b referenceChoice FILE-OUTPUT ≡ none) where
       pub within : Within (figuresOf s b)
       within =
           let t = text-fits passes in
           let m = marks-fit passes in
-          let n = occurs-few 0x0A (drawnDue s b .text) in
-          let w = occurs-few 1 (drawnDue s b .marks) in
+          let n = occurs-few 0x0A (drawnDue s b referenceChoice .text) in
+          let w = occurs-few 1 (drawnDue s b referenceChoice .marks) in
           let l = marks-many in
           let c = a .count in
           let p = placed-in in
@@ -93,19 +94,19 @@ module _ (s b : List ℕ) where
 
       -- a mark at 1 is that of a number given
       wrapped-given : figuresOf s b .wrapped ≤ figuresOf s b .given
-      wrapped-given = occurs-below (drawnDue s b .marks) (built s b .taken) cleared
+      wrapped-given = occurs-below (drawnDue s b referenceChoice .marks) (built s b .taken) cleared
         where
-          cleared : (i : ℕ) → built s b .taken ≤ i → getD (drawnDue s b .marks) i 0 ≡ 0
+          cleared : (i : ℕ) → built s b .taken ≤ i → getD (drawnDue s b referenceChoice .marks) i 0 ≡ 0
           cleared i h =
-              renders-same i (built s b .nodes) (page s b) true (rendererOf (renderFresh .pen) (replicate (marksDue s b) 0))
+              renders-same i (built s b .nodes) (page REFERENCE-WIDTH s b) true (rendererOf (renderFresh .pen) (replicate (marksDue s b) 0))
               (numbers-below (given s b) (acceptedTree b (readAll s b)) i h) .mark
               ∙ cleared-at (marksDue s b) i
 
       small-in : AreBytes b → Small (figuresOf s b)
       small-in bytes =
           let t = text-fits passes in
-          let n = occurs-few 0x0A (drawnDue s b .text) in
-          let k = file-column-limited (page s b .max) s b (replicate (marksDue s b) 0) bytes (laid-passes passes) in
+          let n = occurs-few 0x0A (drawnDue s b referenceChoice .text) in
+          let k = file-column-limited REFERENCE-WIDTH s b (replicate (marksDue s b) 0) referenceChoice bytes (laid-passes passes) in
           let c = a .count in
           let p = placed-in in
           let g = laid .numbers in
@@ -119,7 +120,7 @@ module _ (s b : List ℕ) where
             left = omega arith;
           }
 
-  pub small : AreBytes b → fileRefusal s b FILE-OUTPUT ≡ none → Small (figuresOf s b)
+  pub small : AreBytes b → fileRefusal s b referenceChoice FILE-OUTPUT ≡ none → Small (figuresOf s b)
   small bytes passes =
-      let a = stood s b (laid-read s b (laid-passes passes)) in
+      let a = stood s b (laid-read s b referenceChoice (laid-passes passes)) in
       small-in (a .at) (a .stood) passes bytes

@@ -7,7 +7,7 @@ use mathlib.Core.List.{List, [], _∷_}
 use Prim.Native.Nat.{ℕ}
 use Rattle.refusals.specs.Refusals.{Refusal, unless, orElse, first}
 use Rattle.cut_rule.specs.Callers.{afterAll, AllKept}
-use Rattle.plain_run.specs.File.{fileRefusal}
+use Rattle.plain_run.specs.File.{referenceChoice, fileRefusal}
 use Rattle.tallies.specs.declared.Figures.{Figures}
 use Rattle.tallies.specs.declared.Tallies.{Tallies}
 use Rattle.tallies.specs.Tallies.{freshTallies, added, tallyRefusal}
@@ -32,7 +32,7 @@ one-more : (t : Tallies) (m : Made) → Keeps t m → after t m ≡ countedBy (f
 one-more t m k =
     let s = m .file .source in
     let b = m .file .image in
-    ap (talliesAfter t) k ∙ counted-file (fileRefusal s b FILE-OUTPUT) (figuresOf s b) t
+    ap (talliesAfter t) k ∙ counted-file (fileRefusal s b referenceChoice FILE-OUTPUT) (figuresOf s b) t
 
 -- one after another
 kept-totals : (ms : List Made) (t : Tallies) → AllKept after Keeps t ms → afterAll after t ms ≡ totals figuresIn (files ms) t
@@ -43,7 +43,7 @@ kept-totals (m ∷ ms) t k = kept-totals ms (after t m) (k .1) ∙ ap (totals fi
 -- ---- files that are accepted are small
 small-file : (x : File) (fs : List Figures) → AllSmall fs → AllSmall (acceptedBy (figuresIn x) fs)
 unfolding AllSmall
-small-file x fs h = go (fileRefusal s b FILE-OUTPUT) refl
+small-file x fs h = go (fileRefusal s b referenceChoice FILE-OUTPUT) refl
   where
     s : List ℕ
     s = x .source
@@ -51,7 +51,7 @@ small-file x fs h = go (fileRefusal s b FILE-OUTPUT) refl
     b : List ℕ
     b = x .image
 
-    go : (o : Option Refusal) → fileRefusal s b FILE-OUTPUT ≡ o → AllSmall (acceptedBy (unless o none (some (figuresOf s b))) fs)
+    go : (o : Option Refusal) → fileRefusal s b referenceChoice FILE-OUTPUT ≡ o → AllSmall (acceptedBy (unless o none (some (figuresOf s b))) fs)
     go (some r) e = h
     go none e = (small s b (x .bytes) e, h)
 

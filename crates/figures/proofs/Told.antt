@@ -18,7 +18,7 @@ use Rattle.rows.specs.declared.units.Columns.{Columns}
 use Rattle.comments.specs.Listed.{commentsOf}
 use Rattle.refusals.specs.Refusals.{Refusal, any, unless, orElse, first, refuseIf}
 use Rattle.cut_rule.specs.Run.{writeFront}
-use Rattle.plain_run.specs.File.{fileRows, fileMarks, built, rowsDue, drawnDue, columnDue, refusalIn, fileRefusal, refused, formatted, fileAnswerBy, fileAnswer}
+use Rattle.plain_run.specs.File.{referenceChoice, fileRows, fileMarks, built, rowsDue, drawnDue, columnDue, refusalIn, fileRefusal, refused, formatted, fileAnswerBy, fileAnswer}
 use Rattle.plain_run.proofs.Refused.{read-refused}
 use Rattle.layout_call.specs.Steps.{Accepts}
 use Rattle.layout_call.specs.declared.Document.{Document}
@@ -88,10 +88,10 @@ module _ (s b : List ℕ) where
   leftDue = length (commentsOf b) - built s b .placed
 
   abbrev textDue : ℕ
-  textDue = length (drawnDue s b .text)
+  textDue = length (drawnDue s b referenceChoice .text)
 
   -- a file that document 01 refuses is not counted, whatever the tallies are
-  file-refused : (t : Tallies) (n p : ℕ) → fileRefusal s b FILE-OUTPUT ≡ some (at n p) → countedAnswer (answer.Refused n p) ≡ countAnswer s b t
+  file-refused : (t : Tallies) (n p : ℕ) → fileRefusal s b referenceChoice FILE-OUTPUT ≡ some (at n p) → countedAnswer (answer.Refused n p) ≡ countAnswer s b t
   file-refused t n p e = sym (ap (λ (x : Option Refusal). countAnswerBy (first (x ∷ tallyRefusal t ∷ [])) (figuresOf s b) t) e)
 
   -- 1 to 7
@@ -103,29 +103,29 @@ module _ (s b : List ℕ) where
 
   -- ---- the run in cleared rows and marks
   module _ (store marks out : List ℕ) (rowed : store ≡ replicate (fileRows * PLACES) 0) (marked : marks ≡ replicate fileMarks 0) (room : FILE-OUTPUT ≡ length out)
-      (r : FileRun) (store2 marks2 out2 : List ℕ) (ran : RunsFile s b store marks out r store2 marks2 out2) where
+      (r : FileRun) (store2 marks2 out2 : List ℕ) (ran : RunsFile s b referenceChoice store marks out r store2 marks2 out2) where
     marks-many : length marks ≡ fileMarks
     marks-many = ap length marked ∙ length-replicate {A = ℕ} fileMarks 0
 
     rows-many : length store / PLACES ≡ fileRows
     rows-many = ap (λ (l : List ℕ). length l / PLACES) rowed ∙ ap (λ (n : ℕ). n / PLACES) (length-replicate {A = ℕ} (fileRows * PLACES) 0)
 
-    table-same : refusalIn s b (length store / PLACES) (length marks) (length out) ≡ fileRefusal s b FILE-OUTPUT
-    table-same = λ i. refusalIn s b (rows-many i) (marks-many i) (sym room i)
+    table-same : refusalIn s b referenceChoice (length store / PLACES) (length marks) (length out) ≡ fileRefusal s b referenceChoice FILE-OUTPUT
+    table-same = λ i. refusalIn s b referenceChoice (rows-many i) (marks-many i) (sym room i)
 
-    told : formattedAnswer (formattedOf r) ≡ fileAnswer s b FILE-OUTPUT
+    told : formattedAnswer (formattedOf r) ≡ fileAnswer s b referenceChoice FILE-OUTPUT
     told = ran .answer ∙ ap (λ (o : Option Refusal). fileAnswerBy o (formatted textDue leftDue (rowsDue s b) (built s b .taken))) table-same
 
     -- 8 to 10
     pub run-refused : (t : Tallies) (n p : ℕ) → r ≡ run.Refused n p → countedAnswer (answer.Refused n p) ≡ countAnswer s b t
     run-refused t n p e =
         file-refused t n p
-        (refusal-told (fileRefusal s b FILE-OUTPUT) textDue leftDue (rowsDue s b) (built s b .taken) (at n p) (ap (λ (x : FileRun). formattedAnswer (formattedOf x)) (sym e) ∙ told))
+        (refusal-told (fileRefusal s b referenceChoice FILE-OUTPUT) textDue leftDue (rowsDue s b) (built s b .taken) (at n p) (ap (λ (x : FileRun). formattedAnswer (formattedOf x)) (sym e) ∙ told))
 
     module _ (bytes : Bytes) (left rows′ numbers : ℕ) (widest : Columns) (is : r ≡ run.Text bytes left rows′ numbers widest) where
-      known : TextTold (fileRefusal s b FILE-OUTPUT) textDue leftDue (rowsDue s b) (built s b .taken) (bytes .0) left rows′ numbers
+      known : TextTold (fileRefusal s b referenceChoice FILE-OUTPUT) textDue leftDue (rowsDue s b) (built s b .taken) (bytes .0) left rows′ numbers
       known =
-          text-told (fileRefusal s b FILE-OUTPUT) textDue leftDue (rowsDue s b) (built s b .taken) (bytes .0) left rows′ numbers
+          text-told (fileRefusal s b referenceChoice FILE-OUTPUT) textDue leftDue (rowsDue s b) (built s b .taken) (bytes .0) left rows′ numbers
           (ap (λ (x : FileRun). formattedAnswer (formattedOf x)) (sym is) ∙ told)
 
       bytes-due : bytes .0 ≡ textDue
@@ -138,29 +138,29 @@ module _ (s b : List ℕ) where
       numbers-due = known .numbers
 
       -- nothing refuses
-      passes-in : {A : Type 0} (f : Option Refusal → A) → f (fileRefusal s b FILE-OUTPUT) ≡ f none
+      passes-in : {A : Type 0} (f : Option Refusal → A) → f (fileRefusal s b referenceChoice FILE-OUTPUT) ≡ f none
       passes-in f = ap f (known .passes)
 
-      widest-due : widest .0 ≡ columnDue s b
+      widest-due : widest .0 ≡ columnDue s b referenceChoice
       widest-due =
           ap widestOf (sym is)
           ∙ ran .widest
-          ∙ ap (λ (o : Option Refusal). unless o 0 (columnDue s b)) table-same
-          ∙ passes-in (λ o. unless o 0 (columnDue s b))
+          ∙ ap (λ (o : Option Refusal). unless o 0 (columnDue s b referenceChoice)) table-same
+          ∙ passes-in (λ o. unless o 0 (columnDue s b referenceChoice))
 
       -- ---- what marks and output hold
-      output-due : out2 ≡ writeFront (drawnDue s b .text) out
+      output-due : out2 ≡ writeFront (drawnDue s b referenceChoice .text) out
       output-due =
           ran .output-left
-          ∙ ap (λ (o : Option Refusal). unless o out (writeFront (drawnDue s b .text) out)) table-same
-          ∙ passes-in (λ o. unless o out (writeFront (drawnDue s b .text) out))
+          ∙ ap (λ (o : Option Refusal). unless o out (writeFront (drawnDue s b referenceChoice .text) out)) table-same
+          ∙ passes-in (λ o. unless o out (writeFront (drawnDue s b referenceChoice .text) out))
 
-      text-due : take (bytes .0) out2 ≡ drawnDue s b .text
-      text-due = ap (take (bytes .0)) output-due ∙ take-at (drawnDue s b .text) (drop textDue out) (bytes .0) (sym bytes-due)
+      text-due : take (bytes .0) out2 ≡ drawnDue s b referenceChoice .text
+      text-due = ap (take (bytes .0)) output-due ∙ take-at (drawnDue s b referenceChoice .text) (drop textDue out) (bytes .0) (sym bytes-due)
 
-      wrapped-due : occurs 1 marks2 ≡ occurs 1 (drawnDue s b .marks)
+      wrapped-due : occurs 1 marks2 ≡ occurs 1 (drawnDue s b referenceChoice .marks)
       wrapped-due =
-          let m = drawnDue s b .marks in
+          let m = drawnDue s b referenceChoice .marks in
           ap (occurs 1)
           (ran .marks-left
           ∙ ap (λ (o : Option Refusal). unless o marks (writeFront m marks)) table-same
@@ -174,7 +174,7 @@ module _ (s b : List ℕ) where
       module _ (d : Document) (a : Accepts s b d) where
         pub text-inside : bytes .0 ≤ length out2
         text-inside =
-            let l = ap length output-due ∙ length-append (drawnDue s b .text) (drop textDue out) in
+            let l = ap length output-due ∙ length-append (drawnDue s b referenceChoice .text) (drop textDue out) in
             omega (arith, bytes-due)
 
         pub left-fits : left ≤ d .comments

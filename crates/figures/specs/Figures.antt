@@ -7,7 +7,7 @@ use lib.Dec.{eqb}
 use lib.ListN.{length}
 use Rattle.comments.specs.Listed.{commentsOf}
 use Rattle.refusals.specs.Refusals.{Refusal, first}
-use Rattle.plain_run.specs.File.{built, drawnDue, columnDue, fileRefusal}
+use Rattle.plain_run.specs.File.{referenceChoice, built, drawnDue, columnDue, fileRefusal}
 use Rattle.tallies.specs.declared.Figures.{Figures}
 use Rattle.tallies.specs.declared.Tallies.{Tallies}
 use Rattle.tallies.specs.declared.Fraction.{Fraction}
@@ -29,18 +29,18 @@ occurs x (y ∷ ys) = cond (eqb x y) (suc (occurs x ys)) (occurs x ys)
 -- what `fmt_parsed` builds and `Renderer` makes of it
 abbrev pub figuresOf : List ℕ → List ℕ → Figures
 figuresOf s b = record {
-  bytes = length (drawnDue s b .text);
-  newlines = occurs 0x0A (drawnDue s b .text);
-  column = columnDue s b;
+  bytes = length (drawnDue s b referenceChoice .text);
+  newlines = occurs 0x0A (drawnDue s b referenceChoice .text);
+  column = columnDue s b referenceChoice;
   given = built s b .taken;
-  wrapped = occurs 1 (drawnDue s b .marks);
+  wrapped = occurs 1 (drawnDue s b referenceChoice .marks);
   placed = built s b .placed;
   left = length (commentsOf b) - built s b .placed;
 }
 
 -- 14 "after all of 01's"
 abbrev pub countRefusal : List ℕ → List ℕ → Tallies → Option Refusal
-countRefusal s b t = first (fileRefusal s b FILE-OUTPUT ∷ tallyRefusal t ∷ [])
+countRefusal s b t = first (fileRefusal s b referenceChoice FILE-OUTPUT ∷ tallyRefusal t ∷ [])
 
 -- the answer: the file's figures, the new tallies, and wrapped over given of all; or number and place
 pub data CountAnswer : Type 0 where

@@ -7,7 +7,7 @@ use Prim.Native.Nat.{ℕ, _≤_}
 use lib.ListN.{length}
 use Rattle.refusals.specs.Refusals.{unless}
 use Rattle.cut_rule.specs.Callers.{afterAll, AllKept}
-use Rattle.plain_run.specs.File.{fileRefusal}
+use Rattle.plain_run.specs.File.{referenceChoice, fileRefusal}
 use Rattle.plain_run.specs.FileLimits.{AreBytes}
 use Rattle.tallies.specs.declared.Figures.{Figures}
 use Rattle.tallies.specs.declared.Tallies.{Tallies}
@@ -24,7 +24,7 @@ pub record File : Type 0 where
 
 -- what a file gives by itself: its figures, or none where document 01 refuses it
 abbrev pub figuresIn : File → Option Figures
-figuresIn x = unless (fileRefusal (x .source) (x .image) FILE-OUTPUT) none (some (figuresOf (x .source) (x .image)))
+figuresIn x = unless (fileRefusal (x .source) (x .image) referenceChoice FILE-OUTPUT) none (some (figuresOf (x .source) (x .image)))
 
 -- ---- a caller that holds the tallies
 -- a file that was counted, and the answer

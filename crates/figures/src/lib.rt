@@ -7,7 +7,9 @@ ghost use Rattle.layout_call.specs.Steps.{Accepts};
 ghost use Rattle.tallies.specs.Tallies.{Within, tallyRefusal};
 ghost use Rattle.figures.specs.Figures.{FILE-OUTPUT, countAnswerBy, countAnswer, countedAnswer};
 use crate::occurrences::occurrences;
+use file::FileChoice;
 use file::FileRun;
+use file::REFERENCE_WIDTH;
 use file::marks;
 use file::rows as no_rows;
 use file::run_file;
@@ -64,7 +66,10 @@ fn count_accepted(source: &[u8], image: &[u8], doc: Document, t: Tallies) -> Cou
     let mut store = no_rows();
     let mut used = marks();
     let mut out = output();
-    match run_file(source, image, &mut store, &mut used, &mut out, doc) {
+    let choice = FileChoice {
+        width: REFERENCE_WIDTH,
+    };
+    match run_file(source, image, &mut store, &mut used, &mut out, doc, choice) {
         FileRun::Refused(number, place) => Counted::Refused(number, place),
         FileRun::Text {
             bytes,

@@ -11,7 +11,7 @@ use lib.Seq.{take-all}
 use borrow.Author.Tests.{le-leb, lt-leb}
 use Rattle.image.specs.Bytes.{be32}
 use Rattle.refusals.specs.Refusals.{Refusal, unless, refuseIf}
-use Rattle.plain_run.specs.File.{fileOutput, fileAnswerBy, fileAnswer}
+use Rattle.plain_run.specs.File.{referenceChoice, fileOutput, fileAnswerBy, fileAnswer}
 use Rattle.file.specs.Whole.{Formats, sourceOf, imageOf, frameFits, frameRefusal, FormatsFrame}
 use Rattle.file.specs.declared.Formatted.{Formatted}
 use Rattle.file.specs.declared.Formatted.the-variants as answer
@@ -22,8 +22,8 @@ module _ (frame out : List ℕ) where
   stopped e =
       let r : frameRefusal frame ≡ some (record { number = 13; place = 0 }) = ap (λ (x : Bool). refuseIf (not x) 13 0) e in
       record {
-        answer = sym (ap (λ (x : Option Refusal). fileAnswerBy x (fileAnswer (sourceOf frame) (imageOf frame) (length out))) r);
-        output-left = sym (ap (λ (x : Option Refusal). unless x out (fileOutput (sourceOf frame) (imageOf frame) out)) r);
+        answer = sym (ap (λ (x : Option Refusal). fileAnswerBy x (fileAnswer (sourceOf frame) (imageOf frame) referenceChoice (length out))) r);
+        output-left = sym (ap (λ (x : Option Refusal). unless x out (fileOutput (sourceOf frame) (imageOf frame) referenceChoice out)) r);
       }
 
   pub too-long : 32768 < length frame → FormatsFrame frame out (answer.Refused 13 0) out
@@ -40,7 +40,7 @@ module _ (frame out : List ℕ) where
           (rw (le-leb (length frame) 32768 h, le-leb 4 (length frame) k, lt-leb (4 + be32 frame 0) (length frame) (omega (arith, e))))
 
       -- ---- the run of its file
-      runs : n ≤ length frame - 4 → (r : Formatted) (out2 : List ℕ) → Formats (sourceOf frame) (imageOf frame) out r out2
+      runs : n ≤ length frame - 4 → (r : Formatted) (out2 : List ℕ) → Formats (sourceOf frame) (imageOf frame) referenceChoice out r out2
           → FormatsFrame frame out r out2
       runs l r out2 f =
           let fits : frameFits frame ≡ true =
@@ -49,13 +49,13 @@ module _ (frame out : List ℕ) where
           let p : frameRefusal frame ≡ none = ap (λ (x : Bool). refuseIf (not x) 13 0) fits in
           record {
             answer =
-                f .answer ∙ sym (ap (λ (x : Option Refusal). fileAnswerBy x (fileAnswer (sourceOf frame) (imageOf frame) (length out))) p);
-            output-left = f .output-left ∙ sym (ap (λ (x : Option Refusal). unless x out (fileOutput (sourceOf frame) (imageOf frame) out)) p);
+                f .answer ∙ sym (ap (λ (x : Option Refusal). fileAnswerBy x (fileAnswer (sourceOf frame) (imageOf frame) referenceChoice (length out))) p);
+            output-left = f .output-left ∙ sym (ap (λ (x : Option Refusal). unless x out (fileOutput (sourceOf frame) (imageOf frame) referenceChoice out)) p);
           }
 
       -- the parts of the frame are its source and its image
       pub runs-parts : n ≤ length frame - 4 → (r : Formatted) (out2 : List ℕ)
-          → Formats (take (4 + n - 4) (drop 4 frame)) (take (length frame - (4 + n)) (drop (4 + n) frame)) out r out2
+          → Formats (take (4 + n - 4) (drop 4 frame)) (take (length frame - (4 + n)) (drop (4 + n) frame)) referenceChoice out r out2
           → FormatsFrame frame out r out2
       runs-parts l r out2 f =
           let source : take (4 + n - 4) (drop 4 frame) ≡ sourceOf frame =
@@ -65,4 +65,4 @@ module _ (frame out : List ℕ) where
           let image : take (length frame - (4 + n)) (drop (4 + n) frame) ≡ imageOf frame =
           take-all (length frame - (4 + n)) (drop (4 + n) frame) (omega (arith, length-drop (4 + n) frame)) ∙ ap (λ (k : ℕ). drop (4 + k) frame) e
           in
-          runs l r out2 (subst₂ (λ (x y : List ℕ). Formats x y out r out2) source image f)
+          runs l r out2 (subst₂ (λ (x y : List ℕ). Formats x y referenceChoice out r out2) source image f)

@@ -1,10 +1,12 @@
 -- From what the calls ensure to what the file's run answers and leaves.
 -- Assumes nothing.
 use mathlib.Core.Path.{_≡_, sym, ap, ap₂, _∙_}
-use mathlib.Core.Option.{Option, some}
+use mathlib.Core.Bool.{Bool, true, false, not}
+use mathlib.Core.Option.{Option, none, some}
 use mathlib.Core.List.{List, [], _∷_}
 use Prim.Native.Nat.{ℕ, _-_}
 use native.Mathlib.Omega.{arith}
+use borrow.Author.Tests.{not-true, not-false}
 use lib.Dec.{ltb}
 use lib.ListN.{length, take}
 use Rattle.image.specs.Read.{readAll, answerOf}
@@ -13,19 +15,19 @@ use Rattle.rows.specs.Rows.{rows}
 use Rattle.rows.specs.declared.units.Bytes.{Bytes}
 use Rattle.rows.specs.declared.units.Columns.{Columns}
 use Rattle.comments.specs.Listed.{commentsOf}
-use Rattle.refusals.specs.Refusals.{Refusal, unless, first, refuseIf}
+use Rattle.refusals.specs.Refusals.{Refusal, unless, first, refuseIf, any}
 use Rattle.cut_rule.specs.Run.{Answer, refused, laidOut, written, answerBy, writeFront}
 use Rattle.cut_rule.specs.Entries.{layoutAnswer, layoutStore, renderAnswer, renderMarks, renderOutput}
 use Rattle.cut_rule.specs.States as states
 use Rattle.cut_rule.specs.Tests as tests
 use Rattle.cut_rule.specs.Rules as rules
 use Rattle.cut_rule.specs.States.{layoutFresh, renderFresh}
-use Rattle.cut_rule.specs.Parts.{withCleared, beforeMarks}
+use Rattle.cut_rule.specs.Parts.{withCleared, widthLine, beforeMarks}
 use Rattle.cut_rule.proofs.Answers.{refused-told, LaidTold, laid-told, written-told}
 use Rattle.plain_run.specs.Parts.{partsOf, widestDrawn}
 use Rattle.plain_run.specs.Demands.{rulesOf, closingAt}
-use Rattle.plain_run.specs.File.{fileRows, fileMarks, built, rowsDue, marksDue, drawnDue, columnDue, laidRefusal, refusalIn, fileRefusal, formatted, fileAnswerBy, storeLeft, marksLeft, outputLeft}
-use Rattle.plain_run.proofs.Refused.{read-refused}
+use Rattle.plain_run.specs.File.{FileChoice, renderChoice, fileRows, fileMarks, built, rowsDue, marksDue, drawnDue, columnDue, laidRefusal, refusalIn, fileRefusal, formatted, fileAnswerBy, storeLeft, marksLeft, outputLeft}
+use Rattle.plain_run.proofs.Refused.{read-refused, read-accepted}
 use Rattle.plain_run.proofs.File.{stateDue, renderedDue, layout-answer-due, layout-store-due, render-early-due, render-answer-due, render-marks-due, render-output-due, render-widest-due}
 use Rattle.layout_call.specs.Calls as layouts
 use Rattle.layout_call.specs.Steps.{declared}
@@ -50,20 +52,20 @@ use Rattle.file.specs.declared.FileRun.the-variants as run
 abbrev at : ℕ → ℕ → Refusal
 at n p = record { number = n; place = p }
 
-module _ (s b : List ℕ) where
+module _ (s b : List ℕ) (c : FileChoice) where
   abbrev leftDue : ℕ
   leftDue = length (commentsOf b) - built s b .placed
 
   abbrev textDue : ℕ
-  textDue = length (drawnDue s b .text)
+  textDue = length (drawnDue s b c .text)
 
   -- ---- 1 to 7
-  pub check-refused : (out : List ℕ) (n p : ℕ) → answerOf (readAll s b) ≡ checked.Refused n p → Formats s b out (answer.Refused n p) out
+  pub check-refused : (out : List ℕ) (n p : ℕ) → answerOf (readAll s b) ≡ checked.Refused n p → Formats s b c out (answer.Refused n p) out
   check-refused out n p e =
-      let r : fileRefusal s b (length out) ≡ some (at n p) =
+      let r : fileRefusal s b c (length out) ≡ some (at n p) =
       ap (λ (x : Option Refusal).
       first
-      (first (x ∷ refuseIf (ltb fileRows (rowsDue s b)) 8 (rowsDue s b) ∷ [])
+      (first (x ∷ widthLine (renderChoice c) renderFresh ∷ refuseIf (ltb fileRows (rowsDue s b)) 8 (rowsDue s b) ∷ [])
       ∷ refuseIf (ltb fileMarks (marksDue s b)) 9 (marksDue s b)
       ∷ refuseIf (ltb (length out) textDue) 10 textDue
       ∷ []))
@@ -71,13 +73,13 @@ module _ (s b : List ℕ) where
       in
       record {
         answer = sym (ap (λ (x : Option Refusal). fileAnswerBy x (formatted textDue leftDue (rowsDue s b) (built s b .taken))) r);
-        output-left = sym (ap (λ (x : Option Refusal). unless x out (writeFront (drawnDue s b .text) out)) r);
+        output-left = sym (ap (λ (x : Option Refusal). unless x out (writeFront (drawnDue s b c .text) out)) r);
       }
 
   -- ---- the two calls
   module _ (store marks out : List ℕ) where
     -- a refusal of layout is one of the run
-    first-refused : (r : Refusal) → laidRefusal s b (tests.rowsIn store) ≡ some r → refusalIn s b (tests.rowsIn store) (length marks) (length out) ≡ some r
+    first-refused : (r : Refusal) → laidRefusal s b c (tests.rowsIn store) ≡ some r → refusalIn s b c (tests.rowsIn store) (length marks) (length out) ≡ some r
     first-refused r e =
         ap (λ (x : Option Refusal).
         first (x ∷ refuseIf (ltb (length marks) (marksDue s b)) 9 (marksDue s b) ∷ refuseIf (ltb (length out) textDue) 10 textDue ∷ []))
@@ -85,116 +87,132 @@ module _ (s b : List ℕ) where
 
     -- rows and marks as many as a whole file has: its run
     pub runs-whole : tests.rowsIn store ≡ fileRows → length marks ≡ fileMarks → (r : FileRun) (store2 marks2 out2 : List ℕ)
-        → RunsFile s b store marks out r store2 marks2 out2
+        → RunsFile s b c store marks out r store2 marks2 out2
         → (a : Formatted)
         → a ≡ formattedOf r
-        → Formats s b out a out2
+        → Formats s b c out a out2
     runs-whole rowed marked r store2 marks2 out2 f a e =
-        let table-same : refusalIn s b (tests.rowsIn store) (length marks) (length out) ≡ fileRefusal s b (length out) =
-        ap₂ (λ (x y : ℕ). refusalIn s b x y (length out)) rowed marked
+        let table-same : refusalIn s b c (tests.rowsIn store) (length marks) (length out) ≡ fileRefusal s b c (length out) =
+        ap₂ (λ (x y : ℕ). refusalIn s b c x y (length out)) rowed marked
         in
         record {
           answer = ap formattedAnswer e ∙ f .answer ∙ ap (λ (x : Option Refusal). fileAnswerBy x (formatted textDue leftDue (rowsDue s b) (built s b .taken))) table-same;
-          output-left = f .output-left ∙ ap (λ (x : Option Refusal). unless x out (writeFront (drawnDue s b .text) out)) table-same;
+          output-left = f .output-left ∙ ap (λ (x : Option Refusal). unless x out (writeFront (drawnDue s b c .text) out)) table-same;
         }
 
     -- refused by the layout call, or before it
-    laid-refused : (n p : ℕ) (store2 : List ℕ) → laidRefusal s b (tests.rowsIn store) ≡ some (at n p) → store2 ≡ storeLeft s b store
-        → RunsFile s b store marks out (run.Refused n p) store2 marks out
+    laid-refused : (n p : ℕ) (store2 : List ℕ) → laidRefusal s b c (tests.rowsIn store) ≡ some (at n p) → store2 ≡ storeLeft s b c store
+        → RunsFile s b c store marks out (run.Refused n p) store2 marks out
     laid-refused n p store2 e h =
         let r = first-refused (at n p) e in
         record {
           answer = sym (ap (λ (x : Option Refusal). fileAnswerBy x (formatted textDue leftDue (rowsDue s b) (built s b .taken))) r);
-          widest = sym (ap (λ (x : Option Refusal). unless x 0 (columnDue s b)) r);
+          widest = sym (ap (λ (x : Option Refusal). unless x 0 (columnDue s b c)) r);
           store-left = h;
-          marks-left = sym (ap (λ (x : Option Refusal). unless x marks (writeFront (drawnDue s b .marks) marks)) r);
-          output-left = sym (ap (λ (x : Option Refusal). unless x out (writeFront (drawnDue s b .text) out)) r);
+          marks-left = sym (ap (λ (x : Option Refusal). unless x marks (writeFront (drawnDue s b c .marks) marks)) r);
+          output-left = sym (ap (λ (x : Option Refusal). unless x out (writeFront (drawnDue s b c .text) out)) r);
         }
 
-    -- ---- the layout call
-    module _ (state : LayoutState) (q : LayoutArgs) (r : Laying) (store2 : List ℕ) (fresh : layouts.toState state ≡ layoutFresh)
+    -- ---- 15
+    pub width-refused : (n tree : ℕ) (x : Bool) → answerOf (readAll s b) ≡ checked.Accepted n tree → x ≡ not (any (tests.widthTests (c .width) 0))
+        → not x ≡ true
+        → RunsFile s b c store marks out (run.Refused 15 0) store marks out
+    width-refused n tree x e f h =
+        let t : any (tests.widthTests (c .width) 0) ≡ true = not-false (any (tests.widthTests (c .width) 0)) (sym f ∙ not-true x h) in
+        let r : laidRefusal s b c (tests.rowsIn store) ≡ some (at 15 0) =
+        ap₂ (λ (y : Option Refusal) (z : Bool). first (y ∷ refuseIf z 15 0 ∷ refuseIf (ltb (tests.rowsIn store) (rowsDue s b)) 8 (rowsDue s b) ∷ []))
+        (read-accepted (readAll s b) n tree e)
+        t
+        in
+        laid-refused 15 0 store r (sym (ap (λ (y : Option Refusal). unless y store (writeFront (rows (built s b .nodes) 0) store)) r))
+
+    -- ---- the layout call, where 15 does not refuse
+    module _ (x : Bool) (fits : x ≡ not (any (tests.widthTests (c .width) 0))) (passed : not x ≡ false) (state : LayoutState) (q : LayoutArgs) (r : Laying) (store2 : List ℕ) (fresh : layouts.toState state ≡ layoutFresh)
         (all : layouts.toArgs q ≡ closingAt (length (declared s b))) (call : LayoutCalled s b state q store r store2) where
-      layout-answer : layouts.layingAnswer s b r ≡ answerBy (rulesOf s b) (laidRefusal s b (tests.rowsIn store)) (laidOut (stateDue s b) leftDue)
+      legal : widthLine (renderChoice c) renderFresh ≡ none
+      legal = ap (λ (t : Bool). refuseIf t 15 0) (not-true (any (tests.widthTests (c .width) 0)) (sym fits ∙ not-false x passed))
+
+      layout-answer : layouts.layingAnswer s b r ≡ answerBy (rulesOf s b) (laidRefusal s b c (tests.rowsIn store)) (laidOut (stateDue s b) leftDue)
       layout-answer =
           call .answer
           ∙ ap₂ (λ (t : states.LayoutState) (x : rules.LayoutArgs states.LayoutChoice). layoutAnswer (rulesOf s b) x t store) fresh all
-          ∙ layout-answer-due s b store
+          ∙ layout-answer-due s b c legal store
 
-      layout-left : store2 ≡ storeLeft s b store
+      layout-left : store2 ≡ storeLeft s b c store
       layout-left =
           call .store-left
           ∙ ap₂ (λ (t : states.LayoutState) (x : rules.LayoutArgs states.LayoutChoice). layoutStore (rulesOf s b) x t store) fresh all
-          ∙ layout-store-due s b store
+          ∙ layout-store-due s b c legal store
 
       never-laid : (x : Refusal) (t : states.LayoutState) (l : ℕ) → _≡_ {A = Answer (rulesOf s b)} (refused x) (laidOut t l) → ⊥
       never-laid x t l e = let z : _≡_ {A = ℕ} 0 1 = cc in omega arith
 
-      pub layout-refused : (n p : ℕ) → r ≡ laying.Refused n p → RunsFile s b store marks out (run.Refused n p) store2 marks out
+      pub layout-refused : (n p : ℕ) → r ≡ laying.Refused n p → RunsFile s b c store marks out (run.Refused n p) store2 marks out
       layout-refused n p e =
           laid-refused n p store2
-          (refused-told (rulesOf s b) (laidRefusal s b (tests.rowsIn store)) (laidOut (stateDue s b) leftDue) (at n p) (ap (layouts.layingAnswer s b) (sym e) ∙ layout-answer)
+          (refused-told (rulesOf s b) (laidRefusal s b c (tests.rowsIn store)) (laidOut (stateDue s b) leftDue) (at n p) (ap (layouts.layingAnswer s b) (sym e) ∙ layout-answer)
           (never-laid (at n p) (stateDue s b) leftDue))
           layout-left
 
       -- ---- the rendering call
       module _ (t : LayoutState) (left : ℕ) (is : r ≡ laying.Laid t left) (pen : RenderState) (blank : renders.toState pen ≡ renderFresh) where
-        told : LaidTold (rulesOf s b) (laidRefusal s b (tests.rowsIn store)) (layouts.toState t) left (stateDue s b) leftDue
-        told = laid-told (rulesOf s b) (laidRefusal s b (tests.rowsIn store)) (layouts.toState t) left (stateDue s b) leftDue (ap (layouts.layingAnswer s b) (sym is) ∙ layout-answer)
+        told : LaidTold (rulesOf s b) (laidRefusal s b c (tests.rowsIn store)) (layouts.toState t) left (stateDue s b) leftDue
+        told = laid-told (rulesOf s b) (laidRefusal s b c (tests.rowsIn store)) (layouts.toState t) left (stateDue s b) leftDue (ap (layouts.layingAnswer s b) (sym is) ∙ layout-answer)
 
         to-row : t .row ≡ rowsDue s b
         to-row = ap (λ (x : states.LayoutState). x .cursor .row) (told .state)
 
         -- what the call had is what is due
         same : {A : Type 0} (f : states.RenderState → RenderArgs → List ℕ → A)
-            → f (renders.toState pen) (record { stop = t .row }) store2 ≡ f renderFresh (record { stop = rowsDue s b }) (storeLeft s b store)
-        same f = λ i. f (blank i) (record { stop = to-row i }) (layout-left i)
+            → f (renders.toState pen) (record { stop = t .row; width = c .width }) store2 ≡ f renderFresh (record { stop = rowsDue s b; width = c .width }) (storeLeft s b c store)
+        same f = λ i. f (blank i) (record { stop = to-row i; width = c .width }) (layout-left i)
 
         -- the rows that the layout call leaves are right
-        pub drawn-starts : Checked s b pen (record { stop = t .row }) store2 marks
+        pub drawn-starts : Checked s b pen (record { stop = t .row; width = c .width }) store2 marks
         drawn-starts = record {
           passes =
               same (λ x q rows. first (beforeMarks (partsOf s b) (renders.toArgs q 0) x rows marks))
-              ∙ render-early-due s b store marks [] (told .passes);
+              ∙ render-early-due s b c legal store marks [] (told .passes);
         }
 
-        module _ (o : Drawing) (store3 marks2 out2 : List ℕ) (drew : Draws s b pen (record { stop = t .row }) store2 marks out o store3 marks2 out2) where
-          drawn-answer : renders.renderingAnswer s b (renders.renderingOf o) ≡ answerBy (rulesOf s b) (refusalIn s b (tests.rowsIn store) (length marks) (length out)) (written (renderedDue s b) textDue)
+        module _ (o : Drawing) (store3 marks2 out2 : List ℕ) (drew : Draws s b pen (record { stop = t .row; width = c .width }) store2 marks out o store3 marks2 out2) where
+          drawn-answer : renders.renderingAnswer s b (renders.renderingOf o) ≡ answerBy (rulesOf s b) (refusalIn s b c (tests.rowsIn store) (length marks) (length out)) (written (renderedDue s b c legal) textDue)
           drawn-answer =
               drew .called .answer
               ∙ same (λ x q rows. renderAnswer (rulesOf s b) (renders.toArgs q (length out)) x rows marks)
-              ∙ render-answer-due s b store marks out (told .passes)
+              ∙ render-answer-due s b c legal store marks out (told .passes)
 
-          store-same : store3 ≡ storeLeft s b store
+          store-same : store3 ≡ storeLeft s b c store
           store-same = drew .called .store-left ∙ layout-left
 
-          marks-same : marks2 ≡ marksLeft s b store marks out
+          marks-same : marks2 ≡ marksLeft s b c store marks out
           marks-same =
               drew .called .marks-left
               ∙ same (λ x q rows. renderMarks (rulesOf s b) (renders.toArgs q (length out)) x rows marks)
-              ∙ render-marks-due s b store marks out (told .passes)
+              ∙ render-marks-due s b c legal store marks out (told .passes)
 
-          output-same : out2 ≡ outputLeft s b store marks out
+          output-same : out2 ≡ outputLeft s b c store marks out
           output-same =
               drew .called .output-left
               ∙ same (λ x q rows. renderOutput (rulesOf s b) (renders.toArgs q (length out)) x rows marks out)
-              ∙ render-output-due s b store marks out (told .passes)
+              ∙ render-output-due s b c legal store marks out (told .passes)
 
-          widest-same : renders.widestOf o ≡ unless (refusalIn s b (tests.rowsIn store) (length marks) (length out)) 0 (columnDue s b)
+          widest-same : renders.widestOf o ≡ unless (refusalIn s b c (tests.rowsIn store) (length marks) (length out)) 0 (columnDue s b c)
           widest-same =
               drew .widest
               ∙ same (λ x q rows.
               unless (rulesOf s b .render-refusal (renders.toArgs q (length out)) x rows marks) 0
-              (widestDrawn s b (x .pen) (withCleared (partsOf s b) (take (x .in-use) marks) (partsOf s b .needed rows (x .row) (q .stop))) rows (x .row) (q .stop)))
-              ∙ render-widest-due s b store marks out (told .passes)
+              (widestDrawn s b (q .width) (x .pen) (withCleared (partsOf s b) (take (x .in-use) marks) (partsOf s b .needed rows (x .row) (q .stop))) rows (x .row) (q .stop)))
+              ∙ render-widest-due s b c legal store marks out (told .passes)
 
           never-written : (x : Refusal) (u : states.RenderState) (l : ℕ) → _≡_ {A = Answer (rulesOf s b)} (refused x) (written u l) → ⊥
           never-written x u l e = let z : _≡_ {A = ℕ} 0 1 = cc in omega arith
 
-          pub drawn-refused : (n p : ℕ) → o ≡ drawing.Refused n p → RunsFile s b store marks out (run.Refused n p) store3 marks2 out2
+          pub drawn-refused : (n p : ℕ) → o ≡ drawing.Refused n p → RunsFile s b c store marks out (run.Refused n p) store3 marks2 out2
           drawn-refused n p e =
-              let r : refusalIn s b (tests.rowsIn store) (length marks) (length out) ≡ some (at n p) =
-              refused-told (rulesOf s b) (refusalIn s b (tests.rowsIn store) (length marks) (length out)) (written (renderedDue s b) textDue) (at n p) (ap (λ (x : Drawing). renders.renderingAnswer s b (renders.renderingOf x)) (sym e) ∙ drawn-answer)
-              (never-written (at n p) (renderedDue s b) textDue)
+              let r : refusalIn s b c (tests.rowsIn store) (length marks) (length out) ≡ some (at n p) =
+              refused-told (rulesOf s b) (refusalIn s b c (tests.rowsIn store) (length marks) (length out)) (written (renderedDue s b c legal) textDue) (at n p) (ap (λ (x : Drawing). renders.renderingAnswer s b (renders.renderingOf x)) (sym e) ∙ drawn-answer)
+              (never-written (at n p) (renderedDue s b c legal) textDue)
               in
               record {
                 answer = sym (ap (λ (x : Option Refusal). fileAnswerBy x (formatted textDue leftDue (rowsDue s b) (built s b .taken))) r);
@@ -205,9 +223,9 @@ module _ (s b : List ℕ) where
               }
 
           pub drawn-formats : (u : RenderState) (bytes : Bytes) (widest : Columns) → o ≡ drawing.Drawn u bytes widest
-              → RunsFile s b store marks out (run.Text bytes left (t .row) (t .number) widest) store3 marks2 out2
+              → RunsFile s b c store marks out (run.Text bytes left (t .row) (t .number) widest) store3 marks2 out2
           drawn-formats u bytes widest e =
-              let w = written-told (rulesOf s b) (refusalIn s b (tests.rowsIn store) (length marks) (length out)) (renders.toState u) (bytes .0) (renderedDue s b) textDue
+              let w = written-told (rulesOf s b) (refusalIn s b c (tests.rowsIn store) (length marks) (length out)) (renders.toState u) (bytes .0) (renderedDue s b c legal) textDue
               (ap (λ (x : Drawing). renders.renderingAnswer s b (renders.renderingOf x)) (sym e) ∙ drawn-answer)
               in
               let number : t .number ≡ built s b .taken = ap (λ (x : states.LayoutState). x .cursor .number) (told .state) in

@@ -10,11 +10,17 @@ use lib.ListN.{length, take, drop}
 use Rattle.image.specs.Bytes.{be32}
 use Rattle.refusals.specs.Refusals.{Refusal, unless, refuseIf}
 use Rattle.cut_rule.specs.Tests.{rowsIn}
-use Rattle.plain_run.specs.File.{FileAnswer, refused, formatted, fileAnswerBy, answerIn, fileAnswer, fileOutput, columnDue, refusalIn, storeLeft, marksLeft, outputLeft}
+use Rattle.plain_run.specs.File as plain
+use Rattle.plain_run.specs.File.{FileAnswer, refused, formatted, referenceChoice, fileAnswerBy, answerIn, fileAnswer, fileOutput, columnDue, refusalIn, storeLeft, marksLeft, outputLeft}
+use Rattle.file.specs.declared.FileChoice.{FileChoice}
 use Rattle.file.specs.declared.Formatted.{Formatted}
 use Rattle.file.specs.declared.Formatted.the-variants as answer
 use Rattle.file.specs.declared.FileRun.{FileRun}
 use Rattle.file.specs.declared.FileRun.the-variants as run
+
+-- "other entries over whole files take their caller's choice"
+abbrev pub toChoice : FileChoice → plain.FileChoice
+toChoice c = record { width = c .width }
 
 -- An answer, case by case: the bytes written, the comments left, the rows and the group numbers; "Number and place are all that comes back."
 abbrev pub formattedAnswer : Formatted → FileAnswer
@@ -30,18 +36,18 @@ abbrev pub widestOf : FileRun → ℕ
 widestOf (run.Text bytes left rows numbers widest) = widest .0
 widestOf (run.Refused n p) = 0
 
--- the answer with the greatest column, and store, marks and output at exit, for one source and image
-pub record RunsFile (source image store marks out : List ℕ) (r : FileRun) (store2 marks2 out2 : List ℕ) : Type 0 where
-  pub answer : formattedAnswer (formattedOf r) ≡ answerIn source image (rowsIn store) (length marks) (length out)
-  pub widest : widestOf r ≡ unless (refusalIn source image (rowsIn store) (length marks) (length out)) 0 (columnDue source image)
-  pub store-left : store2 ≡ storeLeft source image store
-  pub marks-left : marks2 ≡ marksLeft source image store marks out
-  pub output-left : out2 ≡ outputLeft source image store marks out
+-- the answer with the greatest column, and store, marks and output at exit, for one source and image and what the caller chose
+pub record RunsFile (source image : List ℕ) (choice : plain.FileChoice) (store marks out : List ℕ) (r : FileRun) (store2 marks2 out2 : List ℕ) : Type 0 where
+  pub answer : formattedAnswer (formattedOf r) ≡ answerIn source image choice (rowsIn store) (length marks) (length out)
+  pub widest : widestOf r ≡ unless (refusalIn source image choice (rowsIn store) (length marks) (length out)) 0 (columnDue source image choice)
+  pub store-left : store2 ≡ storeLeft source image choice store
+  pub marks-left : marks2 ≡ marksLeft source image choice store marks out
+  pub output-left : out2 ≡ outputLeft source image choice store marks out
 
--- the answer, and the output at exit, for one source and image, with rows and marks of its own
-pub record Formats (source image out : List ℕ) (r : Formatted) (out2 : List ℕ) : Type 0 where
-  pub answer : formattedAnswer r ≡ fileAnswer source image (length out)
-  pub output-left : out2 ≡ fileOutput source image out
+-- the answer, and the output at exit, for one source and image and what the caller chose, with rows and marks of its own
+pub record Formats (source image : List ℕ) (choice : plain.FileChoice) (out : List ℕ) (r : Formatted) (out2 : List ℕ) : Type 0 where
+  pub answer : formattedAnswer r ≡ fileAnswer source image choice (length out)
+  pub output-left : out2 ≡ fileOutput source image choice out
 
 -- a frame: "four bytes source length, source, image"
 abbrev pub sourceOf : List ℕ → List ℕ
@@ -58,12 +64,12 @@ frameFits frame = leb (length frame) 32768 && leb 4 (length frame) && leb (4 + b
 abbrev pub frameRefusal : List ℕ → Option Refusal
 frameRefusal frame = refuseIf (not (frameFits frame)) 13 0
 
--- the answer, and the output at exit, for one frame
+-- the answer, and the output at exit, for one frame: "The program .. keep 80"
 abbrev pub frameAnswer : List ℕ → ℕ → FileAnswer
-frameAnswer frame room = fileAnswerBy (frameRefusal frame) (fileAnswer (sourceOf frame) (imageOf frame) room)
+frameAnswer frame room = fileAnswerBy (frameRefusal frame) (fileAnswer (sourceOf frame) (imageOf frame) referenceChoice room)
 
 abbrev pub frameOutput : List ℕ → List ℕ → List ℕ
-frameOutput frame out = unless (frameRefusal frame) out (fileOutput (sourceOf frame) (imageOf frame) out)
+frameOutput frame out = unless (frameRefusal frame) out (fileOutput (sourceOf frame) (imageOf frame) referenceChoice out)
 
 pub record FormatsFrame (frame out : List ℕ) (r : Formatted) (out2 : List ℕ) : Type 0 where
   pub answer : formattedAnswer r ≡ frameAnswer frame (length out)

@@ -8,7 +8,7 @@ ghost use Rattle.plain_run.specs.File.{fileRows, fileMarks};
 ghost use Rattle.layout_call.specs.Calls.{toState as laidState};
 ghost use Rattle.layout_call.specs.Steps.{Accepts};
 ghost use Rattle.render_call.specs.Calls.{toState as renderedState};
-ghost use Rattle.file.specs.Whole.{formattedOf, RunsFile, Formats, FormatsFrame};
+ghost use Rattle.file.specs.Whole.{toChoice, formattedOf, RunsFile, Formats, FormatsFrame};
 use image::Answer;
 use image::bytes::num32;
 use image::check;
@@ -22,6 +22,7 @@ use render_call::Drawing;
 use render_call::RenderArgs;
 use render_call::RenderState;
 use render_call::render_checked;
+use render_call::width::width_fits;
 use rows::places::PLACES;
 use rows::units::Bytes;
 use rows::units::Columns;
@@ -35,6 +36,14 @@ const ROWS: usize = 1800;
 pub const CELLS: usize = ROWS * PLACES;
 
 pub const MARKS: usize = 1800;
+
+// `max` of fmt.rs: the width that the program and the report choose.
+pub const REFERENCE_WIDTH: usize = 80;
+
+// What a caller chooses: the width.
+pub struct FileChoice {
+    pub width: usize,
+}
 
 pub enum Formatted {
     // the bytes written, the comments left, the rows and the group numbers
@@ -107,6 +116,7 @@ fn render_fresh() -> RenderState
         column: Columns(0),
         in_use: 0,
         row: 0,
+        width: 0,
     }
 }
 
@@ -132,10 +142,14 @@ pub fn run_file(
     marks: &mut [u8],
     out: &mut [u8],
     doc: Document,
+    choice: FileChoice,
 ) -> FileRun
     requires { ⌜ Accepts (now source) (now image) doc ⌝ }
-    ensures { λ r. ⌜ RunsFile (now (source .entry)) (now (image .entry)) (now (store .entry)) (now (marks .entry)) (now (out .entry)) r (now (store .exit)) (now (marks .exit)) (now (out .exit)) ⌝ }
+    ensures { λ r. ⌜ RunsFile (now (source .entry)) (now (image .entry)) (toChoice choice) (now (store .entry)) (now (marks .entry)) (now (out .entry)) r (now (store .exit)) (now (marks .exit)) (now (out .exit)) ⌝ }
 {
+    if !width_fits(choice.width, 0) {
+        return FileRun::Refused(15, 0);
+    }
     let all = LayoutArgs {
         stop: count_declarations(source, image, doc),
         close: true,
@@ -143,7 +157,10 @@ pub fn run_file(
     match layout_accepted(source, image, store, doc, layout_fresh(), all) {
         Laying::Refused(number, place) => FileRun::Refused(number, place),
         Laying::Laid(state, left) => {
-            let to = RenderArgs { stop: state.row };
+            let to = RenderArgs {
+                stop: state.row,
+                width: choice.width,
+            };
             match render_checked(source, image, store, marks, out, render_fresh(), to) {
                 Drawing::Refused(number, place) => FileRun::Refused(number, place),
                 Drawing::Drawn(end, bytes, widest) => FileRun::Text {
@@ -159,19 +176,25 @@ pub fn run_file(
 }
 
 // A file that is accepted, with rows and marks of its own: the rows of a file that 9 or 10 refuses can't be taken back out of a lent store.
-fn format_accepted(source: &[u8], image: &[u8], out: &mut [u8], doc: Document) -> Formatted
+fn format_accepted(
+    source: &[u8],
+    image: &[u8],
+    out: &mut [u8],
+    doc: Document,
+    choice: FileChoice,
+) -> Formatted
     requires { ⌜ Accepts (now source) (now image) doc ⌝ }
-    ensures { λ r. ⌜ Formats (now (source .entry)) (now (image .entry)) (now (out .entry)) r (now (out .exit)) ⌝ }
+    ensures { λ r. ⌜ Formats (now (source .entry)) (now (image .entry)) (toChoice choice) (now (out .entry)) r (now (out .exit)) ⌝ }
 {
     let mut store = rows();
     let mut used = marks();
-    let r = run_file(source, image, &mut store, &mut used, out, doc);
+    let r = run_file(source, image, &mut store, &mut used, out, doc, choice);
     formatted_of(r)
 }
 
-// Formats a file, or refuses to and leaves the output as it was.
-pub fn format_file(source: &[u8], image: &[u8], out: &mut [u8]) -> Formatted
-    ensures { λ r. ⌜ Formats (now (source .entry)) (now (image .entry)) (now (out .entry)) r (now (out .exit)) ⌝ }
+// Formats a file as its caller chooses, or refuses to and leaves the output as it was.
+pub fn format_file(source: &[u8], image: &[u8], out: &mut [u8], choice: FileChoice) -> Formatted
+    ensures { λ r. ⌜ Formats (now (source .entry)) (now (image .entry)) (toChoice choice) (now (out .entry)) r (now (out .exit)) ⌝ }
 {
     match check(source, image) {
         Answer::Refused(number, place) => Formatted::Refused(number, place),
@@ -180,12 +203,12 @@ pub fn format_file(source: &[u8], image: &[u8], out: &mut [u8]) -> Formatted
                 comments: comments,
                 tree: tree,
             };
-            format_accepted(source, image, out, doc)
+            format_accepted(source, image, out, doc, choice)
         }
     }
 }
 
-// Formats the file of a frame: four bytes source length, source, image.
+// Formats the file of a frame, as the program does: four bytes source length, source, image.
 pub fn format_frame(frame: &[u8], out: &mut [u8]) -> Formatted
     ensures { λ r. ⌜ FormatsFrame (now (frame .entry)) (now (out .entry)) r (now (out .exit)) ⌝ }
 {
@@ -200,5 +223,8 @@ pub fn format_frame(frame: &[u8], out: &mut [u8]) -> Formatted
         return Formatted::Refused(13, 0);
     }
     let end = 4 + size;
-    format_file(&frame[4..end], &frame[end..], out)
+    let choice = FileChoice {
+        width: REFERENCE_WIDTH,
+    };
+    format_file(&frame[4..end], &frame[end..], out, choice)
 }

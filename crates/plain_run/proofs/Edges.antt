@@ -28,7 +28,7 @@ use Rattle.rows.specs.Texts.{originText}
 use Rattle.renderer_rules.specs.Page.{textBytes}
 use Rattle.renderer_rules.specs.Check.{reaches, partsFit, rowFits, firstWrong, wrongRow, placesFit, wrongPlace}
 use Rattle.marks.specs.Marks.{marksNeeded}
-use Rattle.plain_run.specs.Edges.{EdgesHold}
+use Rattle.plain_run.specs.Edges.{EdgesHold, WidthsHold}
 
 pub edges-hold : EdgesHold
 unfolding header commentFits commentsFrom commentList shape opens childrenAt skips recordAt treeAt readTree readImage sourceFits readAll be16 be32 rowOf
@@ -40,3 +40,12 @@ unfolding header commentFits commentsFrom commentList shape opens childrenAt ski
     opening typeExpr typeForm typeArgs pathRule pathMore exprWithPrecedence literalRule comments.nth comments.newlines comments.ignoreNewlines
     comments.popComment comments.popComments comments.popWhitespace comments.popTrailingComment
 edges-hold = refl
+
+pub widths-hold : WidthsHold
+unfolding header sourceFits be32 mustWrap mustWraps width widths size sizes rowsOf rows viewOf nodeOf decode nodesAt pushStr atColumn newLine margin text
+    virtualColumn insert wraps groupWraps renderNode renderNodes originText textBytes reaches partsFit rowFits firstWrong wrongRow placesFit wrongPlace marksNeeded
+widths-hold = record {
+  least = record { stays = refl; wraps = refl };
+  print-shop = record { stays = refl; wraps = refl };
+  most = record { stays = refl; wraps = refl };
+}

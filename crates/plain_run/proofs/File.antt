@@ -1,5 +1,5 @@
 -- A whole file laid out and rendered by two calls from fresh. 12 refuses neither call, and 11 finds nothing wrong with the rows that the first
--- call leaves.
+-- call leaves. Where 15 refuses the width, neither is made.
 -- Assumes nothing.
 use mathlib.Core.Path.{_≡_, refl, sym, ap, ap₂, subst₂, _∙_}
 use mathlib.Core.Bool.{Bool, true, false}
@@ -26,17 +26,17 @@ use Rattle.comments.specs.Listed.{commentsOf}
 use Rattle.renderer_rules.specs.Check.{wrongPlace}
 use Rattle.renderer_rules.specs.Widest.{greatestColumn}
 use Rattle.refusals.specs.Refusals.{Refusal, unless, first, refuseIf, refuseAt, any}
-use Rattle.refusals.proofs.Groups.{none-both}
+use Rattle.refusals.proofs.Groups.{none-both, passes-line}
 use Rattle.cut_rule.specs.Rules.{LayoutArgs, RenderArgs, LayoutResult, RenderResult}
 use Rattle.cut_rule.specs.Laws.{SameBefore}
 use Rattle.cut_rule.specs.Run.{writeFront, answerBy, laidOut, written}
 use Rattle.cut_rule.specs.Entries.{layoutAnswer, layoutStore, renderGives, renderAnswer, renderMarks, renderOutput}
-use Rattle.cut_rule.specs.States.{LayoutState, RenderState, layoutFresh, renderFresh, LayoutChoice, RenderChoice, onlyRenderChoice}
+use Rattle.cut_rule.specs.States.{LayoutState, RenderState, layoutFresh, renderFresh, LayoutChoice, RenderChoice}
 use Rattle.cut_rule.specs.Tests.{rowsIn, renderTests, placesTests, limitTests, begunTests, stopTests, rowTests, penTests, markTests}
-use Rattle.cut_rule.specs.Parts.{layoutTests, rowsNeeded, withCleared, drawnOf, beforeMarks, renderTable}
+use Rattle.cut_rule.specs.Parts.{layoutTests, rowsNeeded, withCleared, widthLine, drawnOf, beforeMarks, renderTable}
 use Rattle.plain_run.specs.Parts.{readRefusal, renderImage, acceptedTree, page, drawn, widestDrawn, partsOf}
 use Rattle.plain_run.specs.Demands.{rulesOf, laidTo, closingAt}
-use Rattle.plain_run.specs.File.{built, rowsDue, marksDue, drawnDue, columnDue, laidRefusal, refusalIn, storeLeft, marksLeft, outputLeft}
+use Rattle.plain_run.specs.File.{FileChoice, renderChoice, built, rowsDue, marksDue, drawnDue, columnDue, laidRefusal, refusalIn, storeLeft, marksLeft, outputLeft}
 use Rattle.plain_run.proofs.Whole.{fmt-parsed}
 use Rattle.plain_run.proofs.Limits.{all-limited}
 use Rattle.plain_run.proofs.RenderParts.{render-parts}
@@ -54,10 +54,6 @@ fits-header b h =
       eq-eqb (5 + be32 b 1) (length b) (h .size),
       le-leb (be32 b 1) 1048576 (h .short),
     )
-
-first-none : (a b : Option Refusal) → first (a ∷ b ∷ []) ≡ none → a ≡ none
-first-none none b e = refl
-first-none (some r) b e = let z : _≡_ {A = ℕ} 0 1 = cc in absurd (omega arith)
 
 module _ (s b : List ℕ) where
   abbrev count : ℕ
@@ -111,34 +107,6 @@ module _ (s b : List ℕ) where
   rows-needed : rowsNeeded (partsOf s b) layoutArgs layoutFresh ≡ rowsDue s b
   rows-needed = fmt-parsed (readAll s b) s b .closed .row-due
 
-  pub layout-refusal-due : (store : List ℕ) → rulesOf s b .layout-refusal layoutArgs layoutFresh store ≡ laidRefusal s b (rowsIn store)
-  layout-refusal-due store =
-      ap (λ (x : Bool).
-      first
-      (readRefusal (readAll s b)
-      ∷ refuseIf x 12 0
-      ∷ refuseIf (ltb (rowsIn store) (rowsNeeded (partsOf s b) layoutArgs layoutFresh)) 8 (rowsNeeded (partsOf s b) layoutArgs layoutFresh)
-      ∷ []))
-      (layout-passes store)
-      ∙ ap (λ (n : ℕ). first (readRefusal (readAll s b) ∷ refuseIf (ltb (rowsIn store) n) 8 n ∷ [])) rows-needed
-
-  -- what it answers and leaves
-  pub layout-answer-due : (store : List ℕ)
-      → layoutAnswer (rulesOf s b) layoutArgs layoutFresh store
-      ≡ answerBy (rulesOf s b) (laidRefusal s b (rowsIn store)) (laidOut stateDue (length (commentsOf b) - built s b .placed))
-  layout-answer-due store =
-      ap₂ (λ (r : Option Refusal) (l : LayoutResult LayoutState). answerBy (rulesOf s b) r (laidOut (l .state) (l .left)))
-      (layout-refusal-due store)
-      laid-due
-
-  pub layout-store-due : (store : List ℕ) → layoutStore (rulesOf s b) layoutArgs layoutFresh store ≡ storeLeft s b store
-  layout-store-due store =
-      ap₂ (λ (r : Option Refusal) (l : LayoutResult LayoutState). unless r store (writeFront (l .rows) store)) (layout-refusal-due store) laid-due
-
-  -- ---- the rendering call: up to the last row
-  abbrev pub renderArgs : List ℕ → RenderArgs RenderChoice
-  renderArgs out = record { stop = rowsDue s b; room = length out; choice = onlyRenderChoice }
-
   -- 1 and 3
   pub image-passes : readRefusal (readAll s b) ≡ none → renderImage s b ≡ none
   image-passes h = go (readAll s b) refl h
@@ -155,142 +123,180 @@ module _ (s b : List ℕ) where
       let r = rows (built s b .nodes) 0 in
       sym (take-append-le (PLACES * rowsDue s b) r (drop (length r) store) (omega (arith, length-rows (built s b .nodes) 0)))
 
-  -- 12
-  render-passes : (store marks out : List ℕ) → any (renderTests (renderArgs out) renderFresh store marks) ≡ false
-  render-passes store marks out =
-      none-both (rowTests (rowsIn store) (rowsDue s b) 0) (penTests (renderFresh .pen) ++ markTests marks 0)
-      (rw (le-ltb (rowsIn store) 0 (omega arith), le-ltb (rowsDue s b) 0 (omega arith)))
-      (none-both (penTests (renderFresh .pen)) (markTests marks 0) refl (rw (le-ltb (length marks) 0 (omega arith))))
-
-  module _ (store : List ℕ) (h : readRefusal (readAll s b) ≡ none) where
-    abbrev rowed : List ℕ
-    rowed = writeFront (rows (built s b .nodes) 0) store
-
-    -- 11
-    rows-right : wrongPlace s b rowed 0 (rowsDue s b) ≡ none
-    rows-right =
-        let g = fmt-parsed (readAll s b) s b .closed in
-        render-parts s b (readAll s b) .right-local (rows (built s b .nodes) 0) rowed (rowsDue s b) (same-rows store)
-        (subst₂ (λ (x : List ℕ) (n : ℕ). wrongPlace s b x 0 n ≡ none) (g .rows-due) (g .row-due) (all-limited s b h .closed .right))
-
-    marks-due : marksNeeded (rowsDue s b - 0) rowed 0 ≡ marksDue s b
-    marks-due =
-        sym (render-parts s b (readAll s b) .needed-local (rows (built s b .nodes) 0) rowed 0 (rowsDue s b) (same-rows store))
-        ∙ ap (λ (n : ℕ). marksNeeded n (rows (built s b .nodes) 0) 0) (sub-zero (rowsDue s b))
-
-    drawn-due : drawnOf (partsOf s b) renderFresh [] rowed (rowsDue s b) ≡ drawnDue s b
-    drawn-due =
-        let g = fmt-parsed (readAll s b) s b .closed in
-        let z = renderFresh .pen in
-        let m = marksNeeded (rowsDue s b - 0) rowed 0 in
-        let cleared : List ℕ = replicate (marksDue s b) 0 in
-        sym (render-parts s b (readAll s b) .draw-local z (replicate (m - 0) 0) (rows (built s b .nodes) 0) rowed 0 (rowsDue s b) (same-rows store))
-        ∙ ap (λ (n : ℕ). drawn s b z (replicate n 0) (rows (built s b .nodes) 0) 0 (rowsDue s b)) (sub-zero m ∙ marks-due)
-        ∙ ap₂ (λ (x : List ℕ) (n : ℕ). drawn s b z cleared x 0 n) (sym (g .rows-due)) (sym (g .row-due))
-        ∙ g .drawn-due z cleared
-
-    -- the rows are read back as the nodes that they are of
-    nodes-due : nodesAt (viewOf rowed) 0 (rowsDue s b) ≡ built s b .nodes
-    nodes-due =
-        let r = rows (built s b .nodes) 0 in
-        ap (nodesAt (viewOf rowed) 0) (sym (zero-add (rowsDue s b)))
-        ∙ read-back (built s b .nodes) rowed 0 (holds-part rowed 0 r (take-append-seam r (drop (length r) store)))
-
-    widest-due : widestDrawn s b (renderFresh .pen) (withCleared (partsOf s b) [] (marksNeeded (rowsDue s b - 0) rowed 0)) rowed 0 (rowsDue s b) ≡ columnDue s b
-    widest-due =
-        ap₂ (λ (ns : Nodes) (m : ℕ). greatestColumn (page s b) ns (replicate m 0)) nodes-due (sub-zero (marksNeeded (rowsDue s b - 0) rowed 0) ∙ marks-due)
-
-    render-table-due : (marks out : List ℕ)
-        → first (renderTable (partsOf s b) (renderArgs out) renderFresh rowed marks)
-        ≡ first
-        (refuseIf (ltb (length marks) (marksDue s b)) 9 (marksDue s b)
-        ∷ refuseIf (ltb (length out) (length (drawnDue s b .text))) 10 (length (drawnDue s b .text))
-        ∷ [])
-    render-table-due marks out =
-        λ t.
+  -- ---- at a width that 15 doesn't refuse
+  module _ (c : FileChoice) (legal : widthLine (renderChoice c) renderFresh ≡ none) where
+    pub layout-refusal-due : (store : List ℕ) → rulesOf s b .layout-refusal layoutArgs layoutFresh store ≡ laidRefusal s b c (rowsIn store)
+    layout-refusal-due store =
+        ap (λ (x : Bool).
         first
-        (image-passes h t
-        ∷ refuseAt (rows-right t) 11
-        ∷ refuseIf (render-passes rowed marks out t) 12 0
-        ∷ refuseIf (ltb (length marks) (marks-due t)) 9 (marks-due t)
-        ∷ refuseIf (ltb (length out) (length (drawn-due t .text))) 10 (length (drawn-due t .text))
-        ∷ [])
-
-    -- but for marks that are too few and too long a text, nothing refuses
-    early-due : (marks out : List ℕ) → first (beforeMarks (partsOf s b) (renderArgs out) renderFresh rowed marks) ≡ none
-    early-due marks out =
-        λ t. first (image-passes h t ∷ refuseAt (rows-right t) 11 ∷ refuseIf (render-passes rowed marks out t) 12 0 ∷ [])
-
-    rendered-due : (marks out : List ℕ)
-        → renderGives (rulesOf s b) (renderArgs out) renderFresh rowed marks
-        ≡ record {
-          state = record { pen = drawnDue s b .pen; in-use = max 0 (marksDue s b); row = rowsDue s b };
-          marks = drawnDue s b .marks;
-          text = drawnDue s b .text;
-        }
-    rendered-due marks out =
-        λ t.
-        record {
-          state = record { pen = drawn-due t .pen; in-use = max 0 (marks-due t); row = rowsDue s b };
-          marks = drawn-due t .marks;
-          text = drawn-due t .text;
-        }
-
-  -- the state that it answers
-  abbrev pub renderedDue : RenderState
-  renderedDue = record { pen = drawnDue s b .pen; in-use = max 0 (marksDue s b); row = rowsDue s b }
-
-  -- what it answers and leaves, of what the layout call left
-  module _ (store marks out : List ℕ) (h : laidRefusal s b (rowsIn store) ≡ none) where
-    read : readRefusal (readAll s b) ≡ none
-    read = first-none (readRefusal (readAll s b)) (refuseIf (ltb (rowsIn store) (rowsDue s b)) 8 (rowsDue s b)) h
-
-    left-store : storeLeft s b store ≡ writeFront (rows (built s b .nodes) 0) store
-    left-store = ap (λ (r : Option Refusal). unless r store (writeFront (rows (built s b .nodes) 0) store)) h
-
-    pub render-refusal-due : rulesOf s b .render-refusal (renderArgs out) renderFresh (storeLeft s b store) marks ≡ refusalIn s b (rowsIn store) (length marks) (length out)
-    render-refusal-due =
-        ap (λ (x : List ℕ). first (renderTable (partsOf s b) (renderArgs out) renderFresh x marks)) left-store
-        ∙ render-table-due store read marks out
-        ∙ ap (λ (r : Option Refusal).
-        first
-        (r
-        ∷ refuseIf (ltb (length marks) (marksDue s b)) 9 (marksDue s b)
-        ∷ refuseIf (ltb (length out) (length (drawnDue s b .text))) 10 (length (drawnDue s b .text))
+        (readRefusal (readAll s b)
+        ∷ refuseIf x 12 0
+        ∷ refuseIf (ltb (rowsIn store) (rowsNeeded (partsOf s b) layoutArgs layoutFresh)) 8 (rowsNeeded (partsOf s b) layoutArgs layoutFresh)
         ∷ []))
-        (sym h)
+        (layout-passes store)
+        ∙ ap (λ (n : ℕ). first (readRefusal (readAll s b) ∷ refuseIf (ltb (rowsIn store) n) 8 n ∷ [])) rows-needed
+        ∙ ap (λ (r : Option Refusal). first (readRefusal (readAll s b) ∷ r ∷ refuseIf (ltb (rowsIn store) (rowsDue s b)) 8 (rowsDue s b) ∷ [])) (sym legal)
 
-    pub render-early-due : first (beforeMarks (partsOf s b) (renderArgs out) renderFresh (storeLeft s b store) marks) ≡ none
-    render-early-due =
-        ap (λ (x : List ℕ). first (beforeMarks (partsOf s b) (renderArgs out) renderFresh x marks)) left-store ∙ early-due store read marks out
+    -- what it answers and leaves
+    pub layout-answer-due : (store : List ℕ)
+        → layoutAnswer (rulesOf s b) layoutArgs layoutFresh store
+        ≡ answerBy (rulesOf s b) (laidRefusal s b c (rowsIn store)) (laidOut stateDue (length (commentsOf b) - built s b .placed))
+    layout-answer-due store =
+        ap₂ (λ (r : Option Refusal) (l : LayoutResult LayoutState). answerBy (rulesOf s b) r (laidOut (l .state) (l .left)))
+        (layout-refusal-due store)
+        laid-due
 
-    gives-due : renderGives (rulesOf s b) (renderArgs out) renderFresh (storeLeft s b store) marks
-        ≡ record { state = renderedDue; marks = drawnDue s b .marks; text = drawnDue s b .text }
-    gives-due =
-        ap (λ (x : List ℕ). renderGives (rulesOf s b) (renderArgs out) renderFresh x marks) left-store ∙ rendered-due store read marks out
+    pub layout-store-due : (store : List ℕ) → layoutStore (rulesOf s b) layoutArgs layoutFresh store ≡ storeLeft s b c store
+    layout-store-due store =
+        ap₂ (λ (r : Option Refusal) (l : LayoutResult LayoutState). unless r store (writeFront (l .rows) store)) (layout-refusal-due store) laid-due
 
-    pub render-answer-due : renderAnswer (rulesOf s b) (renderArgs out) renderFresh (storeLeft s b store) marks
-        ≡ answerBy (rulesOf s b) (refusalIn s b (rowsIn store) (length marks) (length out)) (written renderedDue (length (drawnDue s b .text)))
-    render-answer-due =
-        ap₂ (λ (r : Option Refusal) (l : RenderResult RenderState). answerBy (rulesOf s b) r (written (l .state) (length (l .text))))
-        render-refusal-due
-        gives-due
+    -- ---- the rendering call: up to the last row
+    abbrev pub renderArgs : List ℕ → RenderArgs RenderChoice
+    renderArgs out = record { stop = rowsDue s b; room = length out; choice = renderChoice c }
 
-    pub render-marks-due : renderMarks (rulesOf s b) (renderArgs out) renderFresh (storeLeft s b store) marks ≡ marksLeft s b store marks out
-    render-marks-due =
-        ap₂ (λ (r : Option Refusal) (l : RenderResult RenderState). unless r marks (writeFront (l .marks) marks)) render-refusal-due gives-due
+    -- 12
+    render-passes : (store marks out : List ℕ) → any (renderTests (renderArgs out) renderFresh store marks) ≡ false
+    render-passes store marks out =
+        none-both (rowTests (rowsIn store) (rowsDue s b) 0) (penTests (renderFresh .pen) ++ markTests marks 0)
+        (rw (le-ltb (rowsIn store) 0 (omega arith), le-ltb (rowsDue s b) 0 (omega arith)))
+        (none-both (penTests (renderFresh .pen)) (markTests marks 0) refl (rw (le-ltb (length marks) 0 (omega arith))))
 
-    pub render-output-due : renderOutput (rulesOf s b) (renderArgs out) renderFresh (storeLeft s b store) marks out ≡ outputLeft s b store marks out
-    render-output-due =
-        ap₂ (λ (r : Option Refusal) (l : RenderResult RenderState). unless r out (writeFront (l .text) out)) render-refusal-due gives-due
+    module _ (store : List ℕ) (h : readRefusal (readAll s b) ≡ none) where
+      abbrev rowed : List ℕ
+      rowed = writeFront (rows (built s b .nodes) 0) store
 
-    -- the greatest column that it tells
-    pub render-widest-due : unless (rulesOf s b .render-refusal (renderArgs out) renderFresh (storeLeft s b store) marks) 0
-        (widestDrawn s b (renderFresh .pen) (withCleared (partsOf s b) [] (marksNeeded (rowsDue s b - 0) (storeLeft s b store) 0)) (storeLeft s b store) 0 (rowsDue s b))
-        ≡ unless (refusalIn s b (rowsIn store) (length marks) (length out)) 0 (columnDue s b)
-    render-widest-due =
-        ap₂ (λ (r : Option Refusal) (n : ℕ). unless r 0 n) render-refusal-due
-        (ap (λ (x : List ℕ).
-        widestDrawn s b (renderFresh .pen) (withCleared (partsOf s b) [] (marksNeeded (rowsDue s b - 0) x 0)) x 0 (rowsDue s b))
-        left-store
-        ∙ widest-due store read)
+      -- 11
+      rows-right : wrongPlace s b rowed 0 (rowsDue s b) ≡ none
+      rows-right =
+          let g = fmt-parsed (readAll s b) s b .closed in
+          render-parts s b (readAll s b) .right-local (rows (built s b .nodes) 0) rowed (rowsDue s b) (same-rows store)
+          (subst₂ (λ (x : List ℕ) (n : ℕ). wrongPlace s b x 0 n ≡ none) (g .rows-due) (g .row-due) (all-limited s b h .closed .right))
+
+      marks-due : marksNeeded (rowsDue s b - 0) rowed 0 ≡ marksDue s b
+      marks-due =
+          sym (render-parts s b (readAll s b) .needed-local (rows (built s b .nodes) 0) rowed 0 (rowsDue s b) (same-rows store))
+          ∙ ap (λ (n : ℕ). marksNeeded n (rows (built s b .nodes) 0) 0) (sub-zero (rowsDue s b))
+
+      drawn-due : drawnOf (partsOf s b) (c .width) renderFresh [] rowed (rowsDue s b) ≡ drawnDue s b c
+      drawn-due =
+          let g = fmt-parsed (readAll s b) s b .closed in
+          let z = renderFresh .pen in
+          let m = marksNeeded (rowsDue s b - 0) rowed 0 in
+          let cleared : List ℕ = replicate (marksDue s b) 0 in
+          sym (render-parts s b (readAll s b) .draw-local (c .width) z (replicate (m - 0) 0) (rows (built s b .nodes) 0) rowed 0 (rowsDue s b) (same-rows store))
+          ∙ ap (λ (n : ℕ). drawn s b (c .width) z (replicate n 0) (rows (built s b .nodes) 0) 0 (rowsDue s b)) (sub-zero m ∙ marks-due)
+          ∙ ap₂ (λ (x : List ℕ) (n : ℕ). drawn s b (c .width) z cleared x 0 n) (sym (g .rows-due)) (sym (g .row-due))
+          ∙ g .drawn-due (c .width) z cleared
+
+      -- the rows are read back as the nodes that they are of
+      nodes-due : nodesAt (viewOf rowed) 0 (rowsDue s b) ≡ built s b .nodes
+      nodes-due =
+          let r = rows (built s b .nodes) 0 in
+          ap (nodesAt (viewOf rowed) 0) (sym (zero-add (rowsDue s b)))
+          ∙ read-back (built s b .nodes) rowed 0 (holds-part rowed 0 r (take-append-seam r (drop (length r) store)))
+
+      widest-due : widestDrawn s b (c .width) (renderFresh .pen) (withCleared (partsOf s b) [] (marksNeeded (rowsDue s b - 0) rowed 0)) rowed 0 (rowsDue s b)
+          ≡ columnDue s b c
+      widest-due =
+          ap₂ (λ (ns : Nodes) (m : ℕ). greatestColumn (page (c .width) s b) ns (replicate m 0)) nodes-due
+          (sub-zero (marksNeeded (rowsDue s b - 0) rowed 0) ∙ marks-due)
+
+      render-table-due : (marks out : List ℕ)
+          → first (renderTable (partsOf s b) (renderArgs out) renderFresh rowed marks)
+          ≡ first
+          (refuseIf (ltb (length marks) (marksDue s b)) 9 (marksDue s b)
+          ∷ refuseIf (ltb (length out) (length (drawnDue s b c .text))) 10 (length (drawnDue s b c .text))
+          ∷ [])
+      render-table-due marks out =
+          λ t.
+          first
+          (image-passes h t
+          ∷ refuseAt (rows-right t) 11
+          ∷ refuseIf (render-passes rowed marks out t) 12 0
+          ∷ legal t
+          ∷ refuseIf (ltb (length marks) (marks-due t)) 9 (marks-due t)
+          ∷ refuseIf (ltb (length out) (length (drawn-due t .text))) 10 (length (drawn-due t .text))
+          ∷ [])
+
+      -- but for marks that are too few and too long a text, nothing refuses
+      early-due : (marks out : List ℕ) → first (beforeMarks (partsOf s b) (renderArgs out) renderFresh rowed marks) ≡ none
+      early-due marks out =
+          λ t. first (image-passes h t ∷ refuseAt (rows-right t) 11 ∷ refuseIf (render-passes rowed marks out t) 12 0 ∷ legal t ∷ [])
+
+      rendered-due : (marks out : List ℕ)
+          → renderGives (rulesOf s b) (renderArgs out) renderFresh rowed marks
+          ≡ record {
+            state = record { pen = drawnDue s b c .pen; in-use = max 0 (marksDue s b); row = rowsDue s b; width = c .width };
+            marks = drawnDue s b c .marks;
+            text = drawnDue s b c .text;
+          }
+      rendered-due marks out =
+          λ t.
+          record {
+            state = record { pen = drawn-due t .pen; in-use = max 0 (marks-due t); row = rowsDue s b; width = c .width };
+            marks = drawn-due t .marks;
+            text = drawn-due t .text;
+          }
+
+    -- the state that it answers
+    abbrev pub renderedDue : RenderState
+    renderedDue = record { pen = drawnDue s b c .pen; in-use = max 0 (marksDue s b); row = rowsDue s b; width = c .width }
+
+    -- what it answers and leaves, of what the layout call left
+    module _ (store marks out : List ℕ) (h : laidRefusal s b c (rowsIn store) ≡ none) where
+      read : readRefusal (readAll s b) ≡ none
+      read =
+          passes-line (readRefusal (readAll s b)) (widthLine (renderChoice c) renderFresh ∷ refuseIf (ltb (rowsIn store) (rowsDue s b)) 8 (rowsDue s b) ∷ []) h
+
+      left-store : storeLeft s b c store ≡ writeFront (rows (built s b .nodes) 0) store
+      left-store = ap (λ (r : Option Refusal). unless r store (writeFront (rows (built s b .nodes) 0) store)) h
+
+      pub render-refusal-due : rulesOf s b .render-refusal (renderArgs out) renderFresh (storeLeft s b c store) marks ≡ refusalIn s b c (rowsIn store) (length marks) (length out)
+      render-refusal-due =
+          ap (λ (x : List ℕ). first (renderTable (partsOf s b) (renderArgs out) renderFresh x marks)) left-store
+          ∙ render-table-due store read marks out
+          ∙ ap (λ (r : Option Refusal).
+          first
+          (r
+          ∷ refuseIf (ltb (length marks) (marksDue s b)) 9 (marksDue s b)
+          ∷ refuseIf (ltb (length out) (length (drawnDue s b c .text))) 10 (length (drawnDue s b c .text))
+          ∷ []))
+          (sym h)
+
+      pub render-early-due : first (beforeMarks (partsOf s b) (renderArgs out) renderFresh (storeLeft s b c store) marks) ≡ none
+      render-early-due =
+          ap (λ (x : List ℕ). first (beforeMarks (partsOf s b) (renderArgs out) renderFresh x marks)) left-store ∙ early-due store read marks out
+
+      gives-due : renderGives (rulesOf s b) (renderArgs out) renderFresh (storeLeft s b c store) marks
+          ≡ record { state = renderedDue; marks = drawnDue s b c .marks; text = drawnDue s b c .text }
+      gives-due =
+          ap (λ (x : List ℕ). renderGives (rulesOf s b) (renderArgs out) renderFresh x marks) left-store ∙ rendered-due store read marks out
+
+      pub render-answer-due : renderAnswer (rulesOf s b) (renderArgs out) renderFresh (storeLeft s b c store) marks
+          ≡ answerBy (rulesOf s b) (refusalIn s b c (rowsIn store) (length marks) (length out)) (written renderedDue (length (drawnDue s b c .text)))
+      render-answer-due =
+          ap₂ (λ (r : Option Refusal) (l : RenderResult RenderState). answerBy (rulesOf s b) r (written (l .state) (length (l .text))))
+          render-refusal-due
+          gives-due
+
+      pub render-marks-due : renderMarks (rulesOf s b) (renderArgs out) renderFresh (storeLeft s b c store) marks ≡ marksLeft s b c store marks out
+      render-marks-due =
+          ap₂ (λ (r : Option Refusal) (l : RenderResult RenderState). unless r marks (writeFront (l .marks) marks)) render-refusal-due gives-due
+
+      pub render-output-due : renderOutput (rulesOf s b) (renderArgs out) renderFresh (storeLeft s b c store) marks out ≡ outputLeft s b c store marks out
+      render-output-due =
+          ap₂ (λ (r : Option Refusal) (l : RenderResult RenderState). unless r out (writeFront (l .text) out)) render-refusal-due gives-due
+
+      -- the greatest column that it tells
+      pub render-widest-due : unless (rulesOf s b .render-refusal (renderArgs out) renderFresh (storeLeft s b c store) marks) 0
+          (widestDrawn s b (c .width) (renderFresh .pen) (withCleared (partsOf s b) [] (marksNeeded (rowsDue s b - 0) (storeLeft s b c store) 0))
+          (storeLeft s b c store)
+          0
+          (rowsDue s b))
+          ≡ unless (refusalIn s b c (rowsIn store) (length marks) (length out)) 0 (columnDue s b c)
+      render-widest-due =
+          ap₂ (λ (r : Option Refusal) (n : ℕ). unless r 0 n) render-refusal-due
+          (ap (λ (x : List ℕ).
+          widestDrawn s b (c .width) (renderFresh .pen) (withCleared (partsOf s b) [] (marksNeeded (rowsDue s b - 0) x 0)) x 0 (rowsDue s b))
+          left-store
+          ∙ widest-due store read)

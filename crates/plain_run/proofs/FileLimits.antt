@@ -38,10 +38,10 @@ use Rattle.renderer_rules.proofs.Columns.{measure, measures, column-most}
 use Rattle.refusals.specs.Refusals.{Refusal, refuseIf}
 use Rattle.refusals.proofs.Groups.{passes-line, passes-others, not-if}
 use Rattle.cut_rule.specs.States.{renderFresh}
-use Rattle.cut_rule.specs.Parts.{Drawn}
-use Rattle.plain_run.specs.Parts.{readRefusal, renderImage, rendererOf, page}
+use Rattle.cut_rule.specs.Parts.{Drawn, widthLine}
+use Rattle.plain_run.specs.Parts.{readRefusal, renderImage, rendererOf}
 use Rattle.plain_run.specs.Demands.{laidTo}
-use Rattle.plain_run.specs.File.{fileRows, built, rowsDue, marksDue, laidRefusal}
+use Rattle.plain_run.specs.File.{FileChoice, renderChoice, fileRows, built, rowsDue, marksDue, laidRefusal}
 use Rattle.plain_run.specs.FileLimits.{MAX-IMAGE, RowsTextLimited, FileTextLimited, AreBytes, FileColumnLimited}
 use Rattle.plain_run.proofs.Right.{Right, right}
 use Rattle.plain_run.proofs.Whole.{fmt-parsed}
@@ -192,32 +192,36 @@ rows-text-limited max s b store marks n few image e =
     omega arith
 
 -- ---- a file
-module _ (s b : List ℕ) (h : laidRefusal s b fileRows ≡ none) where
+module _ (s b : List ℕ) (c : FileChoice) (h : laidRefusal s b c fileRows ≡ none) where
   abbrev eights : List (Option Refusal)
   eights = refuseIf (ltb fileRows (rowsDue s b)) 8 (rowsDue s b) ∷ []
 
+  abbrev widths : List (Option Refusal)
+  widths = widthLine (renderChoice c) renderFresh ∷ eights
+
   pub laid-read : readRefusal (readAll s b) ≡ none
-  laid-read = passes-line (readRefusal (readAll s b)) eights h
+  laid-read = passes-line (readRefusal (readAll s b)) widths h
 
   few : rowsDue s b ≤ fileRows
   few =
       ltb-false fileRows (rowsDue s b)
-      (not-if (ltb fileRows (rowsDue s b)) 8 (rowsDue s b) (passes-line _ [] (passes-others (readRefusal (readAll s b)) eights h)))
+      (not-if (ltb fileRows (rowsDue s b)) 8 (rowsDue s b)
+      (passes-line _ [] (passes-others (widthLine (renderChoice c) renderFresh) eights (passes-others (readRefusal (readAll s b)) widths h))))
 
 pub file-text-limited : FileTextLimited
-file-text-limited s b h =
+file-text-limited s b c h =
     let g = fmt-parsed (readAll s b) s b .closed in
     let l = laidTo (readAll s b) s b (layoutArgs s b) in
     let marks : List ℕ = replicate (marksDue s b) 0 in
-    let e = ap (λ (d : Drawn). length (d .text)) (g .drawn-due (renderFresh .pen) marks) in
+    let e = ap (λ (d : Drawn). length (d .text)) (g .drawn-due (c .width) (renderFresh .pen) marks) in
     let m =
-    rows-text-limited (page s b .max) s b (l .rows) marks (l .state .cursor .row) (omega (arith, g .row-due, few s b h)) (image-passes s b (laid-read s b h))
-    (all-limited s b (laid-read s b h) .closed .right)
+    rows-text-limited (c .width) s b (l .rows) marks (l .state .cursor .row) (omega (arith, g .row-due, few s b c h)) (image-passes s b (laid-read s b c h))
+    (all-limited s b (laid-read s b c h) .closed .right)
     in
     omega arith
 
 pub file-column-limited : FileColumnLimited
-file-column-limited max s b marks bytes h =
-    let z = sized s b (image-passes s b (laid-read s b h)) in
-    let m = nodes-measure z bytes max (built s b .nodes) (whole-within (stood s b (laid-read s b h) .stood) .texts) in
-    omega (arith, column-most (pageOf max s b) (built s b .nodes) marks, few s b h)
+file-column-limited max s b marks c bytes h =
+    let z = sized s b (image-passes s b (laid-read s b c h)) in
+    let m = nodes-measure z bytes max (built s b .nodes) (whole-within (stood s b (laid-read s b c h) .stood) .texts) in
+    omega (arith, column-most (pageOf max s b) (built s b .nodes) marks, few s b c h)

@@ -11,3 +11,4 @@ pub mod Edges
 pub mod File
 pub mod FileLimits
 pub mod Refused
+pub mod Reference

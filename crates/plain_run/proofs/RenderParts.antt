@@ -69,25 +69,25 @@ resumed p ns r u =
     (append-nil (renderNodes p ns true t .marks))
 
 module _ (s b : List ℕ) where
-  draw-local : (z : Pen) (marks store other : List ℕ) (i n : ℕ) → SameBefore n store other
-      → drawn s b z marks store i n ≡ drawn s b z marks other i n
-  draw-local z marks store other i n e =
-      ap (λ (ns : Nodes). drawnBy (renderNodes (page s b) ns true (rendererOf z marks)))
+  draw-local : (w : ℕ) (z : Pen) (marks store other : List ℕ) (i n : ℕ) → SameBefore n store other
+      → drawn s b w z marks store i n ≡ drawn s b w z marks other i n
+  draw-local w z marks store other i n e =
+      ap (λ (ns : Nodes). drawnBy (renderNodes (page w s b) ns true (rendererOf z marks)))
       (nodes-local (viewOf store) (viewOf other) i n (rows-same n store other e i))
 
-  draw-past : (z : Pen) (marks past store : List ℕ) (n : ℕ) → needed store 0 n ≤ length marks
-      → drawn s b z (marks ++ past) store 0 n ≡ withPast (drawn s b z marks store 0 n) past
-  draw-past z marks past store n h =
-      ap drawnBy (renders-ext [] past 0 (page s b) (nodesAt (viewOf store) 0 n) true (rendererOf z marks) (under-marks store marks 0 n h))
+  draw-past : (w : ℕ) (z : Pen) (marks past store : List ℕ) (n : ℕ) → needed store 0 n ≤ length marks
+      → drawn s b w z (marks ++ past) store 0 n ≡ withPast (drawn s b w z marks store 0 n) past
+  draw-past w z marks past store n h =
+      ap drawnBy (renders-ext [] past 0 (page w s b) (nodesAt (viewOf store) 0 n) true (rendererOf z marks) (under-marks store marks 0 n h))
 
-  draw-join : (z : Pen) (marks store : List ℕ) (n m : ℕ) → n ≤ m → wrongPlace s b store 0 n ≡ none → needed store 0 m ≤ length marks
-      → drawn s b z marks store 0 m ≡ thenDrawn (drawn s b z marks store 0 n) (λ y ms. drawn s b y ms store n m)
-  draw-join z marks store n m h e g =
+  draw-join : (w : ℕ) (z : Pen) (marks store : List ℕ) (n m : ℕ) → n ≤ m → wrongPlace s b store 0 n ≡ none → needed store 0 m ≤ length marks
+      → drawn s b w z marks store 0 m ≡ thenDrawn (drawn s b w z marks store 0 n) (λ y ms. drawn s b w y ms store n m)
+  draw-join w z marks store n m h e g =
       let v = viewOf store in
-      let one = renderNodes (page s b) (nodesAt v 0 n) true (rendererOf z marks) in
-      ap drawnBy (renders-ranges (page s b) m true (rendererOf z marks) (right s b store 0 n (omega arith) e .nests) h)
-      ∙ resumed (page s b) (nodesAt v n m) one
-      (subst (λ (k : ℕ). Unders k (nodesAt v n m)) (sym (renders-length (page s b) (nodesAt v 0 n) true (rendererOf z marks))) (under-marks store marks n m g))
+      let one = renderNodes (page w s b) (nodesAt v 0 n) true (rendererOf z marks) in
+      ap drawnBy (renders-ranges (page w s b) m true (rendererOf z marks) (right s b store 0 n (omega arith) e .nests) h)
+      ∙ resumed (page w s b) (nodesAt v n m) one
+      (subst (λ (k : ℕ). Unders k (nodesAt v n m)) (sym (renders-length (page w s b) (nodesAt v 0 n) true (rendererOf z marks))) (under-marks store marks n m g))
 
   pub render-parts : (r : Read Image) → RenderPartLaws (partsBy r s b)
   render-parts r = record {
@@ -100,7 +100,7 @@ module _ (s b : List ℕ) where
         λ store other n e f. none-found s b other 0 n (right-same s b store other n e (right s b store 0 n (omega arith) f));
     needed-local = needed-local;
     draw-local = draw-local;
-    draw-marks = λ z marks store i n. renders-length (page s b) (nodesAt (viewOf store) i n) true (rendererOf z marks);
-    draw-past = λ z marks past store n e h. draw-past z marks past store n h;
-    draw-join = λ z marks store n m h e f g. draw-join z marks store n m h e g;
+    draw-marks = λ w z marks store i n. renders-length (page w s b) (nodesAt (viewOf store) i n) true (rendererOf z marks);
+    draw-past = λ w z marks past store n e h. draw-past w z marks past store n h;
+    draw-join = λ w z marks store n m h e f g. draw-join w z marks store n m h e g;
   }

@@ -181,10 +181,10 @@ module _ (r : Read Image) (s b : List ℕ) where
       ∙ sym (piece-then (shebangRule g (tree .shebang)) (declarationsRule g (take n ds) true) start)
 
   -- rows of nodes render as the nodes do, since they are read back as those
-  read-back : (ns : Nodes) (z : Pen) (marks : List ℕ)
-      → drawn s b z marks (rows ns 0) 0 (sizes ns) ≡ drawnBy (renderNodes (page s b) ns true (rendererOf z marks))
-  read-back ns z marks =
-      ap (λ (x : Nodes). drawnBy (renderNodes (page s b) x true (rendererOf z marks)))
+  read-back : (ns : Nodes) (w : ℕ) (z : Pen) (marks : List ℕ)
+      → drawn s b w z marks (rows ns 0) 0 (sizes ns) ≡ drawnBy (renderNodes (page w s b) ns true (rendererOf z marks))
+  read-back ns w z marks =
+      ap (λ (x : Nodes). drawnBy (renderNodes (page w s b) x true (rendererOf z marks)))
       (ap (nodesAt (viewOf (rows ns 0)) 0) (sym (zero-add (sizes ns))) ∙ flattened ns (rows ns 0) 0 (take-length (rows ns 0)))
 
   -- a piece from the fresh cursor is what its step gives
@@ -199,9 +199,9 @@ module _ (r : Read Image) (s b : List ℕ) where
     placed-due = ap (λ (c : Cursor). c .placed) f;
     left-due = ap (λ (c : Cursor). length (commentsOf b) - c .placed) f;
     drawn-due =
-        λ z marks.
-        ap₂ (λ (x : List ℕ) (k : ℕ). drawn s b z marks x 0 k) e (ap (λ (c : Cursor). c .row) f ∙ zero-add (sizes (a fresh .nodes)))
-        ∙ read-back (a fresh .nodes) z marks;
+        λ w z marks.
+        ap₂ (λ (x : List ℕ) (k : ℕ). drawn s b w z marks x 0 k) e (ap (λ (c : Cursor). c .row) f ∙ zero-add (sizes (a fresh .nodes)))
+        ∙ read-back (a fresh .nodes) w z marks;
   }
 
   pub fmt-parsed : FmtParsed r s b tree

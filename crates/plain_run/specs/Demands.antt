@@ -43,7 +43,7 @@ RulesCut =
 
 -- ---- what is due at a stop
 -- what layout gives is what a step of the layout rules gives: its nodes as rows, its numbers, its position, the comments that it placed; and
--- these rows render as the nodes do
+-- these rows render as the nodes do, at every width
 pub record Gives (s b : List ℕ) (o : Out) (l : LayoutResult LayoutState) : Type 0 where
   pub rows-due : l .rows ≡ rows (o .nodes) 0
   pub row-due : l .state .cursor .row ≡ sizes (o .nodes)
@@ -51,8 +51,8 @@ pub record Gives (s b : List ℕ) (o : Out) (l : LayoutResult LayoutState) : Typ
   pub position-due : l .state .cursor .position ≡ o .pos
   pub placed-due : l .state .cursor .placed ≡ o .placed
   pub left-due : l .left ≡ length (commentsOf b) - o .placed
-  pub drawn-due : (z : Pen) (marks : List ℕ)
-      → drawn s b z marks (l .rows) 0 (l .state .cursor .row) ≡ drawnBy (renderNodes (page s b) (o .nodes) true (rendererOf z marks))
+  pub drawn-due : (width : ℕ) (z : Pen) (marks : List ℕ)
+      → drawn s b width z marks (l .rows) 0 (l .state .cursor .row) ≡ drawnBy (renderNodes (page width s b) (o .nodes) true (rendererOf z marks))
 
 -- layout from fresh, in one go
 abbrev pub laidTo : Read Image → List ℕ → List ℕ → LayoutArgs LayoutChoice → LayoutResult LayoutState

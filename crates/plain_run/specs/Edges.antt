@@ -1,4 +1,5 @@
--- The edges that document 01 marks with *, as a single list. Each is run by the rules of the two calls, refusals included.
+-- The edges that document 01 marks with *, as a single list. Each is run by the rules of the two calls at 80 columns, refusals included.
+-- Below them is the edge of a line at other widths.
 use mathlib.Core.Path.{_≡_}
 use mathlib.Core.Option.{Option, none, some}
 use mathlib.Core.List.{List, [], _∷_, _++_, map}
@@ -13,7 +14,8 @@ use Rattle.rows.specs.Rows.{sizes, rows}
 use Rattle.rows.specs.View.{cell}
 use Rattle.comments.specs.Listed.{span}
 use Rattle.cut_rule.specs.Run.{layoutCall, renderCall, Carried, start, run}
-use Rattle.cut_rule.specs.States.{onlyRenderChoice, layoutFresh}
+use Rattle.cut_rule.specs.Limits.{REFERENCE-WIDTH}
+use Rattle.cut_rule.specs.States.{layoutFresh}
 use Rattle.plain_run.specs.Demands.{rulesOf, closingAt}
 
 -- ---- what an edge is
@@ -72,19 +74,19 @@ seen s b w = record {
 abbrev pub noBody : List ℕ
 noBody = 1 ∷ bytes4 0
 
--- a rendering call over the rows of the nodes, with 2 marks and an output of 200 bytes
-abbrev pub rendersAs : EdgeRendering → Seen
-rendersAs e =
+-- a rendering call over the rows of the nodes, with a width, 2 marks and an output of 300 bytes
+abbrev pub rendersAt : ℕ → EdgeRendering → Seen
+rendersAt width e =
     let r = rulesOf (e .source) noBody in
     let w : Carried r = record {
       store = rows (e .nodes) 0;
       marks = 0 ∷ 0 ∷ [];
       layout-state = layoutFresh;
-      render-state = record { pen = record { indent = e .indent; «next_indent» = 0; column = record { 0 = e .column } }; in-use = 0; row = 0 };
+      render-state = record { pen = record { indent = e .indent; «next_indent» = 0; column = record { 0 = e .column } }; in-use = 0; row = 0; width = 0 };
       text = [];
       left = none;
     } in
-    seen (e .source) noBody (run r w (renderCall (record { stop = sizes (e .nodes); room = 200; choice = onlyRenderChoice }) ∷ []))
+    seen (e .source) noBody (run r w (renderCall (record { stop = sizes (e .nodes); room = 300; choice = record { width = width } }) ∷ []))
 
 -- "two bytes, the number of comments; for each, start and end, four bytes each; one tree record"
 abbrev pub pairs : List Span → List ℕ
@@ -106,11 +108,11 @@ formatsAs f =
     seen (f .source) image
     (run r (start r (replicate 216 0) (0 ∷ 0 ∷ []))
     (layoutCall (closingAt (length (f .declarations)))
-    ∷ renderCall (record { stop = f .rows; room = 200; choice = onlyRenderChoice })
+    ∷ renderCall (record { stop = f .rows; room = 200; choice = record { width = REFERENCE-WIDTH } })
     ∷ []))
 
 abbrev pub observed : Edge → Seen
-observed (rendering e) = rendersAs e
+observed (rendering e) = rendersAt REFERENCE-WIDTH e
 observed (file f) = formatsAs f
 
 -- what is due: the figures of the edge, and all rows rendered
@@ -284,3 +286,18 @@ edges = renderingEdges ++ fileEdges
 -- the one theorem about it
 abbrev pub EdgesHold : Type 0
 EdgesHold = map observed edges ≡ map edgeDue edges
+
+-- ---- the edge of a line at other widths
+-- the text of a group of 20 letters, `LineOrSpace` and n letters at column 0, with a width
+abbrev pub groupAt : ℕ → ℕ → List ℕ
+groupAt width n = rendersAt width (record { source = letters 200; indent = 0; column = 0; nodes = pair 20 n then nothing; text = [] }) .text
+
+-- a group of as many columns as the width stays, one of a column more wraps
+pub record EdgeAt (width n : ℕ) : Type 0 where
+  pub stays : groupAt width n ≡ letters 20 ++ blanks 1 ++ letters n
+  pub wraps : groupAt width (n + 1) ≡ letters 20 ++ newline ++ letters (n + 1)
+
+pub record WidthsHold : Type 0 where
+  pub least : EdgeAt 40 19
+  pub print-shop : EdgeAt 100 79
+  pub most : EdgeAt 200 179

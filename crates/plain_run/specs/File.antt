@@ -1,5 +1,6 @@
 -- The whole run of one file: one layout call from fresh up to the last declaration, closing; then one rendering call from fresh up to the last
--- row. What it answers and leaves is told here by `fmt_parsed` and `Renderer` alone; proofs/File.antt has that the two calls give it.
+-- row. What it answers and leaves is told here by `fmt_parsed` and `Renderer` alone, at the width that its caller chooses; proofs/File.antt has
+-- that the two calls give it.
 use mathlib.Core.Bool.{true}
 use mathlib.Core.Option.{Option, none, some}
 use mathlib.Core.List.{List, [], _∷_}
@@ -17,9 +18,10 @@ use Rattle.renderer_rules.specs.Renderer.{renderNodes}
 use Rattle.renderer_rules.specs.Widest.{greatestColumn}
 use Rattle.refusals.specs.Refusals.{Refusal, unless, first, refuseIf}
 use Rattle.cut_rule.specs.Run.{writeFront}
-use Rattle.cut_rule.specs.States.{renderFresh}
+use Rattle.cut_rule.specs.Limits.{REFERENCE-WIDTH}
+use Rattle.cut_rule.specs.States.{RenderChoice, renderFresh}
 use Rattle.cut_rule.specs.Tests.{rowsIn}
-use Rattle.cut_rule.specs.Parts.{Drawn}
+use Rattle.cut_rule.specs.Parts.{Drawn, widthLine}
 use Rattle.plain_run.specs.Parts.{readRefusal, acceptedTree, rendererOf, drawnBy, page}
 
 -- What the run has of its own: "It has 1,800 rows, 1,800 marks and 65,536 output bytes." The output is lent.
@@ -28,6 +30,18 @@ fileRows = 1800
 
 abbrev pub fileMarks : ℕ
 fileMarks = 1800
+
+-- What a caller of a whole file chooses: "other entries over whole files take their caller's choice".
+pub record FileChoice : Type 0 where
+  pub width : ℕ
+
+-- "The program and the report keep 80"
+abbrev pub referenceChoice : FileChoice
+referenceChoice = record { width = REFERENCE-WIDTH }
+
+-- what its rendering call chooses
+abbrev pub renderChoice : FileChoice → RenderChoice
+renderChoice c = record { width = c .width }
 
 module _ (s b : List ℕ) where
   -- what `fmt_parsed` builds
@@ -42,43 +56,44 @@ module _ (s b : List ℕ) where
   abbrev pub marksDue : ℕ
   marksDue = marksNeeded rowsDue (rows (built .nodes) 0) 0
 
-  -- what `Renderer` makes of it, with that many marks, all cleared
-  abbrev pub drawnDue : Drawn
-  drawnDue = drawnBy (renderNodes (page s b) (built .nodes) true (rendererOf (renderFresh .pen) (replicate marksDue 0)))
+  -- what `Renderer` makes of it, with the width and that many marks, all cleared
+  abbrev pub drawnDue : FileChoice → Drawn
+  drawnDue c = drawnBy (renderNodes (page (c .width) s b) (built .nodes) true (rendererOf (renderFresh .pen) (replicate marksDue 0)))
 
   -- "greatest value `column` takes"
-  abbrev pub columnDue : ℕ
-  columnDue = greatestColumn (page s b) (built .nodes) (replicate marksDue 0)
+  abbrev pub columnDue : FileChoice → ℕ
+  columnDue c = greatestColumn (page (c .width) s b) (built .nodes) (replicate marksDue 0)
 
-  -- 1 to 7, then 8, in a store of so many rows
-  abbrev pub laidRefusal : ℕ → Option Refusal
-  laidRefusal rows = first (readRefusal (readAll s b) ∷ refuseIf (ltb rows rowsDue) 8 rowsDue ∷ [])
+  -- 1 to 7, then 15, a fresh state carrying no width, then 8, in a store of so many rows
+  abbrev pub laidRefusal : FileChoice → ℕ → Option Refusal
+  laidRefusal c rows =
+      first (readRefusal (readAll s b) ∷ widthLine (renderChoice c) renderFresh ∷ refuseIf (ltb rows rowsDue) 8 rowsDue ∷ [])
 
   -- then 9, then 10, with so many marks and so many bytes of output: no other cause refuses a whole file
-  abbrev pub refusalIn : ℕ → ℕ → ℕ → Option Refusal
-  refusalIn rows marks room =
+  abbrev pub refusalIn : FileChoice → ℕ → ℕ → ℕ → Option Refusal
+  refusalIn c rows marks room =
       first
-      (laidRefusal rows
+      (laidRefusal c rows
       ∷ refuseIf (ltb marks marksDue) 9 marksDue
-      ∷ refuseIf (ltb room (length (drawnDue .text))) 10 (length (drawnDue .text))
+      ∷ refuseIf (ltb room (length (drawnDue c .text))) 10 (length (drawnDue c .text))
       ∷ [])
 
-  abbrev pub fileRefusal : ℕ → Option Refusal
-  fileRefusal room = refusalIn fileRows fileMarks room
+  abbrev pub fileRefusal : FileChoice → ℕ → Option Refusal
+  fileRefusal c room = refusalIn c fileRows fileMarks room
 
   -- What a run in rows and marks that are lent leaves of them and of the output. Where 9 or 10 refuses, the rows are laid already.
-  abbrev pub storeLeft : List ℕ → List ℕ
-  storeLeft store = unless (laidRefusal (rowsIn store)) store (writeFront (rows (built .nodes) 0) store)
+  abbrev pub storeLeft : FileChoice → List ℕ → List ℕ
+  storeLeft c store = unless (laidRefusal c (rowsIn store)) store (writeFront (rows (built .nodes) 0) store)
 
-  abbrev pub marksLeft : List ℕ → List ℕ → List ℕ → List ℕ
-  marksLeft store marks out = unless (refusalIn (rowsIn store) (length marks) (length out)) marks (writeFront (drawnDue .marks) marks)
+  abbrev pub marksLeft : FileChoice → List ℕ → List ℕ → List ℕ → List ℕ
+  marksLeft c store marks out = unless (refusalIn c (rowsIn store) (length marks) (length out)) marks (writeFront (drawnDue c .marks) marks)
 
-  abbrev pub outputLeft : List ℕ → List ℕ → List ℕ → List ℕ
-  outputLeft store marks out = unless (refusalIn (rowsIn store) (length marks) (length out)) out (writeFront (drawnDue .text) out)
+  abbrev pub outputLeft : FileChoice → List ℕ → List ℕ → List ℕ → List ℕ
+  outputLeft c store marks out = unless (refusalIn c (rowsIn store) (length marks) (length out)) out (writeFront (drawnDue c .text) out)
 
   -- what a whole file's run leaves of the output
-  abbrev pub fileOutput : List ℕ → List ℕ
-  fileOutput out = unless (fileRefusal (length out)) out (writeFront (drawnDue .text) out)
+  abbrev pub fileOutput : FileChoice → List ℕ → List ℕ
+  fileOutput c out = unless (fileRefusal c (length out)) out (writeFront (drawnDue c .text) out)
 
 -- What a file's run answers: number and place; or the bytes written, the comments left, the rows and the group numbers.
 pub data FileAnswer : Type 0 where
@@ -90,10 +105,10 @@ fileAnswerBy (some r) a = refused r
 fileAnswerBy none a = a
 
 -- in so many rows, marks and bytes of output
-abbrev pub answerIn : List ℕ → List ℕ → ℕ → ℕ → ℕ → FileAnswer
-answerIn s b rows marks room =
-    fileAnswerBy (refusalIn s b rows marks room)
-    (formatted (length (drawnDue s b .text)) (length (commentsOf b) - built s b .placed) (rowsDue s b) (built s b .taken))
+abbrev pub answerIn : List ℕ → List ℕ → FileChoice → ℕ → ℕ → ℕ → FileAnswer
+answerIn s b c rows marks room =
+    fileAnswerBy (refusalIn s b c rows marks room)
+    (formatted (length (drawnDue s b c .text)) (length (commentsOf b) - built s b .placed) (rowsDue s b) (built s b .taken))
 
-abbrev pub fileAnswer : List ℕ → List ℕ → ℕ → FileAnswer
-fileAnswer s b room = answerIn s b fileRows fileMarks room
+abbrev pub fileAnswer : List ℕ → List ℕ → FileChoice → ℕ → FileAnswer
+fileAnswer s b c room = answerIn s b c fileRows fileMarks room

@@ -14,7 +14,7 @@ use Rattle.renderer_rules.specs.Check.{wrongPlace}
 use Rattle.renderer_rules.specs.Widest.{greatestColumn}
 use Rattle.cut_rule.specs.States.{renderFresh}
 use Rattle.plain_run.specs.Parts.{renderImage, rendererOf}
-use Rattle.plain_run.specs.File.{fileRows, built, drawnDue, laidRefusal}
+use Rattle.plain_run.specs.File.{FileChoice, fileRows, built, drawnDue, laidRefusal}
 
 -- the longest image, 1,048,581 bytes: no text of a row is longer
 abbrev pub MAX-IMAGE : ℕ
@@ -34,16 +34,16 @@ RowsTextLimited =
     (max : ℕ) (s b store marks : List ℕ) (n : ℕ) → n ≤ fileRows → renderImage s b ≡ none → wrongPlace s b store 0 n ≡ none
     → length (renderNodes (pageOf max s b) (nodesAt (viewOf store) 0 n) true (rendererOf (renderFresh .pen) marks) .buf) ≤ FILE-TEXT
 
--- of a file that 1 to 8 let pass
+-- of a file that 1 to 7, 15 and 8 let pass
 abbrev pub FileTextLimited : Type 0
-FileTextLimited = (s b : List ℕ) → laidRefusal s b fileRows ≡ none → length (drawnDue s b .text) ≤ FILE-TEXT
+FileTextLimited = (s b : List ℕ) (c : FileChoice) → laidRefusal s b c fileRows ≡ none → length (drawnDue s b c .text) ≤ FILE-TEXT
 
 -- each number is a byte, as what is lent as bytes holds: a width in two of them is 65,535 at most
 abbrev pub AreBytes : List ℕ → Type 0
 AreBytes l = (i : ℕ) → getD l i 0 ≤ 255
 
--- of a file that 1 to 8 let pass, at any width of a line, with any marks
+-- of a file that 1 to 7, 15 and 8 let pass, at any width of a line, with any marks
 abbrev pub FileColumnLimited : Type 0
 FileColumnLimited =
-    (max : ℕ) (s b marks : List ℕ) → AreBytes b → laidRefusal s b fileRows ≡ none
+    (max : ℕ) (s b marks : List ℕ) (c : FileChoice) → AreBytes b → laidRefusal s b c fileRows ≡ none
     → greatestColumn (pageOf max s b) (built s b .nodes) marks ≤ FILE-COLUMN

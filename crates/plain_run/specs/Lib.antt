@@ -3,3 +3,4 @@ pub mod Demands
 pub mod Edges
 pub mod File
 pub mod FileLimits
+pub mod Reference

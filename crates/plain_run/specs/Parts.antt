@@ -69,17 +69,17 @@ rendererOf z marks = freshRenderer z marks
 abbrev pub drawnBy : Renderer → Drawn
 drawnBy r = record { pen = r .pen; marks = r .marks; text = r .buf }
 
--- 80 columns
-abbrev pub page : List ℕ → List ℕ → Page
-page s b = pageOf 80 s b
+-- "The rules are the Rust's with that number": the width is `max`
+abbrev pub page : ℕ → List ℕ → List ℕ → Page
+page width s b = pageOf width s b
 
 -- the rows from i up to a stop; what is read counts as top rows, so that `wrap` is true
-abbrev pub drawn : List ℕ → List ℕ → Pen → List ℕ → List ℕ → ℕ → ℕ → Drawn
-drawn s b z marks store i stop = drawnBy (renderNodes (page s b) (nodesAt (viewOf store) i stop) true (rendererOf z marks))
+abbrev pub drawn : List ℕ → List ℕ → ℕ → Pen → List ℕ → List ℕ → ℕ → ℕ → Drawn
+drawn s b width z marks store i stop = drawnBy (renderNodes (page width s b) (nodesAt (viewOf store) i stop) true (rendererOf z marks))
 
 -- the greatest value that `column` is set to there
-abbrev pub widestDrawn : List ℕ → List ℕ → Pen → List ℕ → List ℕ → ℕ → ℕ → ℕ
-widestDrawn s b z marks store i stop = renderNodes (page s b) (nodesAt (viewOf store) i stop) true (rendererOf z marks) .widest
+abbrev pub widestDrawn : List ℕ → List ℕ → ℕ → Pen → List ℕ → List ℕ → ℕ → ℕ → ℕ
+widestDrawn s b width z marks store i stop = renderNodes (page width s b) (nodesAt (viewOf store) i stop) true (rendererOf z marks) .widest
 
 -- ---- the whole
 -- by what was read of the image: another way to read is another r

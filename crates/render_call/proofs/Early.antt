@@ -1,4 +1,4 @@
--- From the first entries of the table, 1, 3, 11 and 12, to those before the run, of which 9 is the last.
+-- From the first entries of the table, 1, 3, 11, 12 and 15, to those before the run, of which 9 is the last.
 -- Assumes nothing.
 use mathlib.Core.Path.{_≡_, sym, ap, _∙_}
 use mathlib.Core.Bool.{Bool}

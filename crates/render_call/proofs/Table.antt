@@ -1,13 +1,14 @@
--- Refusal 12, from the code's tests, group by group, to the table's.
+-- Refusals 12 and 15, from the code's tests, group by group, to the table's.
 -- Assumes nothing.
-use mathlib.Core.Path.{_≡_, sym, ap, _∙_}
+use mathlib.Core.Path.{_≡_, sym, ap, ap₂, _∙_}
 use mathlib.Core.Bool.{Bool, true, false, not}
-use mathlib.Core.List.{List, _++_}
+use mathlib.Core.Option.{Option}
+use mathlib.Core.List.{List, [], _∷_, _++_}
 use Prim.Native.Nat.{ℕ}
 use borrow.Author.Tests.{not-true, not-false}
-use Rattle.refusals.specs.Refusals.{any, refuseIf}
+use Rattle.refusals.specs.Refusals.{Refusal, any, first, refuseIf}
 use Rattle.refusals.proofs.Groups.{group-refuses, group-passes}
-use Rattle.cut_rule.specs.Tests.{rowsIn, rowTests, penTests, markTests, renderTests}
+use Rattle.cut_rule.specs.Tests.{rowsIn, rowTests, penTests, markTests, renderTests, widthTests}
 use Rattle.render_call.specs.Calls.{toState, toArgs, verdictRefusal}
 use Rattle.render_call.specs.declared.RenderState.{RenderState}
 use Rattle.render_call.specs.declared.RenderArgs.{RenderArgs}
@@ -36,9 +37,19 @@ module _ (state : RenderState) (args : RenderArgs) (store marks : List ℕ) wher
     pub marks-say : (y z : Bool) → y ≡ not (any pen) → not y ≡ false → z ≡ not (any used) → z ≡ not tests
     marks-say y z f i g = group-passes x z row (pen ++ used) e h (group-passes y z pen used f i g)
 
-  -- the line of 12
-  pub state-unfit : (x : Bool) → x ≡ not tests → not x ≡ true → verdictRefusal (verdict.Refused 12 0) ≡ refuseIf tests 12 0
-  state-unfit x e h = sym (ap (λ (t : Bool). refuseIf t 12 0) (not-false tests (sym e ∙ not-true x h)))
+  abbrev width : Bool
+  width = any (widthTests (args .width) (state .width))
 
-  pub state-fit : (x : Bool) → x ≡ not tests → not x ≡ false → verdictRefusal verdict.Accepted ≡ refuseIf tests 12 0
-  state-fit x e h = sym (ap (λ (t : Bool). refuseIf t 12 0) (not-true tests (sym e ∙ not-false x h)))
+  -- the lines of 12 and 15
+  abbrev lines : Bool → Bool → Option Refusal
+  lines t u = first (refuseIf t 12 0 ∷ refuseIf u 15 0 ∷ [])
+
+  pub state-unfit : (x : Bool) → x ≡ not tests → not x ≡ true → verdictRefusal (verdict.Refused 12 0) ≡ lines tests width
+  state-unfit x e h = sym (ap (λ (t : Bool). lines t width) (not-false tests (sym e ∙ not-true x h)))
+
+  module _ (x : Bool) (e : x ≡ not tests) (h : not x ≡ false) where
+    pub width-unfit : (y : Bool) → y ≡ not width → not y ≡ true → verdictRefusal (verdict.Refused 15 0) ≡ lines tests width
+    width-unfit y f i = sym (ap₂ lines (not-true tests (sym e ∙ not-false x h)) (not-false width (sym f ∙ not-true y i)))
+
+    pub all-fit : (y : Bool) → y ≡ not width → not y ≡ false → verdictRefusal verdict.Accepted ≡ lines tests width
+    all-fit y f i = sym (ap₂ lines (not-true tests (sym e ∙ not-false x h)) (not-true width (sym f ∙ not-false y i)))

@@ -16,7 +16,7 @@ use Rattle.rowcheck.specs.declared.Found.{Found}
 use Rattle.rowcheck.specs.declared.Found.the-variants.{Right, Wrong}
 use Rattle.rows.specs.Limits.{MAX-ROWS}
 use Rattle.rows.specs.Places.{PLACES}
-use Rattle.refusals.specs.Refusals.{Refusal, refuseAt, first}
+use Rattle.refusals.specs.Refusals.{Refusal, refuseAt}
 use Rattle.cut_rule.specs.Tests.{oddMark}
 
 -- ---- marks in use
@@ -62,11 +62,6 @@ module _ (m : List ℕ) (used i : ℕ) (o : Odd m used i) where
               ∙ ap (λ (t : Bool). t || oddMark (take (used - suc i) (drop (suc i) m))) (le-ltb 1 (getD m i 0) l)
               ∙ ap (λ (j : ℕ). oddMark (take (used - j) (drop j m))) (sym (add-one i));
         }
-
--- the last line of a table
-pub alone : (o : Option Refusal) → o ≡ first (o ∷ [])
-alone none = refl
-alone (some r) = refl
 
 -- ---- the check of rows
 abbrev placeOf : Option Refusal → ℕ

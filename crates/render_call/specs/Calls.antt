@@ -18,17 +18,18 @@ use Rattle.render_call.specs.declared.Drawing.the-variants as drawing
 use Rattle.render_call.specs.declared.refusal.Verdict.{Verdict}
 use Rattle.render_call.specs.declared.refusal.Verdict.the-variants as verdict
 
--- "Rendering state: `indent`, `next_indent`, `column`, marks in use, next row."
+-- "Rendering state: `indent`, `next_indent`, `column`, marks in use, next row"; and the width
 abbrev pub toState : RenderState → states.RenderState
 toState s = record {
   pen = record { indent = s .indent; «next_indent» = s .«next_indent»; column = s .column };
   in-use = s .«in_use»;
   row = s .row;
+  width = s .width;
 }
 
--- "A rendering call names the row to stop before"; `room` is the length of the output that it is lent.
+-- "A rendering call names the row to stop before", and chooses a width; `room` is the length of the output that it is lent.
 abbrev pub toArgs : RenderArgs → ℕ → cut.RenderArgs states.RenderChoice
-toArgs args room = record { stop = args .stop; room = room; choice = states.onlyRenderChoice }
+toArgs args room = record { stop = args .stop; room = room; choice = record { width = args .width } }
 
 -- A call's answer, case by case: "the new state and the bytes written"; "Number and place are all that comes back."
 abbrev pub renderingAnswer : (s b : List ℕ) → Rendering → Answer (rulesOf s b)
@@ -49,7 +50,7 @@ abbrev pub verdictRefusal : Verdict → Option Refusal
 verdictRefusal verdict.Accepted = none
 verdictRefusal (verdict.Refused n p) = some (record { number = n; place = p })
 
--- "rendering 1, 3 by the same tests, then 11, 12": the lines before the rows are counted
+-- "rendering 1, 3 by the same tests, then 11, 12", and 15: the lines before the rows are counted
 abbrev pub earlyRefusal : List ℕ → List ℕ → RenderArgs → RenderState → List ℕ → List ℕ → Option Refusal
 earlyRefusal s b args state store marks = first (beforeMarks (partsOf s b) (toArgs args 0) (toState state) store marks)
 

@@ -29,7 +29,7 @@ pub record RenderCalled (source image : List ℕ) (state : RenderState) (args : 
 -- the greatest value that `column` is set to over the rows that a call reads, with the marks that it has
 abbrev pub widestDue : List ℕ → List ℕ → RenderState → RenderArgs → List ℕ → List ℕ → ℕ
 widestDue source image state args store marks =
-    widestDrawn source image (toState state .pen)
+    widestDrawn source image (args .width) (toState state .pen)
     (withCleared (partsOf source image) (take (state .«in_use») marks) (marksNeeded (args .stop - state .row) store (state .row)))
     store
     (state .row)
@@ -49,7 +49,7 @@ pub record Counted (source image : List ℕ) (state : RenderState) (args : Rende
   pub marks-left : marks2 ≡ marks
   pub output-left : out2 ≡ out
 
--- 1, 3, 11 and 12 do not refuse the call
+-- 1, 3, 11, 12 and 15 do not refuse the call
 pub record Checked (source image : List ℕ) (state : RenderState) (args : RenderArgs) (store marks : List ℕ) : Type 0 where
   pub passes : earlyRefusal source image args state store marks ≡ none
 

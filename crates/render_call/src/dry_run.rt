@@ -2,7 +2,6 @@
 ghost use Rattle.render_call.specs.Whole.{Counted, Passing};
 use crate::RenderArgs;
 use crate::RenderState;
-use crate::run::MAX;
 use crate::run::start_text;
 use marks::keep::put_aside;
 use marks::keep::put_back;
@@ -31,7 +30,10 @@ pub(crate) fn bytes_needed(
         from: from,
         stop: stop,
     };
-    let bounds = Bounds { max: MAX, limit: 0 };
+    let bounds = Bounds {
+        max: args.width,
+        limit: 0,
+    };
     let start = start_text(state);
     put_aside(store, marks, state.in_use, from, stop);
     let end = run_rows(start, rows, store, source, image, marks, out, bounds);

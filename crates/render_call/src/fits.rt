@@ -1,14 +1,17 @@
-// Refusal 12, as far as it is of rendering: a function for each group of tests.
+// Refusal 12, as far as it is of rendering: a function for each group of tests; and 15 after it.
 ghost use mathlib.Core.Path.{_≡_};
 ghost use mathlib.Core.Bool.{not};
 ghost use Prim.Native.Nat.{_≤_};
 ghost use lib.ListN.{length, take};
-ghost use Rattle.refusals.specs.Refusals.{refuseIf, any};
+ghost use mathlib.Core.List.{[], _∷_};
+ghost use Rattle.refusals.specs.Refusals.{first, refuseIf, any};
 ghost use Rattle.cut_rule.specs.Tests.{rowsIn, oddMark, rowTests, penTests, markTests, renderTests};
+ghost use Rattle.cut_rule.specs.Parts.{widthLine};
 ghost use Rattle.render_call.specs.Calls.{toState, toArgs, verdictRefusal};
 use crate::RenderArgs;
 use crate::RenderState;
 use crate::refusal::Verdict;
+use crate::width::width_fits;
 use rows::limits::MAX_ROWS;
 use rows::places::PLACES;
 
@@ -81,17 +84,20 @@ fn state_fits(state: RenderState, args: RenderArgs, store: &[u32], marks: &[u8])
     marks_fit(marks, state.in_use)
 }
 
-// Refusal 12.
+// Refusals 12 and 15.
 pub(crate) fn state_refusal(
     state: RenderState,
     args: RenderArgs,
     store: &[u32],
     marks: &[u8],
 ) -> Verdict
-    ensures { λ r. ⌜ verdictRefusal r ≡ refuseIf (any (renderTests (toArgs args 0) (toState state) (now (store .entry)) (now (marks .entry)))) 12 0 ⌝ }
+    ensures { λ r. ⌜ verdictRefusal r ≡ first (refuseIf (any (renderTests (toArgs args 0) (toState state) (now (store .entry)) (now (marks .entry)))) 12 0 ∷ widthLine (toArgs args 0 .choice) (toState state) ∷ []) ⌝ }
 {
     if !state_fits(state, args, store, marks) {
         return Verdict::Refused(12, 0);
+    }
+    if !width_fits(args.width, state.width) {
+        return Verdict::Refused(15, 0);
     }
     Verdict::Accepted
 }

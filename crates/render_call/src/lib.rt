@@ -4,6 +4,7 @@ mod fits;
 mod refusal;
 mod room;
 mod run;
+pub mod width;
 
 ghost use mathlib.Core.Path.{_≡_};
 ghost use Rattle.render_call.specs.Calls.{renderingOf};
@@ -15,18 +16,20 @@ use crate::run::render_accepted;
 use rows::units::Bytes;
 use rows::units::Columns;
 
-// `indent`, `next_indent`, `column`, marks in use, next row.
+// `indent`, `next_indent`, `column`, marks in use, next row, width (0: none yet).
 pub struct RenderState {
     pub indent: usize,
     pub next_indent: usize,
     pub column: Columns,
     pub in_use: usize,
     pub row: usize,
+    pub width: usize,
 }
 
-// The row to stop before.
+// The row to stop before, and the width.
 pub struct RenderArgs {
     pub stop: usize,
+    pub width: usize,
 }
 
 pub enum Rendering {
@@ -54,7 +57,7 @@ fn rendering_of(d: Drawing) -> Rendering
     }
 }
 
-// A rendering call that 1, 3, 11 and 12 do not refuse.
+// A rendering call that 1, 3, 11, 12 and 15 do not refuse.
 pub fn render_checked(
     source: &[u8],
     image: &[u8],

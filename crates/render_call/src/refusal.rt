@@ -1,4 +1,4 @@
-// Refusals 1, 3, 11 and 12: what the tests before the rows are counted say of a call.
+// Refusals 1, 3, 11, 12 and 15: what the tests before the rows are counted say of a call.
 ghost use mathlib.Core.Path.{_≡_};
 ghost use Rattle.render_call.specs.Calls.{verdictRefusal, earlyRefusal};
 use crate::RenderArgs;
@@ -15,7 +15,7 @@ pub(crate) enum Verdict {
     Refused(u8, usize),
 }
 
-// Refusals 1, 3, 11 and 12, the first that holds.
+// Refusals 1, 3, 11, 12 and 15, the first that holds.
 pub(crate) fn refusal(
     source: &[u8],
     image: &[u8],

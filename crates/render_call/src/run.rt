@@ -18,9 +18,6 @@ use renderer_rules::Pen;
 use rows::units::Bytes;
 use rows::units::Columns;
 
-// `max` of fmt.rs: the columns of a line.
-pub(crate) const MAX: usize = 80;
-
 // A text with the state's pen, of which nothing is written yet.
 pub(crate) fn start_text(state: RenderState) -> Writing
     ensures { λ r. ⌜ Takes state r ⌝ }
@@ -57,7 +54,7 @@ fn write_rows(
         stop: args.stop,
     };
     let bounds = Bounds {
-        max: MAX,
+        max: args.width,
         limit: out.len(),
     };
     let start = start_text(state);
@@ -73,6 +70,7 @@ fn write_rows(
         column: column,
         in_use: larger(state.in_use, needed),
         row: args.stop,
+        width: args.width,
     };
     Drawing::Drawn(left, bytes, widest)
 }

@@ -22,8 +22,8 @@ use stored_answers::numbers::long;
 use stored_answers::numbers::past;
 use stored_answers::report::count;
 
-// How many answers a call can have: accepted, or a number up to 13. Those of rendering calls are counted behind those of layout calls.
-pub(crate) const ANSWERS: usize = 14;
+// How many answers a call can have: accepted, or a number up to 15. Those of rendering calls are counted behind those of layout calls.
+pub(crate) const ANSWERS: usize = 16;
 
 // How many calls there are, where the next one is stored, the states that the calls so far left, the bytes that they wrote, and the first
 // difference.
@@ -41,9 +41,11 @@ const STOP: usize = 1;
 
 const ARGUMENT: usize = 5;
 
-const NUMBER: usize = 9;
+const CHOICE: usize = 9;
 
-const STATE: usize = 18;
+const NUMBER: usize = 13;
+
+const STATE: usize = 22;
 
 fn wide(x: u8) -> usize {
     x as usize
@@ -198,6 +200,7 @@ fn render(
     let state = run.render;
     let args = RenderArgs {
         stop: long(d, past(run.at, STOP)),
+        width: long(d, past(run.at, CHOICE)),
     };
     let answer = render_call(
         source,

@@ -53,7 +53,7 @@ fn replay(d: &[u8]) {
     let mut store = store_room();
     let mut marks = marks_room();
     let mut text = text_room();
-    let mut counts = [0usize; 28];
+    let mut counts = [0usize; 32];
     let c = replay_cases(d, &mut store, &mut marks, &mut text, &mut counts);
     show_answers(&counts);
     show_end(b"lists", c);

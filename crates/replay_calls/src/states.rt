@@ -10,7 +10,7 @@ use stored_answers::numbers::past;
 // How many bytes a layout state has.
 pub(crate) const LAYOUT: usize = 22;
 // How many bytes a rendering state has.
-pub(crate) const RENDER: usize = 24;
+pub(crate) const RENDER: usize = 28;
 
 pub(crate) fn layout_state(d: &[u8], at: usize) -> LayoutState {
     LayoutState {
@@ -31,6 +31,7 @@ pub(crate) fn render_state(d: &[u8], at: usize) -> RenderState {
         column: Columns(eight(d, past(at, 8))),
         in_use: long(d, past(at, 16)),
         row: long(d, past(at, 20)),
+        width: long(d, past(at, 24)),
     }
 }
 
@@ -71,5 +72,8 @@ pub(crate) fn same_render(s: RenderState, t: RenderState) -> bool {
     if s.in_use != t.in_use {
         return false;
     }
-    s.row == t.row
+    if s.row != t.row {
+        return false;
+    }
+    s.width == t.width
 }

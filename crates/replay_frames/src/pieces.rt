@@ -4,6 +4,7 @@ use crate::stored::STOP;
 use crate::stored::STOPS;
 use crate::stored::declarations;
 use crate::stored::output_found;
+use file::REFERENCE_WIDTH;
 use layout_call::Laying;
 use layout_call::LayoutArgs;
 use layout_call::LayoutState;
@@ -49,6 +50,7 @@ fn render_fresh() -> RenderState {
         column: Columns(0),
         in_use: 0,
         row: 0,
+        width: 0,
     }
 }
 
@@ -207,7 +209,10 @@ fn by_declarations(
 ) -> Found {
     let l = lay_out(d, at, source, image, store);
     let s = l.state;
-    let to = RenderArgs { stop: s.row };
+    let to = RenderArgs {
+        stop: s.row,
+        width: REFERENCE_WIDTH,
+    };
     let answer = render_call(source, image, store, marks, out, render_fresh(), to);
     rendered_found(d, at, store, marks, out, l, answer)
 }

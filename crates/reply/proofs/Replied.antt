@@ -11,7 +11,7 @@ use Rattle.rows.specs.Ascii.{bytes}
 use Rattle.rows.specs.declared.units.Bytes.{Bytes}
 use Rattle.refusals.specs.Refusals.{Refusal, first, unless}
 use Rattle.cut_rule.specs.Run.{writeFront}
-use Rattle.plain_run.specs.File.{refused, formatted, fileAnswerBy, drawnDue, fileRefusal, fileOutput}
+use Rattle.plain_run.specs.File.{refused, formatted, referenceChoice, fileAnswerBy, drawnDue, fileRefusal, fileOutput}
 use Rattle.file.specs.Whole.{formattedAnswer, sourceOf, imageOf, frameRefusal, FormatsFrame}
 use Rattle.file.specs.declared.Formatted.{Formatted}
 use Rattle.file.specs.declared.Formatted.the-variants as answer
@@ -56,17 +56,17 @@ module _ (frame out : List ℕ) (full : length out ≡ 65536) where
   b = imageOf frame
 
   abbrev text : List ℕ
-  text = drawnDue s b .text
+  text = drawnDue s b referenceChoice .text
 
   -- the room is the program's
   abbrev x : Option Refusal
   x = frameRefusal frame
 
   abbrev y : Option Refusal
-  y = fileRefusal s b (length out)
+  y = fileRefusal s b referenceChoice (length out)
 
   table-same : first (x ∷ y ∷ []) ≡ programRefusal frame
-  table-same = ap (λ (n : ℕ). first (x ∷ fileRefusal s b n ∷ [])) full
+  table-same = ap (λ (n : ℕ). first (x ∷ fileRefusal s b referenceChoice n ∷ [])) full
 
   pub replied-text : (a : Formatted) (out2 : List ℕ) (n : Bytes) (l k m : ℕ) → FormatsFrame frame out a out2 → a ≡ answer.Text n l k m
       → Replies frame out (n .0) out2
@@ -78,7 +78,7 @@ module _ (frame out : List ℕ) (full : length out ≡ 65536) where
         bytes-due = t .size ∙ sym (ap (λ (o : Option Refusal). length (replyBy o text)) passes);
         output-left =
             f .output-left
-            ∙ ap (λ (o : Option Refusal). unless o out (fileOutput s b out)) (t .front)
+            ∙ ap (λ (o : Option Refusal). unless o out (fileOutput s b referenceChoice out)) (t .front)
             ∙ ap (λ (o : Option Refusal). unless o out (writeFront text out)) (t .back)
             ∙ sym (ap (λ (o : Option Refusal). writeFront (replyBy o text) out) passes);
       }

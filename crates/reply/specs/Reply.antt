@@ -9,7 +9,7 @@ use lib.ListN.{length}
 use Rattle.refusals.specs.Refusals.{Refusal, first}
 use Rattle.rows.specs.Ascii.{bytes}
 use Rattle.cut_rule.specs.Run.{writeFront}
-use Rattle.plain_run.specs.File.{drawnDue, fileRefusal}
+use Rattle.plain_run.specs.File.{referenceChoice, drawnDue, fileRefusal}
 use Rattle.file.specs.Whole.{sourceOf, imageOf, frameRefusal}
 
 -- a digit as a byte
@@ -35,7 +35,7 @@ programRoom = 65536
 
 -- 13 before all else, then what refuses the frame's file
 abbrev pub frameTable : List ℕ → ℕ → Option Refusal
-frameTable frame room = first (frameRefusal frame ∷ fileRefusal (sourceOf frame) (imageOf frame) room ∷ [])
+frameTable frame room = first (frameRefusal frame ∷ fileRefusal (sourceOf frame) (imageOf frame) referenceChoice room ∷ [])
 
 abbrev pub programRefusal : List ℕ → Option Refusal
 programRefusal frame = frameTable frame programRoom
@@ -46,7 +46,7 @@ replyBy none text = text
 
 -- the bytes that a frame is answered with: the text of its file, as `Renderer` renders what `fmt_parsed` builds, or the refusal
 unfoldable pub reply : List ℕ → List ℕ
-reply frame = replyBy (programRefusal frame) (drawnDue (sourceOf frame) (imageOf frame) .text)
+reply frame = replyBy (programRefusal frame) (drawnDue (sourceOf frame) (imageOf frame) referenceChoice .text)
 
 -- n bytes are the reply, at the start of the output; behind them it is as it was
 pub record Replies (frame out : List ℕ) (n : ℕ) (out2 : List ℕ) : Type 0 where

@@ -6,15 +6,16 @@ use Rattle.exports.proofs.rrufthim_format.Statement.{statement}
 use Rattle.exports.proofs.rrufthim_format.Tie as tie
 
 returns : tie.Need-returns
-returns c = formats _ _ _ _ _ _ _ _ (c .before .before .before .before .before .format-file .ensures) (c .before .n .given .1) refl
+returns c = formats _ _ _ _ _ _ _ _ _ _ (c .before .before .before .before .before .before .file-choice .ensures) (c .before .before .before .before .before .format-file .ensures) (c .before .n .given .1) refl
 
 returns-2 : tie.Need-returns-2
-returns-2 c = formats _ _ _ _ _ _ _ _ (c .before .before .before .before .before .before .before .format-file .ensures) (c .before .before .before .bytes .given .1) (c .put-formatted .ensures)
+returns-2 c = formats _ _ _ _ _ _ _ _ _ _ (c .before .before .before .before .before .before .before .before .file-choice .ensures) (c .before .before .before .before .before .before .before .format-file .ensures) (c .before .before .before .bytes .given .1) (c .put-formatted .ensures)
 
 pub rrufthim-format-spec : {M : Type 1} → statement M
 rrufthim-format-spec =
     tie.close
     (tie.spec
+    (λ c κs. search needs)
     (λ c κs. search needs)
     (λ c. search needs)
     (λ c. search needs)

@@ -6,15 +6,16 @@ use Rattle.exports.proofs.rrufthim_render.Statement.{statement}
 use Rattle.exports.proofs.rrufthim_render.Tie as tie
 
 returns : tie.Need-returns
-returns c = renders _ _ _ _ _ _ _ _ _ _ _ _ _ _ _ (c .before .before .before .before .before .before .before .before .before .before .before .before .before .render-state .ensures) (c .before .before .before .before .before .before .before .before .before .render-call .ensures) (c .before .n .given .1) refl
+returns c = renders _ _ _ _ _ _ _ _ _ _ _ _ _ _ _ _ (c .before .before .before .before .before .before .before .before .before .before .before .before .before .before .render-state .ensures) (c .before .before .before .before .before .before .before .before .before .before .before .before .before .render-args .ensures) (c .before .before .before .before .before .before .before .before .before .render-call .ensures) (c .before .n .given .1) refl
 
 returns-2 : tie.Need-returns-2
-returns-2 c = renders _ _ _ _ _ _ _ _ _ _ _ _ _ _ _ (c .before .before .before .before .before .before .before .before .before .before .before .before .before .before .before .render-state .ensures) (c .before .before .before .before .before .before .before .before .before .before .before .render-call .ensures) (c .before .before .before .t .given .1) (c .put-written .ensures)
+returns-2 c = renders _ _ _ _ _ _ _ _ _ _ _ _ _ _ _ _ (c .before .before .before .before .before .before .before .before .before .before .before .before .before .before .before .before .render-state .ensures) (c .before .before .before .before .before .before .before .before .before .before .before .before .before .before .before .render-args .ensures) (c .before .before .before .before .before .before .before .before .before .before .before .render-call .ensures) (c .before .before .before .t .given .1) (c .put-written .ensures)
 
 pub rrufthim-render-spec : {M : Type 1} → statement M
 rrufthim-render-spec =
     tie.close
     (tie.spec
+    (λ c κs. search needs)
     (λ c κs. search needs)
     (λ c κs. search needs)
     (λ c. search needs)

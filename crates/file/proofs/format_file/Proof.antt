@@ -11,7 +11,7 @@ format-accepted-requires : tie.Need-format-accepted-requires
 format-accepted-requires c κs = record { answer = answer-told (c .before .before .before .before .check .result) (readAll (c .before .before .before .before .before .before .before .before .args .source .now) (c .before .before .before .before .before .before .before .before .args .image .now)) (c .before .before .before .before .check .ensures) ∙ c .before .before .comments .given .1 }
 
 returns : tie.Need-returns
-returns c = check-refused _ _ _ _ _ (answer-told (c .before .before .before .check .result) (readAll (c .before .before .before .before .before .before .before .args .source .now) (c .before .before .before .before .before .before .before .args .image .now)) (c .before .before .before .check .ensures) ∙ c .before .number .given .1)
+returns c = check-refused _ _ _ _ _ _ (answer-told (c .before .before .before .check .result) (readAll (c .before .before .before .before .before .before .before .args .source .now) (c .before .before .before .before .before .before .before .args .image .now)) (c .before .before .before .check .ensures) ∙ c .before .number .given .1)
 
 pub format-file-spec : {M : Type 1} → statement M
 format-file-spec =

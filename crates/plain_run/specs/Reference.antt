@@ -1,0 +1,100 @@
+-- "80 is the reference": with 80 all is as it was before a caller could choose a width. 15 refuses nothing, and `Renderer` has the Rust's `max`.
+-- The definitions here have no width; proofs/Reference.antt proves that those with a width are these at 80.
+use mathlib.Core.Logic.{_⊎_}
+use mathlib.Core.Path.{_≡_}
+use mathlib.Core.Bool.{true}
+use mathlib.Core.Option.{Option, none}
+use mathlib.Core.List.{List, [], _∷_}
+use Prim.Native.Nat.{ℕ, _-_, max}
+use lib.Dec.{ltb}
+use lib.ListN.{length, take, replicate}
+use Rattle.image.specs.Read.{readAll}
+use Rattle.rows.specs.View.{viewOf, nodesAt}
+use Rattle.comments.specs.Listed.{commentsOf}
+use Rattle.marks.specs.Marks.{marksNeeded}
+use Rattle.renderer_rules.specs.Renderer.{renderNodes}
+use Rattle.renderer_rules.specs.Page.{pageOf}
+use Rattle.renderer_rules.specs.Check.{wrongPlace}
+use Rattle.renderer_rules.specs.declared.Pen.{Pen}
+use Rattle.refusals.specs.Refusals.{Refusal, unless, first, refuseIf, refuseAt, any}
+use Rattle.cut_rule.specs.Limits.{REFERENCE-WIDTH}
+use Rattle.cut_rule.specs.Rules.{RenderArgs}
+use Rattle.cut_rule.specs.Run.{writeFront}
+use Rattle.cut_rule.specs.States.{RenderChoice, RenderState, renderFresh}
+use Rattle.cut_rule.specs.Tests.{renderTests}
+use Rattle.cut_rule.specs.Parts.{Drawn, withCleared, widthLine, renderTable, renderedOf}
+use Rattle.plain_run.specs.Parts.{readRefusal, renderImage, rendererOf, drawnBy, partsOf}
+use Rattle.plain_run.specs.File.{fileRows, fileMarks, referenceChoice, renderChoice, built, rowsDue, marksDue, fileRefusal, fileOutput}
+use Rattle.plain_run.specs.File.{FileAnswer, formatted, fileAnswerBy, fileAnswer}
+
+module _ (s b : List ℕ) where
+  -- ---- a whole file
+  -- what `Renderer` makes of what `fmt_parsed` builds
+  abbrev pub drawnThen : Drawn
+  drawnThen = drawnBy (renderNodes (pageOf 80 s b) (built s b .nodes) true (rendererOf (renderFresh .pen) (replicate (marksDue s b) 0)))
+
+  -- 1 to 7, then 8, 9, 10
+  abbrev pub refusalThen : ℕ → Option Refusal
+  refusalThen room =
+      first
+      (first (readRefusal (readAll s b) ∷ refuseIf (ltb fileRows (rowsDue s b)) 8 (rowsDue s b) ∷ [])
+      ∷ refuseIf (ltb fileMarks (marksDue s b)) 9 (marksDue s b)
+      ∷ refuseIf (ltb room (length (drawnThen .text))) 10 (length (drawnThen .text))
+      ∷ [])
+
+  abbrev pub answerThen : ℕ → FileAnswer
+  answerThen room =
+      fileAnswerBy (refusalThen room)
+      (formatted (length (drawnThen .text)) (length (commentsOf b) - built s b .placed) (rowsDue s b) (built s b .taken))
+
+  abbrev pub outputThen : List ℕ → List ℕ
+  outputThen out = unless (refusalThen (length out)) out (writeFront (drawnThen .text) out)
+
+  pub record FileAsBefore : Type 0 where
+    pub not-15 : widthLine (renderChoice referenceChoice) renderFresh ≡ none
+    pub refusal : (room : ℕ) → fileRefusal s b referenceChoice room ≡ refusalThen room
+    pub answer : (room : ℕ) → fileAnswer s b referenceChoice room ≡ answerThen room
+    pub output : (out : List ℕ) → fileOutput s b referenceChoice out ≡ outputThen out
+
+  -- ---- a rendering call
+  -- what the rows from the state's next row up to a stop give
+  abbrev pub callDrawn : RenderState → List ℕ → List ℕ → ℕ → Drawn
+  callDrawn z marks store stop =
+      drawnBy
+      (renderNodes (pageOf 80 s b) (nodesAt (viewOf store) (z .row) stop) true
+      (rendererOf (z .pen) (withCleared (partsOf s b) marks (marksNeeded (stop - z .row) store (z .row)))))
+
+  -- 1, 3, 11, 12, 9, 10
+  abbrev pub callRefusal : RenderArgs RenderChoice → RenderState → List ℕ → List ℕ → Option Refusal
+  callRefusal q z store marks =
+      let needed = marksNeeded (q .stop - z .row) store (z .row) in
+      let bytes = length (callDrawn z (take (z .in-use) marks) store (q .stop) .text) in
+      first
+      (renderImage s b
+      ∷ refuseAt (wrongPlace s b store (z .row) (q .stop)) 11
+      ∷ refuseIf (any (renderTests q z store marks)) 12 0
+      ∷ refuseIf (ltb (length marks) needed) 9 needed
+      ∷ refuseIf (ltb (q .room) bytes) 10 bytes
+      ∷ [])
+
+  -- of a call that chooses 80, from a state that carries none yet or 80
+  pub record CallAsBefore (stop room : ℕ) (z : RenderState) (store marks : List ℕ) : Type 0 where
+    pub refusal :
+        (let q : RenderArgs RenderChoice = record { stop = stop; room = room; choice = renderChoice referenceChoice } in
+        first (renderTable (partsOf s b) q z store marks) ≡ callRefusal q z store marks)
+    pub rendered : renderedOf (partsOf s b) (renderChoice referenceChoice) z marks store stop ≡ record {
+      state = record {
+        pen = callDrawn z marks store stop .pen;
+        in-use = max (z .in-use) (marksNeeded (stop - z .row) store (z .row));
+        row = stop;
+        width = 80;
+      };
+      marks = callDrawn z marks store stop .marks;
+      text = callDrawn z marks store stop .text;
+    }
+
+abbrev pub ReferenceHolds : Type 0
+ReferenceHolds =
+    (s b : List ℕ)
+    → FileAsBefore s b
+    × ((stop room : ℕ) (z : RenderState) (store marks : List ℕ) → (z .width ≡ 0) ⊎ (z .width ≡ REFERENCE-WIDTH) → CallAsBefore s b stop room z store marks)
