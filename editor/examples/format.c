@@ -13,10 +13,11 @@ static const uint8_t IMAGE[] = {
 static void format(const uint8_t *image, size_t image_len)
 {
     static const uint8_t source[1] = {0};
+    static const uint64_t choice[RRUFTHIM_FORMAT_CHOICE] = {RRUFTHIM_REFERENCE_WIDTH};
     uint8_t output[64];
     uint64_t out[RRUFTHIM_FORMAT_OUT];
 
-    rrufthim_format(source, 0, image, image_len, output, sizeof output, out);
+    rrufthim_format(source, 0, image, image_len, choice, output, sizeof output, out);
     if (out[0] != 0) {
         printf("refused %lu at %lu\n", (unsigned long)out[0], (unsigned long)out[1]);
         return;

@@ -1,11 +1,11 @@
 /*
  * The proved formatter for Roto scripts, as C calls it. The functions are those of librrufthim.a: target/staticlib/libexports.a, which
  * `rt staticlib exports` writes (x86-64 Linux), under a name that no other library has. docs/01-scope.md has the rules: the tree image,
- * rows, marks, states and refusals; docs/02-change-requests.md those of tallies.
+ * rows, marks, states and refusals; docs/02-change-requests.md those of tallies and of widths.
  *
- * Buffers. A pointer to bytes or rows goes with the number of its elements; state, tallies and out have a fixed number of places. No
- * pointer may be NULL, even where the number is 0. store must be aligned for uint32_t, state, tallies and out for uint64_t. What a call may
- * change (store, marks, output, out) must overlap nothing else that it is given; source, image, state and tallies are only read. Nothing is
+ * Buffers. A pointer to bytes or rows goes with the number of its elements; state, args, choice, tallies and out have a fixed number
+ * of places. No pointer may be NULL, even where the number is 0. store must be aligned for uint32_t, those of a fixed number of places for
+ * uint64_t. What a call may change (store, marks, output, out) must overlap nothing else that it is given; all else is only read. Nothing is
  * kept after a call, and no call shares anything with another: threads need nothing but buffers of their own. A call takes less than 256 KB
  * of stack and no heap.
  *
@@ -45,6 +45,7 @@ typedef char rrufthim_lengths_have_64_bits[sizeof(size_t) == 8 ? 1 : -1];
 #define RRUFTHIM_BAD_ROW 11         /* a row can't be rendered: that row; or the stop is past the store or 2,097,152: 0 */
 #define RRUFTHIM_BAD_STATE 12       /* the state, the marks in use or the stop don't fit: 0 */
 #define RRUFTHIM_BAD_TALLIES 14     /* the tallies count 4,096 files, one is over 4,294,967,296, or more is wrapped than given: 0 */
+#define RRUFTHIM_BAD_WIDTH 15       /* the width is under 40 or over 200, or not the one that the state carries: 0 */
 
 /* Limits: past them a file is refused. A text may be longer than a source: such a text can't be formatted again. */
 #define RRUFTHIM_MAX_SOURCE 65536    /* bytes of a source */
@@ -52,6 +53,9 @@ typedef char rrufthim_lengths_have_64_bits[sizeof(size_t) == 8 ? 1 : -1];
 #define RRUFTHIM_MAX_COMMENTS 8192
 #define RRUFTHIM_MAX_DEPTH 64        /* records in each other, the tree being 1 */
 #define RRUFTHIM_MAX_WIDTH 65535     /* columns of a text */
+#define RRUFTHIM_MIN_LINE_WIDTH 40   /* columns of a line that may be chosen */
+#define RRUFTHIM_MAX_LINE_WIDTH 200
+#define RRUFTHIM_REFERENCE_WIDTH 80  /* what Roto's own formatter has */
 #define RRUFTHIM_MAX_FILES 4096      /* files that tallies count */
 #define RRUFTHIM_MAX_TALLY 4294967296 /* each of the tallies handed in */
 
@@ -60,11 +64,13 @@ typedef char rrufthim_lengths_have_64_bits[sizeof(size_t) == 8 ? 1 : -1];
 #define RRUFTHIM_MAX_FILE_ROWS 1800  /* the rows, and the marks, that rrufthim_format and rrufthim_count have of their own */
 #define RRUFTHIM_COUNT_OUTPUT 65536  /* bytes of output that rrufthim_count has of its own */
 #define RRUFTHIM_LAYOUT_STATE 7      /* places of a layout state */
-#define RRUFTHIM_RENDER_STATE 5      /* places of a rendering state */
+#define RRUFTHIM_RENDER_STATE 6      /* places of a rendering state */
+#define RRUFTHIM_RENDER_ARGS 2       /* places of a rendering call's arguments */
+#define RRUFTHIM_FORMAT_CHOICE 1     /* places of a whole file's choice */
 #define RRUFTHIM_TALLIES 8           /* places of tallies */
 #define RRUFTHIM_CHECK_OUT 4         /* places of each function's out */
 #define RRUFTHIM_LAYOUT_OUT 9
-#define RRUFTHIM_RENDER_OUT 7
+#define RRUFTHIM_RENDER_OUT 8
 #define RRUFTHIM_FORMAT_OUT 5
 #define RRUFTHIM_NEWLINES_OUT 2
 #define RRUFTHIM_COUNT_OUT 18
@@ -100,14 +106,15 @@ void rrufthim_layout(
     uint64_t out[RRUFTHIM_LAYOUT_OUT]);
 
 /*
- * Renders the rows from the state's next one up to row stop, that one not included. Refusals 1, 3, 11, 12, 9, 10.
+ * Renders the rows from the state's next one up to a stop, at a width. Refusals 1, 3, 11, 12, 15, 9, 10.
  *
- * state:  [0] indent, [1] next indent, [2] column, [3] marks in use, [4] next row. Fresh: all 0. Later: out[2] to out[6] of the last
- *         accepted call.
+ * state:  [0] indent, [1] next indent, [2] column, [3] marks in use, [4] next row, [5] width, 0 for none yet. Fresh: all 0. Later: out[2]
+ *         to out[7] of the last accepted call.
+ * args:   [0] the row to stop before, [1] the width, 40 to 200 columns: the same in all calls of a run.
  * store:  is used during the call, and holds the same after it.
  * marks:  a byte for each group number, 1 wrapped, 0 not; keep them from call to call. What they hold before the first doesn't matter.
  * output: is written from its start on, in every call: take the bytes before the next one.
- * out:    [0] 0, [1] bytes written, [2] to [6] the new state.
+ * out:    [0] 0, [1] bytes written, [2] to [7] the new state.
  */
 void rrufthim_render(
     const uint8_t *source, size_t source_len,
@@ -116,12 +123,14 @@ void rrufthim_render(
     uint8_t *marks, size_t marks_len,
     uint8_t *output, size_t output_len,
     const uint64_t state[RRUFTHIM_RENDER_STATE],
-    uint64_t stop,
+    const uint64_t args[RRUFTHIM_RENDER_ARGS],
     uint64_t out[RRUFTHIM_RENDER_OUT]);
 
 /*
- * Lays out and renders a whole file of at most 1,800 rows. Larger files are refused by 8: make the two calls above. Refusals 1 to 10.
+ * Lays out and renders a whole file of at most 1,800 rows. Larger files are refused by 8: make the two calls above. Refusals 1 to 7, 15, 8,
+ * 9, 10.
  *
+ * choice: [0] the width, 40 to 200 columns.
  * output: is written from its start on.
  * out:    [0] 0, [1] bytes written, [2] comments that the text doesn't hold, the last so many of the image's list, [3] rows and
  *         [4] group numbers that the file took. Look at out[2] before you save.
@@ -129,6 +138,7 @@ void rrufthim_render(
 void rrufthim_format(
     const uint8_t *source, size_t source_len,
     const uint8_t *image, size_t image_len,
+    const uint64_t choice[RRUFTHIM_FORMAT_CHOICE],
     uint8_t *output, size_t output_len,
     uint64_t out[RRUFTHIM_FORMAT_OUT]);
 
@@ -146,7 +156,7 @@ void rrufthim_newlines(
     uint64_t out[RRUFTHIM_NEWLINES_OUT]);
 
 /*
- * Counts a file: formats it in 1,800 rows, 1,800 marks and 65,536 bytes of output of its own, and adds its figures to the tallies. The
+ * Counts a file: formats it at 80 columns in 1,800 rows, 1,800 marks and 65,536 bytes of output of its own, and adds its figures to the tallies. The
  * tallies of the same files are the same in any order. Refusals 1 to 10, then 14; a refused file counts nowhere.
  *
  * tallies: [0] files counted, and of them all [1] bytes and [2] newlines of the texts, [3] the greatest column, [4] group numbers given,

@@ -5,6 +5,7 @@ use std::fmt;
 use crate::{
     calls::{Laid, ROW, Written, layout, render},
     error::FormatError,
+    options::Options,
     refusal::Refusal,
     states::{LayoutState, RenderState},
 };
@@ -108,13 +109,15 @@ impl Buffers {
         file: File<'_>,
         state: &RenderState,
         stop: u64,
+        options: &Options,
     ) -> Result<Written, Refusal> {
         let File { source, image } = file;
         loop {
             let (store, marks) = (&mut self.store, &mut self.marks);
             let output = &mut self.output;
-            let answer =
-                render(source, image, store, marks, output, state, stop);
+            let answer = render(
+                source, image, store, marks, output, state, stop, options,
+            );
             let grown = match answer {
                 Err(Refusal::MoreMarks { needed }) => {
                     lengthen(marks, state.marks_in_use, needed, u64::MAX)
@@ -206,7 +209,8 @@ mod tests {
         let fresh = LayoutState::default();
         let laid = buffers.lay_out(file, &fresh, 1, true)?;
         let (fresh, rows) = (RenderState::default(), laid.state.next_row);
-        let written = buffers.render(file, &fresh, rows)?;
+        let written =
+            buffers.render(file, &fresh, rows, &Options::default())?;
         Ok(buffers.text(written.bytes).expect("UTF-8").to_owned())
     }
 

@@ -6,6 +6,7 @@ use crate::{
         rrufthim_check, rrufthim_format, rrufthim_layout, rrufthim_newlines,
         rrufthim_render,
     },
+    options::Options,
     refusal::Refusal,
     states::{LayoutState, RenderState},
 };
@@ -135,12 +136,14 @@ pub fn layout(
 }
 
 /// Renders the rows up to the one to stop before. The store is lent for the
-/// time of the call and is the same after it.
+/// time of the call and is the same after it. All calls of a run choose the
+/// same width.
 ///
 /// # Errors
 ///
-/// Refusals 1, 3, 11, 12, 9, 10. A refused call leaves marks and output as
-/// they were.
+/// Refusals 1, 3, 11, 12, 15, 9, 10. A refused call leaves marks and output
+/// as they were.
+#[allow(clippy::too_many_arguments)]
 pub fn render(
     source: &[u8],
     image: &[u8],
@@ -149,9 +152,11 @@ pub fn render(
     output: &mut [u8],
     state: &RenderState,
     stop: u64,
+    options: &Options,
 ) -> Result<Written, Refusal> {
     let from = state.numbers();
-    let mut out = [0; 7];
+    let args = [stop, options.width];
+    let mut out = [0; 8];
     // Safety: as in `check`.
     unsafe {
         rrufthim_render(
@@ -166,7 +171,7 @@ pub fn render(
             output.as_mut_ptr(),
             output.len(),
             &from,
-            stop,
+            &args,
             &mut out,
         );
     }
@@ -183,12 +188,14 @@ pub fn render(
 ///
 /// # Errors
 ///
-/// Refusals 1 to 10, each of which leaves the output as it was.
+/// Refusals 1 to 7, 15, 8, 9, 10, each of which leaves the output as it was.
 pub fn format_file(
     source: &[u8],
     image: &[u8],
+    options: &Options,
     output: &mut [u8],
 ) -> Result<FileWritten, Refusal> {
+    let choice = [options.width];
     let mut out = [0; 5];
     // Safety: as in `check`.
     unsafe {
@@ -197,6 +204,7 @@ pub fn format_file(
             source.len(),
             image.as_ptr(),
             image.len(),
+            &choice,
             output.as_mut_ptr(),
             output.len(),
             &mut out,

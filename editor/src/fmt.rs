@@ -7,6 +7,7 @@ use crate::{
     encode::{self, MAX_SOURCE, simple_width},
     error::FormatError,
     formatter::Formatter,
+    options::Options,
     writer::{ImageWriter, WriteResult},
 };
 
@@ -83,7 +84,9 @@ impl Error for CommentsLeft {}
 /// - What the original panics on (a span outside the source or off a
 ///   character's boundary) and what is over the limits of the tree image is
 ///   an error.
-/// - Widths are [`simple_width`]'s; for the original's, give `unicode_width`
+/// - Lines have 80 columns, as the original's; [`fmt_parsed_with_options`]
+///   takes other widths.
+/// - Widths of texts are [`simple_width`]'s; for the original's, give `unicode_width`
 ///   to [`fmt_parsed_with_widths`].
 ///
 /// Each thread keeps a [`Formatter`] for these calls, with its buffers.
@@ -97,6 +100,22 @@ pub fn fmt_parsed(
     extras: &Extras,
 ) -> Result<Formatted, FormatError> {
     fmt_parsed_with_widths(ast, source, extras, simple_width)
+}
+
+/// As [`fmt_parsed`], with what the caller chooses.
+///
+/// # Errors
+///
+/// As [`Formatter::format_written`].
+pub fn fmt_parsed_with_options(
+    ast: &SyntaxTree,
+    source: &str,
+    extras: &Extras,
+    options: Options,
+) -> Result<Formatted, FormatError> {
+    fmt_written_with_options(source, options, |out| {
+        encode::write(out, ast, &extras.comments, simple_width)
+    })
 }
 
 /// As [`fmt_parsed`], with widths of the caller's own: see
@@ -130,10 +149,24 @@ pub fn fmt_written(
     source: &str,
     write: impl FnOnce(&mut ImageWriter<'_>) -> WriteResult,
 ) -> Result<Formatted, FormatError> {
+    fmt_written_with_options(source, Options::default(), write)
+}
+
+/// As [`fmt_written`], with what the caller chooses.
+///
+/// # Errors
+///
+/// As [`Formatter::format_written`].
+pub fn fmt_written_with_options(
+    source: &str,
+    options: Options,
+    write: impl FnOnce(&mut ImageWriter<'_>) -> WriteResult,
+) -> Result<Formatted, FormatError> {
     // It is taken out, so that `write` may itself come here, and a thread
     // that is ending has a new one.
     let kept = KEPT.try_with(RefCell::take);
     let mut formatter = kept.unwrap_or_default();
+    formatter.set_options(options);
     let formatted = formatter.format_written(source, write);
     let formatted = formatted.map(Formatted::into_owned);
     let _ = KEPT.try_with(|kept| kept.replace(formatter));

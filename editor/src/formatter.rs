@@ -9,6 +9,7 @@ use crate::{
     error::FormatError,
     fmt::Formatted,
     image::{comments_from, declarations},
+    options::Options,
     states::{LayoutState, RenderState},
     writer::{ImageWriter, WriteResult},
 };
@@ -30,6 +31,7 @@ pub struct Formatter {
     /// The image of a tree, or what a plug writes.
     image: Vec<u8>,
     buffers: Buffers,
+    options: Options,
 }
 
 impl Default for Formatter {
@@ -44,6 +46,7 @@ impl fmt::Debug for Formatter {
         f.debug_struct("Formatter")
             .field("image", &self.image.len())
             .field("buffers", &self.buffers)
+            .field("options", &self.options)
             .finish()
     }
 }
@@ -59,7 +62,14 @@ impl Formatter {
         Formatter {
             image: Vec::new(),
             buffers: Buffers::new(max_output),
+            options: Options::default(),
         }
+    }
+
+    /// What is chosen for the files from now on. Before the first time it is
+    /// the default.
+    pub fn set_options(&mut self, options: Options) {
+        self.options = options;
     }
 
     /// Formats a tree, with [`simple_width`] for widths.
@@ -99,7 +109,7 @@ impl Formatter {
     ///
     /// # Errors
     ///
-    /// What is over a limit of the image; refusals 1 and 3 to 7; and as
+    /// What is over a limit of the image; refusals 1, 3 to 7 and 15; and as
     /// [`format_image`](Self::format_image) for memory.
     pub fn format_written(
         &mut self,
@@ -112,21 +122,21 @@ impl Formatter {
             .and_then(|()| out.finish())
             .map_err(|error| FormatError::encode(*error, source))?;
         let image = &self.image;
-        format(&mut self.buffers, File { source, image })
+        format(&mut self.buffers, File { source, image }, &self.options)
     }
 
     /// Formats an image with its source.
     ///
     /// # Errors
     ///
-    /// Refusals 1 to 7; 10 if the text is longer than allowed; and 8, 9 or
+    /// Refusals 1 to 7; 15 if the options have such a width; 10 if the text is longer than allowed; and 8, 9 or
     /// 10 if there is no memory for what they ask.
     pub fn format_image(
         &mut self,
         source: &[u8],
         image: &[u8],
     ) -> Result<Formatted<&str>, FormatError> {
-        format(&mut self.buffers, File { source, image })
+        format(&mut self.buffers, File { source, image }, &self.options)
     }
 }
 
@@ -134,13 +144,15 @@ impl Formatter {
 fn format<'b>(
     buffers: &'b mut Buffers,
     file: File<'_>,
+    options: &Options,
 ) -> Result<Formatted<&'b str>, FormatError> {
     let refused = |refusal| file.error(refusal);
     buffers.prepare(file, 1);
     let (fresh, all) = (LayoutState::default(), declarations(file.image));
     let laid = buffers.lay_out(file, &fresh, all, true).map_err(refused)?;
     let (fresh, rows) = (RenderState::default(), laid.state.next_row);
-    let written = buffers.render(file, &fresh, rows).map_err(refused)?;
+    let written = buffers.render(file, &fresh, rows, options);
+    let written = written.map_err(refused)?;
     let text = buffers.text(written.bytes)?;
     let left = comments_from(file.image, laid.state.comments_placed);
     Ok(Formatted::new(text, left))

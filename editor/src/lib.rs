@@ -10,7 +10,7 @@
 //! Below that are the calls themselves, [`check`], [`layout`], [`render`] and
 //! [`format_file`], over slices that the caller lends; what they promise is
 //! proved, and any arguments that safe Rust can give them end in an answer or
-//! a [`Refusal`]. [`newlines`] finds the gap that made a blank line. [`count`]
+//! a [`Refusal`]. What a caller may choose is [`Options`]. [`newlines`] finds the gap that made a blank line. [`count`]
 //! and [`report`] give the figures of files and their totals.
 //!
 //! docs/01-scope.md and docs/02-change-requests.md of the repository have the
@@ -31,6 +31,7 @@ mod fmt;
 mod formatter;
 mod image;
 mod linked;
+mod options;
 mod place;
 mod refusal;
 mod states;
@@ -52,10 +53,12 @@ pub use figures::{
     report,
 };
 pub use fmt::{
-    CommentsLeft, Formatted, fmt_parsed, fmt_parsed_with_widths, fmt_written,
+    CommentsLeft, Formatted, fmt_parsed, fmt_parsed_with_options,
+    fmt_parsed_with_widths, fmt_written, fmt_written_with_options,
 };
 pub use formatter::{Formatter, MAX_OUTPUT};
 pub use image::declarations;
+pub use options::{MAX_LINE_WIDTH, MIN_LINE_WIDTH, Options};
 pub use place::Place;
 pub use refusal::Refusal;
 pub use states::{LayoutState, RenderState};

@@ -39,9 +39,9 @@ unsafe extern "C" {
         marks_len: usize,
         output: *mut u8,
         output_len: usize,
-        state: *const [u64; 5],
-        stop: u64,
-        out: *mut [u64; 7],
+        state: *const [u64; 6],
+        args: *const [u64; 2],
+        out: *mut [u64; 8],
     );
 
     pub fn rrufthim_format(
@@ -49,6 +49,7 @@ unsafe extern "C" {
         source_len: usize,
         image: *const u8,
         image_len: usize,
+        choice: *const [u64; 1],
         output: *mut u8,
         output_len: usize,
         out: *mut [u64; 5],

@@ -1,4 +1,4 @@
-//! Why a call is turned down: the table of docs/01-scope.md, and 14 of
+//! Why a call is turned down: the table of docs/01-scope.md, and 14 and 15 of
 //! docs/02-change-requests.md.
 
 use std::{error::Error, fmt};
@@ -70,6 +70,9 @@ pub enum Refusal {
     /// 14: the tallies handed in count 4,096 files, or one of them is over
     /// 4,294,967,296, or they have more groups wrapped than given.
     BadTallies,
+    /// 15: the width is under 40 or over 200, or not the one that the calls
+    /// before chose.
+    BadWidth,
     /// A number that the table doesn't have: the static library isn't the
     /// one this crate was written for.
     Unknown {
@@ -100,6 +103,7 @@ impl Refusal {
             12 => BadState,
             13 => BadFrame,
             14 => BadTallies,
+            15 => BadWidth,
             _ => Unknown { number, place },
         }
     }
@@ -121,6 +125,7 @@ impl Refusal {
             BadState => 12,
             BadFrame => 13,
             BadTallies => 14,
+            BadWidth => 15,
             Unknown { number, .. } => number,
         }
     }
@@ -128,7 +133,8 @@ impl Refusal {
     /// The table's place: 0 where the cause has none.
     pub fn place(&self) -> u64 {
         match *self {
-            SourceTooLong | NoImage | BadState | BadFrame | BadTallies => 0,
+            SourceTooLong | NoImage | BadState | BadFrame | BadTallies
+            | BadWidth => 0,
             SourceNotUtf8 { at }
             | BadRecord { at }
             | TooDeep { at }
@@ -189,6 +195,10 @@ impl Refusal {
                 "no file can be counted on top of these tallies: 4,096 \
                  files are counted, one of them is over 4,294,967,296, or \
                  more groups are wrapped than given"
+            }
+            BadWidth => {
+                "lines may have 40 to 200 columns, and no other width once \
+                 a part is rendered"
             }
             Unknown { .. } => {
                 "the static library refuses for a cause that this crate \

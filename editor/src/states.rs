@@ -60,27 +60,32 @@ pub struct RenderState {
     pub marks_in_use: u64,
     /// The row of the store that is rendered next.
     pub next_row: u64,
+    /// The width that the calls so far chose, 0 if there was none yet.
+    pub width: u64,
 }
 
 impl RenderState {
-    pub(crate) fn numbers(&self) -> [u64; 5] {
+    pub(crate) fn numbers(&self) -> [u64; 6] {
         [
             self.indent,
             self.next_indent,
             self.column,
             self.marks_in_use,
             self.next_row,
+            self.width,
         ]
     }
 
-    pub(crate) fn from_numbers(numbers: [u64; 5]) -> Self {
-        let [indent, next_indent, column, marks_in_use, next_row] = numbers;
+    pub(crate) fn from_numbers(numbers: [u64; 6]) -> Self {
+        let [indent, next_indent, column, marks_in_use, next_row, width] =
+            numbers;
         RenderState {
             indent,
             next_indent,
             column,
             marks_in_use,
             next_row,
+            width,
         }
     }
 }

@@ -7,6 +7,7 @@ use crate::{
     error::FormatError,
     formatter::MAX_OUTPUT,
     image::comments_from,
+    options::Options,
     states::{LayoutState, RenderState},
 };
 
@@ -36,6 +37,7 @@ pub struct Steps<'f> {
     buffers: Buffers,
     layout: LayoutState,
     rendering: RenderState,
+    options: Options,
 }
 
 impl<'f> Steps<'f> {
@@ -47,6 +49,20 @@ impl<'f> Steps<'f> {
     pub fn new(
         source: &'f [u8],
         image: &'f [u8],
+    ) -> Result<Self, FormatError> {
+        Steps::with_options(source, image, Options::default())
+    }
+
+    /// The same, with what the caller chooses for all of it.
+    ///
+    /// # Errors
+    ///
+    /// Refusals 1 to 7. A width that isn't legal is refused by the first
+    /// part that is rendered.
+    pub fn with_options(
+        source: &'f [u8],
+        image: &'f [u8],
+        options: Options,
     ) -> Result<Self, FormatError> {
         let file = File { source, image };
         let accepted = check(source, image);
@@ -60,6 +76,7 @@ impl<'f> Steps<'f> {
             buffers,
             layout: LayoutState::default(),
             rendering: RenderState::default(),
+            options,
         })
     }
 
@@ -124,11 +141,12 @@ impl<'f> Steps<'f> {
     ///
     /// # Errors
     ///
-    /// Refusal 10 if the text is over [`MAX_OUTPUT`] bytes, 9 or 10 if there
-    /// is no memory for what they ask. What was rendered stays.
+    /// Refusal 15 if the options have such a width, 10 if the text is over
+    /// [`MAX_OUTPUT`] bytes, 9 or 10 if there is no memory for what they ask. What was rendered stays.
     pub fn render(&mut self) -> Result<&str, FormatError> {
         let (file, rows) = (self.file, self.layout.next_row);
-        let written = self.buffers.render(file, &self.rendering, rows);
+        let (state, options) = (&self.rendering, &self.options);
+        let written = self.buffers.render(file, state, rows, options);
         let written = written.map_err(|refusal| file.error(refusal))?;
         self.rendering = written.state;
         self.buffers.text(written.bytes)

@@ -4,7 +4,9 @@ mod support;
 
 use std::thread;
 
-use rrufthim::{LayoutState, ROW, RenderState, check, layout, render};
+use rrufthim::{
+    LayoutState, Options, ROW, RenderState, check, layout, render,
+};
 use support::{Buffers, DECLARATIONS, SOURCE, tariff_image};
 
 /// Lays out up to each stop in turn, and closes at the last.
@@ -33,6 +35,7 @@ fn draw(buffers: &mut Buffers, image: &[u8], stops: &[u64]) -> Vec<u8> {
             &mut buffers.output,
             &state,
             *stop,
+            &Options::default(),
         )
         .expect("accepted");
         state = written.state;

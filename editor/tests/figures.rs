@@ -3,8 +3,8 @@
 mod support;
 
 use rrufthim::{
-    Figures, Fraction, MAX_FILES, MAX_TALLY, Refusal, Tallies, ast::*, count,
-    encode, format_file, report,
+    Figures, Fraction, MAX_FILES, MAX_TALLY, Options, Refusal, Tallies,
+    ast::*, count, encode, format_file, report,
 };
 use support::{Random, SOURCE, constants, tariff_image};
 
@@ -38,7 +38,9 @@ fn figures_are_those_of_the_formatted_file() {
     let mut tallies = Tallies::default();
     let counted = count(source, &image, &mut tallies).expect("counted");
     let mut output = [0; 1_000];
-    let written = format_file(source, &image, &mut output).expect("a text");
+    let written =
+        format_file(source, &image, &Options::default(), &mut output)
+            .expect("a text");
     let text = &output[..written.bytes];
     let lines: Vec<&[u8]> = text.split(|byte| *byte == b'\n').collect();
     let figures = counted.figures;

@@ -2,8 +2,9 @@
 //! same functions, parameters in the same order, kinds and sizes.
 
 use rrufthim::{
-    MAX_BODY, MAX_COMMENTS, MAX_DEPTH, MAX_FILE_ROWS, MAX_FILES, MAX_SOURCE,
-    MAX_TALLY, MAX_WIDTH, ROW, Refusal,
+    MAX_BODY, MAX_COMMENTS, MAX_DEPTH, MAX_FILE_ROWS, MAX_FILES,
+    MAX_LINE_WIDTH, MAX_SOURCE, MAX_TALLY, MAX_WIDTH, MIN_LINE_WIDTH,
+    Options, ROW, Refusal,
 };
 
 const HEADER: &str = include_str!("../include/rrufthim.h");
@@ -138,6 +139,8 @@ fn a_difference_is_found() {
         ("uint8_t *marks, size_t marks_len,", "uint8_t *marks,"),
         ("void rrufthim_render", "void rrufthim_draw"),
         ("_NEWLINES_OUT 2", "_NEWLINES_OUT 3"),
+        ("_RENDER_ARGS 2", "_RENDER_ARGS 1"),
+        ("_FORMAT_CHOICE 1", "_FORMAT_CHOICE 2"),
     ];
     for (from, to) in changes {
         let changed = HEADER.replacen(from, to, 1);
@@ -164,7 +167,7 @@ fn as_constant(refusal: Refusal) -> String {
 fn refusals_and_sizes_have_their_names() {
     let constants = constants(HEADER);
     // 13 is the program's.
-    for (place, number) in (1..=12).chain([14]).enumerate() {
+    for (place, number) in (1..=12).chain([14, 15]).enumerate() {
         let name = as_constant(Refusal::from_numbers(number, 0));
         assert_eq!(constants[place], (format!("RRUFTHIM_{name}"), number));
     }
@@ -180,6 +183,10 @@ fn refusals_and_sizes_have_their_names() {
     assert_eq!(value("RRUFTHIM_MAX_COMMENTS"), MAX_COMMENTS as u64);
     assert_eq!(value("RRUFTHIM_MAX_DEPTH"), MAX_DEPTH as u64);
     assert_eq!(value("RRUFTHIM_MAX_WIDTH"), MAX_WIDTH as u64);
+    assert_eq!(value("RRUFTHIM_MIN_LINE_WIDTH"), MIN_LINE_WIDTH);
+    assert_eq!(value("RRUFTHIM_MAX_LINE_WIDTH"), MAX_LINE_WIDTH);
+    let default = Options::default().width;
+    assert_eq!(value("RRUFTHIM_REFERENCE_WIDTH"), default);
     assert_eq!(value("RRUFTHIM_MAX_FILES"), MAX_FILES);
     assert_eq!(value("RRUFTHIM_MAX_TALLY"), MAX_TALLY);
 }

@@ -7,7 +7,7 @@ use std::thread;
 
 use rrufthim::{
     EncodeError, LayoutState, MAX_BODY, MAX_COMMENTS, MAX_DEPTH, MAX_SOURCE,
-    MAX_WIDTH, ROW, Refusal, Tallies, ast::*, check, count, encode,
+    MAX_WIDTH, Options, ROW, Refusal, Tallies, ast::*, check, count, encode,
     encode_with_widths, format_file, layout,
 };
 use support::{Buffers, constants, path};
@@ -112,7 +112,13 @@ fn a_small_stack() {
         let mut buffers = Buffers::ample();
         let source = SOURCE.as_bytes();
         buffers.format(source, &image).is_ok()
-            && format_file(source, &image, &mut buffers.output).is_ok()
+            && format_file(
+                source,
+                &image,
+                &Options::default(),
+                &mut buffers.output,
+            )
+            .is_ok()
             && count(source, &image, &mut Tallies::default()).is_ok()
     };
     let thread = thread::Builder::new().stack_size(256 << 10).spawn(run);

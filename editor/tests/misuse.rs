@@ -4,8 +4,8 @@
 mod support;
 
 use rrufthim::{
-    Cause, FileWritten, Formatter, LayoutState, ROW, Refusal, RenderState,
-    check, format_file, layout, render,
+    Cause, FileWritten, Formatter, LayoutState, Options, ROW, Refusal,
+    RenderState, check, format_file, layout, render,
 };
 use support::{
     Buffers, DECLARATIONS, JUNK, JUNK_NUMBER, Random, SOURCE, tariff_image,
@@ -31,7 +31,16 @@ fn try_render(
         output,
     } = buffers;
     let source = SOURCE.as_bytes();
-    let written = render(source, image, store, marks, output, state, stop)?;
+    let written = render(
+        source,
+        image,
+        store,
+        marks,
+        output,
+        state,
+        stop,
+        &Options::default(),
+    )?;
     Ok(written.bytes)
 }
 
@@ -90,7 +99,10 @@ fn empty_slices_are_refused() {
     let state = RenderState::default();
     assert_eq!(try_render(&mut none, &[], &state, 0), Err(Refusal::NoImage));
     assert_eq!(none.format(&[], &[]), Err(Refusal::NoImage));
-    assert_eq!(format_file(&[], &[], &mut []), Err(Refusal::NoImage));
+    assert_eq!(
+        format_file(&[], &[], &Options::default(), &mut []),
+        Err(Refusal::NoImage)
+    );
 }
 
 #[test]
@@ -138,6 +150,7 @@ fn foreign_render_states() {
             column: random.wild(),
             marks_in_use: random.wild(),
             next_row: random.wild(),
+            width: [0, 80, random.wild()][random.below(3)],
         };
         let stop = [random.wild(), rows][random.below(2)];
         let mut buffers = laid.clone();
@@ -262,7 +275,10 @@ fn changed_images_and_sources() {
             assert_eq!(formatted, Err(refusal));
             assert_eq!(buffers, Buffers::ample());
             let output = &mut buffers.output;
-            assert_eq!(format_file(&source, &image, output), Err(refusal));
+            assert_eq!(
+                format_file(&source, &image, &Options::default(), output),
+                Err(refusal)
+            );
             assert_eq!(buffers, Buffers::ample());
             let error = formatter.format_image(&source, &image);
             let cause = error.expect_err("refused").cause;
@@ -296,11 +312,15 @@ fn neighbours_are_left_alone() {
         &mut output[5..5 + bytes],
         &RenderState::default(),
         due.rows,
+        &Options::default(),
     );
     assert_eq!(written.map(|written| written.bytes), Ok(bytes));
     let mut once_more = vec![JUNK; bytes + 10];
     let lent = &mut once_more[5..5 + bytes];
-    assert_eq!(format_file(source, &image, lent), Ok(due));
+    assert_eq!(
+        format_file(source, &image, &Options::default(), lent),
+        Ok(due)
+    );
     assert_eq!(once_more, output[..bytes + 10]);
     store.drain(5..5 + rows);
     marks.drain(5..5 + numbers);

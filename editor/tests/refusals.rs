@@ -5,7 +5,7 @@ mod support;
 use std::collections::HashSet;
 
 use rrufthim::{
-    LayoutState, Refusal, RenderState, check, encode, layout, render,
+    LayoutState, Options, Refusal, RenderState, check, encode, layout, render,
 };
 use support::{Buffers, constants};
 
@@ -17,8 +17,8 @@ fn image() -> Vec<u8> {
 
 #[test]
 fn numbers_and_places_come_back() {
-    const NO_PLACE: [u64; 5] = [1, 3, 12, 13, 14];
-    for number in 1..=14 {
+    const NO_PLACE: [u64; 6] = [1, 3, 12, 13, 14, 15];
+    for number in 1..=15 {
         let place = if NO_PLACE.contains(&number) { 0 } else { 77 };
         let refusal = Refusal::from_numbers(number, place);
         assert!(!matches!(refusal, Refusal::Unknown { .. }));
@@ -30,10 +30,10 @@ fn numbers_and_places_come_back() {
 
 #[test]
 fn each_has_a_sentence_of_its_own() {
-    let sentences: HashSet<String> = (1..=14)
+    let sentences: HashSet<String> = (1..=15)
         .map(|number| Refusal::from_numbers(number, 77).to_string())
         .collect();
-    assert_eq!(sentences.len(), 14);
+    assert_eq!(sentences.len(), 15);
 }
 
 /// An image with one byte set.
@@ -115,6 +115,7 @@ fn calls_refuse() {
         &mut ample.output,
         &fresh,
         1,
+        &Options::default(),
     );
     assert_eq!(row, Err(Refusal::BadRow { row: 0 }));
     let state = LayoutState {

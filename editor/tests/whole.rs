@@ -4,7 +4,7 @@
 mod support;
 
 use rrufthim::{
-    Formatter, LayoutState, MAX_FILE_ROWS, Refusal, ast::*, check,
+    Formatter, LayoutState, MAX_FILE_ROWS, Options, Refusal, ast::*, check,
     declarations, encode, format_file, layout,
 };
 use support::{
@@ -17,7 +17,12 @@ fn one_call_gives_what_two_give() {
     let mut buffers = Buffers::ample();
     let due = buffers.format(SOURCE.as_bytes(), &image).expect("a text");
     let mut output = vec![JUNK; buffers.output.len()];
-    let written = format_file(SOURCE.as_bytes(), &image, &mut output);
+    let written = format_file(
+        SOURCE.as_bytes(),
+        &image,
+        &Options::default(),
+        &mut output,
+    );
     assert_eq!(written, Ok(due));
     assert_eq!(output, buffers.output);
     let mut formatter = Formatter::new();
@@ -32,11 +37,21 @@ fn one_call_gives_what_two_give() {
 fn a_short_output_is_refused() {
     let image = tariff_image();
     let mut ample = [JUNK; 4_000];
-    let due = format_file(SOURCE.as_bytes(), &image, &mut ample);
+    let due = format_file(
+        SOURCE.as_bytes(),
+        &image,
+        &Options::default(),
+        &mut ample,
+    );
     let needed = due.expect("a text").bytes;
     for length in 0..needed {
         let mut output = vec![JUNK; length];
-        let refused = format_file(SOURCE.as_bytes(), &image, &mut output);
+        let refused = format_file(
+            SOURCE.as_bytes(),
+            &image,
+            &Options::default(),
+            &mut output,
+        );
         let needed = needed as u64;
         assert_eq!(refused, Err(Refusal::MoreOutput { needed }));
         assert!(output.iter().all(|byte| *byte == JUNK));
@@ -62,7 +77,8 @@ fn files_of_more_rows() {
         let mut buffers = Buffers::new(4_000, 4_000, 20_000);
         let due = buffers.format(source, &image).expect("a text");
         let mut output = vec![JUNK; 20_000];
-        let written = format_file(source, &image, &mut output);
+        let written =
+            format_file(source, &image, &Options::default(), &mut output);
         if due.rows > MAX_FILE_ROWS {
             let needed = due.rows;
             assert_eq!(written, Err(Refusal::MoreRows { needed }));

@@ -1,6 +1,6 @@
 //! Copies fmt.rs with the edits that README.md lists: the greatest value of
-//! `column` is kept, and a child module sees the private items that the judge
-//! drives.
+//! `column` is kept, `fmt_parsed` asks for its `max`, and a child module sees
+//! the private items that the judge drives.
 
 use std::{env, fs, path::PathBuf};
 
@@ -19,7 +19,7 @@ fn main() {
     println!("cargo::rerun-if-changed={}", original.display());
 
     let text = fs::read_to_string(&original).expect("fmt.rs is there");
-    let mut text = with_greatest(&text);
+    let mut text = with_max(&with_greatest(&text));
     text.push_str(&format!("#[path = {driver:?}] pub mod driver;\n"));
     let copy = out.join("fmt.rs");
     fs::write(&copy, text).expect("the copy can be written");
@@ -29,6 +29,13 @@ fn main() {
         format!("#[allow(dead_code)] #[path = {copy:?}] mod fmt;\n");
     fs::write(out.join("declare_fmt.rs"), declaration)
         .expect("the declaration can be written");
+}
+
+/// `max` is a number that the judge sets, 80 unless it does.
+fn with_max(text: &str) -> String {
+    let line = "        max: 80,\n";
+    assert_eq!(text.matches(line).count(), 1, "{line}");
+    text.replace(line, "        max: driver::width(),\n")
 }
 
 /// A field of `Renderer` more, and the line that keeps it behind each that

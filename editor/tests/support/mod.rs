@@ -5,7 +5,7 @@
 mod example;
 
 use rrufthim::{
-    FileWritten, LayoutState, ROW, Refusal, RenderState, ast::*,
+    FileWritten, LayoutState, Options, ROW, Refusal, RenderState, ast::*,
     declarations, encode, layout, render,
 };
 
@@ -96,8 +96,16 @@ impl Buffers {
         let (fresh, stop) = (LayoutState::default(), declarations(image));
         let laid = layout(source, image, store, &fresh, stop, true)?;
         let (fresh, rows) = (RenderState::default(), laid.state.next_row);
-        let written =
-            render(source, image, store, marks, output, &fresh, rows)?;
+        let written = render(
+            source,
+            image,
+            store,
+            marks,
+            output,
+            &fresh,
+            rows,
+            &Options::default(),
+        )?;
         Ok(FileWritten {
             bytes: written.bytes,
             comments_left: laid.comments_left,

@@ -38,3 +38,4 @@ pub mod rows;
 pub mod script;
 pub mod table;
 pub mod tree;
+pub mod width;

@@ -7,6 +7,7 @@ use crate::{
     refusal::{Refusal, refusal},
     rows,
     tree::Input,
+    width,
 };
 
 pub const ROWS: usize = 1_800;
@@ -24,10 +25,20 @@ pub enum Widths {
 
 /// Runs the formatter on a source and an image of any legal size.
 pub fn format(frame: Frame, widths: Widths) -> Result<Run, Refusal> {
+    format_at(frame, widths, width::REFERENCE)
+}
+
+/// The same with a width of the caller's: the reader's refusals, then 15.
+pub fn format_at(
+    frame: Frame,
+    widths: Widths,
+    width: usize,
+) -> Result<Run, Refusal> {
     let accepted = reader::read(frame.source, frame.image)?;
+    width::check(width, 0)?;
     let input = Input::new(&accepted, frame.image);
     let _held = (widths == Widths::Supplied).then(|| input.supply_widths());
-    Ok(driver::run(&input))
+    Ok(driver::run_at(&input, width))
 }
 
 /// What the program makes of a frame: 13, then as [`within_limits`].

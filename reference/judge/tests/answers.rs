@@ -139,7 +139,7 @@ fn skip_world(input: &mut Input) -> usize {
 }
 
 const LAYOUT_STATE: usize = 2 + 5 * 4;
-const RENDER_STATE: usize = 2 * 4 + 8 + 2 * 4;
+const RENDER_STATE: usize = 2 * 4 + 8 + 3 * 4;
 
 #[test]
 fn call_answers_are_laid_out_as_described() {
@@ -158,7 +158,7 @@ fn call_answers_are_laid_out_as_described() {
         let mut written = 0;
         for _ in 0..calls {
             let kind = input.number(1);
-            input.bytes(8);
+            input.bytes(12);
             let refusal = input.number(1);
             input.bytes(8);
             match (refusal, kind) {

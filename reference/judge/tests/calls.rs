@@ -8,6 +8,7 @@ use judge::{
     generate::{self, Class},
     program::{self, Widths},
     rows::{self, Row},
+    width::REFERENCE,
 };
 
 const SEED: u64 = 5;
@@ -37,7 +38,15 @@ fn layout(stop: usize, close: bool) -> Call {
 }
 
 fn render(stop: usize) -> Call {
-    Call::Render { stop, room: 1_000 }
+    render_at(REFERENCE, stop)
+}
+
+fn render_at(width: usize, stop: usize) -> Call {
+    Call::Render {
+        stop,
+        room: 1_000,
+        width,
+    }
 }
 
 /// Number and place of each refusal, or `None`.
@@ -86,7 +95,12 @@ fn refused_calls_leave_all_as_it_was() {
     let refused = [None, Some((12, 0)), Some((8, 21))];
     assert_eq!(refusals(&mut world_, &calls), refused);
     let before = world_.clone();
-    let calls = [render(20), render(21), Call::Render { stop: 9, room: 16 }];
+    let short = Call::Render {
+        stop: 9,
+        room: 16,
+        width: REFERENCE,
+    };
+    let calls = [render(20), render(21), short];
     let refused = [Some((9, 2)), Some((11, 0)), Some((10, 17))];
     assert_eq!(refusals(&mut world_, &calls), refused);
     assert_eq!(world_, before);
@@ -129,6 +143,58 @@ fn rendering_states_are_tested() {
     assert_eq!(with(marks(1), [1, 2]), None);
     assert_eq!(with(marks(2), [1, 2]), Some((12, 0)));
     assert_eq!(with(marks(3), [1, 1]), Some((12, 0)));
+}
+
+/// Each cause of 15, directly after 12 and before 9 and 10.
+#[test]
+fn widths_are_tested() {
+    let mut laid = world(21, 2);
+    refusals(&mut laid, &[layout(2, true)]);
+    let with = |carried: usize, width: usize| {
+        let mut world = laid.clone();
+        world.rendering.width = carried;
+        refusals(&mut world, &[render_at(width, 9)])[0]
+    };
+    let refused = Some((15, 0));
+    for width in [0, 1, 39, 201, usize::MAX] {
+        assert_eq!(with(0, width), refused, "{width}");
+        assert_eq!(with(width, width), refused, "{width}");
+    }
+    for width in [40, 80, 100, 200] {
+        assert_eq!(with(0, width), None, "{width}");
+        assert_eq!(with(width, width), None, "{width}");
+        assert_eq!(with(120, width), refused, "{width}");
+        assert_eq!(with(7, width), refused, "{width}");
+    }
+    let mut world = laid;
+    world.rendering.next_row = 10;
+    assert_eq!(refusals(&mut world, &[render_at(39, 9)]), [Some((12, 0))]);
+    world.rendering.next_row = 0;
+    world.marks.clear();
+    let calls = [render_at(39, 9), render(9)];
+    assert_eq!(refusals(&mut world, &calls), [refused, Some((9, 1))]);
+}
+
+/// An accepted call chooses, also one that reads nothing; a refused one
+/// doesn't.
+#[test]
+fn an_accepted_call_chooses_the_width() {
+    let mut world = world(21, 2);
+    let calls = [
+        layout(2, true),
+        render_at(201, 0),
+        render_at(100, 0),
+        render(9),
+        render_at(100, 9),
+        render(21),
+        render_at(100, 21),
+    ];
+    let refused = Some((15, 0));
+    assert_eq!(
+        refusals(&mut world, &calls),
+        [None, refused, None, refused, None, refused, None]
+    );
+    assert_eq!(world.rendering.width, 100);
 }
 
 #[test]
@@ -326,8 +392,14 @@ fn rows_render_as_the_nodes_they_came_from() {
                 image: frame.image,
                 words: words.as_bytes(),
             };
-            let rendered =
-                render_rows(texts, &run.rows, 0, Pen::default(), &[]);
+            let rendered = render_rows(
+                texts,
+                &run.rows,
+                0,
+                Pen::default(),
+                &[],
+                REFERENCE,
+            );
             assert_eq!(rendered.text, run.text.as_bytes());
             assert_eq!(rendered.marks, run.marks);
             assert_eq!(rendered.pen, run.pen);

@@ -2,7 +2,7 @@
 
 mod support;
 
-use support::{N::*, pen, render, text};
+use support::{N::*, pen, render, render_at, text};
 
 fn pair(first: usize, second: usize) -> Vec<support::N> {
     vec![Group(0, vec![Wide(first), LineOrSpace, Wide(second)])]
@@ -13,6 +13,17 @@ fn a_group_of_eighty_columns_keeps_its_line() {
     let x = |count| "x".repeat(count);
     assert_eq!(text(&pair(40, 39)), x(40) + " " + &x(39));
     assert_eq!(text(&pair(40, 40)), x(40) + "\n" + &x(40));
+}
+
+#[test]
+fn so_does_one_of_another_width() {
+    for width in [40, 41, 80, 100, 200] {
+        let marks = |columns: usize| {
+            render_at(&pair(20, columns - 21), pen(0, 0), width).marks
+        };
+        assert_eq!(marks(width), [0], "{width}");
+        assert_eq!(marks(width + 1), [1], "{width}");
+    }
 }
 
 #[test]

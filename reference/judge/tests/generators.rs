@@ -166,6 +166,37 @@ fn sizes_are_refused_past_their_value_alone() {
     }
 }
 
+/// A comparison tries 50,000: every width, and lines that end about there.
+#[test]
+fn wide_frames_have_every_width_and_its_edges() {
+    let mut widths = BTreeMap::new();
+    let mut ends = [0; 5];
+    for index in 0..20_000 {
+        let (bytes, width) = generate::wide_frame(SEED, index);
+        *widths.entry(width).or_insert(0) += 1;
+        let Ok(frame) = judge::frame::split_any_size(&bytes) else {
+            continue;
+        };
+        let run = program::format_at(frame, Widths::Supplied, width);
+        let Ok(run) = run else {
+            continue;
+        };
+        for line in run.text.lines() {
+            let past = (line.chars().count() + 2).wrapping_sub(width);
+            if past < ends.len() {
+                ends[past] += 1;
+            }
+        }
+    }
+    for width in 40..=200 {
+        assert!(widths.contains_key(&width), "{width}");
+    }
+    for width in [0, 1, 7, 39, 201, 1_000, u32::MAX as usize] {
+        assert!(widths.contains_key(&width), "{width}");
+    }
+    assert!(ends.iter().all(|count| *count > 100), "{ends:?}");
+}
+
 #[test]
 fn the_table_has_no_unexplained_zero() {
     let table = table::table(SEED, 1_500);

@@ -4,7 +4,7 @@ use std::collections::BTreeSet;
 
 use judge::{
     answers::{calls, frames, replay, report, stored},
-    calls::Call,
+    calls::{Call, Given},
     frame, program, reader, table,
 };
 
@@ -58,6 +58,54 @@ fn lists_stop_at_every_declaration() {
     });
     let count = through.count();
     assert!(count >= 30, "{count}");
+}
+
+/// Under 40, over 200, another than the carried one, and a carried one that
+/// no call could have chosen; and widths that are accepted.
+#[test]
+fn every_cause_of_15_is_among_the_lists() {
+    let mut causes = BTreeSet::new();
+    for case in replay::lists() {
+        let given = Given {
+            source: &case.source,
+            image: &case.image,
+        };
+        let mut world = case.world.clone();
+        for one in &case.calls {
+            let carried = world.rendering.width;
+            let answer = judge::calls::call(given, &mut world, *one);
+            let number = answer.err().map(|refusal| refusal.number);
+            if let Call::Render { width, .. } = *one {
+                causes.insert((number, cause(width, carried)));
+            }
+        }
+    }
+    let due = [
+        (Some(15), "0"),
+        (Some(15), "under 40"),
+        (Some(15), "over 200"),
+        (Some(15), "the largest"),
+        (Some(15), "another"),
+        (Some(15), "none that is legal"),
+        (None, "the first"),
+        (None, "the same"),
+    ];
+    for one in due {
+        assert!(causes.contains(&one), "{one:?} {causes:?}");
+    }
+}
+
+fn cause(width: usize, carried: usize) -> &'static str {
+    match (width, carried) {
+        (0, _) => "0",
+        (..40, _) => "under 40",
+        (0xFFFF_FFFF, _) => "the largest",
+        (201.., _) => "over 200",
+        (_, 0) => "the first",
+        (_, 40..=200) if width == carried => "the same",
+        (_, 40..=200) => "another",
+        _ => "none that is legal",
+    }
 }
 
 #[test]

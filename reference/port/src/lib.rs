@@ -94,7 +94,7 @@ impl<const N: usize> Out<N> {
         }
         match out {
             [0, rest @ ..] => Ok(*rest.first_chunk().expect("long enough")),
-            [number @ 1..=14, place, ..] => Err(Refusal {
+            [number @ 1..=15, place, ..] => Err(Refusal {
                 number: *number as u8,
                 place: *place,
             }),

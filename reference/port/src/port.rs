@@ -44,15 +44,16 @@ mod linked {
             marks_len: usize,
             output: *mut u8,
             output_len: usize,
-            state: *const [u64; 5],
-            stop: u64,
-            out: *mut [u64; 7],
+            state: *const [u64; 6],
+            args: *const [u64; 2],
+            out: *mut [u64; 8],
         );
         fn rrufthim_format(
             source: *const u8,
             source_len: usize,
             image: *const u8,
             image_len: usize,
+            choice: *const [u64; 1],
             output: *mut u8,
             output_len: usize,
             out: *mut [u64; 5],
@@ -118,8 +119,9 @@ mod linked {
         }
     }
 
-    /// `state`: indent, next_indent, column, marks in use, next row. `out`:
-    /// 0, bytes written, the new state; or number, place.
+    /// `state`: indent, next_indent, column, marks in use, next row, width.
+    /// `args`: the row to stop before, the width. `out`: 0, bytes written,
+    /// the new state; or number, place.
     #[cfg(feature = "calls")]
     #[allow(clippy::too_many_arguments)]
     pub fn render(
@@ -128,9 +130,9 @@ mod linked {
         store: &mut [u32],
         marks: &mut [u8],
         output: &mut [u8],
-        state: &[u64; 5],
-        stop: u64,
-        out: &mut [u64; 7],
+        state: &[u64; 6],
+        args: &[u64; 2],
+        out: &mut [u64; 8],
     ) {
         // Safety: as in `check`.
         unsafe {
@@ -146,18 +148,19 @@ mod linked {
                 output.as_mut_ptr(),
                 output.len(),
                 state,
-                stop,
+                args,
                 out,
             );
         }
     }
 
-    /// `out`: 0, bytes written, comments left, rows, numbers; or number,
-    /// place.
+    /// `choice`: the width. `out`: 0, bytes written, comments left, rows,
+    /// numbers; or number, place.
     #[cfg(feature = "calls")]
     pub fn format(
         source: &[u8],
         image: &[u8],
+        choice: &[u64; 1],
         output: &mut [u8],
         out: &mut [u64; 5],
     ) {
@@ -168,6 +171,7 @@ mod linked {
                 source.len(),
                 image.as_ptr(),
                 image.len(),
+                choice,
                 output.as_mut_ptr(),
                 output.len(),
                 out,

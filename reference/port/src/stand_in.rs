@@ -17,6 +17,7 @@ use judge::{
     reader,
     refusal::{Refusal, refusal},
     rows::Row,
+    width,
 };
 
 /// What goes wrong.
@@ -80,10 +81,18 @@ pub enum Fault {
     OneMoreFile,
     /// As many wrapped as given are refused.
     AllWrapped,
+    /// Every legal width is 80.
+    Eighty,
+    /// A carried width is forgotten.
+    WidthNotKept,
+    /// 15 comes before 12.
+    WidthFirst,
+    /// A whole file's 8 comes before 15.
+    RowsFirst,
 }
 
 impl Fault {
-    pub const ALL: [Fault; 28] = [
+    pub const ALL: [Fault; 32] = [
         Fault::CheckPlace,
         Fault::Declarations,
         Fault::CommentsLeft,
@@ -112,6 +121,10 @@ impl Fault {
         Fault::TalliesFirst,
         Fault::OneMoreFile,
         Fault::AllWrapped,
+        Fault::Eighty,
+        Fault::WidthNotKept,
+        Fault::WidthFirst,
+        Fault::RowsFirst,
     ];
 }
 
@@ -156,8 +169,8 @@ fn layout_state(state: &[u64; 7]) -> LayoutState {
     }
 }
 
-fn render_state(state: &[u64; 5]) -> RenderState {
-    let [indent, next_indent, column, marks_in_use, next_row] =
+fn render_state(state: &[u64; 6]) -> RenderState {
+    let [indent, next_indent, column, marks_in_use, next_row, width] =
         state.map(|number| number as usize);
     RenderState {
         pen: Pen {
@@ -167,6 +180,7 @@ fn render_state(state: &[u64; 5]) -> RenderState {
         },
         marks_in_use,
         next_row,
+        width,
     }
 }
 
@@ -271,9 +285,9 @@ pub fn render(
     store: &mut [u32],
     marks: &mut [u8],
     output: &mut [u8],
-    state: &[u64; 5],
-    stop: u64,
-    out: &mut [u64; 7],
+    state: &[u64; 6],
+    args: &[u64; 2],
+    out: &mut [u64; 8],
 ) {
     let mut world = World {
         store: store.to_vec(),
@@ -281,10 +295,22 @@ pub fn render(
         rendering: render_state(state),
         ..World::default()
     };
-    let indent = world.rendering.pen.indent;
+    let before = world.rendering;
     let given = Given { source, image };
-    match render_call(given, &mut world, stop as usize, output.len()) {
-        Ok(Answer::Written { state, bytes }) => {
+    let [stop, width] = args.map(|number| number as usize);
+    if planted(Fault::WidthNotKept) {
+        world.rendering.width = 0;
+    }
+    let legal = width::check(width, before.width).is_ok();
+    let max = if planted(Fault::Eighty) && legal {
+        world.rendering.width = 0;
+        width::REFERENCE
+    } else {
+        width
+    };
+    match render_call(given, &mut world, stop, output.len(), max) {
+        Ok(Answer::Written { mut state, bytes }) => {
+            state.width = width;
             spoil_marks(&mut world, state.marks_in_use);
             marks.copy_from_slice(&world.marks);
             output[..bytes].copy_from_slice(&world.text);
@@ -292,25 +318,35 @@ pub fn render(
             put_written(out, &state, bytes);
         }
         Err(mut refusal) => {
-            spoil_rendering(marks, indent, &mut refusal);
+            spoil_rendering(marks, &before, width, &mut refusal);
             put_refusal(out, refusal);
         }
         _ => unreachable!("a rendering call"),
     }
 }
 
-fn spoil_rendering(marks: &mut [u8], indent: usize, refusal: &mut Refusal) {
+fn spoil_rendering(
+    marks: &mut [u8],
+    before: &RenderState,
+    width: usize,
+    refusal: &mut Refusal,
+) {
     if refusal.number == 10 && planted(Fault::MarksBeforeRefusal) {
         marks.iter_mut().for_each(|mark| *mark = 0);
     }
     if refusal.number == 11 && planted(Fault::FaultyRow) {
         refusal.place += 1;
     }
-    if refusal.number == 11 && planted(Fault::Order) && indent > 64 {
+    if refusal.number == 11 && planted(Fault::Order) && before.pen.indent > 64
+    {
         *refusal = Refusal {
             number: 12,
             place: 0,
         };
+    }
+    let wrong = width::check(width, before.width).is_err();
+    if refusal.number == 12 && planted(Fault::WidthFirst) && wrong {
+        refusal.number = 15;
     }
 }
 
@@ -352,6 +388,7 @@ fn put_written(out: &mut [u64], state: &RenderState, bytes: usize) {
         state.pen.column + usize::from(shift),
         state.marks_in_use,
         state.next_row,
+        state.width,
     ];
     put(out, &numbers.map(|number| number as u64));
 }
@@ -360,6 +397,7 @@ fn put_written(out: &mut [u64], state: &RenderState, bytes: usize) {
 pub fn format(
     source: &[u8],
     image: &[u8],
+    choice: &[u64; 1],
     output: &mut [u8],
     out: &mut [u64; 5],
 ) {
@@ -367,6 +405,12 @@ pub fn format(
         Ok(read) => read.tree.children.len() as u64 - 1,
         Err(refusal) => return put_refusal(out, refusal),
     };
+    let [width] = *choice;
+    if !planted(Fault::RowsFirst)
+        && let Err(refusal) = width::check(width as usize, 0)
+    {
+        return put_refusal(out, refusal);
+    }
     let mut store = vec![0; ROWS * Row::CELLS];
     let mut marks = vec![0; MARKS as usize];
     let mut laid = [0; 9];
@@ -376,10 +420,11 @@ pub fn format(
         return put(out, &laid[..2]);
     }
     let [rows, numbers] = [laid[5], laid[6]];
-    let mut shown = [0; 7];
-    let (fresh, marks) = ([0; 5], &mut marks);
+    let mut shown = [0; 8];
+    let (fresh, marks) = ([0; 6], &mut marks);
+    let args = [rows, width];
     render(
-        source, image, store, marks, output, &fresh, rows, &mut shown,
+        source, image, store, marks, output, &fresh, &args, &mut shown,
     );
     if shown[0] != 0 {
         if planted(Fault::OutputBeforeRefusal) {

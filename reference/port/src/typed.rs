@@ -72,14 +72,16 @@ pub fn render(
     output: &mut [u8],
     state: &RenderState,
     stop: usize,
+    width: usize,
 ) -> Result<Answer, Refusal> {
-    let mut out = Out::<8>::new();
+    let mut out = Out::<9>::new();
     let numbers = [
         state.pen.indent,
         state.pen.next_indent,
         state.pen.column,
         state.marks_in_use,
         state.next_row,
+        state.width,
     ]
     .map(|number| number as u64);
     port::render(
@@ -89,11 +91,18 @@ pub fn render(
         marks,
         output,
         &numbers,
-        stop as u64,
+        &[stop as u64, width as u64],
         out.places(),
     );
-    let [bytes, indent, next_indent, column, marks_in_use, next_row] =
-        out.accepted::<6>()?.map(|number| number as usize);
+    let [
+        bytes,
+        indent,
+        next_indent,
+        column,
+        marks_in_use,
+        next_row,
+        width,
+    ] = out.accepted::<7>()?.map(|number| number as usize);
     Ok(Answer::Written {
         state: RenderState {
             pen: Pen {
@@ -103,16 +112,21 @@ pub fn render(
             },
             marks_in_use,
             next_row,
+            width,
         },
         bytes,
     })
 }
 
-/// The port's whole run.
-pub fn format(given: Given, output: &mut [u8]) -> Result<Formatted, Refusal> {
+/// The port's whole run, with a width.
+pub fn format(
+    given: Given,
+    width: usize,
+    output: &mut [u8],
+) -> Result<Formatted, Refusal> {
     let mut out = Out::<6>::new();
     let Given { source, image } = given;
-    port::format(source, image, output, out.places());
+    port::format(source, image, &[width as u64], output, out.places());
     let [bytes, comments_left, rows, numbers] = out.accepted()?;
     Ok(Formatted {
         bytes,

@@ -44,11 +44,14 @@ fn put_call(out: &mut Vec<u8>, call: &Call) {
             out.push(0);
             put_number(out, stop);
             put_number(out, usize::from(close));
+            // A layout call has nothing to choose.
+            put_number(out, 0);
         }
-        Call::Render { stop, room } => {
+        Call::Render { stop, room, width } => {
             out.push(1);
             put_number(out, stop);
             put_number(out, room);
+            put_number(out, width);
         }
     }
 }
@@ -96,4 +99,5 @@ fn put_render_state(out: &mut Vec<u8>, state: &RenderState) {
     out.extend((state.pen.column as u64).to_be_bytes());
     put_number(out, state.marks_in_use);
     put_number(out, state.next_row);
+    put_number(out, state.width);
 }

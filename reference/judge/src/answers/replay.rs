@@ -13,7 +13,7 @@ use crate::{
 type Numbers = BTreeMap<u8, usize>;
 
 /// The stored lists, and behind them those that try rendering.
-fn lists() -> impl Iterator<Item = CallCase> {
+pub fn lists() -> impl Iterator<Item = CallCase> {
     stored::lists().chain(generate::rendering_cases())
 }
 
@@ -24,7 +24,9 @@ pub fn calls_input() -> Vec<u8> {
 
 /// The frames with their answers.
 pub fn frames_input() -> Vec<u8> {
-    stored::frames().flat_map(|f| frames::answered(&f)).collect()
+    stored::frames()
+        .flat_map(|f| frames::answered(&f))
+        .collect()
 }
 
 /// How often each answer to a call is given, and that no list differs.

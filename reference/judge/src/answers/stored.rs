@@ -27,7 +27,7 @@ type Lists = (fn(u64, u64) -> CallCase, u64, u64, usize);
 
 pub const LISTS: [Lists; 4] = [
     (generate::call_case, 1, 900, 4_000),
-    (generate::cut_case, 1, 120, 10_000),
+    (generate::cut_case, 1, 150, 10_000),
     (generate::unreadable_case, 1, 120, 4_000),
     // Its only one is a source too long.
     (generate::unreadable_case, LONG, 1, 70_000),

@@ -22,8 +22,12 @@ pub const MOST_ROW_DEPTH: usize = 256;
 pub enum Call {
     /// The declaration to stop before, and whether to close.
     Layout { stop: usize, close: bool },
-    /// The row to stop before, and the bytes of output.
-    Render { stop: usize, room: usize },
+    /// The row to stop before, the bytes of output, and the width.
+    Render {
+        stop: usize,
+        room: usize,
+        width: usize,
+    },
 }
 
 /// What an accepted call answers.
@@ -89,7 +93,9 @@ pub fn call(
         Call::Layout { stop, close } => {
             layout_call(given, world, stop, close)
         }
-        Call::Render { stop, room } => render_call(given, world, stop, room),
+        Call::Render { stop, room, width } => {
+            render_call(given, world, stop, room, width)
+        }
     }
 }
 

@@ -8,7 +8,8 @@ use crate::refusal::Refusal;
 #[derive(Clone, Copy, Default)]
 struct Far {
     laid: Option<(usize, bool)>,
-    shown: Option<usize>,
+    /// With the width that the accepted calls chose.
+    shown: Option<(usize, usize)>,
 }
 
 /// The answers and what is due in the end, from fresh states.
@@ -30,7 +31,9 @@ pub fn plain_run(
                 Call::Layout { stop, close } => {
                     far.laid = Some((stop, close))
                 }
-                Call::Render { stop, .. } => far.shown = Some(stop),
+                Call::Render { stop, width, .. } => {
+                    far.shown = Some((stop, width))
+                }
             }
         }
         answers.push(answer);
@@ -50,10 +53,11 @@ fn due(given: Given, store: &[u32], marks: &[u8], far: Far) -> World {
         let one = Call::Layout { stop, close };
         call(given, &mut world, one).expect("accepted before");
     }
-    if let Some(stop) = far.shown {
+    if let Some((stop, width)) = far.shown {
         let one = Call::Render {
             stop,
             room: usize::MAX,
+            width,
         };
         call(given, &mut world, one).expect("accepted before");
     }

@@ -1,4 +1,4 @@
-//! A rendering call: refusals 1, 3, 11, 12, 9, 10.
+//! A rendering call: refusals 1, 3, 11, 12, 15, 9, 10.
 
 use super::{Answer, Given, MOST_ROWS, World, row_check};
 use crate::{
@@ -6,6 +6,7 @@ use crate::{
     reader,
     refusal::{Refusal, refusal},
     rows::{self, Row},
+    width,
 };
 
 const MOST_INDENT: usize = 64;
@@ -17,6 +18,8 @@ pub struct RenderState {
     pub pen: Pen,
     pub marks_in_use: usize,
     pub next_row: usize,
+    /// 0: none yet.
+    pub width: usize,
 }
 
 /// Renders the rows from the state's next row to before row `stop`.
@@ -25,6 +28,7 @@ pub fn render_call(
     world: &mut World,
     stop: usize,
     room: usize,
+    width: usize,
 ) -> Result<Answer, Refusal> {
     reader::check_source_length(given.source)?;
     reader::check_header(given.image)?;
@@ -41,14 +45,15 @@ pub fn render_call(
     let rows = world.rows(stop);
     row_check::check(texts, &rows, state.next_row)?;
     check_state(world, stop)?;
+    width::check(width, state.width)?;
     check_marks(world, &rows)?;
     let in_use = &world.marks[..state.marks_in_use];
     let rendered =
-        render_rows(texts, &rows, state.next_row, state.pen, in_use);
+        render_rows(texts, &rows, state.next_row, state.pen, in_use, width);
     if rendered.text.len() > room {
         return Err(refusal(10, rendered.text.len()));
     }
-    Ok(write(world, stop, &rendered))
+    Ok(write(world, stop, width, &rendered))
 }
 
 /// Refusal 12.
@@ -57,6 +62,7 @@ fn check_state(world: &World, stop: usize) -> Result<(), Refusal> {
         pen,
         marks_in_use,
         next_row,
+        ..
     } = world.rendering;
     let in_use = world.marks.get(..marks_in_use);
     let legal = next_row <= stop
@@ -77,13 +83,19 @@ fn check_marks(world: &World, rows: &[Row]) -> Result<(), Refusal> {
 }
 
 /// What an accepted call changes.
-fn write(world: &mut World, stop: usize, rendered: &RenderedRows) -> Answer {
+fn write(
+    world: &mut World,
+    stop: usize,
+    width: usize,
+    rendered: &RenderedRows,
+) -> Answer {
     world.marks[..rendered.marks.len()].copy_from_slice(&rendered.marks);
     world.text.extend(&rendered.text);
     world.rendering = RenderState {
         pen: rendered.pen,
         marks_in_use: rendered.marks.len(),
         next_row: stop,
+        width,
     };
     Answer::Written {
         state: world.rendering,

@@ -36,11 +36,12 @@ pub fn render_rows(
     from: usize,
     pen: Pen,
     marks: &[u8],
+    width: usize,
 ) -> RenderedRows {
     let run = |half: fn(u8) -> u8| {
         let shadow = Shadow::new(texts, half);
         let nodes = decode(&shadow, rows, from, rows.len());
-        render(&nodes, pen, marks.to_vec())
+        render(&nodes, pen, marks.to_vec(), width)
     };
     let high = run(|byte| byte >> 4);
     let low = run(|byte| byte & 15);

@@ -7,7 +7,7 @@ use super::{
     Layout, Stop, Texts,
     decode::{Shadow, decode},
 };
-use crate::{rows::Row, tree::Input};
+use crate::{rows::Row, tree::Input, width};
 
 /// `fmt_parsed` itself.
 pub fn format(input: &Input) -> String {
@@ -43,7 +43,7 @@ impl<'s> Held<'s> {
             next_indent: 0,
             column: 0,
             greatest: 0,
-            max: 80,
+            max: width::REFERENCE,
             wrapped: HashSet::new(),
         };
         for node in &self.0 {

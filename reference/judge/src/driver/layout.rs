@@ -4,11 +4,13 @@ use super::{
     super::{Node, Nodes, State, fmt_parsed},
     Run,
     render::{Pen, Rendering, Shown},
+    with_width,
 };
 use crate::{
     parser::Extras,
     rows::{self, Row},
     tree::Input,
+    width,
 };
 
 /// How far a layout came, but for the declarations.
@@ -22,6 +24,11 @@ pub struct Stop {
 
 /// Runs the formatter. Panics if the driver and `fmt_parsed` disagree.
 pub fn run(input: &Input) -> Run {
+    run_at(input, width::REFERENCE)
+}
+
+/// The same with another `max`.
+pub fn run_at(input: &Input, width: usize) -> Run {
     let mut layout = Layout::new(input, Stop::default());
     layout.shebang();
     let mut stops = vec![layout.stop()];
@@ -33,10 +40,11 @@ pub fn run(input: &Input) -> Run {
     }
     layout.close();
     let closed = layout.stop();
-    let (shown, rendering) = rendered(&layout.nodes, &ends);
+    let (shown, rendering) = rendered(&layout.nodes, &ends, width);
     let rendered = rendering.finish();
-    let original =
-        fmt_parsed(&input.ast, &input.files, &input.spans, &input.extras);
+    let original = with_width(width, || {
+        fmt_parsed(&input.ast, &input.files, &input.spans, &input.extras)
+    });
     assert_eq!(rendered.text, original, "the driver strays from fmt_parsed");
     Run {
         rows: layout.rows,
@@ -52,8 +60,12 @@ pub fn run(input: &Input) -> Run {
 }
 
 /// Renders all nodes, and says how far it came at each of these ends.
-fn rendered(nodes: &[Node], ends: &[usize]) -> (Vec<Shown>, Rendering) {
-    let mut rendering = Rendering::new(Pen::default(), &[]);
+fn rendered(
+    nodes: &[Node],
+    ends: &[usize],
+    width: usize,
+) -> (Vec<Shown>, Rendering) {
+    let mut rendering = Rendering::new(Pen::default(), &[], width);
     let mut shown = Vec::new();
     let mut from = 0;
     for end in ends {

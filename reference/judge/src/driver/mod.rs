@@ -10,10 +10,29 @@ mod render;
 
 pub use decode::{RenderedRows, Texts, render_rows};
 pub use held::{Held, HeldTexts, format};
-pub use layout::{Layout, Stop, run};
+pub use layout::{Layout, Stop, run, run_at};
 pub use render::{Pen, Shown};
 
-use crate::rows::Row;
+use std::cell::Cell;
+
+use crate::{rows::Row, width};
+
+thread_local! {
+    static WIDTH: Cell<usize> = const { Cell::new(width::REFERENCE) };
+}
+
+/// The `max` that `fmt_parsed` gets on this thread.
+pub(super) fn width() -> usize {
+    WIDTH.get()
+}
+
+/// Runs something for which `fmt_parsed` has another `max`.
+fn with_width<T>(width: usize, run: impl FnOnce() -> T) -> T {
+    let before = WIDTH.replace(width);
+    let result = run();
+    WIDTH.set(before);
+    result
+}
 
 /// All that a run of the formatter on one file gives.
 #[derive(Debug)]

@@ -31,14 +31,15 @@ pub struct Shown {
     pub marks: Vec<u8>,
 }
 
-/// Renders nodes as `fmt_parsed` does, from a given state. Marks grow to the
-/// largest number that the nodes hold, plus 1.
+/// Renders nodes as `fmt_parsed` does, from a given state and with a width.
+/// Marks grow to the largest number that the nodes hold, plus 1.
 pub(in super::super) fn render(
     nodes: &[Node],
     pen: Pen,
     marks: Vec<u8>,
+    width: usize,
 ) -> Rendered {
-    let mut rendering = Rendering::new(pen, &marks);
+    let mut rendering = Rendering::new(pen, &marks, width);
     rendering.nodes(nodes);
     rendering.finish()
 }
@@ -50,14 +51,14 @@ pub(super) struct Rendering {
 }
 
 impl Rendering {
-    pub(super) fn new(pen: Pen, marks: &[u8]) -> Self {
+    pub(super) fn new(pen: Pen, marks: &[u8], width: usize) -> Self {
         let renderer = Renderer {
             buf: String::new(),
             indent: pen.indent,
             next_indent: pen.next_indent,
             column: pen.column,
             greatest: 0,
-            max: 80,
+            max: width,
             wrapped: wrapped_numbers(marks),
         };
         Rendering {

@@ -1,4 +1,4 @@
-//! Lines that end at columns 78 to 82.
+//! Lines that end two columns before the width to two behind it.
 //!
 //! One name in a random tree is marked. The formatter shows where its line
 //! ends while the name is short; then the name is made so much longer that
@@ -16,6 +16,7 @@ use crate::{
     image::{Tree, node, text},
     program::{self, Widths},
     random::Random,
+    width,
 };
 
 /// Stands in no other name.
@@ -24,7 +25,12 @@ const MARK: &str = "Q";
 /// Literals and parts of f-strings are taken from here.
 const SOURCE: &str = "12345 some text";
 
+/// For the width that `fmt_parsed` has.
 pub fn draft(random: &mut Random) -> Draft {
+    draft_at(random, width::REFERENCE)
+}
+
+pub fn draft_at(random: &mut Random, width: usize) -> Draft {
     let mut draft = Draft {
         source: SOURCE.into(),
         comments: vec![],
@@ -40,15 +46,16 @@ pub fn draft(random: &mut Random) -> Draft {
     let names = count_names(&draft.tree);
     if names > 0 {
         let marked = random.below(names);
-        stretch(&mut draft, marked, random.between(78, 82));
+        let target = random.between(width - 2, width + 2);
+        stretch(&mut draft, marked, target, width);
     }
     draft
 }
 
 /// Makes a name as long as its line needs to end at a column.
-fn stretch(draft: &mut Draft, marked: usize, target: usize) {
+fn stretch(draft: &mut Draft, marked: usize, target: usize, width: usize) {
     rename(&mut draft.tree, marked, 1);
-    let end = marked_line_end(draft);
+    let end = marked_line_end(draft, width);
     if end < target {
         rename(&mut draft.tree, marked, 1 + target - end);
     }
@@ -145,13 +152,14 @@ fn visit_names(tree: &mut Tree, f: &mut impl FnMut(&mut Tree)) {
 }
 
 /// The column at which the line with the mark ends.
-fn marked_line_end(draft: &Draft) -> usize {
+fn marked_line_end(draft: &Draft, width: usize) -> usize {
     let image = draft.image();
     let frame = Frame {
         source: draft.source.as_bytes(),
         image: &image,
     };
-    let run = program::format(frame, Widths::Supplied).expect("a legal tree");
+    let run = program::format_at(frame, Widths::Supplied, width);
+    let run = run.expect("a legal tree");
     let mut lines = run.text.lines();
     let line = lines.find(|line| line.contains(MARK));
     line.map_or(0, |line| line.chars().count())

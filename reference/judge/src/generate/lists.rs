@@ -1,6 +1,6 @@
 //! Lists of calls to try, and single calls from states of any kind.
 
-use super::{Draft, damaged, edges, random_rows, realistic, wild};
+use super::{Draft, damaged, edges, random_rows, realistic, widths, wild};
 use crate::{
     calls::{Call, LayoutState, RenderState, World},
     driver::{Pen, Run, Stop},
@@ -9,6 +9,7 @@ use crate::{
     random::Random,
     reader::MOST_SOURCE,
     rows::Row,
+    width::REFERENCE,
 };
 
 /// Calls, what they are given and what stands before them.
@@ -42,17 +43,27 @@ pub fn unreadable_case(seed: u64, index: u64) -> CallCase {
     unreadable(&mut Random::new(103, seed, index))
 }
 
-fn draft(random: &mut Random) -> Draft {
+fn draft(random: &mut Random, width: usize) -> Draft {
     match random.below(4) {
         0 => wild::draft(random),
-        1 => edges::draft(random),
+        1 => edges::draft_at(random, width),
         _ => realistic::draft(random),
     }
 }
 
-fn formatted(draft: &Draft, image: &[u8]) -> Option<Run> {
+fn formatted(draft: &Draft, image: &[u8], width: usize) -> Option<Run> {
     let source = draft.source.as_bytes();
-    program::format(Frame { source, image }, Widths::Supplied).ok()
+    let frame = Frame { source, image };
+    program::format_at(frame, Widths::Supplied, width).ok()
+}
+
+/// The width of a list: that of `fmt_parsed`, or any.
+fn width(random: &mut Random) -> usize {
+    if random.once_in(2) {
+        REFERENCE
+    } else {
+        widths::legal(random)
+    }
 }
 
 /// Store and marks about as large as needed, with anything in them.
@@ -82,9 +93,10 @@ fn cell(random: &mut Random, junk: usize) -> u32 {
 
 /// Calls from fresh states; most stop where a caller would.
 fn list(random: &mut Random) -> CallCase {
-    let draft = draft(random);
+    let width = width(random);
+    let draft = draft(random, width);
     let image = draft.image();
-    let Some(run) = formatted(&draft, &image) else {
+    let Some(run) = formatted(&draft, &image, width) else {
         return unreadable(random);
     };
     let world = world(random, run.rows.len(), run.marks.len());
@@ -94,7 +106,7 @@ fn list(random: &mut Random) -> CallCase {
         calls.push(if random.once_in(2) {
             layout(random, &run, &mut laid)
         } else {
-            rendering(random, &run, laid)
+            rendering(random, &run, laid, width)
         });
     }
     CallCase {
@@ -108,12 +120,13 @@ fn list(random: &mut Random) -> CallCase {
 /// Layout with a stop before each declaration, rendering behind it with a
 /// stop at the same rows, and calls between that are refused.
 fn every_declaration(random: &mut Random) -> CallCase {
+    let width = width(random);
     let draft = match random.below(3) {
-        0 => draft(random),
+        0 => draft(random, width),
         _ => realistic::short_draft(random),
     };
     let image = draft.image();
-    let Some(run) = formatted(&draft, &image) else {
+    let Some(run) = formatted(&draft, &image, width) else {
         return unreadable(random);
     };
     let world = World {
@@ -122,7 +135,7 @@ fn every_declaration(random: &mut Random) -> CallCase {
         ..World::default()
     };
     CallCase {
-        calls: through(random, &run),
+        calls: through(random, &run, width),
         source: draft.source.into_bytes(),
         image,
         world,
@@ -130,7 +143,7 @@ fn every_declaration(random: &mut Random) -> CallCase {
 }
 
 /// Calls that stop at each declaration in turn.
-fn through(random: &mut Random, run: &Run) -> Vec<Call> {
+fn through(random: &mut Random, run: &Run, width: usize) -> Vec<Call> {
     let last = run.stops.len() - 1;
     let mut calls = Vec::new();
     for (place, stop) in run.stops.iter().enumerate() {
@@ -138,12 +151,13 @@ fn through(random: &mut Random, run: &Run) -> Vec<Call> {
             stop: place,
             close: false,
         });
-        calls.extend(refused_at(random, run, place));
+        calls.extend(refused_at(random, run, place, width));
         // Rendering may lag behind, and is level again at the last.
         if place == last || !random.once_in(3) {
             calls.push(Call::Render {
                 stop: stop.next_row,
                 room: 1 << 16,
+                width,
             });
         }
     }
@@ -151,10 +165,11 @@ fn through(random: &mut Random, run: &Run) -> Vec<Call> {
         stop: last,
         close: true,
     });
-    calls.extend(refused_at(random, run, last));
+    calls.extend(refused_at(random, run, last, width));
     calls.push(Call::Render {
         stop: run.rows.len(),
         room: run.text.len(),
+        width,
     });
     calls
 }
@@ -165,20 +180,38 @@ fn junk_for(random: &mut Random, rows: usize) -> Vec<u32> {
 }
 
 /// A call that is refused, most times, where layout stands at a place.
-fn refused_at(random: &mut Random, run: &Run, place: usize) -> Option<Call> {
+fn refused_at(
+    random: &mut Random,
+    run: &Run,
+    place: usize,
+    width: usize,
+) -> Option<Call> {
     let last = run.stops.len() - 1;
     let layout = |stop, close| Some(Call::Layout { stop, close });
-    match random.below(10) {
+    match random.below(12) {
         0 => layout(last + 1, false),
         1 => layout(place.saturating_sub(1), false),
         2 => layout(place, place < last),
         3 => Some(Call::Render {
             stop: run.rows.len() + 2,
             room: 1 << 16,
+            width,
         }),
         4 => Some(Call::Render {
             stop: run.stops[place].next_row,
             room: 0,
+            width,
+        }),
+        5 => Some(Call::Render {
+            stop: run.stops[place].next_row,
+            room: 1 << 16,
+            width: *random.pick(&widths::ILLEGAL),
+        }),
+        // No other width once one is chosen; at the first stop none is.
+        6 if place > 0 => Some(Call::Render {
+            stop: run.stops[place].next_row,
+            room: 0,
+            width: widths::legal(random),
         }),
         _ => None,
     }
@@ -200,7 +233,12 @@ fn layout(random: &mut Random, run: &Run, laid: &mut usize) -> Call {
     Call::Layout { stop, close }
 }
 
-fn rendering(random: &mut Random, run: &Run, laid: usize) -> Call {
+fn rendering(
+    random: &mut Random,
+    run: &Run,
+    laid: usize,
+    width: usize,
+) -> Call {
     let last = run.rows.len();
     let declaration = random.between(0, laid.min(run.stops.len() - 1));
     let stop = match random.below(8) {
@@ -213,7 +251,8 @@ fn rendering(random: &mut Random, run: &Run, laid: usize) -> Call {
         1 => run.text.len(),
         _ => 1 << 16,
     };
-    Call::Render { stop, room }
+    let width = widths::chosen(random, width);
+    Call::Render { stop, room, width }
 }
 
 /// A source or an image that the reader turns down.
@@ -237,16 +276,20 @@ fn unreadable(random: &mut Random) -> CallCase {
                 stop: 0,
                 close: random.once_in(2),
             },
-            Call::Render { stop: 0, room: 10 },
+            Call::Render {
+                stop: 0,
+                room: 10,
+                width: widths::chosen(random, REFERENCE),
+            },
         ],
     }
 }
 
 /// One layout call from a state that no call need have answered.
 fn one_layout(random: &mut Random) -> CallCase {
-    let draft = draft(random);
+    let draft = draft(random, REFERENCE);
     let image = draft.image();
-    let Some(run) = formatted(&draft, &image) else {
+    let Some(run) = formatted(&draft, &image, REFERENCE) else {
         return unreadable(random);
     };
     let mut world = world(random, run.rows.len() + 3, 1);
@@ -308,7 +351,8 @@ fn one_rendering(random: &mut Random) -> CallCase {
     let mut world = world(random, rows.len(), 12);
     let fitting = world.room_for_rows().min(rows.len());
     world.put_rows(0, &rows[..fitting]);
-    world.rendering = render_state(random, &mut world, from);
+    let width = width(random);
+    world.rendering = render_state(random, &mut world, from, width);
     let room = *random.pick(&[0, 50, 1 << 20, 1 << 20, 1 << 20]);
     let stop = match random.below(10) {
         0 => random.between(0, rows.len() + 2),
@@ -318,7 +362,11 @@ fn one_rendering(random: &mut Random) -> CallCase {
         source,
         image,
         world,
-        calls: vec![Call::Render { stop, room }],
+        calls: vec![Call::Render {
+            stop,
+            room,
+            width: widths::chosen(random, width),
+        }],
     }
 }
 
@@ -326,6 +374,7 @@ fn render_state(
     random: &mut Random,
     world: &mut World,
     next_row: usize,
+    width: usize,
 ) -> RenderState {
     let past = usize::from(random.once_in(15));
     let in_use = random.between(0, world.marks.len() + past);
@@ -339,9 +388,13 @@ fn render_state(
         pen: Pen {
             indent: *random.pick(&[0, 0, 1, 3, 20, 64, 64 + past]),
             next_indent: *random.pick(&[0, 0, 0, 1, 2, 64, 64 + past]),
-            column: *random.pick(&[0, 0, 1, 40, 79, 80, column]),
+            column: *random.pick(&[0, 0, 1, 40, width - 1, width, column]),
         },
         marks_in_use: in_use,
         next_row: next_row + past,
+        width: match random.below(3) {
+            0 => 0,
+            _ => widths::chosen(random, width),
+        },
     }
 }

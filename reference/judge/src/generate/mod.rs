@@ -9,6 +9,7 @@ mod realistic;
 mod rendering;
 mod shape;
 mod sizes;
+mod widths;
 mod wild;
 
 use std::ops::Range;
@@ -25,6 +26,7 @@ pub use rendering::cases as rendering_cases;
 pub use sizes::{
     Case as SizeCase, call_cases as size_call_cases, cases as size_cases,
 };
+pub use widths::wide_frame;
 
 /// What a generator aims at.
 #[derive(Clone, Copy, Debug, PartialEq, Eq)]

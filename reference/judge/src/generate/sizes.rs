@@ -10,6 +10,7 @@ use crate::{
     program::{self, Widths},
     reader,
     rows::Row,
+    width,
 };
 
 /// Source and image apart, since some are too large for the program's frame.
@@ -52,6 +53,7 @@ impl Case {
         let rendering = Call::Render {
             stop: rows,
             room: program::OUTPUT,
+            width: width::REFERENCE,
         };
         CallCase {
             source: self.source.clone(),

@@ -5,6 +5,7 @@
 use judge::{
     driver::{Pen, RenderedRows, Texts, render_rows},
     rows::{self, Row},
+    width::REFERENCE,
 };
 
 pub enum N {
@@ -23,6 +24,11 @@ pub enum N {
 
 /// Renders nodes from a state, and no marks.
 pub fn render(nodes: &[N], pen: Pen) -> RenderedRows {
+    render_at(nodes, pen, REFERENCE)
+}
+
+/// The same with a width.
+pub fn render_at(nodes: &[N], pen: Pen, width: usize) -> RenderedRows {
     let mut source = String::new();
     let mut rows = Vec::new();
     put(&mut source, &mut rows, nodes);
@@ -31,7 +37,7 @@ pub fn render(nodes: &[N], pen: Pen) -> RenderedRows {
         image: b"",
         words: b"",
     };
-    render_rows(texts, &rows, 0, pen, &[])
+    render_rows(texts, &rows, 0, pen, &[], width)
 }
 
 /// The text of nodes rendered from fresh.

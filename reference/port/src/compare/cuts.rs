@@ -17,12 +17,12 @@ use super::{
 use crate::Formatted;
 
 /// Compares layout and rendering in pieces, and the whole run.
-pub fn compare(tally: &mut Tally, class: &str, frame: Frame) {
+pub fn compare(tally: &mut Tally, class: &str, frame: Frame, width: usize) {
     let given = Given {
         source: frame.source,
         image: frame.image,
     };
-    let run = program::format(frame, Widths::Supplied);
+    let run = program::format_at(frame, Widths::Supplied, width);
     let due = run.as_ref().map_err(|refusal| *refusal).and_then(|run| {
         program::fits(run).map(|()| Formatted {
             bytes: run.text.len() as u64,
@@ -33,13 +33,17 @@ pub fn compare(tally: &mut Tally, class: &str, frame: Frame) {
     });
     let number = due.err().map_or(0, |refusal| refusal.number);
     tally.count(&format!("whole run, {class}"), number);
-    compare_whole(tally, given, run.as_ref().ok(), due);
+    compare_whole(tally, given, width, run.as_ref().ok(), due);
+    compare_narrow(tally, frame);
     match run {
+        // A layout call has no width.
+        Err(Refusal { number: 15, .. }) => {}
         Err(refusal) => compare_refused(tally, given, refusal),
         Ok(run) => {
             let mut cut = Cut {
                 tally,
                 given,
+                width,
                 run: &run,
                 store: junk_cells((run.rows.len() + 2) * Row::CELLS + 4),
                 marks: junk_bytes(run.marks.len() + 3),
@@ -53,17 +57,28 @@ pub fn compare(tally: &mut Tally, class: &str, frame: Frame) {
 fn compare_whole(
     tally: &mut Tally,
     given: Given,
+    width: usize,
     run: Option<&Run>,
     due: Result<Formatted, Refusal>,
 ) {
     let mut output = junk_bytes(OUTPUT);
     let mut due_output = output.clone();
-    let got = crate::format(given, &mut output);
+    let got = crate::format(given, width, &mut output);
     if let Some(run) = run.filter(|_| due.is_ok()) {
         due_output[..run.text.len()].copy_from_slice(run.text.as_bytes());
     }
     let _ = tally.expect("the whole run's answer", &due, &got)
         && tally.expect_bytes("the whole run's output", &due_output, &output);
+}
+
+/// The whole run with a width that can't be chosen: 15, also where there are
+/// too many rows.
+fn compare_narrow(tally: &mut Tally, frame: Frame) {
+    const NARROW: usize = 39;
+    let Frame { source, image } = frame;
+    let run = program::format_at(frame, Widths::Supplied, NARROW);
+    let due = Err(run.expect_err("a width that isn't legal"));
+    compare_whole(tally, Given { source, image }, NARROW, None, due);
 }
 
 /// A layout call that the reader refuses.
@@ -79,6 +94,7 @@ fn compare_refused(tally: &mut Tally, given: Given, refusal: Refusal) {
 struct Cut<'c> {
     tally: &'c mut Tally,
     given: Given<'c>,
+    width: usize,
     run: &'c Run,
     store: Vec<u32>,
     marks: Vec<u8>,
@@ -169,6 +185,7 @@ impl Cut<'_> {
             let text = &self.run.text.as_bytes()[written..shown.bytes];
             self.one_byte_short(&state, stop, text)?;
             self.render(&mut state, stop, shown, text)?;
+            self.other_width(&state, stop)?;
             written = shown.bytes;
         }
         Some(())
@@ -191,6 +208,7 @@ impl Cut<'_> {
             pen: shown.pen,
             marks_in_use: shown.marks.len(),
             next_row: stop,
+            width: self.width,
         };
         let answer = Answer::Written {
             state: due,
@@ -226,6 +244,28 @@ impl Cut<'_> {
         right.then_some(())
     }
 
+    /// Another width than the carried one, legal or not: 15, and nothing is
+    /// changed.
+    fn other_width(
+        &mut self,
+        state: &RenderState,
+        stop: usize,
+    ) -> Option<()> {
+        let others = [0, 39, 40, 80, 200, 201, usize::MAX, self.width + 1];
+        let other = others[stop % others.len()];
+        if other == self.width {
+            return Some(());
+        }
+        let mut output = junk_bytes(9);
+        let [due_output, due_marks] = [output.clone(), self.marks.clone()];
+        let got = self.call_at(other, state, stop, &mut output);
+        let what = "rendering with another width";
+        let right = self.tally.expect(what, &Err(refusal(15, 0)), &got)
+            && self.tally.expect_bytes(what, &due_marks, &self.marks)
+            && self.tally.expect_bytes(what, &due_output, &output);
+        right.then_some(())
+    }
+
     /// Marks for one number too few: 9, and nothing is changed.
     fn one_mark_short(&mut self) -> Option<()> {
         let needed = rows::marks_needed(&self.run.rows) as usize;
@@ -241,6 +281,7 @@ impl Cut<'_> {
             &mut [],
             &RenderState::default(),
             rows,
+            self.width,
         );
         let what = "rendering one mark short";
         let due = Err(refusal(9, needed));
@@ -256,6 +297,16 @@ impl Cut<'_> {
         stop: usize,
         output: &mut [u8],
     ) -> Result<Answer, Refusal> {
+        self.call_at(self.width, state, stop, output)
+    }
+
+    fn call_at(
+        &mut self,
+        width: usize,
+        state: &RenderState,
+        stop: usize,
+        output: &mut [u8],
+    ) -> Result<Answer, Refusal> {
         let before = self.store.clone();
         let answer = crate::render(
             self.given,
@@ -264,6 +315,7 @@ impl Cut<'_> {
             output,
             state,
             stop,
+            width,
         );
         let what = "the store after rendering";
         expect_store(self.tally, what, &before, &self.store);

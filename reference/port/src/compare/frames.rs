@@ -10,10 +10,10 @@ use judge::{
 use super::Tally;
 use crate::Accepted;
 
-/// Compares all that the port makes of a frame.
-pub fn compare(tally: &mut Tally, class: &str, bytes: &[u8]) {
+/// Compares all that the port makes of a frame, with a width.
+pub fn compare(tally: &mut Tally, class: &str, bytes: &[u8], width: usize) {
     match frame::split_any_size(bytes) {
-        Ok(frame) => compare_parts(tally, class, frame),
+        Ok(frame) => compare_parts(tally, class, frame, width),
         Err(refusal) => {
             tally.count(&format!("frame, {class}"), refusal.number)
         }
@@ -21,14 +21,21 @@ pub fn compare(tally: &mut Tally, class: &str, bytes: &[u8]) {
 }
 
 /// As [`compare`], on a source and an image of any size.
-pub fn compare_parts(tally: &mut Tally, class: &str, frame: Frame) {
+pub fn compare_parts(
+    tally: &mut Tally,
+    class: &str,
+    frame: Frame,
+    width: usize,
+) {
     let Frame { source, image } = frame;
     let due = judged(source, image);
     let number = due.err().map_or(0, |refusal| refusal.number);
     tally.count(&format!("reader, {class}"), number);
     tally.expect("the reader", &due, &crate::check(source, image));
     #[cfg(feature = "calls")]
-    super::cuts::compare(tally, class, frame);
+    super::cuts::compare(tally, class, frame, width);
+    #[cfg(not(feature = "calls"))]
+    let _ = width;
 }
 
 /// The judge's reader, in the port's terms. Declarations are those of the

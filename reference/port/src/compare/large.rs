@@ -6,6 +6,7 @@ use judge::{
     generate::CallCase,
     image::{self, node},
     rows::{self, Row},
+    width::REFERENCE,
 };
 
 pub const COUNT: usize = 5;
@@ -15,6 +16,7 @@ pub fn numbered(place: usize) -> CallCase {
     let render = |stop| Call::Render {
         stop,
         room: 1 << 22,
+        width: REFERENCE,
     };
     let laying = |next_row| LayoutState {
         begun: true,

@@ -82,9 +82,9 @@ fn port_call(
         Call::Layout { stop, close } => {
             crate::layout(given, store, &world.laying, stop, close)
         }
-        Call::Render { stop, .. } => {
+        Call::Render { stop, width, .. } => {
             let state = &world.rendering;
-            crate::render(given, store, marks, output, state, stop)
+            crate::render(given, store, marks, output, state, stop, width)
         }
     }
 }
@@ -106,7 +106,7 @@ pub fn stretched(case: &CallCase, seed: u64, index: u64) -> CallCase {
     let random = &mut Random::new(101, seed, index);
     let mut case = case.clone();
     let far = *random.pick(&FAR);
-    let chosen = random.below(12);
+    let chosen = random.below(14);
     let which = random.below(case.calls.len());
     let laying = &mut case.world.laying;
     let rendering = &mut case.world.rendering;
@@ -122,6 +122,14 @@ pub fn stretched(case: &CallCase, seed: u64, index: u64) -> CallCase {
         7 => rendering.pen.column = far,
         8 => rendering.marks_in_use = far,
         9 => rendering.next_row = far,
+        10 => rendering.width = far,
+        11 => {
+            for call in &mut case.calls[which..] {
+                if let Call::Render { width, .. } = call {
+                    *width = far;
+                }
+            }
+        }
         _ => match &mut case.calls[which] {
             Call::Layout { stop, .. } | Call::Render { stop, .. } => {
                 *stop = far;

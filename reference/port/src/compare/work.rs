@@ -13,6 +13,7 @@ use judge::generate::CallCase;
 use judge::{
     frame::Frame,
     generate::{self, Class},
+    width::REFERENCE,
 };
 
 use super::{Tally, frames};
@@ -21,6 +22,8 @@ use super::{Tally, frames};
 #[derive(Clone, Copy, Debug, PartialEq, Eq)]
 pub enum Item {
     Frame(Class, u64),
+    /// A frame with a width of its own.
+    Wide(u64),
     /// A size of document 01, without the frame's limit.
     Size(usize),
     #[cfg(feature = "calls")]
@@ -44,9 +47,10 @@ pub enum Item {
     Files(u64),
 }
 
-/// All items of a run: so many frames of each class but `sizes`, and as many
-/// texts with ranges, all sizes and rendering answers once, and so many lists.
-/// With lists come the largest stores. Last, so many files to count.
+/// All items of a run: so many frames of each class but `sizes`, as many
+/// with widths of their own and as many texts with ranges, all sizes and
+/// rendering answers once, and so many lists. With lists come the largest
+/// stores. Last, so many files to count.
 #[derive(Clone, Copy, Debug)]
 pub struct Plan {
     pub seed: u64,
@@ -85,6 +89,7 @@ impl Plan {
         for class in CLASSES {
             items.extend((0..self.frames).map(|i| Item::Frame(class, i)));
         }
+        items.extend((0..self.frames).map(Item::Wide));
         #[cfg(feature = "calls")]
         items.extend((0..self.frames).map(Item::Ranges));
         #[cfg(feature = "calls")]
@@ -142,7 +147,11 @@ fn compare(tally: &mut Tally, item: Item, seed: u64) {
     match item {
         Item::Frame(class, index) => {
             let bytes = generate::frame(class, seed, index);
-            frames::compare(tally, class_name(class), &bytes);
+            frames::compare(tally, class_name(class), &bytes, REFERENCE);
+        }
+        Item::Wide(index) => {
+            let (bytes, width) = generate::wide_frame(seed, index);
+            frames::compare(tally, "widths", &bytes, width);
         }
         Item::Size(place) => {
             let case = &generate::size_cases()[place];
@@ -150,7 +159,7 @@ fn compare(tally: &mut Tally, item: Item, seed: u64) {
                 source: &case.source,
                 image: &case.image,
             };
-            frames::compare_parts(tally, "sizes", frame);
+            frames::compare_parts(tally, "sizes", frame, REFERENCE);
         }
         #[cfg(feature = "calls")]
         Item::List(index) => {
@@ -204,6 +213,7 @@ pub(super) fn class_name(class: Class) -> &'static str {
 fn name(item: Item, seed: u64) -> String {
     let (kind, index) = match item {
         Item::Frame(class, index) => (class_name(class), index),
+        Item::Wide(index) => ("widths", index),
         Item::Size(place) => ("sizes", place as u64),
         #[cfg(feature = "calls")]
         Item::List(index) => ("list", index),
@@ -228,6 +238,7 @@ impl Item {
     pub fn from_words(kind: &str, index: u64) -> Option<Item> {
         match kind {
             "sizes" => Some(Item::Size(index as usize)),
+            "widths" => Some(Item::Wide(index)),
             #[cfg(feature = "calls")]
             "list" => Some(Item::List(index)),
             #[cfg(feature = "calls")]

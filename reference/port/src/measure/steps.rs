@@ -11,6 +11,7 @@ use judge::{
     reader,
     rows::{self, Row},
     tree,
+    width::REFERENCE,
 };
 
 #[cfg(feature = "formatter")]
@@ -54,6 +55,7 @@ impl Ported<'_> {
             &mut self.output,
             &RenderState::default(),
             self.rows,
+            REFERENCE,
         );
         match answer {
             Ok(Answer::Written { bytes, .. }) => bytes,
@@ -63,7 +65,7 @@ impl Ported<'_> {
 
     /// The text of the whole run, which has rows and marks of its own.
     fn format(&mut self) -> &[u8] {
-        let answer = crate::format(self.given, &mut self.output);
+        let answer = crate::format(self.given, REFERENCE, &mut self.output);
         &self.output[..answer.expect("room for all").bytes as usize]
     }
 

@@ -4,7 +4,7 @@ use super::{
     super::CallCase,
     parts::{
         IMAGE, PLENTY, Part, SOURCE, comment, each_kind, group, if_wrap, on,
-        on_from, render, wide, word,
+        on_from, render, render_at, wide, word,
     },
 };
 use crate::rows;
@@ -47,6 +47,34 @@ pub fn widths() -> Vec<CallCase> {
     let most = Part::Str(u32::MAX, [rows::SOURCE, 0, 1]);
     cases.push(on(&[group(0, vec![most.clone(); 9]), most, word()]));
     cases
+}
+
+/// Groups and calls about as wide as a line of another width.
+pub fn other_widths() -> Vec<CallCase> {
+    let mut cases = Vec::new();
+    for width in [40, 100, 200] {
+        let half = width / 2;
+        let halves = |columns: u32| {
+            [wide(half), Part::LineOrSpace, wide(columns - half - 1)]
+        };
+        for columns in width - 2..=width + 2 {
+            let callee = vec![wide(half), wide(columns - half - 2)];
+            let called = call(callee, 2);
+            let of = [
+                on_from([2, 0, 0], &[group(0, halves(columns - 8))]),
+                on(&[called]),
+            ];
+            cases.extend(of.map(|case| at_width(case, width as usize)));
+        }
+    }
+    cases
+}
+
+/// A case whose call chooses a width.
+fn at_width(mut case: CallCase, width: usize) -> CallCase {
+    let rows = case.world.room_for_rows();
+    case.calls = vec![render_at(width, rows, PLENTY)];
+    case
 }
 
 fn call(callee: Vec<Part>, arguments: u32) -> Part {

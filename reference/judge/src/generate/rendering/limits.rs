@@ -4,10 +4,13 @@ use super::{
     super::CallCase,
     parts::{
         PLENTY, Part, group, if_wrap, on, on_from, on_rows, pen, render,
-        rows, wide, word,
+        render_at, rows, wide, word,
     },
 };
-use crate::{calls::MOST_ROW_DEPTH, rows::Row};
+use crate::{
+    calls::{Call, MOST_ROW_DEPTH},
+    rows::Row,
+};
 
 /// Rows 257 deep: refused from the first one on, and 256 deep from the
 /// second.
@@ -24,6 +27,9 @@ pub fn depth() -> Vec<CallCase> {
     second.world.rendering.next_row = 1;
     vec![first, second]
 }
+
+/// How many rows [`few`] has.
+const FEW: usize = 5;
 
 /// A few rows for states to try.
 fn few() -> [Part; 2] {
@@ -158,6 +164,54 @@ fn written(case: &CallCase) -> usize {
     world.text.len()
 }
 
+/// Widths at their limits and one more, from states that carry none, the
+/// same and another; and a carried one that no call could have chosen:
+/// refusal 15.
+pub fn widths() -> Vec<CallCase> {
+    let most = u32::MAX as usize;
+    let mut cases = Vec::new();
+    for width in [0, 1, 39, 40, 41, 80, 199, 200, 201, most] {
+        for carried in [0, width, 100 + width % 2] {
+            let mut case = on(&few());
+            case.world.rendering.width = carried;
+            case.calls = vec![render_at(width, FEW, PLENTY)];
+            cases.push(case);
+        }
+    }
+    for width in [7, 40, 80] {
+        let mut case = on(&few());
+        case.world.rendering.width = 7;
+        case.calls = vec![render_at(width, FEW, PLENTY)];
+        cases.push(case);
+    }
+    cases
+}
+
+/// An accepted call that reads nothing chooses too, and so does one that
+/// reads rows; a refused one doesn't.
+pub fn choices() -> Vec<CallCase> {
+    let of = |calls: Vec<Call>| {
+        let mut case = on(&few());
+        case.calls = calls;
+        case
+    };
+    let at = render_at;
+    vec![
+        of(vec![at(100, 0, 0), at(80, 4, PLENTY), at(100, 4, PLENTY)]),
+        of(vec![
+            at(100, 2, PLENTY),
+            at(80, 4, PLENTY),
+            at(100, 4, PLENTY),
+        ]),
+        of(vec![at(100, 5, PLENTY), at(100, 4, 0), at(80, 4, PLENTY)]),
+        of(vec![
+            at(201, 4, PLENTY),
+            at(40, 4, PLENTY),
+            at(41, 4, PLENTY),
+        ]),
+    ]
+}
+
 /// Images that are no image, before any row is looked at: refusal 3.
 pub fn headers() -> Vec<CallCase> {
     let images: [&[u8]; 6] = [
@@ -183,16 +237,18 @@ fn wide_group(after: u32) -> [Row; 2] {
     [Row { after, ..rows[0] }, rows[1]]
 }
 
-/// Several causes at once: 11, 12, 9, 10 in this order.
+/// Several causes at once: 11, 12, 15, 9, 10 in this order.
 pub fn order() -> Vec<CallCase> {
     let mut cases = Vec::new();
-    for causes in 0..16 {
+    for causes in 0..32 {
         let chosen = |cause: usize| causes >> cause & 1;
         let mut case = on_rows(&wide_group([2, 0][chosen(0)]));
         case.world.rendering.pen = pen([[0, 65][chosen(1)], 0, 0]);
         case.world.marks = vec![4; [8, 2][chosen(2)]];
         let stop = [2, 3][chosen(3)];
-        case.calls = vec![render(stop, 3), render(stop, PLENTY)];
+        let width = [80, 39][chosen(4)];
+        case.calls =
+            vec![render_at(width, stop, 3), render_at(width, stop, PLENTY)];
         cases.push(case);
     }
     cases

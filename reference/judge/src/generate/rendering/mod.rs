@@ -12,6 +12,7 @@ pub fn cases() -> Vec<CallCase> {
     let parts = [
         legal::kinds(),
         legal::widths(),
+        legal::other_widths(),
         legal::choices(),
         legal::marks(),
         legal::texts(),
@@ -29,6 +30,8 @@ pub fn cases() -> Vec<CallCase> {
         limits::states(),
         limits::numbers(),
         limits::output(),
+        limits::widths(),
+        limits::choices(),
         limits::headers(),
         limits::order(),
     ];

@@ -5,6 +5,7 @@ use crate::{
     calls::{Call, World},
     driver::Pen,
     rows::{self, Row},
+    width::REFERENCE,
 };
 
 /// Not UTF-8, and 13 bytes long: rendering takes any bytes.
@@ -155,7 +156,11 @@ pub fn on_rows(rows: &[Row]) -> CallCase {
 }
 
 pub fn render(stop: usize, room: usize) -> Call {
-    Call::Render { stop, room }
+    render_at(REFERENCE, stop, room)
+}
+
+pub fn render_at(width: usize, stop: usize, room: usize) -> Call {
+    Call::Render { stop, room, width }
 }
 
 /// One call on nodes, from fresh.
