@@ -27,8 +27,8 @@ use Rattle.cut_rule.specs.Rules.{LayoutArgs, RenderArgs, LayoutResult, RenderRe
 use Rattle.cut_rule.specs.Laws.{SameBefore}
 use Rattle.cut_rule.specs.Run.{writeFront, answerBy, laidOut, written}
 use Rattle.cut_rule.specs.Entries.{layoutAnswer, layoutStore, renderGives, renderAnswer, renderMarks, renderOutput}
-use Rattle.cut_rule.specs.States.{LayoutState, RenderState, layoutFresh, renderFresh, LayoutChoice, RenderChoice, onlyRenderChoice}
-use Rattle.cut_rule.specs.Tests.{rowsIn, renderTests, placesTests, limitTests, begunTests, stopTests, rowTests, penTests, markTests}
+use Rattle.cut_rule.specs.States.{LayoutState, RenderState, layoutFresh, renderFresh, LayoutChoice, RenderChoice, onlyRenderChoice, OLD-MODE}
+use Rattle.cut_rule.specs.Tests.{rowsIn, renderTests, placesTests, limitTests, begunTests, stopTests, modeTests, rowTests, penTests, markTests}
 use Rattle.cut_rule.specs.Parts.{layoutTests, rowsNeeded, drawnOf, beforeMarks, renderTable}
 use Rattle.plain_run.specs.Parts.{readRefusal, renderImage, acceptedTree, drawn, partsOf}
 use Rattle.plain_run.specs.Demands.{rulesOf, laidTo, closingAt}
@@ -61,7 +61,7 @@ module _ (s b : List ℕ) where
 
   -- ---- the layout call: up to the last declaration, closing
   abbrev pub layoutArgs : LayoutArgs LayoutChoice
-  layoutArgs = closingAt count
+  layoutArgs = closingAt OLD-MODE count
 
   -- the state that it answers
   abbrev pub stateDue : LayoutState
@@ -70,6 +70,7 @@ module _ (s b : List ℕ) where
     closed = true;
     declaration = count;
     cursor = record { row = rowsDue s b; number = built s b .taken; placed = built s b .placed; position = built s b .pos };
+    mode = OLD-MODE;
   }
 
   laid-due : _≡_ {A = LayoutResult LayoutState} (laidTo (readAll s b) s b layoutArgs)
@@ -83,6 +84,7 @@ module _ (s b : List ℕ) where
           closed = true;
           declaration = count;
           cursor = record { row = g .row-due t; number = g .number-due t; placed = g .placed-due t; position = g .position-due t };
+          mode = OLD-MODE;
         };
         rows = g .rows-due t;
         left = g .left-due t;
@@ -92,17 +94,20 @@ module _ (s b : List ℕ) where
   layout-passes : (store : List ℕ) → any (layoutTests (partsOf s b) layoutArgs layoutFresh store) ≡ false
   layout-passes store =
       let stop = stopTests count layoutArgs layoutFresh in
+      let mode = modeTests (layoutArgs .choice) layoutFresh in
       none-both (placesTests count (length (commentsOf b)) (length s) (rowsIn store) layoutFresh)
-      (limitTests layoutFresh ++ (begunTests layoutFresh ++ stop))
+      (limitTests layoutFresh ++ (begunTests layoutFresh ++ (stop ++ mode)))
       (rw (
         le-ltb count 0 (omega arith),
         le-ltb (length (commentsOf b)) 0 (omega arith),
         le-ltb (length s) 0 (omega arith),
         le-ltb (rowsIn store) 0 (omega arith),
       ))
-      (none-both (limitTests layoutFresh) (begunTests layoutFresh ++ stop) refl
-      (none-both (begunTests layoutFresh) stop refl
-      (rw (le-ltb count 0 (omega arith), le-ltb count count (omega arith), eq-eqb count count refl))))
+      (none-both (limitTests layoutFresh) (begunTests layoutFresh ++ (stop ++ mode)) refl
+      (none-both (begunTests layoutFresh) (stop ++ mode) refl
+      (none-both stop mode
+      (rw (le-ltb count 0 (omega arith), le-ltb count count (omega arith), eq-eqb count count refl))
+      refl)))
 
   rows-needed : rowsNeeded (partsOf s b) layoutArgs layoutFresh ≡ rowsDue s b
   rows-needed = fmt-parsed (readAll s b) s b .closed .row-due
@@ -167,7 +172,7 @@ module _ (s b : List ℕ) where
     rows-right =
         let g = fmt-parsed (readAll s b) s b .closed in
         render-parts s b (readAll s b) .right-local (rows (built s b .nodes) 0) rowed (rowsDue s b) (same-rows store)
-        (subst₂ (λ (x : List ℕ) (n : ℕ). wrongPlace s b x 0 n ≡ none) (g .rows-due) (g .row-due) (all-limited s b h .closed .right))
+        (subst₂ (λ (x : List ℕ) (n : ℕ). wrongPlace s b x 0 n ≡ none) (g .rows-due) (g .row-due) (all-limited s b h .closed OLD-MODE .right))
 
     marks-due : marksNeeded (rowsDue s b - 0) rowed 0 ≡ marksDue s b
     marks-due =
