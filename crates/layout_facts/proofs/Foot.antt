@@ -10,12 +10,16 @@ use lib.Dec.{ltb}
 use lib.ListN.{length}
 use borrow.Author.Tests.{lt-ltb}
 use Rattle.text.proofs.Counts.{range-inside}
-use Rattle.tree.specs.Syntax.{Span, SyntaxTree}
-use Rattle.state.specs.Act.{Given, St, Out, Act, Asking, next, _⨟_, _⨟!_, skip, moveTo, pop, told, answering}
+use Rattle.tree.specs.Syntax.{Span, Ident, Declaration, SyntaxTree}
+use Rattle.state.specs.Act.{Given, St, Out, Act, Asking, next, _⨟_, _⨟!_, when, skip, moveTo, pop, told, answering}
 use Rattle.comments.specs.Comments.{nth, front, newlines, ignoreNewlines, popComment, waits, popComments, popWhitespace}
 use Rattle.comments.specs.Listed.{commentsOf, given, Listed}
 use Rattle.comments.proofs.Fronts.{count-of, none-left, inside, good}
-use Rattle.layout_facts.specs.Accepted.{placeWaiting, closing}
+use Rattle.layout.specs.Layout.{shebangRule, declarationsRule}
+use Rattle.layout_facts.specs.Accepted.{placeWaiting, closing, callRule}
+use Rattle.layout_facts.specs.Placing.{Places}
+use Rattle.layout_facts.proofs.Placing.{places-skip}
+use Rattle.layout_facts.proofs.InOrder.{places-shebang, places-declarations}
 use Rattle.layout_facts.proofs.Gaps.{before-free}
 use Rattle.layout_facts.proofs.Limits.{commented}
 
@@ -100,8 +104,23 @@ module _ {s b : List ℕ} (list : Listed s b) where
       last true = done
       last false = done
 
-  pub closing-places : (t : SyntaxTree) (z : St) → z .placed ≤ length (commentsOf b) → AtFoot s b (closing g t true z)
+  closing-places : (t : SyntaxTree) (z : St) → z .placed ≤ length (commentsOf b) → AtFoot s b (closing g t true z)
   unfolding _⨟_
   closing-places t z h =
       let w = all-waiting (ltb 0 (length (t .declarations))) z h in
+      record { placed = w .placed; position = w .position }
+
+  begun-places : (begins : Bool) (i : Option Ident) → Places g (when begins (shebangRule g i))
+  begun-places true i = places-shebang g i
+  begun-places false i = places-skip
+
+  -- a call that closes
+  pub call-places : (t : SyntaxTree) (begins : Bool) (ds : List Declaration) (first : Bool) (z : St) → z .placed ≤ length (commentsOf b)
+      → AtFoot s b (callRule g t begins ds first true true z)
+  unfolding _⨟_
+  call-places t begins ds first z h =
+      let y = next z (when begins (shebangRule g (t .shebang)) z) in
+      let x = next y (declarationsRule g ds first y) in
+      let i = begun-places begins (t .shebang) .from z h .within in
+      let w = closing-places t x (places-declarations g ds first .from y i .within) in
       record { placed = w .placed; position = w .position }
