@@ -6,7 +6,6 @@ use mathlib.Core.Bool.{Bool, true, false, not, _&&_}
 use mathlib.Core.List.{List, [], _∷_}
 use mathlib.Core.Option.{Option, none as nothing, some}
 use native.Mathlib.Omega.{arith}
-use lib.Dec.{ltb}
 use lib.ListN.{length}
 use Rattle.image.specs.Bytes.{be32}
 use Rattle.text.proofs.Trims.{trim-before}
@@ -20,7 +19,7 @@ use Rattle.layout.specs.declared.forms.WrapStyle.the-variants.{Tight, Wrap}
 use Rattle.layout.specs.Layout.{someTypeParams, Bottom, params, typeParams, identElems, fieldElems, opening, variantElems, declaration, declares, shebangRule}
 use Rattle.layout.specs.Layout.{declarationsRule, importSpan, unlessEmpty}
 use Rattle.layout_facts.specs.Sound.{Ranged, Commented, BYTE-GIVES, ROW-TAKES, Sounds}
-use Rattle.layout_facts.specs.Accepted.{placeWaiting, closing, wholeRule}
+use Rattle.layout_facts.specs.Accepted.{closing, wholeRule}
 use Rattle.layout_facts.specs.Height.{fieldsHeight, variantsHeight, declarationHeight, declarationsHeight, treeHeight}
 use Rattle.layout_facts.proofs.Steps.{_⨾_, fewer, sound-skip, sound-line, sound-emptyLine, sound-str, sound-when, sound-asks}
 use Rattle.layout_facts.proofs.Gaps.{sound-gap}
@@ -189,7 +188,7 @@ module _ {g : Given} (commented : Commented g) where
 
   -- comments that wait take three rows each at most, as all do, so that closing takes one of the bytes' own
   pub sound-closing : {d : ℕ} (t : SyntaxTree) (keeps : Bool) → Sounds g ROW-TAKES d (closing g t keeps)
-  sound-closing t true = fewer (sound-gap commented (length (g .source)) (ltb 0 (length (t .declarations))) false false (omega arith) ⨾ sound-line) (omega arith)
+  sound-closing t true = fewer (sound-gap commented _ _ _ false (omega arith) ⨾ sound-line) (omega arith)
   sound-closing t false = sound-line
 
   pub sound-whole : (t : SyntaxTree) (at : ℕ) {d : ℕ} (keeps : Bool) → TreeAt (g .source) (g .image) t at → 2 * treeHeight t ≤ d + 2

@@ -6,7 +6,6 @@ use mathlib.Core.Bool.{Bool, true, false, cond, not, _&&_}
 use mathlib.Core.List.{List, [], _∷_}
 use mathlib.Core.Option.{Option, none as nothing, some}
 use lib.Dec.{ltb, eqb}
-use lib.ListN.{length}
 use lib.Text.{eqt}
 use Rattle.tree.specs.Syntax.{Span, Ident, Path, Idents, TypeExpr, type, TypeForm, option, typePath, never, unit, recordType, TypeArgs, noArgs, args}
 use Rattle.tree.specs.Syntax.{Types, noTypes, _∷ᵗ_, Fields, noFields, field, Import, import, ImportGroup, noGroup, group, Imports, noImports, _∷ⁱ_}
@@ -442,7 +441,7 @@ module _ {g : Given} {P : ℕ → Act → Type 0} (J : Joining g P) where
   every-shebang (some i) = named ⨾ (λ k. J .pushes emptyLine-leaf)
 
   pub every-closing : (t : SyntaxTree) (keeps : Bool) → Every (closing g t keeps)
-  every-closing t true = every-gap (length (g .source)) (ltb 0 (length (t .declarations))) false false ⨾ lined
+  every-closing t true = every-gap _ _ _ _ ⨾ lined
   every-closing t false = lined
 
   pub every-whole : (t : SyntaxTree) (keeps : Bool) → Every (wholeRule g t keeps)

@@ -1,7 +1,7 @@
 -- Closing that keeps the comments that wait leaves none, and ends at the source's end: by 7 each comment starts before it.
 -- Assumes nothing.
 use Prim.Native.Nat.{ℕ, zero, suc, _+_, _≤_, _<_, min}
-use mathlib.Core.Path.{_≡_, refl, ap, _∙_}
+use mathlib.Core.Path.{_≡_, refl}
 use mathlib.Core.Bool.{Bool, true, false, cond, _&&_}
 use mathlib.Core.List.{List, [], _∷_}
 use mathlib.Core.Option.{Option, none as nothing, some}
@@ -11,13 +11,16 @@ use lib.ListN.{length}
 use borrow.Author.Tests.{lt-ltb}
 use Rattle.text.proofs.Counts.{range-inside}
 use Rattle.tree.specs.Syntax.{Span, Ident, Declaration, SyntaxTree}
-use Rattle.state.specs.Act.{Given, St, Out, Act, Asking, next, _⨟_, _⨟!_, when, skip, moveTo, pop, told, answering}
+use Rattle.text.specs.Newlines.{countNewlines, newlinePlaces, isRange}
+use Rattle.text.specs.Utf8.{within, boundary}
+use Rattle.rows.specs.Node.{Node, comment, line, emptyLine, none, _then_, join}
+use Rattle.state.specs.Act.{Given, St, Out, Act, next, _⨟_, _⨟!_, when, skip, moveTo, pop, told, answering}
 use Rattle.comments.specs.Comments.{nth, front, newlines, ignoreNewlines, popComment, waits, popComments, popWhitespace}
-use Rattle.comments.specs.Listed.{commentsOf, given, Listed}
+use Rattle.comments.specs.Listed.{span, commentsOf, given, Listed}
 use Rattle.comments.proofs.Fronts.{count-of, none-left, inside, good}
 use Rattle.layout.specs.Layout.{shebangRule, declarationsRule}
-use Rattle.layout_facts.specs.Accepted.{placeWaiting, closing, callRule}
-use Rattle.layout_facts.specs.Placing.{Places}
+use Rattle.layout_facts.specs.Accepted.{fresh, closing, callRule}
+use Rattle.layout_facts.specs.Placing.{trimmed, Places}
 use Rattle.layout_facts.proofs.Placing.{places-skip}
 use Rattle.layout_facts.proofs.InOrder.{places-shebang, places-declarations}
 use Rattle.layout_facts.proofs.Gaps.{before-free}
@@ -107,7 +110,7 @@ module _ {s b : List ℕ} (list : Listed s b) where
   closing-places : (t : SyntaxTree) (z : St) → z .placed ≤ length (commentsOf b) → AtFoot s b (closing g t true z)
   unfolding _⨟_
   closing-places t z h =
-      let w = all-waiting (ltb 0 (length (t .declarations))) z h in
+      let w = all-waiting _ z h in
       record { placed = w .placed; position = w .position }
 
   begun-places : (begins : Bool) (i : Option Ident) → Places g (when begins (shebangRule g i))
@@ -124,3 +127,21 @@ module _ {s b : List ℕ} (list : Listed s b) where
       let i = begun-places begins (t .shebang) .from z h .within in
       let w = closing-places t x (places-declarations g ds first .from y i .within) in
       record { placed = w .placed; position = w .position }
+
+-- ---- newlines before the first comment
+-- two newlines and a comment
+abbrev gap : Given
+gap = record { source = 0x0A ∷ 0x0A ∷ 0x23 ∷ []; image = []; comments = span 2 3 ∷ []; columns = λ width text. width }
+
+abbrev sharp : Node
+sharp = comment (trimmed gap (span 2 3))
+
+-- they are dropped where there is no declaration
+dropped : closing gap (record { shebang = nothing; declarations = [] }) true fresh .nodes ≡ (sharp then line then none)
+unfolding _⨟_ _⨟!_ join nth newlines ignoreNewlines popComment popComments popWhitespace
+dropped = refl
+
+-- and kept where there is one
+kept : (d : Declaration) → closing gap (record { shebang = nothing; declarations = d ∷ [] }) true fresh .nodes ≡ (emptyLine then sharp then line then none)
+unfolding _⨟_ _⨟!_ join nth newlines ignoreNewlines popComment popComments popWhitespace countNewlines newlinePlaces isRange boundary within
+kept d = refl

@@ -1,10 +1,10 @@
 -- In the new mode an accepted close leaves no comment, and so a document that calls close from fresh holds the whole list.
 -- Assumes nothing.
 use mathlib.Core.Path.{_≡_, refl, sym, ap, ap₂, subst₂, _∙_}
-use mathlib.Core.Bool.{Bool, true, false, not}
+use mathlib.Core.Bool.{Bool, true, not}
 use mathlib.Core.Option.{Option, none, some}
 use mathlib.Core.List.{List, [], _∷_}
-use Prim.Native.Nat.{ℕ, _-_, _≤_}
+use Prim.Native.Nat.{ℕ, _-_}
 use native.Mathlib.Omega.{arith}
 use lib.Dec.{eqb}
 use lib.ListN.{length, take, drop, length-map, length-drop}
@@ -28,7 +28,7 @@ use Rattle.cut_rule.proofs.Table.{LayoutFits, layout-fits, layout-told}
 use Rattle.cut_rule.proofs.LayoutOnly.{layouts, layout-only, none-read}
 use Rattle.plain_run.specs.Parts.{readRefusal, acceptedTree, listed, keepsWaiting, partsOf}
 use Rattle.plain_run.specs.Demands.{rulesOf}
-use Rattle.plain_run.specs.Foot.{AllPlaced, ClosingPlacesAll, HoldsAll, ClosedHoldsAll}
+use Rattle.plain_run.specs.Foot.{AllPlaced, ClosingPlacesAll, ClosedHoldsAll}
 use Rattle.plain_run.proofs.Demands.{rules-cut}
 use Rattle.plain_run.proofs.Whole.{call-piece}
 
