@@ -18,8 +18,8 @@ use Rattle.cut_rule.specs.Run.{Call, layoutCall, renderCall, Carried, st
 use Rattle.cut_rule.specs.Plain.{atFirst, due, plain, AllReadLaid}
 use Rattle.rows.specs.Node.{Text}
 use Rattle.cut_rule.specs.CutRule.{commentsIn, CutRule}
-use Rattle.cut_rule.specs.States.{OLD-MODE, NEW-MODE, onlyRenderChoice, Cursor}
-use Rattle.cut_rule.specs.Tests.{penTests, markTests}
+use Rattle.cut_rule.specs.States.{OLD-MODE, NEW-MODE, onlyRenderChoice, Cursor, LayoutState, layoutFresh}
+use Rattle.cut_rule.specs.Tests.{begunTests, penTests, markTests}
 use Rattle.cut_rule.specs.Parts.{Piece, RuleParts, rules}
 use Rattle.cut_rule.specs.PartLaws.{Counts, LayoutPartLaws, PlacesNext, CommentPartLaws, RenderPartLaws}
 use Rattle.cut_rule.proofs.Document.{parts-cut}
@@ -202,6 +202,13 @@ tried-modes : asNumbers (answers (rules small) (start (rules small) nines fives)
     (layIn 2 1 false ∷ layIn NEW-MODE 1 false ∷ layIn OLD-MODE 2 false ∷ layIn NEW-MODE 2 true ∷ []))
     ≡ (12 ∷ 0 ∷ []) ∷ (100 ∷ 1 ∷ []) ∷ (12 ∷ 0 ∷ []) ∷ (100 ∷ 0 ∷ []) ∷ []
 tried-modes = refl
+
+-- a state that has not begun carries no mode
+abbrev notBegun : ℕ → LayoutState
+notBegun mode = record { begun = false; closed = false; declaration = 0; cursor = layoutFresh .cursor; mode = mode }
+
+tried-fresh : any (begunTests (notBegun 0)) ∷ any (begunTests (notBegun NEW-MODE)) ∷ [] ≡ false ∷ true ∷ []
+tried-fresh = refl
 
 -- 12's limits of a rendering state: each at its limit, and one past it; marks in use that are 0 and 1, a mark of 2, more marks than there are
 abbrev penAt : ℕ → ℕ → ℕ → Bool

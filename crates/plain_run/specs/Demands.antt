@@ -66,7 +66,8 @@ abbrev pub closingAt : ℕ → ℕ → LayoutArgs LayoutChoice
 closingAt mode n = record { stop = n; close = true; choice = record { mode = mode } }
 
 -- "The rows and state due at a stop are those `fmt_parsed` has when its loop reaches that declaration", whatever the mode, and closed in the old
--- mode, those that it has in the end. Closed in the new mode, the same, with the comments that wait before the final `Line`.
+-- mode, those that it has in the end. Closed in the new mode, the same, with the comments that wait before the final `Line`. (Of an image that
+-- is refused nothing is laid out but what closing adds.)
 pub record FmtParsed (r : Read Image) (s b : List ℕ) (t : SyntaxTree) : Type 0 where
   pub at-stop : (mode n : ℕ) → n ≤ length (t .declarations)
       → Gives s b (upTo (given s b) t (take n (t .declarations)) fresh) (laidTo r s b (stoppingAt mode n))

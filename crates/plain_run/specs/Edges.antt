@@ -311,8 +311,9 @@ fileEdges =
     ∷ twoIn (bytes "const A: u32 = 1; # ok\nconst B: u32 = 2;") (span 18 22 ∷ []) 0
     ∷ []
 
--- "The comment-only file and the `# ok` case get second answers." In both, no newline stands between the position and the comment (0, and 6,
--- where A's name starts), so that no row comes before it; the comment ends its line, and at column 0 the final `Line` writes nothing.
+-- "The comment-only file and the `# ok` case get second answers." In both, no newline stands between the position (0, and 16,
+-- where A's literal ends) and the comment, so that no row comes before it; the comment ends its line, and at column 0 the final `Line` writes
+-- nothing.
 abbrev pub footEdges : List Edge
 footEdges =
     footOfNothing (bytes "# c") (span 0 3 ∷ []) (commentKind ++ lineKind) (bytes "# c\n")
