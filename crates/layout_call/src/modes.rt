@@ -1,4 +1,5 @@
 // What closing does with the comments that wait.
+
 // They stay in the list, as in the Rust.
 pub const OLD_MODE: usize = 0;
 

@@ -33,7 +33,7 @@ none-past (x ∷ xs) zero e = let z : _≡_ {A = ℕ} 0 1 = cc in absurd (omega 
 none-past (x ∷ xs) (suc k) e = omega (arith, none-past xs k e)
 
 -- all comments are placed
-record AllPlaced (b : List ℕ) (o : Out) : Type 0 where
+record Popped (b : List ℕ) (o : Out) : Type 0 where
   placed : o .placed ≡ length (commentsOf b)
 
 -- and the position is the source's end
@@ -56,15 +56,15 @@ module _ {s b : List ℕ} (list : Listed s b) where
 
   -- a loop with a turn for each comment that waits
   all-popped : (n : ℕ) (leading : Bool) (z : St) → z .placed ≤ length (commentsOf b) → length (commentsOf b) ≤ n + z .placed
-      → AllPlaced b (popComments g n (length s) leading z)
+      → Popped b (popComments g n (length s) leading z)
   unfolding popComments _⨟_
   all-popped zero leading z h k = record { placed = omega arith }
   all-popped (suc n) leading z h k = turn (front g z) refl (all-popped n true)
     where
       turn : (f : Option Span) → front g z ≡ f
           → ((y : St) → y .placed ≤ length (commentsOf b) → length (commentsOf b) ≤ n + y .placed
-          → AllPlaced b (popComments g n (length s) true y))
-          → AllPlaced b
+          → Popped b (popComments g n (length s) true y))
+          → Popped b
           (elim f [
             | nothing ↦ skip z
             | some c ↦ cond (ltb (c .start) (length s)) (popComment g leading c ⨟ popComments g n (length s) true) skip z

@@ -1,4 +1,5 @@
--- The edges that document 01 marks with *, as a single list, with the answers that the new mode gives (document 02, 4). Each is run by the rules of the two calls, refusals included.
+-- The edges that document 01 marks with *, as a single list, with the second answers of document 02's request 4. Each is run by the rules of the
+-- two calls, refusals included.
 use mathlib.Core.Path.{_≡_}
 use mathlib.Core.Option.{Option, none, some}
 use mathlib.Core.List.{List, [], _∷_, _++_, map}
@@ -25,8 +26,8 @@ pub record EdgeRendering : Type 0 where
   pub nodes : Nodes
   pub text : List ℕ
 
--- a file without a shebang, laid out and closed in one call in a mode, then rendered in one: how many rows, their kinds, how many group numbers, the text
--- with its length, the comments left
+-- a file without a shebang, laid out and closed in one call by a mode, then rendered in one: how many rows, their kinds, how many group
+-- numbers, the text with its length, the comments left
 pub record EdgeFile : Type 0 where
   pub source : List ℕ
   pub comments : List Span
@@ -290,7 +291,7 @@ footOfOne source comments kinds text = file (record {
   comments = comments;
   declarations = constAt 0 (bytes "A") ∷ [];
   mode = NEW-MODE;
-  rows = 9 + length kinds;
+  rows = length (constKinds ++ kinds);
   kinds = constKinds ++ kinds;
   numbers = 1;
   text = text;

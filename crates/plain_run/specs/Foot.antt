@@ -1,4 +1,4 @@
--- What the new mode adds: "Our house rule now keeps them all" (document 02, 4). proofs/Foot.antt proves both claims, and nothing is assumed.
+-- Closing in the new mode: "Our house rule now keeps them all" (document 02, 4). proofs/Foot.antt proves both claims, and nothing is assumed.
 use mathlib.Core.Path.{_≡_}
 use mathlib.Core.Bool.{true, false}
 use mathlib.Core.Option.{none, some}
@@ -15,7 +15,7 @@ use Rattle.cut_rule.specs.Parts.{laidOf, layoutTests}
 use Rattle.plain_run.specs.Parts.{readRefusal, listed, partsOf}
 use Rattle.plain_run.specs.Demands.{rulesOf}
 
--- all comments of the list are placed, the position is the source's end
+-- all comments of the list are placed, the position is the source's end, and none is left
 pub record AllPlaced (s b : List ℕ) (l : LayoutResult LayoutState) : Type 0 where
   pub placed : l .state .cursor .placed ≡ length (listed s b)
   pub position : l .state .cursor .position ≡ length s
