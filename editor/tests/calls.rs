@@ -16,7 +16,9 @@ fn lay(buffers: &mut Buffers, image: &[u8], stops: &[u64]) -> LayoutState {
         let close = *stop == DECLARATIONS;
         let source = SOURCE.as_bytes();
         let store = &mut buffers.store;
-        let laid = layout(source, image, store, &state, *stop, close);
+        let options = &Options::default();
+        let laid =
+            layout(source, image, store, &state, *stop, close, options);
         state = laid.expect("accepted").state;
     }
     state

@@ -11,7 +11,10 @@ use rrufthim::{
 use support::{Buffers, DECLARATIONS, SOURCE, tariff, tariff_image};
 
 fn at(width: u64) -> Options {
-    Options { width }
+    Options {
+        width,
+        ..Options::default()
+    }
 }
 
 fn widest(text: &str) -> usize {
@@ -110,7 +113,8 @@ fn a_run_has_one_width() {
     let mut buffers = Buffers::ample();
     let fresh = LayoutState::default();
     let store = &mut buffers.store;
-    let laid = layout(source, &image, store, &fresh, DECLARATIONS, true);
+    let (stop, options) = (DECLARATIONS, &at(100));
+    let laid = layout(source, &image, store, &fresh, stop, true, options);
     let rows = laid.expect("accepted").state.next_row;
     let mut call = |state: &RenderState, stop: u64, width: u64| {
         let Buffers {
