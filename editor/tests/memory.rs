@@ -8,7 +8,7 @@ use std::{
     cell::Cell,
 };
 
-use rrufthim::{Formatter, Options, encode, fmt_parsed};
+use rrufthim::{Formatter, Options, ast::Extras, encode, fmt_parsed};
 use support::{SOURCE, constants, tariff, tariff_image};
 
 thread_local! {
