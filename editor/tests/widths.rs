@@ -4,11 +4,43 @@ mod support;
 
 use rrufthim::{
     Cause, FormatError, Formatted, Formatter, LayoutState, Options, Refusal,
-    RenderState, Steps, fmt_parsed, fmt_parsed_with_options,
+    RenderState, Steps, ast::*, encode, fmt_parsed, fmt_parsed_with_options,
     fmt_written_with_options, format_file, layout, render,
 };
 
-use support::{Buffers, DECLARATIONS, SOURCE, tariff, tariff_image};
+use support::Buffers;
+
+const SOURCE: &str = "import rates.{aaaaaaaaaa, bbbbbbbbbb, cccccccccc, \
+    dddddddddd, eeeeeeeeee, ffffffffff, gggggggggg, hhhhhhhhhh};\n";
+
+/// The columns up to the semicolon, which isn't counted.
+const COLUMNS: u64 = SOURCE.len() as u64 - 2;
+
+/// The tree of the source: an import of a group.
+fn tree() -> SyntaxTree {
+    let name = |span: Span| {
+        let ident = Meta::new(SOURCE[span.clone()].into(), span.clone());
+        let idents = vec![ident];
+        Meta::new(Path { idents }, span)
+    };
+    let import = |span: Span, group| {
+        let path = Some(name(span.clone()));
+        Meta::new(ImportPath { path, group }, span)
+    };
+    let named = (0..8).map(|place| 14 + 12 * place);
+    let group = named.map(|at| import(at..at + 10, None)).collect();
+    let all = 7..SOURCE.len() - 2;
+    let group = Some(Meta::new(group, 13..all.end));
+    let Meta { node, .. } = import(7..12, group);
+    SyntaxTree {
+        shebang: None,
+        declarations: vec![Declaration::Import(Meta::new(node, all))],
+    }
+}
+
+fn image() -> Vec<u8> {
+    encode(&tree(), &[]).expect("within the limits")
+}
 
 fn at(width: u64) -> Options {
     Options {
@@ -17,32 +49,27 @@ fn at(width: u64) -> Options {
     }
 }
 
-fn widest(text: &str) -> usize {
-    let columns = text.lines().map(|line| line.chars().count());
-    columns.max().unwrap_or(0)
+fn text_at(width: u64) -> String {
+    let extras = Extras::default();
+    let text = fmt_parsed_with_options(&tree(), SOURCE, &extras, at(width));
+    text.expect("a text").text
 }
 
-fn text_at(width: u64) -> String {
-    let (tree, extras) = tariff();
-    let formatted =
-        fmt_parsed_with_options(&tree, SOURCE, &extras, at(width));
-    formatted.expect("a text").text
+#[test]
+fn a_line_as_wide_as_chosen_stays() {
+    assert_eq!(text_at(COLUMNS), SOURCE);
+    assert_eq!(text_at(200), SOURCE);
+    for width in [40, 80, 100, COLUMNS - 1] {
+        let text = text_at(width);
+        assert_eq!(text.lines().count(), 10, "{width}: {text}");
+    }
 }
 
 #[test]
 fn the_default_is_the_reference() {
-    let (tree, extras) = tariff();
-    let plain = fmt_parsed(&tree, SOURCE, &extras).expect("a text");
-    assert_eq!(plain.text, text_at(80));
-    assert_eq!(plain.text, text_at(Options::default().width));
-}
-
-#[test]
-fn narrow_lines_are_more() {
-    let [narrow, plain, wide] = [40, 80, 200].map(text_at);
-    assert!(widest(&narrow) <= widest(&plain), "{narrow}");
-    assert!(narrow.lines().count() > plain.lines().count(), "{narrow}");
-    assert!(plain.lines().count() >= wide.lines().count(), "{wide}");
+    let plain = fmt_parsed(&tree(), SOURCE, &Extras::default());
+    assert_eq!(plain.expect("a text").text, text_at(80));
+    assert_eq!(Options::default(), at(80));
 }
 
 fn refused(answer: Result<Formatted<impl AsRef<str>>, FormatError>) -> bool {
@@ -50,14 +77,13 @@ fn refused(answer: Result<Formatted<impl AsRef<str>>, FormatError>) -> bool {
     cause == Some(Cause::Refused(Refusal::BadWidth))
 }
 
-/// The doors agree on the text, and all of them refuse by 15.
+/// The doors agree on the text.
 #[test]
 fn every_door_takes_the_width() {
-    let ((tree, extras), image) = (tariff(), tariff_image());
-    let source = SOURCE.as_bytes();
+    let (source, image) = (SOURCE.as_bytes(), image());
     let mut formatter = Formatter::new();
     let mut output = vec![0; 4_000];
-    for width in [40, 57, 80, 100, 200] {
+    for width in [40, 57, 80, 100, COLUMNS - 1, COLUMNS, 200] {
         let due = text_at(width);
         formatter.set_options(at(width));
         let got = formatter.format_image(source, &image).expect("a text");
@@ -74,18 +100,24 @@ fn every_door_takes_the_width() {
         assert_eq!(text, due);
         assert_eq!(steps.render_state().width, width);
     }
+}
+
+/// All of them refuse by 15.
+#[test]
+fn every_door_refuses_other_widths() {
+    let (source, image) = (SOURCE.as_bytes(), image());
+    let extras = Extras::default();
+    let mut formatter = Formatter::new();
+    let mut output = vec![0; 4_000];
     for width in [0, 39, 201, u64::MAX] {
-        formatter.set_options(at(width));
+        let options = at(width);
+        formatter.set_options(options);
         assert!(refused(formatter.format_image(source, &image)));
-        assert!(refused(fmt_parsed_with_options(
-            &tree,
-            SOURCE,
-            &extras,
-            at(width)
-        )));
-        let written = format_file(source, &image, &at(width), &mut output);
+        let text = fmt_parsed_with_options(&tree(), SOURCE, &extras, options);
+        assert!(refused(text));
+        let written = format_file(source, &image, &options, &mut output);
         assert_eq!(written, Err(Refusal::BadWidth));
-        let steps = Steps::with_options(source, &image, at(width));
+        let steps = Steps::with_options(source, &image, options);
         let error = steps.expect("accepted").advance(1).unwrap_err();
         assert_eq!(error.cause, Cause::Refused(Refusal::BadWidth));
     }
@@ -94,27 +126,23 @@ fn every_door_takes_the_width() {
 /// The formatter that a thread keeps doesn't keep its options.
 #[test]
 fn a_choice_is_for_one_call() {
-    let (tree, extras) = tariff();
+    let plain = || fmt_parsed(&tree(), SOURCE, &Extras::default());
     let due = text_at(80);
-    assert_ne!(text_at(40), due);
-    let plain = fmt_parsed(&tree, SOURCE, &extras).expect("a text");
-    assert_eq!(plain.text, due);
+    assert_ne!(text_at(200), due);
+    assert_eq!(plain().expect("a text").text, due);
     let none = fmt_written_with_options(SOURCE, at(7), |_| Ok(()));
     assert!(none.is_err());
-    let plain = fmt_parsed(&tree, SOURCE, &extras).expect("a text");
-    assert_eq!(plain.text, due);
+    assert_eq!(plain().expect("a text").text, due);
 }
 
 /// One width for a run, that of its accepted calls; an empty one chooses too.
 #[test]
 fn a_run_has_one_width() {
-    let image = tariff_image();
-    let source = SOURCE.as_bytes();
+    let (source, image) = (SOURCE.as_bytes(), image());
     let mut buffers = Buffers::ample();
     let fresh = LayoutState::default();
-    let store = &mut buffers.store;
-    let (stop, options) = (DECLARATIONS, &at(100));
-    let laid = layout(source, &image, store, &fresh, stop, true, options);
+    let (store, options) = (&mut buffers.store, &at(100));
+    let laid = layout(source, &image, store, &fresh, 1, true, options);
     let rows = laid.expect("accepted").state.next_row;
     let mut call = |state: &RenderState, stop: u64, width: u64| {
         let Buffers {
@@ -138,11 +166,10 @@ fn a_run_has_one_width() {
     }
 }
 
-/// 15 comes before 8, and after what is wrong with the image.
+/// 15 comes after what is wrong with the image, and before 10.
 #[test]
 fn a_whole_file_reads_one_table() {
-    let image = tariff_image();
-    let source = SOURCE.as_bytes();
+    let (source, image) = (SOURCE.as_bytes(), image());
     let wrong = &image[..image.len() - 1];
     let none = &mut [];
     let got = format_file(source, wrong, &at(39), none);

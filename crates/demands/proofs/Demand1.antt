@@ -19,7 +19,7 @@ use Rattle.cut_rule.specs.Parts as cut
 use Rattle.plain_run.specs.Parts.{partsOf, readRefusal, renderImage}
 use Rattle.plain_run.specs.Demands.{rulesOf}
 use Rattle.plain_run.specs.File.{FileChoice, referenceChoice, renderChoice, fileRows, fileMarks, fileAnswerBy, formatted, laidRefusal, fileRefusal, drawnDue, rowsDue, marksDue}
-use Rattle.file.specs.Whole.{toChoice, sourceOf, imageOf, frameFits, frameRefusal}
+use Rattle.file.specs.Whole.{sourceOf, imageOf, frameFits, frameRefusal}
 use Rattle.layout_call.specs.Calls as layout
 use Rattle.render_call.specs.Calls as render
 use Rattle.reply.specs.Reply.{frameTable, programRoom}
@@ -220,8 +220,8 @@ render-call s b state args store marks out r store2 marks2 out2 p =
     (λ r f. (p .store-left, p .marks-left ∙ left-same _ r marks _ f, p .output-left ∙ left-same _ r out _ f))
 
 format-file : FileAnswered
-format-file s b choice out r out2 p =
-    answered (ap fileTold (p .answer) ∙ file-told (fileRefusal s b (toChoice choice) (length out)) _ _ _ _) (file-under s b (toChoice choice) (length out))
+format-file s b c out r out2 p =
+    answered (ap fileTold (p .answer) ∙ file-told (fileRefusal s b c (length out)) _ _ _ _) (file-under s b c (length out))
     (λ r f. p .output-left ∙ left-same _ r out _ f)
 
 format-frame : FrameAnswered

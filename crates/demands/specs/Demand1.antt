@@ -17,7 +17,7 @@ use Rattle.cut_rule.specs.Run.{Answer, laidOut, written}
 use Rattle.cut_rule.specs.Run as cut
 use Rattle.plain_run.specs.Parts.{readRefusal}
 use Rattle.plain_run.specs.Demands.{rulesOf}
-use Rattle.plain_run.specs.File.{FileAnswer, formatted, fileRefusal}
+use Rattle.plain_run.specs.File.{FileChoice, FileAnswer, formatted, fileRefusal}
 use Rattle.plain_run.specs.File as file
 use Rattle.layout_call.specs.declared.LayoutState.{LayoutState}
 use Rattle.layout_call.specs.declared.LayoutArgs.{LayoutArgs}
@@ -29,9 +29,8 @@ use Rattle.render_call.specs.declared.RenderArgs.{RenderArgs}
 use Rattle.render_call.specs.declared.Rendering.{Rendering}
 use Rattle.render_call.specs.Calls as render
 use Rattle.render_call.specs.Whole.{RenderCalled}
-use Rattle.file.specs.declared.FileChoice.{FileChoice}
 use Rattle.file.specs.declared.Formatted.{Formatted}
-use Rattle.file.specs.Whole.{toChoice, formattedAnswer, Formats, FormatsFrame}
+use Rattle.file.specs.Whole.{formattedAnswer, Formats, FormatsFrame}
 use Rattle.reply.specs.Reply.{frameTable, programRefusal}
 use Rattle.tallies.specs.declared.Tallies.{Tallies}
 use Rattle.figures.specs.declared.Counted.{Counted}
@@ -109,10 +108,10 @@ RenderAnswered = (s b : List ℕ) (state : RenderState) (args : RenderArgs) (sto
     (callTold s b (render.renderingAnswer s b r))
     ((store2 ≡ store) × (marks2 ≡ marks) × (out2 ≡ out))
 
--- `file::format_file`
+-- `file::format_file`, whatever its caller chose
 abbrev pub FileAnswered : Type 0
-FileAnswered = (s b : List ℕ) (choice : FileChoice) (out : List ℕ) (r : Formatted) (out2 : List ℕ) → Formats s b (toChoice choice) out r out2
-    → Answered fileNumbers (fileRefusal s b (toChoice choice) (length out)) (fileTold (formattedAnswer r)) (out2 ≡ out)
+FileAnswered = (s b : List ℕ) (c : FileChoice) (out : List ℕ) (r : Formatted) (out2 : List ℕ) → Formats s b c out r out2
+    → Answered fileNumbers (fileRefusal s b c (length out)) (fileTold (formattedAnswer r)) (out2 ≡ out)
 
 -- `file::format_frame`
 abbrev pub FrameAnswered : Type 0

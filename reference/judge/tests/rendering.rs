@@ -4,7 +4,7 @@ use std::collections::BTreeSet;
 
 use judge::{
     answers,
-    calls::{self, Answer, Given, RenderState},
+    calls::{self, Answer, Call, Given, RenderState},
     generate::{self, CallCase},
     refusal::Refusal,
     rows::{self, Row},
@@ -50,6 +50,36 @@ fn every_refusal_of_rendering_but_1_is_there() {
     let numbers: BTreeSet<u8> =
         refusals().into_iter().map(|(number, _)| number).collect();
     assert_eq!(numbers, BTreeSet::from([3, 9, 10, 11, 12, 15]));
+}
+
+#[test]
+fn widths_are_refused_and_accepted() {
+    let mut given = BTreeSet::new();
+    for (case, answers) in answered() {
+        let carried = case.world.rendering.width;
+        if let [Call::Render { width, .. }] = case.calls[..]
+            && let [answer] = answers[..]
+        {
+            let number = answer.err().map_or(0, |refusal| refusal.number);
+            given.insert((number, width, carried));
+        }
+    }
+    let most = u32::MAX as usize;
+    for due in [
+        (15, 0, 0),
+        (15, 39, 0),
+        (15, 39, 39),
+        (0, 40, 0),
+        (0, 40, 40),
+        (15, 40, 100),
+        (15, 40, 7),
+        (15, 7, 7),
+        (0, 200, 200),
+        (15, 201, 0),
+        (15, most, 0),
+    ] {
+        assert!(given.contains(&due), "{due:?}");
+    }
 }
 
 #[test]

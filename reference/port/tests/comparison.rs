@@ -32,7 +32,7 @@ fn each_planted_fault_is_found() {
         plant(fault);
         let mut tally = Tally::default();
         for item in PLAN.items() {
-            if !matches!(item, Item::Large(_)) {
+            if !matches!(item, Item::Large(_)) && tally.differences == 0 {
                 one(&mut tally, item, PLAN.seed);
             }
         }
@@ -42,7 +42,7 @@ fn each_planted_fault_is_found() {
         }
         plant(Fault::None);
         assert!(tally.differences > 0, "{fault:?} isn't found");
-        println!("{fault:?}: {} differences", tally.differences);
+        println!("{fault:?}\n{}", tally.report());
     }
 }
 

@@ -28,6 +28,9 @@ pub fn depth() -> Vec<CallCase> {
     vec![first, second]
 }
 
+/// How many rows [`few`] has.
+const FEW: usize = 5;
+
 /// A few rows for states to try.
 fn few() -> [Part; 2] {
     let line = Part::IndentNext(vec![Part::Line, word()]);
@@ -171,14 +174,14 @@ pub fn widths() -> Vec<CallCase> {
         for carried in [0, width, 100 + width % 2] {
             let mut case = on(&few());
             case.world.rendering.width = carried;
-            case.calls = vec![render_at(width, 4, PLENTY)];
+            case.calls = vec![render_at(width, FEW, PLENTY)];
             cases.push(case);
         }
     }
     for width in [7, 40, 80] {
         let mut case = on(&few());
         case.world.rendering.width = 7;
-        case.calls = vec![render_at(width, 4, PLENTY)];
+        case.calls = vec![render_at(width, FEW, PLENTY)];
         cases.push(case);
     }
     cases
