@@ -53,8 +53,9 @@ pub fn fmt_parsed_with_options(
     extras: &Extras,
     options: Options,
 ) -> Result<Formatted, FormatError> {
-    let write = |out: &mut _| write(out, ast, spans, extras);
-    rrufthim::fmt_written_with_options(source, options, write)
+    rrufthim::fmt_written_with_options(source, options, |out| {
+        write(out, ast, spans, extras)
+    })
 }
 
 /// Writes a parsed file's comments and tree: for `format_written` of a
