@@ -179,7 +179,7 @@ fn the_patch_refuses() {
     } = tree::Input::new(&accepted, frame.image);
     files.files[0].contents.clear();
     let report = patched::fmt_parsed(&ast, files, spans, &extras);
-    let errors = report.err().expect("refused").errors;
+    let errors = report.expect_err("refused").errors;
     assert!(matches!(&errors[..], [RotoError::Custom(_)]));
 }
 

@@ -87,9 +87,8 @@ fn constant(foot: &str, comments: &[Range<usize>]) -> String {
 fn newlines_at_the_foot() {
     let line = "const A: u32 = 1;\n";
     let after = |text: &str| format!("{line}{text}");
-    let one = 2..6;
     assert_eq!(constant("\n\n\n\n", &[]), line);
-    assert_eq!(constant("\n #ok ", &[one.clone()]), after("#ok\n"));
+    assert_eq!(constant("\n #ok ", &[2..6]), after("#ok\n"));
     assert_eq!(constant("\n\n#ok\n\n\n\n", &[2..5]), after("\n#ok\n"));
     assert_eq!(constant(" \n#ok", &[2..5]), after("#ok\n"));
     assert_eq!(

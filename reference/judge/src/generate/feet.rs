@@ -51,11 +51,11 @@ pub fn draft(random: &mut Random) -> Draft {
     let listed = draft.comments.len();
     // A draft whose last comment has no newline goes on in its line.
     for _ in 0..*random.pick(&[0, 1, 1, 1, 2, 3, 5, 30]) {
-        draft.source.push_str(*random.pick(&GAPS));
+        put(random, &mut draft, &GAPS);
         put_comment(random, &mut draft);
     }
     if !random.once_in(3) {
-        draft.source.push_str(*random.pick(&GAPS));
+        put(random, &mut draft, &GAPS);
     }
     turn(random, &mut draft, listed);
     draft
@@ -71,14 +71,17 @@ fn bare(random: &mut Random) -> Draft {
     }
 }
 
+fn put(random: &mut Random, draft: &mut Draft, pieces: &[&str]) {
+    let piece = *random.pick(pieces);
+    draft.source.push_str(piece);
+}
+
 /// A comment to the end of its line, its newline included or not.
 fn put_comment(random: &mut Random, draft: &mut Draft) {
     let start = draft.source.len();
-    draft.source.push_str(*random.pick(&REMARKS));
+    put(random, draft, &REMARKS);
     let end = draft.source.len();
-    draft
-        .source
-        .push_str(*random.pick(&["", "\n", "\n", "\r\n"]));
+    put(random, draft, &["", "\n", "\n", "\r\n"]);
     let whole = random.once_in(2);
     let end = if whole { draft.source.len() } else { end };
     draft.comments.push(start..end);
