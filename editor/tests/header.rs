@@ -188,6 +188,9 @@ fn refusals_and_sizes_have_their_names() {
     assert_eq!(value("RRUFTHIM_MAX_LINE_WIDTH"), MAX_LINE_WIDTH);
     let default = Options::default().width;
     assert_eq!(value("RRUFTHIM_REFERENCE_WIDTH"), default);
+    // The modes of docs/02-change-requests.md, 4.
+    assert_eq!(value("RRUFTHIM_AS_ROTO"), 0);
+    assert_eq!(value("RRUFTHIM_ALL_COMMENTS"), 1);
     assert_eq!(value("RRUFTHIM_MAX_FILES"), MAX_FILES);
     assert_eq!(value("RRUFTHIM_MAX_TALLY"), MAX_TALLY);
 }
