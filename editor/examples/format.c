@@ -13,7 +13,7 @@ static const uint8_t IMAGE[] = {
 static void format(const uint8_t *image, size_t image_len)
 {
     static const uint8_t source[1] = {0};
-    static const uint64_t choice[RRUFTHIM_FORMAT_CHOICE] = {RRUFTHIM_REFERENCE_WIDTH};
+    static const uint64_t choice[RRUFTHIM_FORMAT_CHOICE] = {RRUFTHIM_REFERENCE_WIDTH, RRUFTHIM_ALL_COMMENTS};
     uint8_t output[64];
     uint64_t out[RRUFTHIM_FORMAT_OUT];
 

@@ -1,9 +1,9 @@
 //! Builds the tree of a small tariff script, formats it, and prints the text
-//! and what the text doesn't hold.
+//! with all its comments; then what Roto's own formatter would drop.
 
 use std::error::Error;
 
-use rrufthim::{ast::*, fmt_parsed};
+use rrufthim::{Options, ast::*, fmt_parsed, fmt_parsed_with_options};
 
 pub const SOURCE: &str = "\
 // Tariff 2026, members only.
@@ -19,8 +19,10 @@ fn main() -> Result<(), Box<dyn Error>> {
     let (tree, extras) = tariff();
     let formatted = fmt_parsed(&tree, SOURCE, &extras)?;
     print!("{}", formatted.text);
-    for comment in formatted.comments_left {
-        eprintln!("not in the text: {}", SOURCE[comment].trim_end());
+    let options = Options::AS_ROTO;
+    let roto = fmt_parsed_with_options(&tree, SOURCE, &extras, options)?;
+    for comment in roto.comments_left {
+        eprintln!("Roto would drop: {}", SOURCE[comment].trim_end());
     }
     Ok(())
 }

@@ -20,7 +20,7 @@ fn main() -> ExitCode {
     ExitCode::SUCCESS
 }
 
-/// Formats a frame and writes its text, but not if that would drop comments.
+/// Formats a frame and writes its text, which holds every comment.
 pub(crate) fn save(
     formatter: &mut Formatter,
     frame: &str,

@@ -1,7 +1,7 @@
 /*
  * The proved formatter for Roto scripts, as C calls it. The functions are those of librrufthim.a: target/staticlib/libexports.a, which
  * `rt staticlib exports` writes (x86-64 Linux), under a name that no other library has. docs/01-scope.md has the rules: the tree image,
- * rows, marks, states and refusals; docs/02-change-requests.md those of tallies and of widths.
+ * rows, marks, states and refusals; docs/02-change-requests.md those of tallies, widths and modes.
  *
  * Buffers. A pointer to bytes or rows goes with the number of its elements; state, args, choice, tallies and out have a fixed number
  * of places. No pointer may be NULL, even where the number is 0. store must be aligned for uint32_t, those of a fixed number of places for
@@ -13,7 +13,7 @@
  * number and out[1] its place, and the rest of out is left as it was. A refused call changes no other buffer. An accepted one leaves what
  * lies behind the rows, marks and bytes that it writes as it was. (rrufthim_newlines refuses nothing, and its out has other numbers.)
  *
- * Flags. In state and close every number but 0 means yes; in out a flag is 0 or 1.
+ * Flags. In state and args every number but 0 means yes; in out a flag is 0 or 1.
  *
  * For people. The span that a refusal is about stands in the image, start and end as four bytes each, the highest first: for 5 and 6 behind
  * the length and the kind of the record, at image[out[1] + 5]; for 7 at image[out[1]], unless out[1] is 5, the place of their count.
@@ -43,7 +43,7 @@ typedef char rrufthim_lengths_have_64_bits[sizeof(size_t) == 8 ? 1 : -1];
 #define RRUFTHIM_MORE_MARKS 9       /* the marks are too few: marks needed */
 #define RRUFTHIM_MORE_OUTPUT 10     /* the output is too short: bytes needed */
 #define RRUFTHIM_BAD_ROW 11         /* a row can't be rendered: that row; or the stop is past the store or 2,097,152: 0 */
-#define RRUFTHIM_BAD_STATE 12       /* the state, the marks in use or the stop don't fit: 0 */
+#define RRUFTHIM_BAD_STATE 12       /* the state, the marks in use, the stop or the mode don't fit: 0 */
 #define RRUFTHIM_BAD_TALLIES 14     /* the tallies count 4,096 files, one is over 4,294,967,296, or more is wrapped than given: 0 */
 #define RRUFTHIM_BAD_WIDTH 15       /* the width is under 40 or over 200, or not the one that the state carries: 0 */
 
@@ -56,6 +56,8 @@ typedef char rrufthim_lengths_have_64_bits[sizeof(size_t) == 8 ? 1 : -1];
 #define RRUFTHIM_MIN_LINE_WIDTH 40   /* columns of a line that may be chosen */
 #define RRUFTHIM_MAX_LINE_WIDTH 200
 #define RRUFTHIM_REFERENCE_WIDTH 80  /* what Roto's own formatter has */
+#define RRUFTHIM_AS_ROTO 0           /* modes: comments after the last declaration are left out, as by Roto's own formatter */
+#define RRUFTHIM_ALL_COMMENTS 1      /* they are kept, at the foot of the text */
 #define RRUFTHIM_MAX_FILES 4096      /* files that tallies count */
 #define RRUFTHIM_MAX_TALLY 4294967296 /* each of the tallies handed in */
 
@@ -63,13 +65,14 @@ typedef char rrufthim_lengths_have_64_bits[sizeof(size_t) == 8 ? 1 : -1];
 #define RRUFTHIM_ROW 9               /* numbers of the store that a row takes; store_len / 9 rows, rounded down */
 #define RRUFTHIM_MAX_FILE_ROWS 1800  /* the rows, and the marks, that rrufthim_format and rrufthim_count have of their own */
 #define RRUFTHIM_COUNT_OUTPUT 65536  /* bytes of output that rrufthim_count has of its own */
-#define RRUFTHIM_LAYOUT_STATE 7      /* places of a layout state */
+#define RRUFTHIM_LAYOUT_STATE 8      /* places of a layout state */
 #define RRUFTHIM_RENDER_STATE 6      /* places of a rendering state */
+#define RRUFTHIM_LAYOUT_ARGS 3       /* places of a layout call's arguments */
 #define RRUFTHIM_RENDER_ARGS 2       /* places of a rendering call's arguments */
-#define RRUFTHIM_FORMAT_CHOICE 1     /* places of a whole file's choice */
+#define RRUFTHIM_FORMAT_CHOICE 2     /* places of a whole file's choice */
 #define RRUFTHIM_TALLIES 8           /* places of tallies */
 #define RRUFTHIM_CHECK_OUT 4         /* places of each function's out */
-#define RRUFTHIM_LAYOUT_OUT 9
+#define RRUFTHIM_LAYOUT_OUT 10
 #define RRUFTHIM_RENDER_OUT 8
 #define RRUFTHIM_FORMAT_OUT 5
 #define RRUFTHIM_NEWLINES_OUT 2
@@ -87,22 +90,24 @@ void rrufthim_check(
     uint64_t out[RRUFTHIM_CHECK_OUT]);
 
 /*
- * Lays out the declarations from the state's next one up to number stop, that one not included. The first call lays the shebang too. close,
- * allowed where stop is the number of declarations, adds the final line and ends the layout. Refusals 1 to 7, 12, 8.
+ * Lays out the declarations from the state's next one up to a stop, that one not included. The first call lays the shebang too. Closing,
+ * allowed where the stop is the number of declarations, adds the final line and ends the layout; in mode 1 it lays the comments that are
+ * still waiting before that line. Refusals 1 to 7, 12, 8.
  *
  * state: [0] begun (flag), [1] closed (flag), [2] next declaration, [3] next row, [4] next group number, [5] comments placed,
- *        [6] position in the source. Fresh: all 0. Later: out[2] to out[8] of the last accepted call.
+ *        [6] position in the source, [7] mode. Fresh: all 0. Later: out[2] to out[9] of the last accepted call.
+ * args:  [0] the declaration to stop before, [1] whether to close (flag), [2] the mode, RRUFTHIM_ALL_COMMENTS or RRUFTHIM_AS_ROTO: the
+ *        same in all calls of a run. 1 is what a user should get; nothing is chosen unless you do.
  * store: is written from the state's next row on. Five rows for each 13 bytes of image are enough for what is still to be laid out.
- * out:   [0] 0, [1] comments that no row holds yet, [2] to [8] the new state. After closing, out[1] comments are in no row and so not in
- *        the text: the last out[1] of the image's list. Look at it before you save.
+ * out:   [0] 0, [1] comments that no row holds yet, [2] to [9] the new state. After closing, out[1] comments are in no row and so not in
+ *        the text: the last out[1] of the image's list. In mode 1 there are none; in mode 0 look at it before you save.
  */
 void rrufthim_layout(
     const uint8_t *source, size_t source_len,
     const uint8_t *image, size_t image_len,
     uint32_t *store, size_t store_len,
     const uint64_t state[RRUFTHIM_LAYOUT_STATE],
-    uint64_t stop,
-    uint64_t close,
+    const uint64_t args[RRUFTHIM_LAYOUT_ARGS],
     uint64_t out[RRUFTHIM_LAYOUT_OUT]);
 
 /*
@@ -127,13 +132,13 @@ void rrufthim_render(
     uint64_t out[RRUFTHIM_RENDER_OUT]);
 
 /*
- * Lays out and renders a whole file of at most 1,800 rows. Larger files are refused by 8: make the two calls above. Refusals 1 to 7, 15, 8,
- * 9, 10.
+ * Lays out and renders a whole file of at most 1,800 rows. Larger files are refused by 8: make the two calls above. Refusals 1 to 7, 12 for
+ * the mode, 15, 8, 9, 10.
  *
- * choice: [0] the width, 40 to 200 columns.
+ * choice: [0] the width, 40 to 200 columns, [1] the mode, RRUFTHIM_ALL_COMMENTS or RRUFTHIM_AS_ROTO.
  * output: is written from its start on.
  * out:    [0] 0, [1] bytes written, [2] comments that the text doesn't hold, the last so many of the image's list, [3] rows and
- *         [4] group numbers that the file took. Look at out[2] before you save.
+ *         [4] group numbers that the file took. In mode 1 out[2] is 0; in mode 0 look at it before you save.
  */
 void rrufthim_format(
     const uint8_t *source, size_t source_len,
@@ -156,8 +161,8 @@ void rrufthim_newlines(
     uint64_t out[RRUFTHIM_NEWLINES_OUT]);
 
 /*
- * Counts a file: formats it at 80 columns in 1,800 rows, 1,800 marks and 65,536 bytes of output of its own, and adds its figures to the tallies. The
- * tallies of the same files are the same in any order. Refusals 1 to 10, then 14; a refused file counts nowhere.
+ * Counts a file: formats it at 80 columns in mode 0, in 1,800 rows, 1,800 marks and 65,536 bytes of output of its own, and adds its
+ * figures to the tallies. The tallies of the same files are the same in any order. Refusals 1 to 10, then 14; a refused file counts nowhere.
  *
  * tallies: [0] files counted, and of them all [1] bytes and [2] newlines of the texts, [3] the greatest column, [4] group numbers given,
  *          [5] groups wrapped, [6] comments in the texts, [7] comments that they don't hold. Fresh: all 0. Later: out[8] to out[15] of

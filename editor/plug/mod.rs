@@ -4,7 +4,9 @@
 //! This folder is copied into Roto as src/fmt/plug/. It needs Roto's src/ast.rs
 //! and src/parser/meta.rs as they are, and `unicode_width`.
 
-use rrufthim::{FormatError, Formatted, ImageWriter, Span, WriteResult};
+use rrufthim::{
+    FormatError, Formatted, ImageWriter, Options, Span, WriteResult,
+};
 use unicode_width::UnicodeWidthStr;
 
 use crate::{
@@ -23,7 +25,7 @@ fn span<T>(spans: &Spans, node: &Meta<T>) -> Span {
     span.start..span.end
 }
 
-/// Formats a parsed file: a text, and the comments that it doesn't hold.
+/// Formats a parsed file: a text that holds every comment.
 ///
 /// # Errors
 ///
@@ -34,7 +36,26 @@ pub fn fmt_parsed(
     spans: &Spans,
     extras: &Extras,
 ) -> Result<Formatted, FormatError> {
-    rrufthim::fmt_written(source, |out| write(out, ast, spans, extras))
+    let options = Options::default();
+    fmt_parsed_with_options(ast, source, spans, extras, options)
+}
+
+/// The same with what the caller chooses: a text, and the comments that it
+/// doesn't hold.
+///
+/// # Errors
+///
+/// The same, and refusal 15.
+pub fn fmt_parsed_with_options(
+    ast: &ast::SyntaxTree,
+    source: &str,
+    spans: &Spans,
+    extras: &Extras,
+    options: Options,
+) -> Result<Formatted, FormatError> {
+    rrufthim::fmt_written_with_options(source, options, |out| {
+        write(out, ast, spans, extras)
+    })
 }
 
 /// Writes a parsed file's comments and tree: for `format_written` of a

@@ -86,12 +86,14 @@ impl Buffers {
         state: &LayoutState,
         stop: u64,
         close: bool,
+        options: &Options,
     ) -> Result<Laid, Refusal> {
         let File { source, image } = file;
         let kept = state.next_row.saturating_mul(ROW as u64);
         loop {
             let store = &mut self.store;
-            let answer = layout(source, image, store, state, stop, close);
+            let answer =
+                layout(source, image, store, state, stop, close, options);
             let Err(Refusal::MoreRows { needed }) = answer else {
                 return answer;
             };
@@ -207,10 +209,10 @@ mod tests {
         let (source, image) = (SOURCE.as_bytes(), &image()[..]);
         let file = File { source, image };
         let fresh = LayoutState::default();
-        let laid = buffers.lay_out(file, &fresh, 1, true)?;
+        let options = &Options::default();
+        let laid = buffers.lay_out(file, &fresh, 1, true, options)?;
         let (fresh, rows) = (RenderState::default(), laid.state.next_row);
-        let written =
-            buffers.render(file, &fresh, rows, &Options::default())?;
+        let written = buffers.render(file, &fresh, rows, options)?;
         Ok(buffers.text(written.bytes).expect("UTF-8").to_owned())
     }
 

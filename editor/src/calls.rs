@@ -34,7 +34,8 @@ pub struct Accepted {
 pub struct Laid {
     /// How far layout came.
     pub state: LayoutState,
-    /// Comments that no row holds yet; after closing, none ever will.
+    /// Comments that no row holds yet; after closing, none ever will. Where
+    /// every comment is kept, closing leaves 0.
     pub comments_left: u64,
 }
 
@@ -52,7 +53,8 @@ pub struct Written {
 pub struct FileWritten {
     /// How many bytes of the output were written, from its start on.
     pub bytes: usize,
-    /// Comments that the text doesn't hold: the last so many of the list.
+    /// Comments that the text doesn't hold: the last so many of the list. 0
+    /// where every comment is kept.
     pub comments_left: u64,
     /// Rows that the file took.
     pub rows: u64,
@@ -96,8 +98,10 @@ pub fn check(source: &[u8], image: &[u8]) -> Result<Accepted, Refusal> {
     })
 }
 
-/// Lays out the declarations up to the one to stop before, and the final
-/// line if it closes.
+/// Lays out the declarations up to the one to stop before. If it closes, the
+/// comments that are still waiting come behind them, where every comment is
+/// kept, and then the final line. All calls of a run choose the same of the
+/// comments.
 ///
 /// # Errors
 ///
@@ -109,9 +113,11 @@ pub fn layout(
     state: &LayoutState,
     stop: u64,
     close: bool,
+    options: &Options,
 ) -> Result<Laid, Refusal> {
     let from = state.numbers();
-    let mut out = [0; 9];
+    let args = [stop, close.into(), options.comments.mode()];
+    let mut out = [0; 10];
     // Safety: as in `check`.
     unsafe {
         rrufthim_layout(
@@ -122,8 +128,7 @@ pub fn layout(
             store.as_mut_ptr(),
             store.len(),
             &from,
-            stop,
-            close.into(),
+            &args,
             &mut out,
         );
     }
@@ -195,7 +200,7 @@ pub fn format_file(
     options: &Options,
     output: &mut [u8],
 ) -> Result<FileWritten, Refusal> {
-    let choice = [options.width];
+    let choice = [options.width, options.comments.mode()];
     let mut out = [0; 5];
     // Safety: as in `check`.
     unsafe {

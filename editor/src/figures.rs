@@ -114,7 +114,7 @@ pub struct Counted {
 
 /// Counts a file: its figures, which are added to the tallies. It has the
 /// rows and marks of [`format_file`](crate::format_file) and 65,536 bytes of
-/// output.
+/// output, and formats as [`Options::AS_ROTO`](crate::Options::AS_ROTO) says.
 ///
 /// # Errors
 ///

@@ -14,11 +14,13 @@ use crate::{
 /// A formatted file: `Formatted<String>` with a text of its own,
 /// `Formatted<&str>` with one in the buffers of a [`Formatter`].
 #[derive(Clone, Debug, PartialEq, Eq)]
-#[must_use = "comments may be left that the text doesn't hold"]
+#[must_use = "it holds the text"]
 pub struct Formatted<Text = String> {
-    /// The text, which may lack comments.
+    /// The text. It holds every comment, unless
+    /// [`Comments::AsRoto`](crate::Comments::AsRoto) was chosen.
     pub text: Text,
-    /// The comments that the text doesn't hold, in their order: those after
+    /// The comments that the text doesn't hold, in their order: none by
+    /// default; with [`Comments::AsRoto`](crate::Comments::AsRoto) those after
     /// the last place of the last declaration where a comment can stand.
     /// Saving the text alone drops them.
     pub comments_left: Vec<Span>,
@@ -38,7 +40,7 @@ impl<Text: AsRef<str>> Formatted<Text> {
         }
     }
 
-    /// The text, if it holds every comment.
+    /// The text, if it holds every comment, as it does by default.
     ///
     /// # Errors
     ///
@@ -72,22 +74,25 @@ impl fmt::Display for CommentsLeft {
 
 impl Error for CommentsLeft {}
 
-/// Formats a parsed file, as `fmt_parsed` of Roto's src/fmt.rs does.
+/// Formats a parsed file, as `fmt_parsed` of Roto's src/fmt.rs does, and
+/// keeps every comment.
 ///
 /// What differs from `fmt_parsed(&ast, &files, &spans, &extras) -> String`:
 ///
 /// - The source is the text of the one file, not a `FileTree`; spans are in
 ///   the tree ([`Meta`](crate::ast::Meta)), so there is no `spans`.
 /// - The original drops the comments after the last declaration and says
-///   nothing. The text is the same here, but the answer names those comments
-///   ([`Formatted::comments_left`]).
+///   nothing. Here they are kept, before the end of the text, with up to one
+///   blank line between them where the source has some. For the original's
+///   text give [`Options::AS_ROTO`] to [`fmt_parsed_with_options`]; the answer
+///   then names the comments that it lacks ([`Formatted::comments_left`]).
 /// - What the original panics on (a span outside the source or off a
 ///   character's boundary) and what is over the limits of the tree image is
 ///   an error.
 /// - Lines have 80 columns, as the original's; [`fmt_parsed_with_options`]
 ///   takes other widths.
-/// - Widths of texts are [`simple_width`]'s; for the original's, give `unicode_width`
-///   to [`fmt_parsed_with_widths`].
+/// - Widths of texts are [`simple_width`]'s; for the original's, give
+///   `unicode_width` to [`fmt_parsed_with_widths`].
 ///
 /// Each thread keeps a [`Formatter`] for these calls, with its buffers.
 ///

@@ -129,8 +129,9 @@ impl Formatter {
     ///
     /// # Errors
     ///
-    /// Refusals 1 to 7; 15 if the options have such a width; 10 if the text is longer than allowed; and 8, 9 or
-    /// 10 if there is no memory for what they ask.
+    /// Refusals 1 to 7; 15 if the options have such a width; 10 if the text
+    /// is longer than allowed; and 8, 9 or 10 if there is no memory for what
+    /// they ask.
     pub fn format_image(
         &mut self,
         source: &[u8],
@@ -140,7 +141,8 @@ impl Formatter {
     }
 }
 
-/// All declarations and the final line, then all rows.
+/// All declarations, what stands at the foot and the final line, then all
+/// rows.
 fn format<'b>(
     buffers: &'b mut Buffers,
     file: File<'_>,
@@ -149,7 +151,8 @@ fn format<'b>(
     let refused = |refusal| file.error(refusal);
     buffers.prepare(file, 1);
     let (fresh, all) = (LayoutState::default(), declarations(file.image));
-    let laid = buffers.lay_out(file, &fresh, all, true).map_err(refused)?;
+    let laid = buffers.lay_out(file, &fresh, all, true, options);
+    let laid = laid.map_err(refused)?;
     let (fresh, rows) = (RenderState::default(), laid.state.next_row);
     let written = buffers.render(file, &fresh, rows, options);
     let written = written.map_err(refused)?;

@@ -10,8 +10,9 @@
 //! Below that are the calls themselves, [`check`], [`layout`], [`render`] and
 //! [`format_file`], over slices that the caller lends; what they promise is
 //! proved, and any arguments that safe Rust can give them end in an answer or
-//! a [`Refusal`]. What a caller may choose is [`Options`]. [`newlines`] finds the gap that made a blank line. [`count`]
-//! and [`report`] give the figures of files and their totals.
+//! a [`Refusal`]. What a caller may choose is [`Options`]; by default every
+//! comment is kept. [`newlines`] finds the gap that made a blank line.
+//! [`count`] and [`report`] give the figures of files and their totals.
 //!
 //! docs/01-scope.md and docs/02-change-requests.md of the repository have the
 //! rules.
@@ -58,7 +59,7 @@ pub use fmt::{
 };
 pub use formatter::{Formatter, MAX_OUTPUT};
 pub use image::declarations;
-pub use options::{MAX_LINE_WIDTH, MIN_LINE_WIDTH, Options};
+pub use options::{Comments, MAX_LINE_WIDTH, MIN_LINE_WIDTH, Options};
 pub use place::Place;
 pub use refusal::Refusal;
 pub use states::{LayoutState, RenderState};

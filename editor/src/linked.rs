@@ -22,10 +22,9 @@ unsafe extern "C" {
         image_len: usize,
         store: *mut u32,
         store_len: usize,
-        state: *const [u64; 7],
-        stop: u64,
-        close: u64,
-        out: *mut [u64; 9],
+        state: *const [u64; 8],
+        args: *const [u64; 3],
+        out: *mut [u64; 10],
     );
 
     pub fn rrufthim_render(
@@ -49,7 +48,7 @@ unsafe extern "C" {
         source_len: usize,
         image: *const u8,
         image_len: usize,
-        choice: *const [u64; 1],
+        choice: *const [u64; 2],
         output: *mut u8,
         output_len: usize,
         out: *mut [u64; 5],

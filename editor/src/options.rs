@@ -6,12 +6,16 @@ pub const MIN_LINE_WIDTH: u64 = 40;
 /// The widest line that may be chosen, in columns.
 pub const MAX_LINE_WIDTH: u64 = 200;
 
-/// What a caller may choose. The default is what Roto's own formatter does.
+/// What a caller may choose. The default keeps every comment, on lines of 80
+/// columns; [`Options::AS_ROTO`] is what Roto's own formatter does.
 ///
 /// ```
-/// let print_shop = rrufthim::Options { width: 100 };
-/// assert_eq!(rrufthim::Options::default().width, 80);
-/// # assert_ne!(print_shop, rrufthim::Options::default());
+/// use rrufthim::{Comments, Options};
+///
+/// let print_shop = Options { width: 100, ..Options::default() };
+/// assert_eq!(print_shop.comments, Comments::All);
+/// assert_eq!(Options::AS_ROTO.comments, Comments::AsRoto);
+/// assert_eq!(Options::AS_ROTO.width, Options::default().width);
 /// ```
 #[derive(Clone, Copy, Debug, PartialEq, Eq, Hash)]
 pub struct Options {
@@ -19,10 +23,46 @@ pub struct Options {
     /// a group that would end behind them is wrapped. Others are refused by
     /// 15.
     pub width: u64,
+    /// Which comments the text holds.
+    pub comments: Comments,
+}
+
+/// Which comments a text holds: it is about those after the last place of the
+/// last declaration where a comment can stand, such as a filing reference at
+/// the foot. All others are in the text in any case.
+#[derive(Clone, Copy, Debug, Default, PartialEq, Eq, Hash)]
+pub enum Comments {
+    /// Each comment of the list.
+    #[default]
+    All,
+    /// Those that Roto's own formatter keeps: the ones at the foot are left
+    /// out, and the answer names them.
+    AsRoto,
+}
+
+impl Comments {
+    /// The mode of docs/02-change-requests.md, 4: 0 old, 1 new.
+    pub(crate) fn mode(self) -> u64 {
+        match self {
+            Comments::AsRoto => 0,
+            Comments::All => 1,
+        }
+    }
+}
+
+impl Options {
+    /// What Roto's own formatter does, comments lost at the foot included.
+    pub const AS_ROTO: Options = Options {
+        width: 80,
+        comments: Comments::AsRoto,
+    };
 }
 
 impl Default for Options {
     fn default() -> Self {
-        Options { width: 80 }
+        Options {
+            comments: Comments::All,
+            ..Options::AS_ROTO
+        }
     }
 }

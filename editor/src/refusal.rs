@@ -62,7 +62,8 @@ pub enum Refusal {
         /// The row; 0 for the stop.
         row: u64,
     },
-    /// 12: the state, the marks in use or the stop don't fit the file.
+    /// 12: the state, the marks in use or the stop don't fit the file, or
+    /// the calls before chose something else of the comments at the foot.
     BadState,
     /// 13: the program's frame is too long or cut off. No function of this
     /// crate answers it; the program `rotofmt` does.
@@ -189,7 +190,10 @@ impl Refusal {
                 "row # of the store can't be rendered, or the stop lies \
                  past the store"
             }
-            BadState => "the state or the stop doesn't fit file and buffers",
+            BadState => {
+                "the state or the stop doesn't fit file and buffers, or the \
+                 calls before chose otherwise of the comments at the foot"
+            }
             BadFrame => "the frame is over 32,768 bytes or cut off",
             BadTallies => {
                 "no file can be counted on top of these tallies: 4,096 \

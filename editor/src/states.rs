@@ -17,10 +17,14 @@ pub struct LayoutState {
     pub comments_placed: u64,
     /// How far the source was looked through for comments and empty lines.
     pub position: u64,
+    /// What the calls so far chose for the comments at the foot: 0 for
+    /// [`Comments::AsRoto`](crate::Comments::AsRoto), 1 for
+    /// [`Comments::All`](crate::Comments::All); 0 if there was no call yet.
+    pub mode: u64,
 }
 
 impl LayoutState {
-    pub(crate) fn numbers(&self) -> [u64; 7] {
+    pub(crate) fn numbers(&self) -> [u64; 8] {
         [
             self.begun.into(),
             self.closed.into(),
@@ -29,12 +33,13 @@ impl LayoutState {
             self.next_number,
             self.comments_placed,
             self.position,
+            self.mode,
         ]
     }
 
-    pub(crate) fn from_numbers(numbers: [u64; 7]) -> Self {
-        let [begun, closed, declaration, row, number, placed, position] =
-            numbers;
+    pub(crate) fn from_numbers(numbers: [u64; 8]) -> Self {
+        let [begun, closed, declaration, row, at @ ..] = numbers;
+        let [number, placed, position, mode] = at;
         LayoutState {
             begun: begun != 0,
             closed: closed != 0,
@@ -43,6 +48,7 @@ impl LayoutState {
             next_number: number,
             comments_placed: placed,
             position,
+            mode,
         }
     }
 }

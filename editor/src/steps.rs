@@ -96,7 +96,8 @@ impl<'f> Steps<'f> {
     }
 
     /// The comments that no row holds yet; once the layout is closed, those
-    /// that the text doesn't hold.
+    /// that the text doesn't hold: none, unless they are left out as in
+    /// Roto's own formatter.
     pub fn comments_left(&self) -> Vec<Span> {
         comments_from(self.file.image, self.layout.comments_placed)
     }
@@ -123,7 +124,8 @@ impl<'f> Steps<'f> {
     }
 
     /// Lays out up to a declaration, that one not included. At their number
-    /// it closes: the final line is added.
+    /// it closes: the comments at the foot, unless they are left out, and
+    /// the final line are added.
     ///
     /// # Errors
     ///
@@ -132,7 +134,8 @@ impl<'f> Steps<'f> {
     /// it asks. What was laid out stays.
     pub fn lay_out(&mut self, stop: u64) -> Result<(), FormatError> {
         let (file, close) = (self.file, stop == self.declarations);
-        let laid = self.buffers.lay_out(file, &self.layout, stop, close);
+        let (state, options) = (&self.layout, &self.options);
+        let laid = self.buffers.lay_out(file, state, stop, close, options);
         self.layout = laid.map_err(|refusal| file.error(refusal))?.state;
         Ok(())
     }
@@ -142,7 +145,8 @@ impl<'f> Steps<'f> {
     /// # Errors
     ///
     /// Refusal 15 if the options have such a width, 10 if the text is over
-    /// [`MAX_OUTPUT`] bytes, 9 or 10 if there is no memory for what they ask. What was rendered stays.
+    /// [`MAX_OUTPUT`] bytes, 9 or 10 if there is no memory for what they ask.
+    /// What was rendered stays.
     pub fn render(&mut self) -> Result<&str, FormatError> {
         let (file, rows) = (self.file, self.layout.next_row);
         let (state, options) = (&self.rendering, &self.options);

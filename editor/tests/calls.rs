@@ -16,7 +16,9 @@ fn lay(buffers: &mut Buffers, image: &[u8], stops: &[u64]) -> LayoutState {
         let close = *stop == DECLARATIONS;
         let source = SOURCE.as_bytes();
         let store = &mut buffers.store;
-        let laid = layout(source, image, store, &state, *stop, close);
+        let options = &Options::default();
+        let laid =
+            layout(source, image, store, &state, *stop, close, options);
         state = laid.expect("accepted").state;
     }
     state
@@ -56,7 +58,7 @@ fn cuts_leave_what_one_go_leaves() {
         assert!(state.begun && state.closed);
         assert_eq!(state.next_row, due.rows);
         assert_eq!(state.next_number, due.numbers);
-        assert_eq!(state.comments_placed, 2);
+        assert_eq!((state.comments_placed, state.mode), (3, 1));
         assert_eq!(buffers.store[..rows], whole.store[..rows]);
         assert_eq!(buffers.store[rows..], whole.store[rows..]);
         let text = draw(&mut buffers, &image, &[0, due.rows]);

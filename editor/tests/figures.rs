@@ -38,9 +38,8 @@ fn figures_are_those_of_the_formatted_file() {
     let mut tallies = Tallies::default();
     let counted = count(source, &image, &mut tallies).expect("counted");
     let mut output = [0; 1_000];
-    let written =
-        format_file(source, &image, &Options::default(), &mut output)
-            .expect("a text");
+    let written = format_file(source, &image, &Options::AS_ROTO, &mut output)
+        .expect("a text");
     let text = &output[..written.bytes];
     let lines: Vec<&[u8]> = text.split(|byte| *byte == b'\n').collect();
     let figures = counted.figures;

@@ -3,7 +3,7 @@
 mod support;
 
 use rrufthim::{
-    Cause, CommentsLeft, EncodeError, Formatter, Refusal, ast::*, encode,
+    Cause, EncodeError, Formatter, Refusal, ast::*, encode,
     encode_with_widths, fmt_parsed, simple_width,
 };
 use support::{SOURCE, constants, tariff, tariff_image};
@@ -19,6 +19,7 @@ fn discount(years: u32) -> u32 {
         BASE
     }
 }
+// Filing reference 44-B.
 ";
 
 fn extras(comments: &[Span]) -> Extras {
@@ -27,41 +28,21 @@ fn extras(comments: &[Span]) -> Extras {
 }
 
 #[test]
-fn the_tariff_is_formatted_and_its_last_line_reported() {
+fn the_tariff_is_formatted_with_its_last_line() {
     let (tree, extras) = tariff();
     let formatted = fmt_parsed(&tree, SOURCE, &extras).expect("a text");
     assert_eq!(formatted.text, TARIFF);
-    let [left] = &formatted.comments_left[..] else {
-        panic!("{formatted:?}");
-    };
-    assert_eq!(&SOURCE[left.clone()], "// Filing reference 44-B.\n");
+    assert_eq!(formatted.complete().as_deref(), Ok(TARIFF));
 }
 
-/// The edges of document 01: a comment at the foot is left, one between
-/// declarations comes back.
+/// An edge of document 01: a comment between declarations comes back.
 #[test]
-fn comments_at_the_foot_are_left() {
-    let source = "const A: u32 = 1; # ok\n";
-    let foot = fmt_parsed(&constants(source), source, &extras(&[18..23]));
-    let foot = foot.expect("a text");
-    assert_eq!(foot.text, "const A: u32 = 1;\n");
-    assert_eq!(foot.comments_left, [18..23]);
-    assert_eq!(foot.complete(), Err(CommentsLeft(vec![18..23])));
-
+fn comments_stand_where_they_stood() {
     let source = "const A: u32 = 1; # ok\nconst B: u32 = 2;";
     let both = fmt_parsed(&constants(source), source, &extras(&[18..23]));
     let text = both.expect("a text").complete().expect("none left");
     assert_eq!(text, "const A: u32 = 1; # ok\nconst B: u32 = 2;\n");
     assert_eq!(text.len(), 41);
-}
-
-#[test]
-fn a_file_of_one_comment_loses_it_and_says_so() {
-    let tree = SyntaxTree::default();
-    let formatted = fmt_parsed(&tree, "# ok\n", &extras(&[0..5]));
-    let formatted = formatted.expect("a text");
-    assert_eq!(formatted.text, "");
-    assert_eq!(formatted.comments_left, [0..5]);
 }
 
 /// Document 01's worked frame.
@@ -107,7 +88,7 @@ fn a_formatter_serves_file_after_file() {
         let written = formatter.format_image(SOURCE.as_bytes(), &image);
         let written = written.expect("a text");
         assert_eq!(written.text, TARIFF);
-        assert_eq!(written.comments_left.len(), 1);
+        assert_eq!(written.comments_left.len(), 0);
         let written = formatter.format_image(b"", &small).expect("a text");
         assert_eq!(written.text, "");
     }

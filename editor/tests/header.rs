@@ -128,19 +128,20 @@ fn all_say_the_same() {
 fn a_difference_is_found() {
     let changes = [
         ("uint64_t out[RRUFTHIM_CHECK_OUT]", "uint64_t out[3]"),
-        ("_LAYOUT_STATE 7", "_LAYOUT_STATE 8"),
+        ("_LAYOUT_STATE 8", "_LAYOUT_STATE 7"),
         ("_TALLIES 8", "_TALLIES 7"),
         ("uint32_t *store", "uint64_t *store"),
         ("const uint64_t state", "uint64_t state"),
         (
-            "uint64_t stop,\n    uint64_t close",
-            "uint64_t close,\n    uint64_t stop",
+            "uint64_t start,\n    uint64_t end",
+            "uint64_t end,\n    uint64_t start",
         ),
         ("uint8_t *marks, size_t marks_len,", "uint8_t *marks,"),
         ("void rrufthim_render", "void rrufthim_draw"),
         ("_NEWLINES_OUT 2", "_NEWLINES_OUT 3"),
         ("_RENDER_ARGS 2", "_RENDER_ARGS 1"),
-        ("_FORMAT_CHOICE 1", "_FORMAT_CHOICE 2"),
+        ("_LAYOUT_ARGS 3", "_LAYOUT_ARGS 2"),
+        ("_FORMAT_CHOICE 2", "_FORMAT_CHOICE 1"),
     ];
     for (from, to) in changes {
         let changed = HEADER.replacen(from, to, 1);
@@ -187,6 +188,9 @@ fn refusals_and_sizes_have_their_names() {
     assert_eq!(value("RRUFTHIM_MAX_LINE_WIDTH"), MAX_LINE_WIDTH);
     let default = Options::default().width;
     assert_eq!(value("RRUFTHIM_REFERENCE_WIDTH"), default);
+    // The modes of docs/02-change-requests.md, 4.
+    assert_eq!(value("RRUFTHIM_AS_ROTO"), 0);
+    assert_eq!(value("RRUFTHIM_ALL_COMMENTS"), 1);
     assert_eq!(value("RRUFTHIM_MAX_FILES"), MAX_FILES);
     assert_eq!(value("RRUFTHIM_MAX_TALLY"), MAX_TALLY);
 }

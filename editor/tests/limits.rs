@@ -153,7 +153,9 @@ fn rows_come_near_their_bound() {
         let bound = image.len() * 5 / 13;
         let mut store = vec![0; bound * ROW];
         let (source, fresh) = (SOURCE.as_bytes(), LayoutState::default());
-        let laid = layout(source, &image, &mut store, &fresh, 1, true);
+        let options = &Options::default();
+        let laid =
+            layout(source, &image, &mut store, &fresh, 1, true, options);
         let rows = laid.expect("room enough").state.next_row;
         assert_eq!(rows, bound as u64 - 22, "{deep} deep");
         assert!(deep < most || rows > image.len() as u64 * 5 / 14);

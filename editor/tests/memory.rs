@@ -8,7 +8,7 @@ use std::{
     cell::Cell,
 };
 
-use rrufthim::{Formatter, ast::Extras, encode, fmt_parsed};
+use rrufthim::{Formatter, Options, ast::Extras, encode, fmt_parsed};
 use support::{SOURCE, constants, tariff, tariff_image};
 
 thread_local! {
@@ -87,23 +87,26 @@ fn a_large_file_takes_cleared_memory() {
 fn the_next_save_takes_nothing() {
     let image = tariff_image();
     let (tree, extras) = tariff();
-    let no_comment_left = Extras {
-        comments: extras.comments[..2].to_vec(),
-    };
     let mut formatter = Formatter::new();
     for save in 0..3 {
-        let of_image = asked(|| {
+        let as_roto = asked(|| {
+            formatter.set_options(Options::AS_ROTO);
             let text = formatter.format_image(SOURCE.as_bytes(), &image);
             assert_eq!(text.expect("a text").comments_left.len(), 1);
         });
+        formatter.set_options(Options::default());
+        let of_image = asked(|| {
+            let text = formatter.format_image(SOURCE.as_bytes(), &image);
+            assert!(text.expect("a text").complete().is_ok());
+        });
         let of_tree = asked(|| {
-            let text = formatter.format_tree(&tree, SOURCE, &no_comment_left);
+            let text = formatter.format_tree(&tree, SOURCE, &extras);
             assert!(text.expect("a text").complete().is_ok());
         });
         if save > 0 {
             // The list of the comment left.
-            assert!(of_image.0 <= 64 && of_image.1 == 0, "{of_image:?}");
-            assert_eq!(of_tree, (0, 0));
+            assert!(as_roto.0 <= 64 && as_roto.1 == 0, "{as_roto:?}");
+            assert_eq!([of_image, of_tree], [(0, 0); 2]);
         }
     }
 }

@@ -4,8 +4,8 @@
 mod support;
 
 use rrufthim::{
-    Cause, FileWritten, Formatter, LayoutState, Options, ROW, Refusal,
-    RenderState, check, format_file, layout, render,
+    Cause, Comments, FileWritten, Formatter, LayoutState, Options, ROW,
+    Refusal, RenderState, check, format_file, layout, render,
 };
 use support::{
     Buffers, DECLARATIONS, JUNK, JUNK_NUMBER, Random, SOURCE, tariff_image,
@@ -52,7 +52,15 @@ fn a_short_store_is_refused() {
         let mut store = vec![JUNK_NUMBER; length];
         let state = LayoutState::default();
         let (source, stop) = (SOURCE.as_bytes(), DECLARATIONS);
-        let laid = layout(source, &image, &mut store, &state, stop, true);
+        let laid = layout(
+            source,
+            &image,
+            &mut store,
+            &state,
+            stop,
+            true,
+            &Options::default(),
+        );
         assert_eq!(laid, Err(Refusal::MoreRows { needed }));
         assert!(store.iter().all(|number| *number == JUNK_NUMBER));
     }
@@ -93,7 +101,8 @@ fn a_short_output_is_refused() {
 fn empty_slices_are_refused() {
     assert_eq!(check(&[], &[]), Err(Refusal::NoImage));
     let state = LayoutState::default();
-    let laid = layout(&[], &[], &mut [], &state, 0, true);
+    let laid =
+        layout(&[], &[], &mut [], &state, 0, true, &Options::default());
     assert_eq!(laid, Err(Refusal::NoImage));
     let mut none = Buffers::new(0, 0, 0);
     let state = RenderState::default();
@@ -119,12 +128,25 @@ fn foreign_layout_states() {
             next_number: random.wild(),
             comments_placed: random.wild(),
             position: random.wild(),
+            mode: match random.below(4) {
+                0 => random.wild(),
+                mode => mode as u64 - 1,
+            },
         };
         let (stop, close) = (random.wild(), random.below(2) == 0);
+        let comments = match random.below(2) {
+            0 => Comments::All,
+            _ => Comments::AsRoto,
+        };
+        let options = &Options {
+            comments,
+            ..Options::default()
+        };
         let mut buffers = Buffers::new(random.below(200), 0, 0);
         let before = buffers.clone();
         let (source, store) = (SOURCE.as_bytes(), &mut buffers.store);
-        let laid = layout(source, &image, store, &state, stop, close);
+        let laid =
+            layout(source, &image, store, &state, stop, close, options);
         if laid.is_err() {
             refused += 1;
             assert_eq!(buffers, before);
@@ -198,11 +220,12 @@ fn states_over_their_bounds() {
 #[test]
 fn stops_out_of_range() {
     let image = tariff_image();
-    let fresh = LayoutState::default();
+    let (fresh, options) = (LayoutState::default(), &Options::default());
     for stop in [DECLARATIONS + 1, 1 << 32, u64::MAX] {
         let store = &mut Buffers::ample().store;
         let source = SOURCE.as_bytes();
-        let laid = layout(source, &image, store, &fresh, stop, false);
+        let laid =
+            layout(source, &image, store, &fresh, stop, false, options);
         assert_eq!(laid, Err(Refusal::BadState), "{stop}");
     }
     for stop in [301, 2_097_153, 1 << 32, u64::MAX] {
@@ -217,13 +240,14 @@ fn closing_early_or_twice() {
     let image = tariff_image();
     let store = &mut Buffers::ample().store;
     let source = SOURCE.as_bytes();
+    let mut close = |state: &LayoutState, stop| {
+        let options = &Options::default();
+        layout(source, &image, store, state, stop, true, options)
+    };
     let fresh = LayoutState::default();
-    let early = layout(source, &image, store, &fresh, 1, true);
-    assert_eq!(early, Err(Refusal::BadState));
-    let closed = layout(source, &image, store, &fresh, DECLARATIONS, true);
-    let closed = closed.expect("closed").state;
-    let twice = layout(source, &image, store, &closed, DECLARATIONS, true);
-    assert_eq!(twice, Err(Refusal::BadState));
+    assert_eq!(close(&fresh, 1), Err(Refusal::BadState));
+    let closed = close(&fresh, DECLARATIONS).expect("closed").state;
+    assert_eq!(close(&closed, DECLARATIONS), Err(Refusal::BadState));
 }
 
 /// A store that changed between layout and rendering.
@@ -302,7 +326,8 @@ fn neighbours_are_left_alone() {
     } = Buffers::ample();
     let state = LayoutState::default();
     let lent = &mut store[5..5 + rows];
-    let laid = layout(source, &image, lent, &state, DECLARATIONS, true);
+    let (stop, options) = (DECLARATIONS, &Options::default());
+    let laid = layout(source, &image, lent, &state, stop, true, options);
     assert!(laid.is_ok());
     let written = render(
         source,

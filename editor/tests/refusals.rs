@@ -122,6 +122,7 @@ fn calls_refuse() {
         position: 1,
         ..LayoutState::default()
     };
-    let state = layout(source, &image, &mut ample.store, &state, 0, false);
+    let (store, options) = (&mut ample.store, &Options::default());
+    let state = layout(source, &image, store, &state, 0, false, options);
     assert_eq!(state, Err(Refusal::BadState));
 }

@@ -9,7 +9,7 @@ mod example;
 use std::fs;
 
 use example::save;
-use rrufthim::{Formatter, encode};
+use rrufthim::{Formatter, Options, encode};
 use support::{SOURCE, constants, tariff_image};
 
 /// A path of the tests' own.
@@ -41,11 +41,22 @@ fn a_whole_text_is_saved() {
     assert!(!fs::exists(target + ".new").expect("a folder"));
 }
 
+/// The filing reference at the foot comes through a save.
+#[test]
+fn every_comment_is_saved() {
+    let (image, target) = (tariff_image(), path("tariff.roto"));
+    let frame = frame(SOURCE, &image, usize::MAX);
+    save(&mut Formatter::new(), &frame, &target).expect("it is saved");
+    let text = fs::read_to_string(&target).expect("a file");
+    assert!(text.ends_with("}\n// Filing reference 44-B.\n"), "{text}");
+}
+
 #[test]
 fn what_is_not_whole_is_held_back() {
     let (image, target) = (tariff_image(), path("held.roto"));
     fs::write(&target, SOURCE).expect("a file");
     let mut formatter = Formatter::new();
+    formatter.set_options(Options::AS_ROTO);
     for length in [0, 3, 4, 50, 200, usize::MAX] {
         let frame = frame(SOURCE, &image, length);
         let error = save(&mut formatter, &frame, &target);

@@ -2,7 +2,9 @@
 
 mod support;
 
-use rrufthim::{Cause, Formatter, Refusal, Steps, ast::Extras, encode};
+use rrufthim::{
+    Cause, Formatter, Options, Refusal, Steps, ast::Extras, encode,
+};
 use support::{DECLARATIONS, SOURCE, constants, tariff_image};
 
 /// The parts of a file, so many declarations at a time.
@@ -32,17 +34,24 @@ fn the_parts_are_the_whole() {
 fn comments_are_left_as_in_one_run() {
     let image = tariff_image();
     let mut formatter = Formatter::new();
-    let whole = formatter.format_image(SOURCE.as_bytes(), &image);
-    let whole = whole.expect("a text");
-    assert_eq!(parts(SOURCE, &image, 1).concat(), whole.text);
+    for (options, left) in [(Options::default(), 0), (Options::AS_ROTO, 1)] {
+        formatter.set_options(options);
+        let whole = formatter.format_image(SOURCE.as_bytes(), &image);
+        let whole = whole.expect("a text");
+        assert_eq!(whole.comments_left.len(), left);
 
-    let mut steps = Steps::new(SOURCE.as_bytes(), &image).expect("accepted");
-    assert_eq!(steps.declarations(), DECLARATIONS);
-    assert_eq!(steps.comments_left().len(), 3);
-    steps.advance(1).expect("a part");
-    assert_eq!(steps.comments_left().len(), 2);
-    steps.advance(1).expect("a part");
-    assert_eq!(steps.comments_left(), whole.comments_left);
+        let steps = Steps::with_options(SOURCE.as_bytes(), &image, options);
+        let mut steps = steps.expect("accepted");
+        assert_eq!(steps.declarations(), DECLARATIONS);
+        assert_eq!(steps.comments_left().len(), 3);
+        let mut text = String::new();
+        text += steps.advance(1).expect("accepted").expect("a part");
+        assert_eq!(steps.comments_left().len(), 2);
+        text += steps.advance(1).expect("accepted").expect("the last");
+        assert_eq!(steps.comments_left(), whole.comments_left);
+        assert_eq!(steps.advance(1), Ok(None));
+        assert_eq!(text, whole.text);
+    }
 }
 
 /// Rendering may come after several layouts; a refused step changes nothing.

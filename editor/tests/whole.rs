@@ -168,7 +168,9 @@ fn counts_of_damaged_images() {
             let store = &mut Buffers::ample().store;
             let fresh = LayoutState::default();
             let source = SOURCE.as_bytes();
-            let laid = layout(source, &image, store, &fresh, count, true);
+            let options = &Options::default();
+            let laid =
+                layout(source, &image, store, &fresh, count, true, options);
             assert!(laid.is_ok(), "{laid:?}");
         }
     }

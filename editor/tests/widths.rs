@@ -43,7 +43,10 @@ fn image() -> Vec<u8> {
 }
 
 fn at(width: u64) -> Options {
-    Options { width }
+    Options {
+        width,
+        ..Options::default()
+    }
 }
 
 fn text_at(width: u64) -> String {
@@ -138,7 +141,8 @@ fn a_run_has_one_width() {
     let (source, image) = (SOURCE.as_bytes(), image());
     let mut buffers = Buffers::ample();
     let fresh = LayoutState::default();
-    let laid = layout(source, &image, &mut buffers.store, &fresh, 1, true);
+    let (store, options) = (&mut buffers.store, &at(100));
+    let laid = layout(source, &image, store, &fresh, 1, true, options);
     let rows = laid.expect("accepted").state.next_row;
     let mut call = |state: &RenderState, stop: u64, width: u64| {
         let Buffers {

@@ -1,6 +1,6 @@
 //! Copies fmt.rs with the edits that README.md lists: the greatest value of
-//! `column` is kept, `fmt_parsed` asks for its `max`, and a child module sees
-//! the private items that the judge drives.
+//! `column` is kept, `fmt_parsed` asks for its `max` and for the mode that it
+//! closes in, and a child module sees the private items that the judge drives.
 
 use std::{env, fs, path::PathBuf};
 
@@ -19,7 +19,7 @@ fn main() {
     println!("cargo::rerun-if-changed={}", original.display());
 
     let text = fs::read_to_string(&original).expect("fmt.rs is there");
-    let mut text = with_max(&with_greatest(&text));
+    let mut text = with_foot(&with_max(&with_greatest(&text)));
     text.push_str(&format!("#[path = {driver:?}] pub mod driver;\n"));
     let copy = out.join("fmt.rs");
     fs::write(&copy, text).expect("the copy can be written");
@@ -36,6 +36,18 @@ fn with_max(text: &str) -> String {
     let line = "        max: 80,\n";
     assert_eq!(text.matches(line).count(), 1, "{line}");
     text.replace(line, "        max: driver::width(),\n")
+}
+
+/// Before the final `Line` the waiting comments are placed, if the judge sets
+/// the new mode: document 02, 4, in the original's own words.
+fn with_foot(text: &str) -> String {
+    let line = "\n    state.push(Node::Line);\n";
+    let foot = "\n    if driver::keeps_all() { \
+        let length = source.files[0].contents.len(); \
+        let leading = !ast.declarations.is_empty(); \
+        state.pop_whitespace(length, leading, false, false); }";
+    assert_eq!(text.matches(line).count(), 1, "{line}");
+    text.replace(line, &format!("{foot}{line}"))
 }
 
 /// A field of `Renderer` more, and the line that keeps it behind each that

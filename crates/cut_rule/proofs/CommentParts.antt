@@ -65,15 +65,15 @@ module _ (P : RuleParts) (L : LayoutPartLaws P) (listed : List Text) (K : Commen
       laying-then listed c₀ (upTo P n) (P .declaration (0 + n)) t
       (record { counts = L .declaration-counts image (0 + n) c l; places = K .declaration-places image (0 + n) c l (t .places .within) })
 
-  laying-end : (b : Bool) (n : ℕ) → n ≤ P .declarations → Laying listed c₀ (end P b (upTo P n))
-  laying-end false n h = laying-upTo n h
-  laying-end true n h =
+  laying-end : (b : Bool) (m n : ℕ) → n ≤ P .declarations → Laying listed c₀ (end P b m (upTo P n))
+  laying-end false m n h = laying-upTo n h
+  laying-end true m n h =
       let t = laying-upTo n h in
-      laying-then listed c₀ (upTo P n) (P .final) t
-      (record { counts = L .final-counts image (upTo P n .cursor); places = K .final-places image (upTo P n .cursor) (t .places .within) })
+      laying-then listed c₀ (upTo P n) (P .final m) t
+      (record { counts = L .final-counts image m (upTo P n .cursor); places = K .final-places image m (upTo P n .cursor) (t .places .within) })
 
   laying-due : (q : LayoutArgs LayoutChoice) → q .stop ≤ P .declarations → Laying listed c₀ (callPiece P layoutFresh q)
-  laying-due q h = subst (Laying listed c₀) (sym (from-fresh P q)) (laying-end (q .close) (q .stop) h)
+  laying-due q h = subst (Laying listed c₀) (sym (from-fresh P q)) (laying-end (q .close) (q .choice .mode) (q .stop) h)
 
 module _ (P : RuleParts) (L : LayoutPartLaws P) (listed : List Text) (K : CommentPartLaws P listed) where
   first-placed : (q : LayoutArgs LayoutChoice) → P .layout-image ≡ none → q .stop ≤ P .declarations

@@ -18,9 +18,9 @@ use Rattle.cut_rule.specs.Run.{Call, layoutCall, renderCall, Carried, st
 use Rattle.cut_rule.specs.Plain.{atFirst, due, plain, AllReadLaid}
 use Rattle.rows.specs.Node.{Text}
 use Rattle.cut_rule.specs.CutRule.{commentsIn, CutRule}
-use Rattle.cut_rule.specs.States.{onlyLayoutChoice, Cursor}
+use Rattle.cut_rule.specs.States.{OLD-MODE, NEW-MODE, Cursor, LayoutState, layoutFresh}
 use Rattle.cut_rule.specs.Limits.{REFERENCE-WIDTH}
-use Rattle.cut_rule.specs.Tests.{penTests, markTests, widthTests}
+use Rattle.cut_rule.specs.Tests.{begunTests, penTests, markTests, widthTests}
 use Rattle.cut_rule.specs.Parts.{Piece, RuleParts, rules}
 use Rattle.cut_rule.specs.PartLaws.{Counts, LayoutPartLaws, PlacesNext, CommentPartLaws, RenderPartLaws}
 use Rattle.cut_rule.proofs.Document.{parts-cut}
@@ -54,7 +54,7 @@ small = record {
   render-image = none;
   shebang = λ c. record { cursor = c; rows = [] };
   declaration = λ n c. placing (ltb (c .placed) 2) c;
-  final = line;
+  final = λ mode. line;
   wrong-row = λ store i n. inStore (leb (PLACES * n) (length store));
   needed = λ store i n. 1;
   draw = λ w z marks store i n. record { pen = z; marks = marks; text = drop (PLACES * i) (take (PLACES * n) store) };
@@ -68,7 +68,7 @@ layout-parts : LayoutPartLaws small
 layout-parts = record {
   shebang-counts = λ e c. record { row = omega arith };
   declaration-counts = λ e n c l. placing-counts (ltb (c .placed) 2) c;
-  final-counts = λ e c. record { row = omega arith };
+  final-counts = λ e m c. record { row = omega arith };
 }
 
 none-more : (r k : ℕ) (rows : List ℕ) → commentsIn rows (r - r) ≡ take (k - k) (drop k listed)
@@ -97,7 +97,7 @@ comment-parts = record {
   all-listed = refl;
   shebang-places = λ e c h. record { more = omega arith; within = h; next = none-more (c .row) (c .placed) [] };
   declaration-places = λ e n c l h. placing-places (ltb (c .placed) 2) c refl h;
-  final-places = λ e c h. record {
+  final-places = λ e m c h. record {
     more = omega arith;
     within = h;
     next = (let e : c .row + 1 - c .row ≡ 1 = omega arith in let f : c .placed - c .placed ≡ 0 = omega arith in rw (e, f));
@@ -141,8 +141,11 @@ example : (store₀ marks₀ : List ℕ) (calls : List (Call (rules small))) →
 example = parts-cut small listed layout-parts render-parts comment-parts
 
 -- ---- lists of calls
+abbrev layIn : ℕ → ℕ → Bool → Call (rules small)
+layIn mode n b = layoutCall (record { stop = n; close = b; choice = record { mode = mode } })
+
 abbrev layTo : ℕ → Bool → Call (rules small)
-layTo n b = layoutCall (record { stop = n; close = b; choice = onlyLayoutChoice })
+layTo n b = layIn OLD-MODE n b
 
 abbrev renderAt : ℕ → ℕ → ℕ → Call (rules small)
 renderAt width n room = renderCall (record { stop = n; room = room; choice = record { width = width } })
@@ -197,6 +200,19 @@ tried-store = refl
 
 tried-marks : run (rules small) (start (rules small) nines fives) tried .marks ≡ 0 ∷ 5 ∷ []
 tried-marks = refl
+
+-- a mode over 1; and, once begun in the new mode, the old one
+tried-modes : asNumbers (answers (rules small) (start (rules small) nines fives)
+    (layIn 2 1 false ∷ layIn NEW-MODE 1 false ∷ layIn OLD-MODE 2 false ∷ layIn NEW-MODE 2 true ∷ []))
+    ≡ (12 ∷ 0 ∷ []) ∷ (100 ∷ 1 ∷ []) ∷ (12 ∷ 0 ∷ []) ∷ (100 ∷ 0 ∷ []) ∷ []
+tried-modes = refl
+
+-- a state that has not begun carries no mode
+abbrev notBegun : ℕ → LayoutState
+notBegun mode = record { begun = false; closed = false; declaration = 0; cursor = layoutFresh .cursor; mode = mode }
+
+tried-fresh : any (begunTests (notBegun 0)) ∷ any (begunTests (notBegun NEW-MODE)) ∷ [] ≡ false ∷ true ∷ []
+tried-fresh = refl
 
 -- 12's limits of a rendering state: each at its limit, and one past it; marks in use that are 0 and 1, a mark of 2, more marks than there are
 abbrev penAt : ℕ → ℕ → ℕ → Bool

@@ -44,35 +44,36 @@ module _ (P : RuleParts) where
       ∙ ap (λ (y : Piece). andThen y (P .declaration (d + (k + n)))) (several-add k n d x)
       ∙ ap (λ (j : ℕ). several P j d x) (sym (suc-add k n))
 
-  glue-end : (b : Bool) (x y : Piece) → glue x (end P b y) ≡ end P b (glue x y)
-  glue-end false x y = refl
-  glue-end true x y = ap (piece (P .final (y .cursor) .cursor)) (sym (append-assoc (x .rows) (y .rows) (P .final (y .cursor) .rows)))
+  glue-end : (b : Bool) (m : ℕ) (x y : Piece) → glue x (end P b m y) ≡ end P b m (glue x y)
+  glue-end false m x y = refl
+  glue-end true m x y = ap (piece (P .final m (y .cursor) .cursor)) (sym (append-assoc (x .rows) (y .rows) (P .final m (y .cursor) .rows)))
 
   -- ---- the document from fresh, before declaration n
   abbrev pub upTo : ℕ → Piece
   upTo n = several P n 0 (P .shebang (layoutFresh .cursor))
 
-  pub from-fresh : (q : LayoutArgs LayoutChoice) → callPiece P layoutFresh q ≡ end P (q .close) (upTo (q .stop))
-  from-fresh q = ap (λ (n : ℕ). end P (q .close) (upTo n)) (sub-zero (q .stop))
+  pub from-fresh : (q : LayoutArgs LayoutChoice) → callPiece P layoutFresh q ≡ end P (q .close) (q .choice .mode) (upTo (q .stop))
+  from-fresh q = ap (λ (n : ℕ). end P (q .close) (q .choice .mode) (upTo n)) (sub-zero (q .stop))
 
   -- where a call to p, not closing, left layout
-  abbrev stoppedAt : ℕ → LayoutState
-  stoppedAt n = record { begun = true; closed = false; declaration = n; cursor = upTo n .cursor }
+  abbrev stoppedAt : ℕ → ℕ → LayoutState
+  stoppedAt n mode = record { begun = true; closed = false; declaration = n; cursor = upTo n .cursor; mode = mode }
 
-  piece-on : (n : ℕ) (q : LayoutArgs LayoutChoice) → n ≤ q .stop → callPiece P layoutFresh q ≡ glue (upTo n) (callPiece P (stoppedAt n) q)
-  piece-on n q h =
+  piece-on : (n mode : ℕ) (q : LayoutArgs LayoutChoice) → n ≤ q .stop
+      → callPiece P layoutFresh q ≡ glue (upTo n) (callPiece P (stoppedAt n mode) q)
+  piece-on n mode q h =
       let x = upTo n in
       let m : (q .stop - n) + n ≡ q .stop = omega arith in
       from-fresh q
-      ∙ ap (λ (j : ℕ). end P (q .close) (upTo j)) (sym m)
-      ∙ ap (λ (y : Piece). end P (q .close) y)
+      ∙ ap (λ (j : ℕ). end P (q .close) (q .choice .mode) (upTo j)) (sym m)
+      ∙ ap (λ (y : Piece). end P (q .close) (q .choice .mode) y)
       (sym (several-add (q .stop - n) n 0 (P .shebang (layoutFresh .cursor)))
       ∙ ap (λ (d : ℕ). several P (q .stop - n) d x) (zero-add n)
       ∙ sym (glue-several (q .stop - n) n x))
-      ∙ sym (glue-end (q .close) x (several P (q .stop - n) n (still (x .cursor))))
+      ∙ sym (glue-end (q .close) (q .choice .mode) x (several P (q .stop - n) n (still (x .cursor))))
 
   stopped : (p : LayoutArgs LayoutChoice) → p .close ≡ false → callPiece P layoutFresh p ≡ upTo (p .stop)
-  stopped p e = from-fresh p ∙ ap (λ (b : Bool). end P b (upTo (p .stop))) e
+  stopped p e = from-fresh p ∙ ap (λ (b : Bool). end P b (p .choice .mode) (upTo (p .stop))) e
 
   -- ---- the next row counts the rows
   module _ (L : LayoutPartLaws P) (image : P .layout-image ≡ none) where
@@ -86,16 +87,16 @@ module _ (P : RuleParts) where
     counts-begin true c = record { row = omega arith }
     counts-begin false c = L .shebang-counts image c
 
-    counts-end : (b : Bool) (c : Cursor) (p : Piece) → Counts c p → Counts c (end P b p)
-    counts-end false c p k = k
-    counts-end true c p k = counts-then c p (P .final) k (L .final-counts image (p .cursor))
+    counts-end : (b : Bool) (m : ℕ) (c : Cursor) (p : Piece) → Counts c p → Counts c (end P b m p)
+    counts-end false m c p k = k
+    counts-end true m c p k = counts-then c p (P .final m) k (L .final-counts image m (p .cursor))
 
     pub counts-piece : (s : LayoutState) (q : LayoutArgs LayoutChoice) → s .declaration ≤ q .stop → q .stop ≤ P .declarations
         → Counts (s .cursor) (callPiece P s q)
     counts-piece s q h g =
         let d = s .declaration in
         let p = begin P (s .begun) (s .cursor) in
-        counts-end (q .close) (s .cursor) (several P (q .stop - d) d p)
+        counts-end (q .close) (q .choice .mode) (s .cursor) (several P (q .stop - d) d p)
         (counts-several (q .stop - d) d (s .cursor) p (omega arith) (counts-begin (s .begun) (s .cursor)))
 
   module _ (L : LayoutPartLaws P) where
@@ -104,17 +105,19 @@ module _ (P : RuleParts) where
       pub to : q .stop ≤ P .declarations
 
     goes-on : (p q : LayoutArgs LayoutChoice) → LayoutAfter p q → laidOf P layoutFresh q ≡ thenLaid (laidOf P layoutFresh p) (λ s. laidOf P s q)
-    goes-on p q a = ap laidAs (piece-on (p .stop) q (a .not-past)) ∙ ap parted (sym (stopped p (a .not-closed)))
+    goes-on p q a = ap laidAs (piece-on (p .stop) (p .choice .mode) q (a .not-past)) ∙ ap parted (sym (stopped p (a .not-closed)))
       where
         laidAs : Piece → LayoutResult LayoutState
         laidAs y = record {
-          state = record { begun = true; closed = q .close; declaration = q .stop; cursor = y .cursor };
+          state = record { begun = true; closed = q .close; declaration = q .stop; cursor = y .cursor; mode = q .choice .mode };
           rows = y .rows;
           left = P .comments - y .cursor .placed;
         }
 
         parted : Piece → LayoutResult LayoutState
-        parted x = laidAs (glue x (callPiece P (record { begun = true; closed = p .close; declaration = p .stop; cursor = x .cursor }) q))
+        parted x =
+            laidAs
+            (glue x (callPiece P (record { begun = true; closed = p .close; declaration = p .stop; cursor = x .cursor; mode = p .choice .mode }) q))
 
     pub layout-laws : LayoutLaws (rules P)
     layout-laws = record {
@@ -123,7 +126,8 @@ module _ (P : RuleParts) where
       accepted-after = λ p q store k e. record {
         not-closed = layout-told P q (laidOf P layoutFresh p .state) store e .fits .stop .not-closed;
         not-past = layout-told P q (laidOf P layoutFresh p .state) store e .fits .stop .from;
-        same = refl;
+        same =
+            ap (λ (m : ℕ). record { mode = m }) (sym (layout-told P q (laidOf P layoutFresh p .state) store e .fits .mode .same refl));
       };
       fresh-row = refl;
       due-row = λ p k. omega (arith, counts-piece L (k .image) layoutFresh p (omega arith) (k .to) .row);

@@ -1,14 +1,14 @@
 -- What an accepted call tells: each line of the table lets it pass, and so does each group of tests of 12 and 15.
 -- Assumes nothing.
 use mathlib.Core.Path.{_≡_}
-use mathlib.Core.Bool.{Bool, false, not, _&&_, _||_}
+use mathlib.Core.Bool.{Bool, true, false, not, _&&_, _||_}
 use mathlib.Core.Option.{none}
 use mathlib.Core.List.{List, [], _∷_, _++_}
 use Prim.Native.Nat.{ℕ, _≤_}
-use borrow.Author.Tests.{ltb-false}
+use borrow.Author.Tests.{ltb-false, eqb-true, not-false}
 use lib.Dec.{ltb, eqb}
 use lib.ListN.{length, take}
-use Rattle.laws.proofs.Booleans.{or-first, or-rest}
+use Rattle.laws.proofs.Booleans.{or-first, or-rest, false-true}
 use Rattle.rows.specs.Limits.{MAX-ROWS, MAX-NUMBER}
 use Rattle.renderer_rules.specs.Limits.{MAX-INDENT, MAX-COLUMN}
 use Rattle.refusals.specs.Refusals.{first, refuseIf, refuseAt, any}
@@ -16,8 +16,8 @@ use Rattle.refusals.proofs.Groups.{none-left, none-right, passes-left, passes-r
 use Rattle.cut_rule.specs.Limits.{MIN-WIDTH, MAX-WIDTH}
 use Rattle.cut_rule.specs.Rules.{LayoutArgs, RenderArgs}
 use Rattle.renderer_rules.specs.declared.Pen.{Pen}
-use Rattle.cut_rule.specs.States.{LayoutChoice, RenderChoice, LayoutState, RenderState}
-use Rattle.cut_rule.specs.Tests.{rowsIn, oddMark, placesTests, limitTests, begunTests, stopTests, layoutTestsIn, rowTests, penTests, markTests, renderTests, widthTests}
+use Rattle.cut_rule.specs.States.{LayoutChoice, RenderChoice, LayoutState, RenderState, NEW-MODE}
+use Rattle.cut_rule.specs.Tests.{rowsIn, oddMark, placesTests, limitTests, begunTests, stopTests, modeTests, layoutTestsIn, rowTests, penTests, markTests, renderTests, widthTests}
 use Rattle.cut_rule.specs.Parts.{RuleParts, layoutTests, rowsNeeded, beforeRows, rowsLine, layoutTable, widthLine, marksFor, beforeMarks, marksLine, beforeText, textLine, renderTable}
 
 -- no test of a list holds, and the first is one of two numbers
@@ -70,23 +70,44 @@ stop-fits declarations q s e =
       not-closed = or-first (s .closed) _ e3;
     }
 
+-- the choice is a mode, and the carried one once begun
+pub record ModeFits (c : LayoutChoice) (s : LayoutState) : Type 0 where
+  pub known : c .mode ≤ NEW-MODE
+  pub same : s .begun ≡ true → c .mode ≡ s .mode
+
+mode-fits : (c : LayoutChoice) (s : LayoutState) → any (modeTests c s) ≡ false → ModeFits c s
+mode-fits c s e =
+    let e2 = or-rest (ltb NEW-MODE (c .mode)) _ e in
+    record {
+      known = first-within NEW-MODE (c .mode) _ e;
+      same = λ b. carried (s .begun) b (or-first (s .begun && not (eqb (c .mode) (s .mode))) _ e2);
+    }
+  where
+    carried : (begun : Bool) → begun ≡ true → (begun && not (eqb (c .mode) (s .mode))) ≡ false → c .mode ≡ s .mode
+    carried true b e = eqb-true (c .mode) (s .mode) (not-false (eqb (c .mode) (s .mode)) e)
+    carried false b e = false-true b
+
 -- a state that 12 lets pass
 pub record LayoutFits (declarations comments size rows : ℕ) (q : LayoutArgs LayoutChoice) (s : LayoutState) : Type 0 where
   pub places : PlacesFit declarations comments size rows s
   pub limits : LimitsFit s
   pub stop : StopFits declarations q s
+  pub mode : ModeFits (q .choice) s
 
 pub layout-fits : (declarations comments size rows : ℕ) (q : LayoutArgs LayoutChoice) (s : LayoutState)
     → any (layoutTestsIn declarations comments size rows q s) ≡ false → LayoutFits declarations comments size rows q s
 layout-fits declarations comments size rows q s e =
     let places = placesTests declarations comments size rows s in
     let stop = stopTests declarations q s in
-    let e2 = none-right places (limitTests s ++ (begunTests s ++ stop)) e in
-    let e3 = none-right (limitTests s) (begunTests s ++ stop) e2 in
+    let mode = modeTests (q .choice) s in
+    let e2 = none-right places (limitTests s ++ (begunTests s ++ (stop ++ mode))) e in
+    let e3 = none-right (limitTests s) (begunTests s ++ (stop ++ mode)) e2 in
+    let e4 = none-right (begunTests s) (stop ++ mode) e3 in
     record {
-      places = places-fit declarations comments size rows s (none-left places (limitTests s ++ (begunTests s ++ stop)) e);
-      limits = limits-fit s (none-left (limitTests s) (begunTests s ++ stop) e2);
-      stop = stop-fits declarations q s (none-right (begunTests s) stop e3);
+      places = places-fit declarations comments size rows s (none-left places (limitTests s ++ (begunTests s ++ (stop ++ mode))) e);
+      limits = limits-fit s (none-left (limitTests s) (begunTests s ++ (stop ++ mode)) e2);
+      stop = stop-fits declarations q s (none-left stop mode e4);
+      mode = mode-fits (q .choice) s (none-right stop mode e4);
     }
 
 -- ---- 12 of rendering, group by group

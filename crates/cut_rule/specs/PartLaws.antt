@@ -19,7 +19,7 @@ pub record Counts (c : Cursor) (p : Piece) : Type 0 where
 pub record LayoutPartLaws (P : RuleParts) : Type 0 where
   pub shebang-counts : P .layout-image ≡ none → (c : Cursor) → Counts c (P .shebang c)
   pub declaration-counts : P .layout-image ≡ none → (n : ℕ) (c : Cursor) → n < P .declarations → Counts c (P .declaration n c)
-  pub final-counts : P .layout-image ≡ none → (c : Cursor) → Counts c (P .final c)
+  pub final-counts : P .layout-image ≡ none → (mode : ℕ) (c : Cursor) → Counts c (P .final mode c)
 
 -- a piece places the next so many comments of the list, in order, each as one row
 pub record PlacesNext (listed : List Text) (c : Cursor) (p : Piece) : Type 0 where
@@ -32,7 +32,7 @@ pub record CommentPartLaws (P : RuleParts) (listed : List Text) : Type 0 where
   pub shebang-places : P .layout-image ≡ none → (c : Cursor) → c .placed ≤ length listed → PlacesNext listed c (P .shebang c)
   pub declaration-places : P .layout-image ≡ none → (n : ℕ) (c : Cursor) → n < P .declarations → c .placed ≤ length listed
       → PlacesNext listed c (P .declaration n c)
-  pub final-places : P .layout-image ≡ none → (c : Cursor) → c .placed ≤ length listed → PlacesNext listed c (P .final c)
+  pub final-places : P .layout-image ≡ none → (mode : ℕ) (c : Cursor) → c .placed ≤ length listed → PlacesNext listed c (P .final mode c)
 
 -- rendering, with more marks behind
 abbrev pub withPast : Drawn → List ℕ → Drawn

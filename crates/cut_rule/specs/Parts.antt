@@ -1,4 +1,4 @@
--- Document 01's rules and table, over parts that are open here: the shebang, one declaration, the final `Line`, the tests of image and rows,
+-- Document 01's rules and table, over parts that are open here: the shebang, one declaration, closing, the tests of image and rows,
 -- the renderer. `rules` puts them together; what the parts owe is in PartLaws.antt.
 use mathlib.Core.Bool.{Bool, true, false}
 use mathlib.Core.Option.{Option}
@@ -31,10 +31,10 @@ pub record RuleParts : Type 0 where
   -- 1 to 7; and of these 1 and 3, "by the same tests"
   pub layout-image : Option Refusal
   pub render-image : Option Refusal
-  -- the shebang, declaration n, and the final `Line`, from a cursor
+  -- the shebang, declaration n, and what closing adds by the mode, from a cursor
   pub shebang : Cursor → Piece
   pub declaration : ℕ → Cursor → Piece
-  pub final : Cursor → Piece
+  pub final : ℕ → Cursor → Piece
   -- 11's place, "0 for the stop, tested first", for the rows of a store from one up to a stop; none if all is right
   pub wrong-row : List ℕ → ℕ → ℕ → Option ℕ
   -- "largest number in the rows plus 1", for the rows of a store from one up to a stop; 0 if none has one
@@ -65,19 +65,19 @@ module _ (P : RuleParts) where
   several zero d p = p
   several (suc n) d p = andThen (several n d p) (P .declaration (d + n))
 
-  -- "closing .. adds the final `Line`"
-  abbrev pub end : Bool → Piece → Piece
-  end true p = andThen p (P .final)
-  end false p = p
+  -- "closing .. adds the final `Line`", in the mode that the call chose
+  abbrev pub end : Bool → ℕ → Piece → Piece
+  end true mode p = andThen p (P .final mode)
+  end false mode p = p
 
   -- what a layout call lays: "The rows and state due at a stop are those `fmt_parsed` has when its loop reaches that declaration."
   abbrev pub callPiece : LayoutState → LayoutArgs LayoutChoice → Piece
-  callPiece s q = end (q .close) (several (q .stop - s .declaration) (s .declaration) (begin (s .begun) (s .cursor)))
+  callPiece s q = end (q .close) (q .choice .mode) (several (q .stop - s .declaration) (s .declaration) (begin (s .begun) (s .cursor)))
 
   -- "Its answer is the new state with the number of comments left."
   abbrev pub laidOf : LayoutState → LayoutArgs LayoutChoice → LayoutResult LayoutState
   laidOf s q = record {
-    state = record { begun = true; closed = q .close; declaration = q .stop; cursor = callPiece s q .cursor };
+    state = record { begun = true; closed = q .close; declaration = q .stop; cursor = callPiece s q .cursor; mode = q .choice .mode };
     rows = callPiece s q .rows;
     left = P .comments - callPiece s q .cursor .placed;
   }

@@ -10,7 +10,7 @@ use Rattle.renderer_rules.specs.Limits.{MAX-INDENT, MAX-COLUMN}
 use Rattle.cut_rule.specs.Limits.{MIN-WIDTH, MAX-WIDTH}
 use Rattle.cut_rule.specs.Rules.{LayoutArgs, RenderArgs}
 use Rattle.renderer_rules.specs.declared.Pen.{Pen}
-use Rattle.cut_rule.specs.States.{LayoutChoice, RenderChoice, LayoutState, RenderState}
+use Rattle.cut_rule.specs.States.{LayoutChoice, RenderChoice, LayoutState, RenderState, NEW-MODE}
 
 -- "A store has length / 9 rows, rounded down."
 abbrev pub rowsIn : List ℕ → ℕ
@@ -21,7 +21,8 @@ rowsIn store = length store / PLACES
 abbrev pub numbersZero : LayoutState → Bool
 numbersZero s =
     eqb (s .declaration) 0
-    && (eqb (s .cursor .row) 0 && (eqb (s .cursor .number) 0 && (eqb (s .cursor .placed) 0 && eqb (s .cursor .position) 0)))
+    && (eqb (s .cursor .row) 0
+    && (eqb (s .cursor .number) 0 && (eqb (s .cursor .placed) 0 && (eqb (s .cursor .position) 0 && eqb (s .mode) 0))))
 
 abbrev pub allZero : LayoutState → Bool
 allZero s = not (s .closed) && numbersZero s
@@ -52,9 +53,14 @@ stopTests declarations q s =
     ∷ (q .close && not (eqb (q .stop) declarations))
     ∷ []
 
+-- "12 also for a mode over 1, or one that differs from the carried mode once begun"
+abbrev pub modeTests : LayoutChoice → LayoutState → List Bool
+modeTests c s = ltb NEW-MODE (c .mode) ∷ (s .begun && not (eqb (c .mode) (s .mode))) ∷ []
+
 abbrev pub layoutTestsIn : ℕ → ℕ → ℕ → ℕ → LayoutArgs LayoutChoice → LayoutState → List Bool
 layoutTestsIn declarations comments size rows q s =
-    placesTests declarations comments size rows s ++ (limitTests s ++ (begunTests s ++ stopTests declarations q s))
+    placesTests declarations comments size rows s
+    ++ (limitTests s ++ (begunTests s ++ (stopTests declarations q s ++ modeTests (q .choice) s)))
 
 -- ---- rendering
 -- "place past .. store or the rendering's stop; next row over 2,097,152"

@@ -18,7 +18,7 @@ use Rattle.cut_rule.specs.Tests as tests
 use Rattle.cut_rule.specs.Parts as cut
 use Rattle.plain_run.specs.Parts.{partsOf, readRefusal, renderImage}
 use Rattle.plain_run.specs.Demands.{rulesOf}
-use Rattle.plain_run.specs.File.{FileChoice, referenceChoice, renderChoice, fileRows, fileMarks, fileAnswerBy, formatted, laidRefusal, fileRefusal, drawnDue, rowsDue, marksDue}
+use Rattle.plain_run.specs.File.{FileChoice, referenceChoice, layoutChoice, modeLine, renderChoice, fileRows, fileMarks, fileAnswerBy, formatted, laidRefusal, fileRefusal, drawnDue, rowsDue, marksDue}
 use Rattle.file.specs.Whole.{sourceOf, imageOf, frameFits, frameRefusal}
 use Rattle.layout_call.specs.Calls as layout
 use Rattle.render_call.specs.Calls as render
@@ -135,23 +135,32 @@ module _ (s b : List ℕ) where
   later-under numbers nine ten c room laid =
       let text = length (drawnDue s b c .text) in
       under-first numbers
-      (laidRefusal s b c fileRows ∷ refuseIf (ltb fileMarks (marksDue s b)) 9 (marksDue s b) ∷ refuseIf (ltb room text) 10 text ∷ [])
-      (laid, (under-if numbers (ltb fileMarks (marksDue s b)) 9 (marksDue s b) nine, (under-if numbers (ltb room text) 10 text ten, tt)))
+      (laidRefusal s b c fileRows ∷ refuseIf (ltb fileMarks (marksDue s b c)) 9 (marksDue s b c) ∷ refuseIf (ltb room text) 10 text ∷ [])
+      (laid, (under-if numbers (ltb fileMarks (marksDue s b c)) 9 (marksDue s b c) nine, (under-if numbers (ltb room text) 10 text ten, tt)))
 
   pub file-under : (c : FileChoice) (room : ℕ) → Under fileNumbers (fileRefusal s b c room)
   file-under c room =
-      let read : Under fileNumbers (readRefusal (readAll s b)) = under-more readNumbers (15 ∷ 8 ∷ 9 ∷ 10 ∷ []) (readRefusal (readAll s b)) (read-under s b) in
+      let read : Under fileNumbers (readRefusal (readAll s b)) = under-more readNumbers (12 ∷ 15 ∷ 8 ∷ 9 ∷ 10 ∷ []) (readRefusal (readAll s b)) (read-under s b) in
+      let eight = refuseIf (ltb fileRows (rowsDue s b c)) 8 (rowsDue s b c) in
       later-under fileNumbers refl refl c room
-      (under-first fileNumbers (readRefusal (readAll s b) ∷ cut.widthLine (renderChoice c) states.renderFresh ∷ refuseIf (ltb fileRows (rowsDue s b)) 8 (rowsDue s b) ∷ [])
-      (read, (under-if fileNumbers (any (tests.widthTests (c .width) 0)) 15 0 refl, (under-if fileNumbers (ltb fileRows (rowsDue s b)) 8 (rowsDue s b) refl, tt))))
+      (under-first fileNumbers (readRefusal (readAll s b) ∷ modeLine c ∷ cut.widthLine (renderChoice c) states.renderFresh ∷ eight ∷ []) (
+        read,
+        (
+          under-if fileNumbers (any (tests.modeTests (layoutChoice c) states.layoutFresh)) 12 0 refl,
+          (
+            under-if fileNumbers (any (tests.widthTests (c .width) 0)) 15 0 refl,
+            (under-if fileNumbers (ltb fileRows (rowsDue s b c)) 8 (rowsDue s b c) refl, tt),
+          ),
+        ),
+      ))
 
-  -- at 80 the line of 15 computes to none
+  -- in the old mode at 80 the lines of 12 and 15 compute to none
   pub reference-under : (room : ℕ) → Under referenceNumbers (fileRefusal s b referenceChoice room)
   reference-under room =
       let read : Under referenceNumbers (readRefusal (readAll s b)) = under-more readNumbers (8 ∷ 9 ∷ 10 ∷ []) (readRefusal (readAll s b)) (read-under s b) in
       later-under referenceNumbers refl refl referenceChoice room
-      (under-first referenceNumbers (readRefusal (readAll s b) ∷ refuseIf (ltb fileRows (rowsDue s b)) 8 (rowsDue s b) ∷ [])
-      (read, (under-if referenceNumbers (ltb fileRows (rowsDue s b)) 8 (rowsDue s b) refl, tt)))
+      (under-first referenceNumbers (readRefusal (readAll s b) ∷ refuseIf (ltb fileRows (rowsDue s b referenceChoice)) 8 (rowsDue s b referenceChoice) ∷ [])
+      (read, (under-if referenceNumbers (ltb fileRows (rowsDue s b referenceChoice)) 8 (rowsDue s b referenceChoice) refl, tt)))
 
 frame-under : (frame : List ℕ) (room : ℕ) → Under frameNumbers (frameTable frame room)
 frame-under frame room =

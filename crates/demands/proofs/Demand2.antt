@@ -1,37 +1,42 @@
 -- The calls answer by the rules, and the rules from fresh are `fmt_parsed` and `Renderer`.
 -- Assumes nothing.
 use mathlib.Core.Path.{_≡_, refl, ap, ap₂, _∙_}
+use mathlib.Core.Bool.{true}
 use mathlib.Core.Option.{Option, none, some}
-use mathlib.Core.List.{List}
-use Prim.Native.Nat.{ℕ}
+use mathlib.Core.List.{List, _∷_}
+use Prim.Native.Nat.{ℕ, _≤_}
 use native.Mathlib.Omega.{arith}
 use lib.ListN.{length}
 use borrow.Author.Tests.{le-ltb}
 use Rattle.image.specs.Read.{readAll}
 use Rattle.state.specs.Act.{Out}
 use Rattle.refusals.specs.Refusals.{Refusal, unless, refuseIf, any}
+use Rattle.refusals.proofs.Groups.{passes-line, passes-others, not-if}
 use Rattle.cut_rule.specs.Limits.{MIN-WIDTH, MAX-WIDTH}
 use Rattle.cut_rule.specs.Rules.{LayoutResult}
 use Rattle.cut_rule.specs.Run.{writeFront}
 use Rattle.cut_rule.specs.Entries.{renderAnswer, renderMarks, renderOutput}
 use Rattle.cut_rule.specs.States as states
 use Rattle.cut_rule.specs.Tests as tests
+use Rattle.cut_rule.specs.Parts as cut
 use Rattle.cut_rule.proofs.Table.{LegalWidth, layout-told, render-told}
 use Rattle.cut_rule.proofs.Answers.{LaidTold, laid-told, written-told}
-use Rattle.plain_run.specs.Parts.{partsOf}
-use Rattle.plain_run.specs.Demands.{rulesOf, Gives, laidTo, stoppingAt}
-use Rattle.plain_run.specs.File.{FileChoice, drawnDue, laidRefusal, refusalIn, fileRefusal, fileAnswerBy, formatted, storeLeft}
+use Rattle.plain_run.specs.Parts.{partsOf, readRefusal}
+use Rattle.plain_run.specs.Demands.{rulesOf, Gives, laidTo, stoppingAt, closingAt}
+use Rattle.plain_run.specs.File.{FileChoice, modeLine, drawnDue, laidRefusal, refusalIn, fileRefusal, fileAnswerBy, formatted, storeLeft}
 use Rattle.plain_run.proofs.Demands.{due-is-fmt-parsed, laid-within-limits}
+use Rattle.plain_run.proofs.Foot.{closing-places-all}
 use Rattle.plain_run.proofs.Reference.{reference-holds}
-use Rattle.plain_run.proofs.File.{stateDue, renderedDue, layout-answer-due, layout-store-due, render-answer-due, render-marks-due, render-output-due}
+use Rattle.plain_run.proofs.File.{stateDue, renderedDue, old-mode-is-fmt-parsed, new-mode-leaves-none, layout-answer-due, layout-store-due, render-answer-due, render-marks-due, render-output-due}
 use Rattle.layout_call.specs.declared.LayoutState.{LayoutState}
 use Rattle.layout_call.specs.declared.LayoutArgs.{LayoutArgs}
 use Rattle.layout_call.specs.declared.Laying.the-variants as laying
 use Rattle.layout_call.specs.Calls as layout
+use Rattle.layout_call.specs.Steps.{declared}
 use Rattle.layout_call.specs.Whole.{LayoutCalled}
 use Rattle.render_call.specs.Calls as render
 use Rattle.demands.specs.Fresh.{freshLayout, freshRender}
-use Rattle.demands.specs.Demand2.{LaidOutAs, AtStopDue, ClosedDue, RenderedDue, FileDue, Demand2}
+use Rattle.demands.specs.Demand2.{LaidOutAs, AtStopDue, ClosedDue, ClosedKeepingDue, RenderedDue, FileDue, Demand2}
 
 -- ---- what an accepted answer tells
 record FileTold (o : Option Refusal) (n l k m n′ l′ k′ m′ : ℕ) : Type 0 where
@@ -71,44 +76,63 @@ module _ (s b store : List ℕ) (q : LayoutArgs) (t : LayoutState) (left : ℕ) 
   }
 
 at-stop : AtStopDue
-at-stop s b store n t left store2 p =
+at-stop s b store mode n t left store2 p =
     let w = told s b store _ t left store2 p in
-    let h = layout-told (partsOf s b) (stoppingAt n) (layout.toState freshLayout) store (w .passes) in
-    laid-as s b store _ t left store2 p _ (due-is-fmt-parsed (readAll s b) s b .at-stop n (h .fits .stop .to))
+    let h = layout-told (partsOf s b) (stoppingAt mode n) (layout.toState freshLayout) store (w .passes) in
+    laid-as s b store _ t left store2 p _ (due-is-fmt-parsed (readAll s b) s b .at-stop mode n (h .fits .stop .to))
 
 closed : ClosedDue
 closed s b store t left store2 p = laid-as s b store _ t left store2 p _ (due-is-fmt-parsed (readAll s b) s b .closed)
 
+closed-keeping : ClosedKeepingDue
+closed-keeping s b store t left store2 p =
+    let q = closingAt states.NEW-MODE (length (declared s b)) in
+    let z = layout.toState freshLayout in
+    let w = told s b store _ t left store2 p in
+    let twelve = any (cut.layoutTests (partsOf s b) q z store) in
+    let eight = cut.rowsLine (partsOf s b) q z store in
+    let h = layout-told (partsOf s b) q z store (w .passes) in
+    let tests = not-if twelve 12 0 (passes-line (refuseIf twelve 12 0) eight (passes-others (readRefusal (readAll s b)) (refuseIf twelve 12 0 ∷ eight) (w .passes))) in (
+      laid-as s b store _ t left store2 p _ (due-is-fmt-parsed (readAll s b) s b .closed-in states.NEW-MODE),
+      w .left ∙ closing-places-all s b store q z (h .image) tests refl refl .left,
+    )
+
 -- ---- rendering
--- 15 refuses no legal width from fresh
+-- from fresh 12 refuses no mode up to 1
+mode-passes : (c : FileChoice) → c .mode ≤ states.NEW-MODE → modeLine c ≡ none
+mode-passes c h = rw (le-ltb states.NEW-MODE (c .mode) h)
+
+-- and 15 no legal width
 width-passes : (width : ℕ) → LegalWidth width → refuseIf (any (tests.widthTests width 0)) 15 0 ≡ none
 width-passes width h = rw (le-ltb width MIN-WIDTH (h .least), le-ltb MAX-WIDTH width (h .most))
 
 rendered : RenderedDue
-rendered s b store t left store2 p width marks out u n store3 marks2 out2 q =
-    let c : FileChoice = record { width = width } in
+rendered s b store mode t left store2 p width marks out u n store3 marks2 out2 q =
+    let c : FileChoice = record { width = width; mode = mode } in
     let to = render.toArgs (record { stop = t .row; width = width }) (length out) in
     let a = written-told (rulesOf s b) (rulesOf s b .render-refusal to (render.toState freshRender) store2 marks) (render.toState u) (n .0) _ _ (q .answer) in
     let legal = width-passes width (render-told (partsOf s b) to (render.toState freshRender) store2 marks (a .passes) .checked .width .legal) in
-    let w = laid-told (rulesOf s b) (laidRefusal s b c (tests.rowsIn store)) (layout.toState t) left (stateDue s b) _ (p .answer ∙ layout-answer-due s b c legal store) in
+    let before = told s b store (record { stop = length (declared s b); close = true; mode = mode }) t left store2 p in
+    let moded = mode-passes c (layout-told (partsOf s b) (closingAt mode (length (declared s b))) (layout.toState freshLayout) store (before .passes) .fits .mode .known) in
+    let w = laid-told (rulesOf s b) (laidRefusal s b c (tests.rowsIn store)) (layout.toState t) left (stateDue s b c) _ (p .answer ∙ layout-answer-due s b c moded legal store) in
     let row : t .row ≡ _ = ap (λ (x : states.LayoutState). x .cursor .row) (w .state) in
-    let left-store : store2 ≡ storeLeft s b c store = p .store-left ∙ layout-store-due s b c legal store in
-    let v = written-told (rulesOf s b) (refusalIn s b c (tests.rowsIn store) (length marks) (length out)) (render.toState u) (n .0) (renderedDue s b c legal) _
+    let left-store : store2 ≡ storeLeft s b c store = p .store-left ∙ layout-store-due s b c moded legal store in
+    let v = written-told (rulesOf s b) (refusalIn s b c (tests.rowsIn store) (length marks) (length out)) (render.toState u) (n .0) (renderedDue s b c moded legal) _
     (q .answer
     ∙ ap₂ (λ (i : ℕ) (l : List ℕ). renderAnswer (rulesOf s b) (render.toArgs (record { stop = i; width = width }) (length out)) (render.toState freshRender) l marks) row left-store
-    ∙ render-answer-due s b c legal store marks out (w .passes))
+    ∙ render-answer-due s b c moded legal store marks out (w .passes))
     in
     record {
       marks-due =
           q .marks-left
           ∙ ap₂ (λ (i : ℕ) (l : List ℕ). renderMarks (rulesOf s b) (render.toArgs (record { stop = i; width = width }) (length out)) (render.toState freshRender) l marks) row left-store
-          ∙ render-marks-due s b c legal store marks out (w .passes)
+          ∙ render-marks-due s b c moded legal store marks out (w .passes)
           ∙ ap (λ (x : Option Refusal). unless x marks (writeFront (drawnDue s b c .marks) marks)) (v .passes);
       bytes-due = v .bytes;
       text-due =
           q .output-left
           ∙ ap₂ (λ (i : ℕ) (l : List ℕ). renderOutput (rulesOf s b) (render.toArgs (record { stop = i; width = width }) (length out)) (render.toState freshRender) l marks out) row left-store
-          ∙ render-output-due s b c legal store marks out (w .passes)
+          ∙ render-output-due s b c moded legal store marks out (w .passes)
           ∙ ap (λ (x : Option Refusal). unless x out (writeFront (drawnDue s b c .text) out)) (v .passes);
     }
 
@@ -125,4 +149,4 @@ file s b c out n left count numbers out2 f =
     }
 
 pub demand-2 : Demand2
-demand-2 = record { at-stop = at-stop; closed = closed; rendered = rendered; file = file; within-limits = laid-within-limits; reference = reference-holds }
+demand-2 = record { at-stop = at-stop; closed = closed; closed-keeping = closed-keeping; rendered = rendered; file = file; file-old = old-mode-is-fmt-parsed; file-new = new-mode-leaves-none; within-limits = laid-within-limits; reference = reference-holds }

@@ -13,7 +13,9 @@ use Rattle.cut_rule.proofs.Entries.{entries-are-calls}
 use Rattle.cut_rule.proofs.Answers.{all-held}
 use Rattle.plain_run.specs.Parts.{listed}
 use Rattle.plain_run.specs.Demands.{rulesOf}
+use Rattle.plain_run.specs.Foot.{HoldsAll}
 use Rattle.plain_run.proofs.Demands.{rules-cut}
+use Rattle.plain_run.proofs.Foot.{closed-holds-all}
 use Rattle.layout_call.specs.declared.LayoutArgs.{LayoutArgs}
 use Rattle.layout_call.specs.declared.Laying.{Laying}
 use Rattle.layout_call.specs.declared.Laying.the-variants as laying
@@ -24,7 +26,7 @@ use Rattle.render_call.specs.declared.Rendering.{Rendering}
 use Rattle.render_call.specs.declared.Rendering.the-variants as rendering
 use Rattle.render_call.specs.Calls as render
 use Rattle.render_call.specs.Whole.{RenderCalled}
-use Rattle.demands.specs.Demand3.{Caller, freshCaller, Made, laid, rendered, Promised, afterMade, callMade, answerMade, held, HeldAsDue, Demand3}
+use Rattle.demands.specs.Demand3.{Caller, freshCaller, Made, laid, rendered, Promised, afterMade, callMade, answerMade, held, HeldAsDue, Demand3, CallsHoldAll}
 
 module _ (s b : List ℕ) where
   -- one call
@@ -83,3 +85,11 @@ demand-3 s b store₀ marks₀ made p h =
           rule;
       answered = all-answers s b w made p ∙ rule .answered;
     }
+
+pub calls-hold-all : CallsHoldAll
+calls-hold-all s b store₀ marks₀ made p closed new =
+    let e = all-held (rulesOf s b) afterMade (Promised s b) (held s b) (callMade s b) (one-held s b) (freshCaller store₀ marks₀) made p in
+    subst (HoldsAll s b) (sym e)
+    (closed-holds-all s b store₀ marks₀ (map (callMade s b) made)
+    (ap (λ (v : Carried (rulesOf s b)). v .layout-state .closed) (sym e) ∙ closed)
+    (ap (λ (v : Carried (rulesOf s b)). v .layout-state .mode) (sym e) ∙ new))

@@ -132,12 +132,13 @@ module _ (s b : List ℕ) where
       ∷ t .cursor .number
       ∷ t .cursor .placed
       ∷ t .cursor .position
+      ∷ t .mode
       ∷ []
 
   abbrev writtenNumbers : states.RenderState → ℕ → List ℕ
   writtenNumbers t n = 0 ∷ n ∷ t .pen .indent ∷ t .pen .«next_indent» ∷ t .pen .column .0 ∷ t .in-use ∷ t .row ∷ t .width ∷ []
 
-  laid-zero : (o : Option Refusal) (t : states.LayoutState) (n : ℕ) (out : List ℕ) → 9 ≤ length out → o ≡ none
+  laid-zero : (o : Option Refusal) (t : states.LayoutState) (n : ℕ) (out : List ℕ) → 10 ≤ length out → o ≡ none
       → getD (toldCall s b (answerBy (rulesOf s b) o (laidOut t n)) out) 0 0 ≡ 0
   laid-zero none t n out h e = ap (λ (x : List ℕ). getD x 0 0) (stored (laidNumbers t n) out h)
   laid-zero (some q) t n out h e = let z : _≡_ {A = ℕ} 0 1 = cc in absurd (omega arith)
@@ -170,10 +171,10 @@ linked-1 = record {
       (λ r f. e ∙ read-tells (readAll s b) (length (declared s b)) out r f)
       (λ r f. tt);
   layout =
-      λ s b store state stop close out store2 out2 h p.
-      let o = rulesOf s b .layout-refusal (layout.toArgs (layoutArgs stop close)) (layout.toState (layoutState state)) store in
+      λ s b store state args out store2 out2 h p.
+      let o = rulesOf s b .layout-refusal (layout.toArgs (layoutArgs args)) (layout.toState (layoutState state)) store in
       two layoutNumbers o out out2 (store2 ≡ store) (omega arith)
-      (layout-under s b (layout.toArgs (layoutArgs stop close)) (layout.toState (layoutState state)) store)
+      (layout-under s b (layout.toArgs (layoutArgs args)) (layout.toState (layoutState state)) store)
       (λ f. ap (λ (l : List ℕ). getD l 0 0) (p .told-as) ∙ laid-zero s b o _ _ out (omega arith) f)
       (λ r f. p .told-as ∙ laid-tells s b o _ _ out r f)
       (λ r f. p .store-left ∙ left-same o r store _ f);
@@ -221,22 +222,22 @@ not-zero ns r f e = go (eqb (r .number) 0) refl
 
 module _ (s b : List ℕ) where
   -- the layout state and the comments left that are kept of an answer
-  layout-kept : (o : Option Refusal) (t : states.LayoutState) (n : ℕ) → Under layoutNumbers o → (out out2 : List ℕ) → 9 ≤ length out
+  layout-kept : (o : Option Refusal) (t : states.LayoutState) (n : ℕ) → Under layoutNumbers o → (out out2 : List ℕ) → 10 ≤ length out
       → out2 ≡ toldCall s b (answerBy (rulesOf s b) o (laidOut t n)) out
       → (old : List ℕ)
-      → layout.toState (layoutState (ifAccepted out2 (take 7 (drop 2 out2)) old))
+      → layout.toState (layoutState (ifAccepted out2 (take 8 (drop 2 out2)) old))
       ≡ layoutNext (rulesOf s b) (answerBy (rulesOf s b) o (laidOut t n)) (layout.toState (layoutState old))
   layout-kept (some r) t n u out out2 h e old =
       let at : out2 ≡ (r .number ∷ r .place ∷ []) ++ drop 2 out = e ∙ stored (r .number ∷ r .place ∷ []) out (omega arith) in
-      ap (λ (l : List ℕ). layout.toState (layoutState (ifAccepted l (take 7 (drop 2 l)) old))) at
-      ∙ ap (λ (x : Bool). layout.toState (layoutState (cond x (take 7 (drop 2 ((r .number ∷ r .place ∷ []) ++ drop 2 out))) old)))
+      ap (λ (l : List ℕ). layout.toState (layoutState (ifAccepted l (take 8 (drop 2 l)) old))) at
+      ∙ ap (λ (x : Bool). layout.toState (layoutState (cond x (take 8 (drop 2 ((r .number ∷ r .place ∷ []) ++ drop 2 out))) old)))
       (not-zero layoutNumbers r refl (u .of r refl))
   layout-kept none t n u out out2 h e old =
-      let at : out2 ≡ laidNumbers s b t n ++ drop 9 out = e ∙ stored (laidNumbers s b t n) out h in
-      ap (λ (l : List ℕ). layout.toState (layoutState (ifAccepted l (take 7 (drop 2 l)) old))) at
-      ∙ ap₂ (λ (x y : Bool). record { begun = x; closed = y; declaration = t .declaration; cursor = t .cursor }) (flag-bit (t .begun)) (flag-bit (t .closed))
+      let at : out2 ≡ laidNumbers s b t n ++ drop 10 out = e ∙ stored (laidNumbers s b t n) out h in
+      ap (λ (l : List ℕ). layout.toState (layoutState (ifAccepted l (take 8 (drop 2 l)) old))) at
+      ∙ ap₂ (λ (x y : Bool). record { begun = x; closed = y; declaration = t .declaration; cursor = t .cursor; mode = t .mode }) (flag-bit (t .begun)) (flag-bit (t .closed))
 
-  left-kept : (o : Option Refusal) (t : states.LayoutState) (n : ℕ) → Under layoutNumbers o → (out out2 : List ℕ) → 9 ≤ length out
+  left-kept : (o : Option Refusal) (t : states.LayoutState) (n : ℕ) → Under layoutNumbers o → (out out2 : List ℕ) → 10 ≤ length out
       → out2 ≡ toldCall s b (answerBy (rulesOf s b) o (laidOut t n)) out
       → (old : Option ℕ)
       → ifAccepted out2 (some (getD out2 1 0)) old ≡ leftNext (rulesOf s b) (answerBy (rulesOf s b) o (laidOut t n)) old
@@ -245,7 +246,7 @@ module _ (s b : List ℕ) where
       ap (λ (l : List ℕ). ifAccepted l (some (getD l 1 0)) old) at
       ∙ ap (λ (x : Bool). cond x (some (r .place)) old) (not-zero layoutNumbers r refl (u .of r refl))
   left-kept none t n u out out2 h e old =
-      let at : out2 ≡ laidNumbers s b t n ++ drop 9 out = e ∙ stored (laidNumbers s b t n) out h in
+      let at : out2 ≡ laidNumbers s b t n ++ drop 10 out = e ∙ stored (laidNumbers s b t n) out h in
       ap (λ (l : List ℕ). ifAccepted l (some (getD l 1 0)) old) at
 
   -- the rendering state and the text that are kept of an answer
@@ -275,10 +276,10 @@ module _ (s b : List ℕ) where
       ap (λ (l : List ℕ). ifAccepted l (take (getD l 1 0) output2) []) at
 
   -- one call
-  layout-held : (w : Holder) (stop close : ℕ) (out store2 out2 : List ℕ) → length out ≡ 9 → Lays s b (w .store) (w .layout-state) stop close out store2 out2
-      → heldLinked s b (afterLinked w (laid stop close out store2 out2)) ≡ entryCall (rulesOf s b) (heldLinked s b w) [] (layoutCall (layout.toArgs (layoutArgs stop close)))
-  layout-held w stop close out store2 out2 h p =
-      let q = layout.toArgs (layoutArgs stop close) in
+  layout-held : (w : Holder) (args out store2 out2 : List ℕ) → length out ≡ 10 → Lays s b (w .store) (w .layout-state) args out store2 out2
+      → heldLinked s b (afterLinked w (laid args out store2 out2)) ≡ entryCall (rulesOf s b) (heldLinked s b w) [] (layoutCall (layout.toArgs (layoutArgs args)))
+  layout-held w args out store2 out2 h p =
+      let q = layout.toArgs (layoutArgs args) in
       let z = layout.toState (layoutState (w .layout-state)) in
       let o = rulesOf s b .layout-refusal q z (w .store) in
       let u = layout-under s b q z (w .store) in
@@ -319,9 +320,9 @@ module _ (s b : List ℕ) where
       }
 
   one-held : (w : Holder) (m : LinkedCall) → LinkedPromised s b w m → heldLinked s b (afterLinked w m) ≡ call (rulesOf s b) (heldLinked s b w) (callLinked s b m)
-  one-held w (laid stop close out store2 out2) p =
-      layout-held w stop close out store2 out2 (p .0) (p .1)
-      ∙ entries-are-calls (rulesOf s b) (heldLinked s b w) [] (layoutCall (layout.toArgs (layoutArgs stop close)))
+  one-held w (laid args out store2 out2) p =
+      layout-held w args out store2 out2 (p .0) (p .1)
+      ∙ entries-are-calls (rulesOf s b) (heldLinked s b w) [] (layoutCall (layout.toArgs (layoutArgs args)))
   one-held w (rendered args output out store2 marks2 output2 out2) p =
       render-held w args output out store2 marks2 output2 out2 (p .0) (p .1)
       ∙ entries-are-calls (rulesOf s b) (heldLinked s b w) output (renderCall (render.toArgs (renderArgs args) (length output)))

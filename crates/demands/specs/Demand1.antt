@@ -45,11 +45,11 @@ layoutNumbers = readNumbers ++ (12 ∷ 8 ∷ [])
 abbrev pub renderNumbers : List ℕ
 renderNumbers = 1 ∷ 3 ∷ 11 ∷ 12 ∷ 15 ∷ 9 ∷ 10 ∷ []
 
--- a whole file, which is laid out and rendered from fresh, so that 12 refuses neither call
+-- a whole file, which is laid out and rendered from fresh, so that 12 refuses the mode alone
 abbrev pub fileNumbers : List ℕ
-fileNumbers = readNumbers ++ (15 ∷ 8 ∷ 9 ∷ 10 ∷ [])
+fileNumbers = readNumbers ++ (12 ∷ 15 ∷ 8 ∷ 9 ∷ 10 ∷ [])
 
--- the same at 80, which 15 never refuses
+-- the same in the old mode at 80, which neither 12 nor 15 refuses
 abbrev pub referenceNumbers : List ℕ
 referenceNumbers = readNumbers ++ (8 ∷ 9 ∷ 10 ∷ [])
 

@@ -2,8 +2,9 @@
 --
 -- Of the two calls and of a whole file, by what they promise. What `fmt_parsed` builds: `fmtParsed` (crates/layout/specs/Layout.antt), what it has
 -- when its loop reaches a declaration: `upTo` (crates/layout_facts/specs/Accepted.antt); what `Renderer` makes of it: `renderNodes`
--- (crates/renderer_rules/specs/Renderer.antt), for a whole document `drawnDue` (crates/plain_run/specs/File.antt), at every width that is accepted.
--- That the Rust's own width gives what there was before a width could be chosen is `ReferenceHolds` (crates/plain_run/specs/Reference.antt).
+-- (crates/renderer_rules/specs/Renderer.antt), for a whole document `drawnDue` (crates/plain_run/specs/File.antt), in each mode and at every width
+-- that is accepted. The old mode is the Rust's; of the new one it is said what closing adds, and that no comment is left.
+-- That the Rust's own choices give what there was before one could be made is `ReferenceHolds` (crates/plain_run/specs/Reference.antt).
 use mathlib.Core.Path.{_≡_}
 use mathlib.Core.Bool.{true, false}
 use mathlib.Core.List.{List}
@@ -14,11 +15,12 @@ use Rattle.rows.specs.declared.units.Bytes.{Bytes}
 use Rattle.state.specs.Act.{Out}
 use Rattle.comments.specs.Listed.{commentsOf, given}
 use Rattle.layout.specs.Layout.{fmtParsed}
-use Rattle.layout_facts.specs.Accepted.{fresh, upTo}
+use Rattle.layout_facts.specs.Accepted.{fresh, upTo, wholeRule}
 use Rattle.cut_rule.specs.Run.{writeFront}
+use Rattle.cut_rule.specs.States.{OLD-MODE, NEW-MODE}
 use Rattle.plain_run.specs.Demands.{LaidWithinLimits}
 use Rattle.plain_run.specs.Reference.{ReferenceHolds}
-use Rattle.plain_run.specs.File.{FileChoice, built, drawnDue}
+use Rattle.plain_run.specs.File.{FileChoice, built, drawnDue, OldModeIsFmtParsed, NewModeLeavesNone}
 use Rattle.layout_call.specs.declared.LayoutState.{LayoutState}
 use Rattle.layout_call.specs.declared.Laying.the-variants as laying
 use Rattle.layout_call.specs.Steps.{tree, declared}
@@ -40,17 +42,23 @@ pub record LaidOutAs (b : List ℕ) (o : Out) (store : List ℕ) (t : LayoutStat
   pub placed-due : t .placed ≡ o .placed
   pub left-due : left ≡ length (commentsOf b) - o .placed
 
--- a layout call from fresh up to declaration n: "those `fmt_parsed` has when its loop reaches that declaration"
+-- a layout call from fresh up to declaration n, in either mode: "those `fmt_parsed` has when its loop reaches that declaration"
 abbrev pub AtStopDue : Type 0
-AtStopDue = (s b store : List ℕ) (n : ℕ) (t : LayoutState) (left : ℕ) (store2 : List ℕ)
-    → LayoutCalled s b freshLayout (record { stop = n; close = false }) store (laying.Laid t left) store2
+AtStopDue = (s b store : List ℕ) (mode n : ℕ) (t : LayoutState) (left : ℕ) (store2 : List ℕ)
+    → LayoutCalled s b freshLayout (record { stop = n; close = false; mode = mode }) store (laying.Laid t left) store2
     → LaidOutAs b (upTo (given s b) (tree s b) (take n (declared s b)) fresh) store t left store2
 
--- and closing: those that it has in the end
+-- and closing in the old mode: those that it has in the end
 abbrev pub ClosedDue : Type 0
 ClosedDue = (s b store : List ℕ) (t : LayoutState) (left : ℕ) (store2 : List ℕ)
-    → LayoutCalled s b freshLayout (record { stop = length (declared s b); close = true }) store (laying.Laid t left) store2
+    → LayoutCalled s b freshLayout (record { stop = length (declared s b); close = true; mode = OLD-MODE }) store (laying.Laid t left) store2
     → LaidOutAs b (fmtParsed (given s b) (tree s b) fresh) store t left store2
+
+-- and in the new mode: the same, with every comment that waits before the final `Line`; "0 left"
+abbrev pub ClosedKeepingDue : Type 0
+ClosedKeepingDue = (s b store : List ℕ) (t : LayoutState) (left : ℕ) (store2 : List ℕ)
+    → LayoutCalled s b freshLayout (record { stop = length (declared s b); close = true; mode = NEW-MODE }) store (laying.Laid t left) store2
+    → LaidOutAs b (wholeRule (given s b) (tree s b) true fresh) store t left store2 × (left ≡ 0)
 
 -- ---- rendering
 -- the marks, and the text at the start of the output; behind them both are as they were
@@ -59,21 +67,21 @@ pub record DrawnAs (s b : List ℕ) (c : FileChoice) (marks out : List ℕ) (byt
   pub bytes-due : bytes ≡ length (drawnDue s b c .text)
   pub text-due : out2 ≡ writeFront (drawnDue s b c .text) out
 
--- a rendering call from fresh over all rows that such a layout call left, at the width that it chose
+-- a rendering call from fresh over all rows that such a layout call left, in the mode and at the width that the two chose
 abbrev pub RenderedDue : Type 0
-RenderedDue = (s b store : List ℕ) (t : LayoutState) (left : ℕ) (store2 : List ℕ)
-    → LayoutCalled s b freshLayout (record { stop = length (declared s b); close = true }) store (laying.Laid t left) store2
+RenderedDue = (s b store : List ℕ) (mode : ℕ) (t : LayoutState) (left : ℕ) (store2 : List ℕ)
+    → LayoutCalled s b freshLayout (record { stop = length (declared s b); close = true; mode = mode }) store (laying.Laid t left) store2
     → (width : ℕ) (marks out : List ℕ) (u : RenderState) (n : Bytes) (store3 marks2 out2 : List ℕ)
     → RenderCalled s b freshRender (record { stop = t .row; width = width }) store2 marks out (rendering.Written u n) store3 marks2 out2
-    → DrawnAs s b (record { width = width }) marks out (n .0) marks2 out2
+    → DrawnAs s b (record { width = width; mode = mode }) marks out (n .0) marks2 out2
 
 -- ---- a whole file
 pub record FileAs (s b : List ℕ) (c : FileChoice) (out : List ℕ) (bytes left count numbers : ℕ) (out2 : List ℕ) : Type 0 where
   pub text-due : out2 ≡ writeFront (drawnDue s b c .text) out
   pub bytes-due : bytes ≡ length (drawnDue s b c .text)
-  pub left-due : left ≡ length (commentsOf b) - built s b .placed
-  pub rows-due : count ≡ sizes (built s b .nodes)
-  pub numbers-due : numbers ≡ built s b .taken
+  pub left-due : left ≡ length (commentsOf b) - built s b c .placed
+  pub rows-due : count ≡ sizes (built s b c .nodes)
+  pub numbers-due : numbers ≡ built s b c .taken
 
 abbrev pub FileDue : Type 0
 FileDue = (s b : List ℕ) (c : FileChoice) (out : List ℕ) (n : Bytes) (left count numbers : ℕ) (out2 : List ℕ)
@@ -84,9 +92,13 @@ FileDue = (s b : List ℕ) (c : FileChoice) (out : List ℕ) (n : Bytes) (left c
 pub record Demand2 : Type 0 where
   pub at-stop : AtStopDue
   pub closed : ClosedDue
+  pub closed-keeping : ClosedKeepingDue
   pub rendered : RenderedDue
   pub file : FileDue
+  -- what a file's run builds: "equality with the Rust in the old" mode, "0 left" in the new
+  pub file-old : OldModeIsFmtParsed
+  pub file-new : NewModeLeavesNone
   -- "That no accepted tree yields deeper rows is proved."
   pub within-limits : LaidWithinLimits
-  -- "80 is the reference"
+  -- "80 is the reference", and the old mode
   pub reference : ReferenceHolds

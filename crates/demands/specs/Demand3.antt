@@ -1,8 +1,9 @@
 -- Demand 3, the cut rule, of the two public calls, `layout_call::layout_call` and `render_call::render_call`, by what they promise and nothing else:
 -- whatever list of calls a caller makes, refused ones included, in which no accepted call reads rows not yet laid out, what it then holds is what
--- the plain run of document 01 has due. proofs/Demand3.antt proves it. (Without that condition it is false: crates/cut_rule/proofs/Example.antt.)
+-- the plain run of document 01 has due, in both modes. proofs/Demand3.antt proves it. (Without that condition it is false: crates/cut_rule/proofs/Example.antt.)
 -- What is due: crates/cut_rule/specs/Plain.antt; by which rules and which table: crates/plain_run/specs/Parts.antt.
 use mathlib.Core.Path.{_≡_}
+use mathlib.Core.Bool.{true}
 use mathlib.Core.Option.{Option, none, some}
 use mathlib.Core.List.{List, [], _++_, map}
 use Prim.Native.Nat.{ℕ}
@@ -11,8 +12,10 @@ use Rattle.cut_rule.specs.Run.{Call, layoutCall, renderCall, Carried, Answer, s
 use Rattle.cut_rule.specs.Plain.{AllReadLaid, atFirst, due, plain, answersDue}
 use Rattle.cut_rule.specs.CutRule.{CommentsKept}
 use Rattle.cut_rule.specs.Callers.{afterAll, AllKept}
+use Rattle.cut_rule.specs.States.{NEW-MODE}
 use Rattle.plain_run.specs.Parts.{listed}
 use Rattle.plain_run.specs.Demands.{rulesOf}
+use Rattle.plain_run.specs.Foot.{HoldsAll}
 use Rattle.layout_call.specs.declared.LayoutState.{LayoutState}
 use Rattle.layout_call.specs.declared.LayoutArgs.{LayoutArgs}
 use Rattle.layout_call.specs.declared.Laying.{Laying}
@@ -129,3 +132,12 @@ Demand3 =
     (s b store₀ marks₀ : List ℕ) (made : List Made) → AllKept afterMade (Promised s b) (freshCaller store₀ marks₀) made
     → AllReadLaid (rulesOf s b) (start (rulesOf s b) store₀ marks₀) (map (callMade s b) made)
     → CallsCut s b store₀ marks₀ made
+
+-- ---- request 4
+-- "In the new mode a document closed by calls from fresh holds the whole list, 0 left": whatever calls it were, refused ones included
+abbrev pub CallsHoldAll : Type 0
+CallsHoldAll =
+    (s b store₀ marks₀ : List ℕ) (made : List Made) → AllKept afterMade (Promised s b) (freshCaller store₀ marks₀) made
+    → afterAll afterMade (freshCaller store₀ marks₀) made .layout-state .closed ≡ true
+    → afterAll afterMade (freshCaller store₀ marks₀) made .layout-state .mode ≡ NEW-MODE
+    → HoldsAll s b (held s b (afterAll afterMade (freshCaller store₀ marks₀) made))

@@ -42,9 +42,9 @@ pub record Linked1 : Type 0 where
   pub check : (s b out out2 : List ℕ) → length out ≡ 4
       → out2 ≡ toldRead (outcome (readAll s b)) (length (declared s b)) out
       → Told readNumbers (readRefusal (readAll s b)) out2 (Unit {0})
-  pub layout : (s b store state : List ℕ) (stop close : ℕ) (out store2 out2 : List ℕ) → length out ≡ 9
-      → Lays s b store state stop close out store2 out2
-      → Told layoutNumbers (rulesOf s b .layout-refusal (layout.toArgs (layoutArgs stop close)) (layout.toState (layoutState state)) store) out2 (store2 ≡ store)
+  pub layout : (s b store state args out store2 out2 : List ℕ) → length out ≡ 10
+      → Lays s b store state args out store2 out2
+      → Told layoutNumbers (rulesOf s b .layout-refusal (layout.toArgs (layoutArgs args)) (layout.toState (layoutState state)) store) out2 (store2 ≡ store)
   pub render : (s b store marks output state args out store2 marks2 output2 out2 : List ℕ) → length out ≡ 8
       → Renders s b store marks output state args out store2 marks2 output2 out2
       → Told renderNumbers (rulesOf s b .render-refusal (render.toArgs (renderArgs args) (length output)) (render.toState (renderState state)) store marks) out2
@@ -67,15 +67,15 @@ pub record Holder : Type 0 where
 -- "Fresh is all 0"
 abbrev pub freshHolder : List ℕ → List ℕ → Holder
 freshHolder store₀ marks₀ =
-    record { store = store₀; marks = marks₀; layout-state = replicate 7 0; render-state = replicate 6 0; text = []; left = none }
+    record { store = store₀; marks = marks₀; layout-state = replicate 8 0; render-state = replicate 6 0; text = []; left = none }
 
 -- a call that was made: its arguments, and the buffers at exit, the answer's array last
 pub data LinkedCall : Type 0 where
-  laid : (stop close : ℕ) (out store2 out2 : List ℕ) → LinkedCall
+  laid : (args out store2 out2 : List ℕ) → LinkedCall
   rendered : (args output out store2 marks2 output2 out2 : List ℕ) → LinkedCall
 
 abbrev pub LinkedPromised : (s b : List ℕ) → Holder → LinkedCall → Type 0
-LinkedPromised s b w (laid stop close out store2 out2) = (length out ≡ 9) × Lays s b (w .store) (w .layout-state) stop close out store2 out2
+LinkedPromised s b w (laid args out store2 out2) = (length out ≡ 10) × Lays s b (w .store) (w .layout-state) args out store2 out2
 LinkedPromised s b w (rendered args output out store2 marks2 output2 out2) =
     (length out ≡ 8) × Renders s b (w .store) (w .marks) output (w .render-state) args out store2 marks2 output2 out2
 
@@ -85,10 +85,10 @@ ifAccepted out2 new old = cond (eqb (getD out2 0 0) 0) new old
 
 -- what the caller holds after a call: the new state is the answer from its third place on
 abbrev pub afterLinked : Holder → LinkedCall → Holder
-afterLinked w (laid stop close out store2 out2) = record {
+afterLinked w (laid args out store2 out2) = record {
   store = store2;
   marks = w .marks;
-  layout-state = ifAccepted out2 (take 7 (drop 2 out2)) (w .layout-state);
+  layout-state = ifAccepted out2 (take 8 (drop 2 out2)) (w .layout-state);
   render-state = w .render-state;
   text = w .text;
   left = ifAccepted out2 (some (getD out2 1 0)) (w .left);
@@ -104,7 +104,7 @@ afterLinked w (rendered args output out store2 marks2 output2 out2) = record {
 
 -- the same in the words of the cut rule
 abbrev pub callLinked : (s b : List ℕ) → LinkedCall → Call (rulesOf s b)
-callLinked s b (laid stop close out store2 out2) = layoutCall (layout.toArgs (layoutArgs stop close))
+callLinked s b (laid args out store2 out2) = layoutCall (layout.toArgs (layoutArgs args))
 callLinked s b (rendered args output out store2 marks2 output2 out2) = renderCall (render.toArgs (renderArgs args) (length output))
 
 abbrev pub heldLinked : (s b : List ℕ) → Holder → Carried (rulesOf s b)

@@ -27,11 +27,11 @@ use Rattle.figures.specs.Figures.{CountAnswer, countAnswer, countedAnswer}
 use Rattle.exports.specs.Numbers.{layoutState, layoutArgs, renderState, renderArgs, fileChoice, toldCall, toldFile, toldRead, talliesFrom, toldCount}
 use Rattle.exports.specs.Calls.{Lays, Renders, FormatsFile}
 
-pub lays : (s b store state : List ℕ) (stop close : ℕ) (out store2 out2 : List ℕ) (z : LayoutState) (a : LayoutArgs) (r q : Laying)
-    → z ≡ layoutState state → a ≡ layoutArgs stop close → layout.LayoutCalled s b z a store r store2 → r ≡ q
+pub lays : (s b store state args out store2 out2 : List ℕ) (z : LayoutState) (a : LayoutArgs) (r q : Laying)
+    → z ≡ layoutState state → a ≡ layoutArgs args → layout.LayoutCalled s b z a store r store2 → r ≡ q
     → out2 ≡ toldCall s b (laying.layingAnswer s b q) out
-    → Lays s b store state stop close out store2 out2
-lays s b store state stop close out store2 out2 z a r q e f p g h =
+    → Lays s b store state args out store2 out2
+lays s b store state args out store2 out2 z a r q e f p g h =
     let c = rw (e, f, g) at p in
     record { store-left = c .store-left; told-as = h ∙ ap (λ (a : cut.Answer (rulesOf s b)). toldCall s b a out) (c .answer) }
 

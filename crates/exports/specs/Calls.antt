@@ -12,9 +12,9 @@ use Rattle.file.specs.Whole as whole
 use Rattle.exports.specs.Numbers.{layoutState, layoutArgs, renderState, renderArgs, fileChoice, toldCall, toldFile}
 
 -- a layout call: the store, and the answer's numbers
-pub record Lays (s b store state : List ℕ) (stop close : ℕ) (out store2 out2 : List ℕ) : Type 0 where
-  pub store-left : store2 ≡ layoutStore (rulesOf s b) (laying.toArgs (layoutArgs stop close)) (laying.toState (layoutState state)) store
-  pub told-as : out2 ≡ toldCall s b (layoutAnswer (rulesOf s b) (laying.toArgs (layoutArgs stop close)) (laying.toState (layoutState state)) store) out
+pub record Lays (s b store state args out store2 out2 : List ℕ) : Type 0 where
+  pub store-left : store2 ≡ layoutStore (rulesOf s b) (laying.toArgs (layoutArgs args)) (laying.toState (layoutState state)) store
+  pub told-as : out2 ≡ toldCall s b (layoutAnswer (rulesOf s b) (laying.toArgs (layoutArgs args)) (laying.toState (layoutState state)) store) out
 
 -- a rendering call: the store as it was, marks, output, and the answer's numbers
 pub record Renders (s b store marks output state args out store2 marks2 output2 out2 : List ℕ) : Type 0 where

@@ -42,6 +42,7 @@ layoutState l = record {
   number = getD l 4 0;
   placed = getD l 5 0;
   position = getD l 6 0;
+  mode = getD l 7 0;
 }
 
 abbrev pub renderState : List ℕ → RenderState
@@ -55,16 +56,17 @@ renderState l = record {
 }
 
 -- ---- arguments and choices
-abbrev pub layoutArgs : ℕ → ℕ → LayoutArgs
-layoutArgs stop close = record { stop = stop; close = flag close }
+-- the declaration to stop before, whether to close, and the mode
+abbrev pub layoutArgs : List ℕ → LayoutArgs
+layoutArgs l = record { stop = getD l 0 0; close = flag (getD l 1 0); mode = getD l 2 0 }
 
 -- the row to stop before, and the width
 abbrev pub renderArgs : List ℕ → RenderArgs
 renderArgs l = record { stop = getD l 0 0; width = getD l 1 0 }
 
--- of a whole file: the width
+-- of a whole file: the width, and the mode
 abbrev pub fileChoice : List ℕ → FileChoice
-fileChoice l = record { width = getD l 0 0 }
+fileChoice l = record { width = getD l 0 0; mode = getD l 1 0 }
 
 -- ---- answers
 -- a call's answer: a refusal's number and place; or 0, the comments left or the bytes written, and the new state
@@ -81,6 +83,7 @@ toldCall s b (laidOut t n) out =
     ∷ t .cursor .number
     ∷ t .cursor .placed
     ∷ t .cursor .position
+    ∷ t .mode
     ∷ [])
 toldCall s b (written t n) out =
     sets out 0 (0 ∷ n ∷ t .pen .indent ∷ t .pen .«next_indent» ∷ t .pen .column .0 ∷ t .in-use ∷ t .row ∷ t .width ∷ [])

@@ -13,7 +13,7 @@ ghost use Rattle.exports.specs.Calls.{Lays, Renders, FormatsFile};
 use crate::count::put_counted;
 use crate::count::tallies_from;
 use crate::numbers::file_choice;
-use crate::numbers::flag;
+use crate::numbers::layout_args;
 use crate::numbers::layout_state;
 use crate::numbers::put_formatted;
 use crate::numbers::put_laid;
@@ -27,7 +27,6 @@ use file::format_file;
 use image::Answer;
 use layout_call::Document;
 use layout_call::Laying;
-use layout_call::LayoutArgs;
 use layout_call::layout_call;
 use layout_call::steps::count_declarations;
 use render_call::Rendering;
@@ -58,26 +57,23 @@ pub extern "C" fn rrufthim_check(source: &[u8], image: &[u8], out: &mut [u64; 4]
     }
 }
 
-// A layout call. The state: begun, closed, next declaration, next row, next number, comments placed, position. `out` gets the refusal's
-// number and place, or 0, the comments left and the new state.
+// A layout call. The state: begun, closed, next declaration, next row, next number, comments placed, position, mode. The arguments: the
+// declaration to stop before, whether to close, and the mode. `out` gets the refusal's number and place, or 0, the comments left and the new
+// state.
 #[no_mangle]
 pub extern "C" fn rrufthim_layout(
     source: &[u8],
     image: &[u8],
     store: &mut [u32],
-    state: &[u64; 7],
-    stop: u64,
-    close: u64,
-    out: &mut [u64; 9],
+    state: &[u64; 8],
+    args: &[u64; 3],
+    out: &mut [u64; 10],
 )
-    ensures { λ r. ⌜ Lays (now (source .entry)) (now (image .entry)) (now (store .entry)) (now (state .entry)) stop close (now (out .entry)) (now (store .exit)) (now (out .exit)) ⌝ }
+    ensures { λ r. ⌜ Lays (now (source .entry)) (now (image .entry)) (now (store .entry)) (now (state .entry)) (now (args .entry)) (now (out .entry)) (now (store .exit)) (now (out .exit)) ⌝ }
 {
     let from = layout_state(state);
-    let args = LayoutArgs {
-        stop: stop as usize,
-        close: flag(close),
-    };
-    match layout_call(source, image, store, from, args) {
+    let to = layout_args(args);
+    match layout_call(source, image, store, from, to) {
         Laying::Refused(n, p) => {
             out[0] = n as u64;
             out[1] = p as u64;
@@ -112,13 +108,13 @@ pub extern "C" fn rrufthim_render(
     }
 }
 
-// The run of one file: all is laid out and rendered, in rows and marks of its own. The choice: the width. `out` gets the refusal's number and
-// place, or 0, the bytes written, the comments left, the rows and the group numbers.
+// The run of one file: all is laid out and rendered, in rows and marks of its own. The choice: the width and the mode. `out` gets the refusal's
+// number and place, or 0, the bytes written, the comments left, the rows and the group numbers.
 #[no_mangle]
 pub extern "C" fn rrufthim_format(
     source: &[u8],
     image: &[u8],
-    choice: &[u64; 1],
+    choice: &[u64; 2],
     output: &mut [u8],
     out: &mut [u64; 5],
 )

@@ -2,8 +2,9 @@
 ghost use mathlib.Core.Path.{_≡_};
 ghost use mathlib.Core.List.{[], _∷_};
 ghost use lib.Seq.{sets};
-ghost use Rattle.exports.specs.Numbers.{flag as flagOf, bit as bitOf, layoutState, renderState, renderArgs, fileChoice};
+ghost use Rattle.exports.specs.Numbers.{flag as flagOf, bit as bitOf, layoutState, layoutArgs, renderState, renderArgs, fileChoice};
 use file::FileChoice;
+use layout_call::LayoutArgs;
 use layout_call::LayoutState;
 use render_call::RenderArgs;
 use render_call::RenderState;
@@ -11,7 +12,7 @@ use rows::units::Bytes;
 use rows::units::Columns;
 
 // A flag is yes for every number but 0.
-pub(crate) fn flag(x: u64) -> bool
+fn flag(x: u64) -> bool
     ensures { λ r. ⌜ r ≡ flagOf x ⌝ }
 {
     x != 0
@@ -26,7 +27,7 @@ fn bit(x: bool) -> u64
     0
 }
 
-pub(crate) fn layout_state(from: &[u64; 7]) -> LayoutState
+pub(crate) fn layout_state(from: &[u64; 8]) -> LayoutState
     ensures { λ r. ⌜ r ≡ layoutState (now (from .entry)) ⌝ }
 {
     LayoutState {
@@ -37,6 +38,17 @@ pub(crate) fn layout_state(from: &[u64; 7]) -> LayoutState
         number: from[4] as usize,
         placed: from[5] as usize,
         position: from[6] as usize,
+        mode: from[7] as usize,
+    }
+}
+
+pub(crate) fn layout_args(from: &[u64; 3]) -> LayoutArgs
+    ensures { λ r. ⌜ r ≡ layoutArgs (now (from .entry)) ⌝ }
+{
+    LayoutArgs {
+        stop: from[0] as usize,
+        close: flag(from[1]),
+        mode: from[2] as usize,
     }
 }
 
@@ -62,17 +74,18 @@ pub(crate) fn render_args(from: &[u64; 2]) -> RenderArgs
     }
 }
 
-pub(crate) fn file_choice(from: &[u64; 1]) -> FileChoice
+pub(crate) fn file_choice(from: &[u64; 2]) -> FileChoice
     ensures { λ r. ⌜ r ≡ fileChoice (now (from .entry)) ⌝ }
 {
     FileChoice {
         width: from[0] as usize,
+        mode: from[1] as usize,
     }
 }
 
 // What a layout call that is accepted tells.
-pub(crate) fn put_laid(out: &mut [u64; 9], t: LayoutState, left: usize)
-    ensures { λ r. ⌜ now (out .exit) ≡ sets (now (out .entry)) 0 (0 ∷ left ∷ bitOf (t .begun) ∷ bitOf (t .closed) ∷ t .declaration ∷ t .row ∷ t .number ∷ t .placed ∷ t .position ∷ []) ⌝ }
+pub(crate) fn put_laid(out: &mut [u64; 10], t: LayoutState, left: usize)
+    ensures { λ r. ⌜ now (out .exit) ≡ sets (now (out .entry)) 0 (0 ∷ left ∷ bitOf (t .begun) ∷ bitOf (t .closed) ∷ t .declaration ∷ t .row ∷ t .number ∷ t .placed ∷ t .position ∷ t .mode ∷ []) ⌝ }
 {
     out[0] = 0;
     out[1] = left as u64;
@@ -83,6 +96,7 @@ pub(crate) fn put_laid(out: &mut [u64; 9], t: LayoutState, left: usize)
     out[6] = t.number as u64;
     out[7] = t.placed as u64;
     out[8] = t.position as u64;
+    out[9] = t.mode as u64;
 }
 
 // What a rendering call that is accepted tells.

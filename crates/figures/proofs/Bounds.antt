@@ -14,13 +14,13 @@ use Rattle.comments.specs.Listed.{commentsOf, given}
 use Rattle.refusals.specs.Refusals.{Refusal, first, refuseIf}
 use Rattle.refusals.proofs.Groups.{passes-line, passes-others, not-if}
 use Rattle.renderer_rules.proofs.Names.{renders-same}
-use Rattle.cut_rule.specs.States.{renderFresh}
+use Rattle.cut_rule.specs.States.{renderFresh, OLD-MODE}
 use Rattle.layout_facts.specs.Accepted.{Stands}
 use Rattle.layout_facts.specs.Accepted as limits
-use Rattle.layout_facts.proofs.Limits.{whole-within}
-use Rattle.layout_facts.proofs.Numbers.{numbers-below}
+use Rattle.layout_facts.proofs.Limits.{closed-within}
+use Rattle.layout_facts.proofs.Numbers.{whole-below}
 use Rattle.cut_rule.specs.Limits.{REFERENCE-WIDTH}
-use Rattle.plain_run.specs.Parts.{acceptedTree, page, rendererOf}
+use Rattle.plain_run.specs.Parts.{acceptedTree, keepsWaiting, page, rendererOf}
 use Rattle.plain_run.specs.File.{referenceChoice, fileRows, fileMarks, built, marksDue, drawnDue, laidRefusal, fileRefusal}
 use Rattle.plain_run.specs.FileLimits.{AreBytes}
 use Rattle.plain_run.proofs.Past.{renders-length}
@@ -40,7 +40,7 @@ module _ (s b : List ℕ) where
   tens = refuseIf (ltb FILE-OUTPUT textDue) 10 textDue ∷ []
 
   abbrev pub nines : List (Option Refusal)
-  nines = refuseIf (ltb fileMarks (marksDue s b)) 9 (marksDue s b) ∷ tens
+  nines = refuseIf (ltb fileMarks (marksDue s b referenceChoice)) 9 (marksDue s b referenceChoice) ∷ tens
 
   module _ (passes : fileRefusal s b referenceChoice FILE-OUTPUT ≡ none) where
     laid-passes : laidRefusal s b referenceChoice fileRows ≡ none
@@ -49,27 +49,27 @@ module _ (s b : List ℕ) where
     later : first nines ≡ none
     later = passes-others (laidRefusal s b referenceChoice fileRows) nines passes
 
-    marks-fit : marksDue s b ≤ fileMarks
-    marks-fit = ltb-false fileMarks (marksDue s b) (not-if (ltb fileMarks (marksDue s b)) 9 (marksDue s b) (passes-line _ tens later))
+    marks-fit : marksDue s b referenceChoice ≤ fileMarks
+    marks-fit = ltb-false fileMarks (marksDue s b referenceChoice) (not-if (ltb fileMarks (marksDue s b referenceChoice)) 9 (marksDue s b referenceChoice) (passes-line _ tens later))
 
     text-fits : textDue ≤ FILE-OUTPUT
     text-fits =
         ltb-false FILE-OUTPUT textDue
         (not-if (ltb FILE-OUTPUT textDue) 10 textDue
-        (passes-line _ [] (passes-others (refuseIf (ltb fileMarks (marksDue s b)) 9 (marksDue s b)) tens later)))
+        (passes-line _ [] (passes-others (refuseIf (ltb fileMarks (marksDue s b referenceChoice)) 9 (marksDue s b referenceChoice)) tens later)))
 
   -- as many marks as are needed
-  marks-many : length (drawnDue s b referenceChoice .marks) ≡ marksDue s b
+  marks-many : length (drawnDue s b referenceChoice .marks) ≡ marksDue s b referenceChoice
   marks-many =
-      renders-length (page REFERENCE-WIDTH s b) (built s b .nodes) true (rendererOf (renderFresh .pen) (replicate (marksDue s b) 0))
-      ∙ length-replicate (marksDue s b) 0
+      renders-length (page REFERENCE-WIDTH s b) (built s b referenceChoice .nodes) true (rendererOf (renderFresh .pen) (replicate (marksDue s b referenceChoice) 0))
+      ∙ length-replicate (marksDue s b referenceChoice) 0
 
   -- ---- what is known of a tree that stands in its image
   module _ (at : ℕ) (a : Stands (given s b) (acceptedTree b (readAll s b)) at) where
-    laid : limits.Within (given s b) (built s b)
-    laid = whole-within a
+    laid : limits.Within (given s b) (built s b referenceChoice)
+    laid = closed-within a (keepsWaiting OLD-MODE)
 
-    pub placed-in : built s b .placed ≤ length (commentsOf b)
+    pub placed-in : built s b referenceChoice .placed ≤ length (commentsOf b)
     placed-in = laid .placed
 
     module _ (passes : fileRefusal s b referenceChoice FILE-OUTPUT ≡ none) where
@@ -94,19 +94,19 @@ module _ (s b : List ℕ) where
 
       -- a mark at 1 is that of a number given
       wrapped-given : figuresOf s b .wrapped ≤ figuresOf s b .given
-      wrapped-given = occurs-below (drawnDue s b referenceChoice .marks) (built s b .taken) cleared
+      wrapped-given = occurs-below (drawnDue s b referenceChoice .marks) (built s b referenceChoice .taken) cleared
         where
-          cleared : (i : ℕ) → built s b .taken ≤ i → getD (drawnDue s b referenceChoice .marks) i 0 ≡ 0
+          cleared : (i : ℕ) → built s b referenceChoice .taken ≤ i → getD (drawnDue s b referenceChoice .marks) i 0 ≡ 0
           cleared i h =
-              renders-same i (built s b .nodes) (page REFERENCE-WIDTH s b) true (rendererOf (renderFresh .pen) (replicate (marksDue s b) 0))
-              (numbers-below (given s b) (acceptedTree b (readAll s b)) i h) .mark
-              ∙ cleared-at (marksDue s b) i
+              renders-same i (built s b referenceChoice .nodes) (page REFERENCE-WIDTH s b) true (rendererOf (renderFresh .pen) (replicate (marksDue s b referenceChoice) 0))
+              (whole-below (given s b) (acceptedTree b (readAll s b)) (keepsWaiting OLD-MODE) i h) .mark
+              ∙ cleared-at (marksDue s b referenceChoice) i
 
       small-in : AreBytes b → Small (figuresOf s b)
       small-in bytes =
           let t = text-fits passes in
           let n = occurs-few 0x0A (drawnDue s b referenceChoice .text) in
-          let k = file-column-limited REFERENCE-WIDTH s b (replicate (marksDue s b) 0) referenceChoice bytes (laid-passes passes) in
+          let k = file-column-limited REFERENCE-WIDTH s b (replicate (marksDue s b referenceChoice) 0) referenceChoice bytes (laid-passes passes) in
           let c = a .count in
           let p = placed-in in
           let g = laid .numbers in

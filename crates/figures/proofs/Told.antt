@@ -85,7 +85,7 @@ or-nothing none = refl
 
 module _ (s b : List ℕ) where
   abbrev leftDue : ℕ
-  leftDue = length (commentsOf b) - built s b .placed
+  leftDue = length (commentsOf b) - built s b referenceChoice .placed
 
   abbrev textDue : ℕ
   textDue = length (drawnDue s b referenceChoice .text)
@@ -98,7 +98,7 @@ module _ (s b : List ℕ) where
   pub check-refused : (t : Tallies) (n p : ℕ) → answerOf (readAll s b) ≡ checked.Refused n p → countedAnswer (answer.Refused n p) ≡ countAnswer s b t
   check-refused t n p e =
       file-refused t n p
-      (ap (λ (x : Option Refusal). first (first (x ∷ refuseIf (ltb fileRows (rowsDue s b)) 8 (rowsDue s b) ∷ []) ∷ nines s b))
+      (ap (λ (x : Option Refusal). first (first (x ∷ refuseIf (ltb fileRows (rowsDue s b referenceChoice)) 8 (rowsDue s b referenceChoice) ∷ []) ∷ nines s b))
       (read-refused (readAll s b) n p e))
 
   -- ---- the run in cleared rows and marks
@@ -114,18 +114,18 @@ module _ (s b : List ℕ) where
     table-same = λ i. refusalIn s b referenceChoice (rows-many i) (marks-many i) (sym room i)
 
     told : formattedAnswer (formattedOf r) ≡ fileAnswer s b referenceChoice FILE-OUTPUT
-    told = ran .answer ∙ ap (λ (o : Option Refusal). fileAnswerBy o (formatted textDue leftDue (rowsDue s b) (built s b .taken))) table-same
+    told = ran .answer ∙ ap (λ (o : Option Refusal). fileAnswerBy o (formatted textDue leftDue (rowsDue s b referenceChoice) (built s b referenceChoice .taken))) table-same
 
     -- 8 to 10
     pub run-refused : (t : Tallies) (n p : ℕ) → r ≡ run.Refused n p → countedAnswer (answer.Refused n p) ≡ countAnswer s b t
     run-refused t n p e =
         file-refused t n p
-        (refusal-told (fileRefusal s b referenceChoice FILE-OUTPUT) textDue leftDue (rowsDue s b) (built s b .taken) (at n p) (ap (λ (x : FileRun). formattedAnswer (formattedOf x)) (sym e) ∙ told))
+        (refusal-told (fileRefusal s b referenceChoice FILE-OUTPUT) textDue leftDue (rowsDue s b referenceChoice) (built s b referenceChoice .taken) (at n p) (ap (λ (x : FileRun). formattedAnswer (formattedOf x)) (sym e) ∙ told))
 
     module _ (bytes : Bytes) (left rows′ numbers : ℕ) (widest : Columns) (is : r ≡ run.Text bytes left rows′ numbers widest) where
-      known : TextTold (fileRefusal s b referenceChoice FILE-OUTPUT) textDue leftDue (rowsDue s b) (built s b .taken) (bytes .0) left rows′ numbers
+      known : TextTold (fileRefusal s b referenceChoice FILE-OUTPUT) textDue leftDue (rowsDue s b referenceChoice) (built s b referenceChoice .taken) (bytes .0) left rows′ numbers
       known =
-          text-told (fileRefusal s b referenceChoice FILE-OUTPUT) textDue leftDue (rowsDue s b) (built s b .taken) (bytes .0) left rows′ numbers
+          text-told (fileRefusal s b referenceChoice FILE-OUTPUT) textDue leftDue (rowsDue s b referenceChoice) (built s b referenceChoice .taken) (bytes .0) left rows′ numbers
           (ap (λ (x : FileRun). formattedAnswer (formattedOf x)) (sym is) ∙ told)
 
       bytes-due : bytes .0 ≡ textDue
@@ -134,7 +134,7 @@ module _ (s b : List ℕ) where
       left-due : left ≡ leftDue
       left-due = known .left
 
-      numbers-due : numbers ≡ built s b .taken
+      numbers-due : numbers ≡ built s b referenceChoice .taken
       numbers-due = known .numbers
 
       -- nothing refuses
@@ -196,7 +196,7 @@ module _ (s b : List ℕ) where
           figures-due =
               let e = n ∙ ap (occurs 0x0A) text-due in
               let g = w ∙ wrapped-due in
-              let h : d .comments - left ≡ built s b .placed = omega (arith, left-due, comments-count a, placed-in s b (d .tree) (stands a)) in
+              let h : d .comments - left ≡ built s b referenceChoice .placed = omega (arith, left-due, comments-count a, placed-in s b (d .tree) (stands a)) in
               λ i.
               record {
                 bytes = bytes-due i;

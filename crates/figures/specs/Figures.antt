@@ -26,16 +26,16 @@ occurs x [] = 0
 occurs x (y ∷ ys) = cond (eqb x y) (suc (occurs x ys)) (occurs x ys)
 
 -- "text bytes, newlines, greatest value `column` takes, group numbers given, groups wrapped (marks at 1), comments placed, comments left", by
--- what `fmt_parsed` builds and `Renderer` makes of it
+-- what `fmt_parsed` builds, the mode being the old one, and `Renderer` makes of it
 abbrev pub figuresOf : List ℕ → List ℕ → Figures
 figuresOf s b = record {
   bytes = length (drawnDue s b referenceChoice .text);
   newlines = occurs 0x0A (drawnDue s b referenceChoice .text);
   column = columnDue s b referenceChoice;
-  given = built s b .taken;
+  given = built s b referenceChoice .taken;
   wrapped = occurs 1 (drawnDue s b referenceChoice .marks);
-  placed = built s b .placed;
-  left = length (commentsOf b) - built s b .placed;
+  placed = built s b referenceChoice .placed;
+  left = length (commentsOf b) - built s b referenceChoice .placed;
 }
 
 -- 14 "after all of 01's"

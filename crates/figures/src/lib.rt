@@ -16,6 +16,7 @@ use file::run_file;
 use image::Answer;
 use image::check;
 use layout_call::Document;
+use layout_call::modes::OLD_MODE;
 use tallies::Figures;
 use tallies::Fraction;
 use tallies::Tallies;
@@ -68,6 +69,7 @@ fn count_accepted(source: &[u8], image: &[u8], doc: Document, t: Tallies) -> Cou
     let mut out = output();
     let choice = FileChoice {
         width: REFERENCE_WIDTH,
+        mode: OLD_MODE,
     };
     match run_file(source, image, &mut store, &mut used, &mut out, doc, choice) {
         FileRun::Refused(number, place) => Counted::Refused(number, place),

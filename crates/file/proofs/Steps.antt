@@ -4,9 +4,9 @@ use mathlib.Core.Path.{_≡_, sym, ap, ap₂, _∙_}
 use mathlib.Core.Bool.{Bool, true, false, not}
 use mathlib.Core.Option.{Option, none, some}
 use mathlib.Core.List.{List, [], _∷_}
-use Prim.Native.Nat.{ℕ, _-_}
+use Prim.Native.Nat.{ℕ, _-_, _≤_, _<_}
 use native.Mathlib.Omega.{arith}
-use borrow.Author.Tests.{not-true, not-false}
+use borrow.Author.Tests.{lt-ltb, le-ltb, not-true, not-false}
 use lib.Dec.{ltb}
 use lib.ListN.{length, take}
 use Rattle.image.specs.Read.{readAll, answerOf}
@@ -26,7 +26,7 @@ use Rattle.cut_rule.specs.Parts.{withCleared, widthLine, beforeMarks}
 use Rattle.cut_rule.proofs.Answers.{refused-told, LaidTold, laid-told, written-told}
 use Rattle.plain_run.specs.Parts.{partsOf, widestDrawn}
 use Rattle.plain_run.specs.Demands.{rulesOf, closingAt}
-use Rattle.plain_run.specs.File.{FileChoice, renderChoice, fileRows, fileMarks, built, rowsDue, marksDue, drawnDue, columnDue, laidRefusal, refusalIn, fileRefusal, formatted, fileAnswerBy, storeLeft, marksLeft, outputLeft}
+use Rattle.plain_run.specs.File.{FileChoice, modeLine, renderChoice, fileRows, fileMarks, built, rowsDue, marksDue, drawnDue, columnDue, laidRefusal, refusalIn, fileRefusal, formatted, fileAnswerBy, storeLeft, marksLeft, outputLeft}
 use Rattle.plain_run.proofs.Refused.{read-refused, read-accepted}
 use Rattle.plain_run.proofs.File.{stateDue, renderedDue, layout-answer-due, layout-store-due, render-early-due, render-answer-due, render-marks-due, render-output-due, render-widest-due}
 use Rattle.layout_call.specs.Calls as layouts
@@ -54,7 +54,7 @@ at n p = record { number = n; place = p }
 
 module _ (s b : List ℕ) (c : FileChoice) where
   abbrev leftDue : ℕ
-  leftDue = length (commentsOf b) - built s b .placed
+  leftDue = length (commentsOf b) - built s b c .placed
 
   abbrev textDue : ℕ
   textDue = length (drawnDue s b c .text)
@@ -65,14 +65,14 @@ module _ (s b : List ℕ) (c : FileChoice) where
       let r : fileRefusal s b c (length out) ≡ some (at n p) =
       ap (λ (x : Option Refusal).
       first
-      (first (x ∷ widthLine (renderChoice c) renderFresh ∷ refuseIf (ltb fileRows (rowsDue s b)) 8 (rowsDue s b) ∷ [])
-      ∷ refuseIf (ltb fileMarks (marksDue s b)) 9 (marksDue s b)
+      (first (x ∷ modeLine c ∷ widthLine (renderChoice c) renderFresh ∷ refuseIf (ltb fileRows (rowsDue s b c)) 8 (rowsDue s b c) ∷ [])
+      ∷ refuseIf (ltb fileMarks (marksDue s b c)) 9 (marksDue s b c)
       ∷ refuseIf (ltb (length out) textDue) 10 textDue
       ∷ []))
       (read-refused (readAll s b) n p e)
       in
       record {
-        answer = sym (ap (λ (x : Option Refusal). fileAnswerBy x (formatted textDue leftDue (rowsDue s b) (built s b .taken))) r);
+        answer = sym (ap (λ (x : Option Refusal). fileAnswerBy x (formatted textDue leftDue (rowsDue s b c) (built s b c .taken))) r);
         output-left = sym (ap (λ (x : Option Refusal). unless x out (writeFront (drawnDue s b c .text) out)) r);
       }
 
@@ -82,7 +82,7 @@ module _ (s b : List ℕ) (c : FileChoice) where
     first-refused : (r : Refusal) → laidRefusal s b c (tests.rowsIn store) ≡ some r → refusalIn s b c (tests.rowsIn store) (length marks) (length out) ≡ some r
     first-refused r e =
         ap (λ (x : Option Refusal).
-        first (x ∷ refuseIf (ltb (length marks) (marksDue s b)) 9 (marksDue s b) ∷ refuseIf (ltb (length out) textDue) 10 textDue ∷ []))
+        first (x ∷ refuseIf (ltb (length marks) (marksDue s b c)) 9 (marksDue s b c) ∷ refuseIf (ltb (length out) textDue) 10 textDue ∷ []))
         e
 
     -- rows and marks as many as a whole file has: its run
@@ -96,7 +96,7 @@ module _ (s b : List ℕ) (c : FileChoice) where
         ap₂ (λ (x y : ℕ). refusalIn s b c x y (length out)) rowed marked
         in
         record {
-          answer = ap formattedAnswer e ∙ f .answer ∙ ap (λ (x : Option Refusal). fileAnswerBy x (formatted textDue leftDue (rowsDue s b) (built s b .taken))) table-same;
+          answer = ap formattedAnswer e ∙ f .answer ∙ ap (λ (x : Option Refusal). fileAnswerBy x (formatted textDue leftDue (rowsDue s b c) (built s b c .taken))) table-same;
           output-left = f .output-left ∙ ap (λ (x : Option Refusal). unless x out (writeFront (drawnDue s b c .text) out)) table-same;
         }
 
@@ -106,135 +106,151 @@ module _ (s b : List ℕ) (c : FileChoice) where
     laid-refused n p store2 e h =
         let r = first-refused (at n p) e in
         record {
-          answer = sym (ap (λ (x : Option Refusal). fileAnswerBy x (formatted textDue leftDue (rowsDue s b) (built s b .taken))) r);
+          answer = sym (ap (λ (x : Option Refusal). fileAnswerBy x (formatted textDue leftDue (rowsDue s b c) (built s b c .taken))) r);
           widest = sym (ap (λ (x : Option Refusal). unless x 0 (columnDue s b c)) r);
           store-left = h;
           marks-left = sym (ap (λ (x : Option Refusal). unless x marks (writeFront (drawnDue s b c .marks) marks)) r);
           output-left = sym (ap (λ (x : Option Refusal). unless x out (writeFront (drawnDue s b c .text) out)) r);
         }
 
-    -- ---- 15
-    pub width-refused : (n tree : ℕ) (x : Bool) → answerOf (readAll s b) ≡ checked.Accepted n tree → x ≡ not (any (tests.widthTests (c .width) 0))
-        → not x ≡ true
-        → RunsFile s b c store marks out (run.Refused 15 0) store marks out
-    width-refused n tree x e f h =
-        let t : any (tests.widthTests (c .width) 0) ≡ true = not-false (any (tests.widthTests (c .width) 0)) (sym f ∙ not-true x h) in
-        let r : laidRefusal s b c (tests.rowsIn store) ≡ some (at 15 0) =
-        ap₂ (λ (y : Option Refusal) (z : Bool). first (y ∷ refuseIf z 15 0 ∷ refuseIf (ltb (tests.rowsIn store) (rowsDue s b)) 8 (rowsDue s b) ∷ []))
-        (read-accepted (readAll s b) n tree e)
-        t
-        in
-        laid-refused 15 0 store r (sym (ap (λ (y : Option Refusal). unless y store (writeFront (rows (built s b .nodes) 0) store)) r))
+    -- refused before the layout call: the rows stay as they were
+    before-layout : (n p : ℕ) → laidRefusal s b c (tests.rowsIn store) ≡ some (at n p) → RunsFile s b c store marks out (run.Refused n p) store marks out
+    before-layout n p r =
+        laid-refused n p store r (sym (ap (λ (y : Option Refusal). unless y store (writeFront (rows (built s b c .nodes) 0) store)) r))
 
-    -- ---- the layout call, where 15 does not refuse
-    module _ (x : Bool) (fits : x ≡ not (any (tests.widthTests (c .width) 0))) (passed : not x ≡ false) (state : LayoutState) (q : LayoutArgs) (r : Laying) (store2 : List ℕ) (fresh : layouts.toState state ≡ layoutFresh)
-        (all : layouts.toArgs q ≡ closingAt (length (declared s b))) (call : LayoutCalled s b state q store r store2) where
-      legal : widthLine (renderChoice c) renderFresh ≡ none
-      legal = ap (λ (t : Bool). refuseIf t 15 0) (not-true (any (tests.widthTests (c .width) 0)) (sym fits ∙ not-false x passed))
+    abbrev eight : Option Refusal
+    eight = refuseIf (ltb (tests.rowsIn store) (rowsDue s b c)) 8 (rowsDue s b c)
 
-      layout-answer : layouts.layingAnswer s b r ≡ answerBy (rulesOf s b) (laidRefusal s b c (tests.rowsIn store)) (laidOut (stateDue s b) leftDue)
-      layout-answer =
-          call .answer
-          ∙ ap₂ (λ (t : states.LayoutState) (x : rules.LayoutArgs states.LayoutChoice). layoutAnswer (rulesOf s b) x t store) fresh all
-          ∙ layout-answer-due s b c legal store
+    -- ---- 12
+    pub mode-refused : (n tree : ℕ) → answerOf (readAll s b) ≡ checked.Accepted n tree → states.NEW-MODE < c .mode
+        → RunsFile s b c store marks out (run.Refused 12 0) store marks out
+    mode-refused n tree e h =
+        let over : modeLine c ≡ some (at 12 0) = rw (lt-ltb states.NEW-MODE (c .mode) h) in
+        before-layout 12 0
+        (ap₂ (λ (y z : Option Refusal). first (y ∷ z ∷ widthLine (renderChoice c) renderFresh ∷ eight ∷ [])) (read-accepted (readAll s b) n tree e) over)
 
-      layout-left : store2 ≡ storeLeft s b c store
-      layout-left =
-          call .store-left
-          ∙ ap₂ (λ (t : states.LayoutState) (x : rules.LayoutArgs states.LayoutChoice). layoutStore (rulesOf s b) x t store) fresh all
-          ∙ layout-store-due s b c legal store
+    module _ (mode : c .mode ≤ states.NEW-MODE) where
+      moded : modeLine c ≡ none
+      moded = rw (le-ltb states.NEW-MODE (c .mode) mode)
 
-      never-laid : (x : Refusal) (t : states.LayoutState) (l : ℕ) → _≡_ {A = Answer (rulesOf s b)} (refused x) (laidOut t l) → ⊥
-      never-laid x t l e = let z : _≡_ {A = ℕ} 0 1 = cc in omega arith
+      -- ---- 15
+      pub width-refused : (n tree : ℕ) (x : Bool) → answerOf (readAll s b) ≡ checked.Accepted n tree → x ≡ not (any (tests.widthTests (c .width) 0))
+          → not x ≡ true
+          → RunsFile s b c store marks out (run.Refused 15 0) store marks out
+      width-refused n tree x e f h =
+          let t : any (tests.widthTests (c .width) 0) ≡ true = not-false (any (tests.widthTests (c .width) 0)) (sym f ∙ not-true x h) in
+          before-layout 15 0
+          (λ i. first (read-accepted (readAll s b) n tree e i ∷ moded i ∷ refuseIf (t i) 15 0 ∷ eight ∷ []))
 
-      pub layout-refused : (n p : ℕ) → r ≡ laying.Refused n p → RunsFile s b c store marks out (run.Refused n p) store2 marks out
-      layout-refused n p e =
-          laid-refused n p store2
-          (refused-told (rulesOf s b) (laidRefusal s b c (tests.rowsIn store)) (laidOut (stateDue s b) leftDue) (at n p) (ap (layouts.layingAnswer s b) (sym e) ∙ layout-answer)
-          (never-laid (at n p) (stateDue s b) leftDue))
-          layout-left
+      -- ---- the layout call, where neither refuses
+      module _ (x : Bool) (fits : x ≡ not (any (tests.widthTests (c .width) 0))) (passed : not x ≡ false) (state : LayoutState) (q : LayoutArgs) (r : Laying) (store2 : List ℕ) (fresh : layouts.toState state ≡ layoutFresh)
+          (all : layouts.toArgs q ≡ closingAt (c .mode) (length (declared s b))) (call : LayoutCalled s b state q store r store2) where
+        legal : widthLine (renderChoice c) renderFresh ≡ none
+        legal = ap (λ (t : Bool). refuseIf t 15 0) (not-true (any (tests.widthTests (c .width) 0)) (sym fits ∙ not-false x passed))
 
-      -- ---- the rendering call
-      module _ (t : LayoutState) (left : ℕ) (is : r ≡ laying.Laid t left) (pen : RenderState) (blank : renders.toState pen ≡ renderFresh) where
-        told : LaidTold (rulesOf s b) (laidRefusal s b c (tests.rowsIn store)) (layouts.toState t) left (stateDue s b) leftDue
-        told = laid-told (rulesOf s b) (laidRefusal s b c (tests.rowsIn store)) (layouts.toState t) left (stateDue s b) leftDue (ap (layouts.layingAnswer s b) (sym is) ∙ layout-answer)
+        layout-answer : layouts.layingAnswer s b r ≡ answerBy (rulesOf s b) (laidRefusal s b c (tests.rowsIn store)) (laidOut (stateDue s b c) leftDue)
+        layout-answer =
+            call .answer
+            ∙ ap₂ (λ (t : states.LayoutState) (x : rules.LayoutArgs states.LayoutChoice). layoutAnswer (rulesOf s b) x t store) fresh all
+            ∙ layout-answer-due s b c moded legal store
 
-        to-row : t .row ≡ rowsDue s b
-        to-row = ap (λ (x : states.LayoutState). x .cursor .row) (told .state)
+        layout-left : store2 ≡ storeLeft s b c store
+        layout-left =
+            call .store-left
+            ∙ ap₂ (λ (t : states.LayoutState) (x : rules.LayoutArgs states.LayoutChoice). layoutStore (rulesOf s b) x t store) fresh all
+            ∙ layout-store-due s b c moded legal store
 
-        -- what the call had is what is due
-        same : {A : Type 0} (f : states.RenderState → RenderArgs → List ℕ → A)
-            → f (renders.toState pen) (record { stop = t .row; width = c .width }) store2 ≡ f renderFresh (record { stop = rowsDue s b; width = c .width }) (storeLeft s b c store)
-        same f = λ i. f (blank i) (record { stop = to-row i; width = c .width }) (layout-left i)
+        never-laid : (x : Refusal) (t : states.LayoutState) (l : ℕ) → _≡_ {A = Answer (rulesOf s b)} (refused x) (laidOut t l) → ⊥
+        never-laid x t l e = let z : _≡_ {A = ℕ} 0 1 = cc in omega arith
 
-        -- the rows that the layout call leaves are right
-        pub drawn-starts : Checked s b pen (record { stop = t .row; width = c .width }) store2 marks
-        drawn-starts = record {
-          passes =
-              same (λ x q rows. first (beforeMarks (partsOf s b) (renders.toArgs q 0) x rows marks))
-              ∙ render-early-due s b c legal store marks [] (told .passes);
-        }
+        pub layout-refused : (n p : ℕ) → r ≡ laying.Refused n p → RunsFile s b c store marks out (run.Refused n p) store2 marks out
+        layout-refused n p e =
+            laid-refused n p store2
+            (refused-told (rulesOf s b) (laidRefusal s b c (tests.rowsIn store)) (laidOut (stateDue s b c) leftDue) (at n p) (ap (layouts.layingAnswer s b) (sym e) ∙ layout-answer)
+            (never-laid (at n p) (stateDue s b c) leftDue))
+            layout-left
 
-        module _ (o : Drawing) (store3 marks2 out2 : List ℕ) (drew : Draws s b pen (record { stop = t .row; width = c .width }) store2 marks out o store3 marks2 out2) where
-          drawn-answer : renders.renderingAnswer s b (renders.renderingOf o) ≡ answerBy (rulesOf s b) (refusalIn s b c (tests.rowsIn store) (length marks) (length out)) (written (renderedDue s b c legal) textDue)
-          drawn-answer =
-              drew .called .answer
-              ∙ same (λ x q rows. renderAnswer (rulesOf s b) (renders.toArgs q (length out)) x rows marks)
-              ∙ render-answer-due s b c legal store marks out (told .passes)
+        -- ---- the rendering call
+        module _ (t : LayoutState) (left : ℕ) (is : r ≡ laying.Laid t left) (pen : RenderState) (blank : renders.toState pen ≡ renderFresh) where
+          told : LaidTold (rulesOf s b) (laidRefusal s b c (tests.rowsIn store)) (layouts.toState t) left (stateDue s b c) leftDue
+          told = laid-told (rulesOf s b) (laidRefusal s b c (tests.rowsIn store)) (layouts.toState t) left (stateDue s b c) leftDue (ap (layouts.layingAnswer s b) (sym is) ∙ layout-answer)
 
-          store-same : store3 ≡ storeLeft s b c store
-          store-same = drew .called .store-left ∙ layout-left
+          to-row : t .row ≡ rowsDue s b c
+          to-row = ap (λ (x : states.LayoutState). x .cursor .row) (told .state)
 
-          marks-same : marks2 ≡ marksLeft s b c store marks out
-          marks-same =
-              drew .called .marks-left
-              ∙ same (λ x q rows. renderMarks (rulesOf s b) (renders.toArgs q (length out)) x rows marks)
-              ∙ render-marks-due s b c legal store marks out (told .passes)
+          -- what the call had is what is due
+          same : {A : Type 0} (f : states.RenderState → RenderArgs → List ℕ → A)
+              → f (renders.toState pen) (record { stop = t .row; width = c .width }) store2 ≡ f renderFresh (record { stop = rowsDue s b c; width = c .width }) (storeLeft s b c store)
+          same f = λ i. f (blank i) (record { stop = to-row i; width = c .width }) (layout-left i)
 
-          output-same : out2 ≡ outputLeft s b c store marks out
-          output-same =
-              drew .called .output-left
-              ∙ same (λ x q rows. renderOutput (rulesOf s b) (renders.toArgs q (length out)) x rows marks out)
-              ∙ render-output-due s b c legal store marks out (told .passes)
+          -- the rows that the layout call leaves are right
+          pub drawn-starts : Checked s b pen (record { stop = t .row; width = c .width }) store2 marks
+          drawn-starts = record {
+            passes =
+                same (λ x q rows. first (beforeMarks (partsOf s b) (renders.toArgs q 0) x rows marks))
+                ∙ render-early-due s b c moded legal store marks [] (told .passes);
+          }
 
-          widest-same : renders.widestOf o ≡ unless (refusalIn s b c (tests.rowsIn store) (length marks) (length out)) 0 (columnDue s b c)
-          widest-same =
-              drew .widest
-              ∙ same (λ x q rows.
-              unless (rulesOf s b .render-refusal (renders.toArgs q (length out)) x rows marks) 0
-              (widestDrawn s b (q .width) (x .pen) (withCleared (partsOf s b) (take (x .in-use) marks) (partsOf s b .needed rows (x .row) (q .stop))) rows (x .row) (q .stop)))
-              ∙ render-widest-due s b c legal store marks out (told .passes)
+          module _ (o : Drawing) (store3 marks2 out2 : List ℕ) (drew : Draws s b pen (record { stop = t .row; width = c .width }) store2 marks out o store3 marks2 out2) where
+            drawn-answer : renders.renderingAnswer s b (renders.renderingOf o) ≡ answerBy (rulesOf s b) (refusalIn s b c (tests.rowsIn store) (length marks) (length out)) (written (renderedDue s b c moded legal) textDue)
+            drawn-answer =
+                drew .called .answer
+                ∙ same (λ x q rows. renderAnswer (rulesOf s b) (renders.toArgs q (length out)) x rows marks)
+                ∙ render-answer-due s b c moded legal store marks out (told .passes)
 
-          never-written : (x : Refusal) (u : states.RenderState) (l : ℕ) → _≡_ {A = Answer (rulesOf s b)} (refused x) (written u l) → ⊥
-          never-written x u l e = let z : _≡_ {A = ℕ} 0 1 = cc in omega arith
+            store-same : store3 ≡ storeLeft s b c store
+            store-same = drew .called .store-left ∙ layout-left
 
-          pub drawn-refused : (n p : ℕ) → o ≡ drawing.Refused n p → RunsFile s b c store marks out (run.Refused n p) store3 marks2 out2
-          drawn-refused n p e =
-              let r : refusalIn s b c (tests.rowsIn store) (length marks) (length out) ≡ some (at n p) =
-              refused-told (rulesOf s b) (refusalIn s b c (tests.rowsIn store) (length marks) (length out)) (written (renderedDue s b c legal) textDue) (at n p) (ap (λ (x : Drawing). renders.renderingAnswer s b (renders.renderingOf x)) (sym e) ∙ drawn-answer)
-              (never-written (at n p) (renderedDue s b c legal) textDue)
-              in
-              record {
-                answer = sym (ap (λ (x : Option Refusal). fileAnswerBy x (formatted textDue leftDue (rowsDue s b) (built s b .taken))) r);
-                widest = ap renders.widestOf (sym e) ∙ widest-same;
-                store-left = store-same;
-                marks-left = marks-same;
-                output-left = output-same;
-              }
+            marks-same : marks2 ≡ marksLeft s b c store marks out
+            marks-same =
+                drew .called .marks-left
+                ∙ same (λ x q rows. renderMarks (rulesOf s b) (renders.toArgs q (length out)) x rows marks)
+                ∙ render-marks-due s b c moded legal store marks out (told .passes)
 
-          pub drawn-formats : (u : RenderState) (bytes : Bytes) (widest : Columns) → o ≡ drawing.Drawn u bytes widest
-              → RunsFile s b c store marks out (run.Text bytes left (t .row) (t .number) widest) store3 marks2 out2
-          drawn-formats u bytes widest e =
-              let w = written-told (rulesOf s b) (refusalIn s b c (tests.rowsIn store) (length marks) (length out)) (renders.toState u) (bytes .0) (renderedDue s b c legal) textDue
-              (ap (λ (x : Drawing). renders.renderingAnswer s b (renders.renderingOf x)) (sym e) ∙ drawn-answer)
-              in
-              let number : t .number ≡ built s b .taken = ap (λ (x : states.LayoutState). x .cursor .number) (told .state) in
-              record {
-                answer =
-                    (λ i. formatted (w .bytes i) (told .left i) (to-row i) (number i))
-                    ∙ sym (ap (λ (x : Option Refusal). fileAnswerBy x (formatted textDue leftDue (rowsDue s b) (built s b .taken))) (w .passes));
-                widest = ap renders.widestOf (sym e) ∙ widest-same;
-                store-left = store-same;
-                marks-left = marks-same;
-                output-left = output-same;
-              }
+            output-same : out2 ≡ outputLeft s b c store marks out
+            output-same =
+                drew .called .output-left
+                ∙ same (λ x q rows. renderOutput (rulesOf s b) (renders.toArgs q (length out)) x rows marks out)
+                ∙ render-output-due s b c moded legal store marks out (told .passes)
+
+            widest-same : renders.widestOf o ≡ unless (refusalIn s b c (tests.rowsIn store) (length marks) (length out)) 0 (columnDue s b c)
+            widest-same =
+                drew .widest
+                ∙ same (λ x q rows.
+                unless (rulesOf s b .render-refusal (renders.toArgs q (length out)) x rows marks) 0
+                (widestDrawn s b (q .width) (x .pen) (withCleared (partsOf s b) (take (x .in-use) marks) (partsOf s b .needed rows (x .row) (q .stop))) rows (x .row) (q .stop)))
+                ∙ render-widest-due s b c moded legal store marks out (told .passes)
+
+            never-written : (x : Refusal) (u : states.RenderState) (l : ℕ) → _≡_ {A = Answer (rulesOf s b)} (refused x) (written u l) → ⊥
+            never-written x u l e = let z : _≡_ {A = ℕ} 0 1 = cc in omega arith
+
+            pub drawn-refused : (n p : ℕ) → o ≡ drawing.Refused n p → RunsFile s b c store marks out (run.Refused n p) store3 marks2 out2
+            drawn-refused n p e =
+                let r : refusalIn s b c (tests.rowsIn store) (length marks) (length out) ≡ some (at n p) =
+                refused-told (rulesOf s b) (refusalIn s b c (tests.rowsIn store) (length marks) (length out)) (written (renderedDue s b c moded legal) textDue) (at n p) (ap (λ (x : Drawing). renders.renderingAnswer s b (renders.renderingOf x)) (sym e) ∙ drawn-answer)
+                (never-written (at n p) (renderedDue s b c moded legal) textDue)
+                in
+                record {
+                  answer = sym (ap (λ (x : Option Refusal). fileAnswerBy x (formatted textDue leftDue (rowsDue s b c) (built s b c .taken))) r);
+                  widest = ap renders.widestOf (sym e) ∙ widest-same;
+                  store-left = store-same;
+                  marks-left = marks-same;
+                  output-left = output-same;
+                }
+
+            pub drawn-formats : (u : RenderState) (bytes : Bytes) (widest : Columns) → o ≡ drawing.Drawn u bytes widest
+                → RunsFile s b c store marks out (run.Text bytes left (t .row) (t .number) widest) store3 marks2 out2
+            drawn-formats u bytes widest e =
+                let w = written-told (rulesOf s b) (refusalIn s b c (tests.rowsIn store) (length marks) (length out)) (renders.toState u) (bytes .0) (renderedDue s b c moded legal) textDue
+                (ap (λ (x : Drawing). renders.renderingAnswer s b (renders.renderingOf x)) (sym e) ∙ drawn-answer)
+                in
+                let number : t .number ≡ built s b c .taken = ap (λ (x : states.LayoutState). x .cursor .number) (told .state) in
+                record {
+                  answer =
+                      (λ i. formatted (w .bytes i) (told .left i) (to-row i) (number i))
+                      ∙ sym (ap (λ (x : Option Refusal). fileAnswerBy x (formatted textDue leftDue (rowsDue s b c) (built s b c .taken))) (w .passes));
+                  widest = ap renders.widestOf (sym e) ∙ widest-same;
+                  store-left = store-same;
+                  marks-left = marks-same;
+                  output-left = output-same;
+                }

@@ -20,7 +20,7 @@ use Rattle.file.specs.declared.FileRun.the-variants as run
 
 -- "other entries over whole files take their caller's choice"
 abbrev pub toChoice : FileChoice → plain.FileChoice
-toChoice c = record { width = c .width }
+toChoice c = record { width = c .width; mode = c .mode }
 
 -- An answer, case by case: the bytes written, the comments left, the rows and the group numbers; "Number and place are all that comes back."
 abbrev pub formattedAnswer : Formatted → FileAnswer
@@ -64,7 +64,7 @@ frameFits frame = leb (length frame) 32768 && leb 4 (length frame) && leb (4 + b
 abbrev pub frameRefusal : List ℕ → Option Refusal
 frameRefusal frame = refuseIf (not (frameFits frame)) 13 0
 
--- the answer, and the output at exit, for one frame: "The program .. keep 80"
+-- the answer, and the output at exit, for one frame: "The program .. keep 80 and, in every later choice, what equals the Rust"
 abbrev pub frameAnswer : List ℕ → ℕ → FileAnswer
 frameAnswer frame room = fileAnswerBy (frameRefusal frame) (fileAnswer (sourceOf frame) (imageOf frame) referenceChoice room)
 

@@ -4,8 +4,9 @@ ghost use Prim.Native.Nat.{_*_};
 ghost use lib.ListN.{replicate};
 ghost use Rattle.rows.specs.Places.{PLACES};
 ghost use Rattle.cut_rule.specs.States.{layoutFresh, renderFresh};
+ghost use Rattle.plain_run.specs.Demands.{closingAt};
 ghost use Rattle.plain_run.specs.File.{fileRows, fileMarks};
-ghost use Rattle.layout_call.specs.Calls.{toState as laidState};
+ghost use Rattle.layout_call.specs.Calls.{toState as laidState, toArgs as laidArgs};
 ghost use Rattle.layout_call.specs.Steps.{Accepts};
 ghost use Rattle.render_call.specs.Calls.{toState as renderedState};
 ghost use Rattle.file.specs.Whole.{toChoice, formattedOf, RunsFile, Formats, FormatsFrame};
@@ -17,6 +18,8 @@ use layout_call::Laying;
 use layout_call::LayoutArgs;
 use layout_call::LayoutState;
 use layout_call::layout_accepted;
+use layout_call::modes::NEW_MODE;
+use layout_call::modes::OLD_MODE;
 use layout_call::steps::count_declarations;
 use render_call::Drawing;
 use render_call::RenderArgs;
@@ -40,9 +43,10 @@ pub const MARKS: usize = 1800;
 // `max` of fmt.rs: the width that the program and the report choose.
 pub const REFERENCE_WIDTH: usize = 80;
 
-// What a caller chooses: the width.
+// What a caller chooses: the width, and whether the comments that wait at the end are kept.
 pub struct FileChoice {
     pub width: usize,
+    pub mode: usize,
 }
 
 pub enum Formatted {
@@ -103,6 +107,18 @@ fn layout_fresh() -> LayoutState
         number: 0,
         placed: 0,
         position: 0,
+        mode: 0,
+    }
+}
+
+// A call that lays the declarations up to a stop, and closes.
+fn closing_at(mode: usize, stop: usize) -> LayoutArgs
+    ensures { λ r. ⌜ laidArgs r ≡ closingAt mode stop ⌝ }
+{
+    LayoutArgs {
+        stop: stop,
+        close: true,
+        mode: mode,
     }
 }
 
@@ -147,13 +163,13 @@ pub fn run_file(
     requires { ⌜ Accepts (now source) (now image) doc ⌝ }
     ensures { λ r. ⌜ RunsFile (now (source .entry)) (now (image .entry)) (toChoice choice) (now (store .entry)) (now (marks .entry)) (now (out .entry)) r (now (store .exit)) (now (marks .exit)) (now (out .exit)) ⌝ }
 {
+    if NEW_MODE < choice.mode {
+        return FileRun::Refused(12, 0);
+    }
     if !width_fits(choice.width, 0) {
         return FileRun::Refused(15, 0);
     }
-    let all = LayoutArgs {
-        stop: count_declarations(source, image, doc),
-        close: true,
-    };
+    let all = closing_at(choice.mode, count_declarations(source, image, doc));
     match layout_accepted(source, image, store, doc, layout_fresh(), all) {
         Laying::Refused(number, place) => FileRun::Refused(number, place),
         Laying::Laid(state, left) => {
@@ -225,6 +241,7 @@ pub fn format_frame(frame: &[u8], out: &mut [u8]) -> Formatted
     let end = 4 + size;
     let choice = FileChoice {
         width: REFERENCE_WIDTH,
+        mode: OLD_MODE,
     };
     format_file(&frame[4..end], &frame[end..], out, choice)
 }

@@ -30,7 +30,7 @@ use Rattle.cut_rule.specs.Tests.{rowsIn, layoutTestsIn}
 use Rattle.cut_rule.specs.Parts.{Piece, layoutTests, beforeRows, rowsLine, layoutTable, rowsNeeded, callPiece, laidOf}
 use Rattle.cut_rule.proofs.Memory.{write-sets}
 use Rattle.cut_rule.proofs.Table.{LayoutFits, layout-fits}
-use Rattle.plain_run.specs.Parts.{readRefusal, partsOf, actPiece}
+use Rattle.plain_run.specs.Parts.{readRefusal, keepsWaiting, partsOf, actPiece}
 use Rattle.plain_run.specs.Demands.{rulesOf}
 use Rattle.plain_run.proofs.Refused.{read-refused, read-accepted}
 use Rattle.plain_run.proofs.Whole.{call-piece}
@@ -151,7 +151,9 @@ module _ (s b : List ℕ) (state : LayoutState) (q : LayoutArgs) (store : List �
         placed-in =
             let g = given s b in
             let ds = take (q .stop - state .declaration) (drop (state .declaration) (declared s b)) in
-            let w = places-call g (tree s b) (not (state .begun)) ds (eqb (state .declaration) 0) (q .close) .from (st from)
+            let w = places-call g (tree s b) (not (state .begun)) ds (eqb (state .declaration) 0) (q .close)
+            (keepsWaiting (q .mode))
+            .from (st from)
             (omega (arith, small .placed, comments-count a))
             in
             omega (arith, ap (λ (c : Cursor). c .placed) (laid .moved), w .within, comments-count a)
@@ -170,9 +172,10 @@ module _ (s b : List ℕ) (state : LayoutState) (q : LayoutArgs) (store : List �
             → t .number ≡ e .number
             → t .placed ≡ e .placed
             → t .position ≡ e .pos
+            → t .mode ≡ q .mode
             → left ≡ d .comments - e .placed
             → LayoutCalled s b state q store (laying.Laid t left) store2
-        ends-laid t left q1 q2 q3 q4 q5 q6 q7 q8 =
+        ends-laid t left q1 q2 q3 q4 q5 q6 q7 q8 q9 =
             record {
               answer =
                   ap₂ laidOut same-state same-left
@@ -182,10 +185,10 @@ module _ (s b : List ℕ) (state : LayoutState) (q : LayoutArgs) (store : List �
           where
             same-state : toState t ≡ gives .state
             same-state =
-                rw (q1, q2, q3, q4, q5, q6, q7, laid .moved)
-                (ap (λ (p : Piece). record { begun = true; closed = q .close; declaration = q .stop; cursor = p .cursor }) (sym due))
+                rw (q1, q2, q3, q4, q5, q6, q7, q8, laid .moved)
+                (ap (λ (p : Piece). record { begun = true; closed = q .close; declaration = q .stop; cursor = p .cursor; mode = q .mode }) (sym due))
 
             same-left : left ≡ gives .left
             same-left =
-                rw (q8, laid .moved)
+                rw (q9, laid .moved)
                 (ap₂ (λ (m k : ℕ). m - k) (sym (comments-count a)) (ap (λ (p : Piece). p .cursor .placed) (sym due)))

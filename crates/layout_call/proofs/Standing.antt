@@ -1,12 +1,13 @@
 -- What an accepted source and image give a layout call: the tree, its declarations one after the other, and room for the rows.
 -- Assumes nothing.
 use mathlib.Core.Path.{_≡_, refl, sym, ap, subst, _∙_}
-use mathlib.Core.Bool.{Bool, not}
+use mathlib.Core.Bool.{Bool, true, false, not}
 use mathlib.Core.List.{List, [], _∷_, _++_}
 use Prim.Native.Nat.{ℕ, _+_, _-_, _*_, _≤_, _<_}
 use native.Mathlib.Omega.{arith}
 use lib.ListN.{length, take, drop, length-drop, take-append-drop}
-use lib.Dec.{eqb}
+use lib.Dec.{ltb, eqb}
+use borrow.Author.Tests.{lt-ltb, le-ltb, ltb-true, ltb-false}
 use Rattle.image.specs.Read.{stopAt}
 use Rattle.image.proofs.Accepted.{accepted}
 use Rattle.tree.specs.Syntax.{Declaration}
@@ -15,7 +16,7 @@ use Rattle.tree.specs.Walk.{walked}
 use Rattle.tree.proofs.Walk.{declarations-from, walked-within, walked-on, declarations-between}
 use Rattle.state.specs.Laid.{st, Room, Laid}
 use Rattle.state.specs.declared.Cursor.{Cursor}
-use Rattle.comments.specs.Listed.{given, commentsOf}
+use Rattle.comments.specs.Listed.{given, commentsOf, Listed}
 use Rattle.comments.proofs.Accepted.{accepted-listed}
 use Rattle.comments.proofs.Fronts.{count-of}
 use Rattle.layout.specs.Contracts.{Readable, Has, LaidAs, HasAll, LaidAll, InImage}
@@ -25,6 +26,7 @@ use Rattle.layout_facts.specs.Sound.{BYTE-GIVES, ROW-TAKES}
 use Rattle.layout_facts.specs.Accepted.{Stands}
 use Rattle.rows.specs.Rows.{sizes}
 use Rattle.layout_facts.proofs.Limits.{call-room, few-rows as few}
+use Rattle.plain_run.specs.Parts.{keepsWaiting}
 use Rattle.plain_run.proofs.Limits.{standing}
 use Rattle.layout_call.specs.Steps.{Accepts, SmallCursor, tree, declared, startOf, callAct}
 use Rattle.layout_call.specs.declared.LayoutState.{LayoutState}
@@ -50,8 +52,11 @@ module _ {s b : List ℕ} {d : Document} (a : Accepts s b d) where
   pub few-comments : n ≤ 8192
   few-comments = omega (arith, comments-count, stands .count)
 
+  pub comment-list : Listed s b
+  comment-list = accepted-listed s b n at (a .answer)
+
   ready : Readable s b
-  ready = record { listed = accepted-listed s b n at (a .answer); small = stands .small }
+  ready = record { listed = comment-list; small = stands .small }
 
   pub has-shebang : {c : Cursor} → Room (shebangRule (given s b) (tree s b .shebang)) c → Has MaybeIdentAt shebangRule s b (at + 13) c
   has-shebang room = record { accepted = ready; tree = tree s b .shebang; held = stands .tree .shebang; room = room }
@@ -127,6 +132,18 @@ module _ {s b : List ℕ} {d : Document} (a : Accepts s b d) where
       pub goes-on : stopAt b (startOf s b at k) ≡ startOf s b at (k + 1)
       goes-on = sym (here .next) ∙ walked-on s b ds k 1 (stopAt b (at + 13))
 
+  -- there is one, if the first would start before they end
+  pub some-declared : (first end : ℕ) → first ≡ stopAt b (at + 13) → end ≡ stopAt b at → ltb first end ≡ ltb 0 (length ds)
+  some-declared first end e f = go (ltb first end) refl
+    where
+      go : (x : Bool) → ltb first end ≡ x → x ≡ ltb 0 (length ds)
+      go true h =
+          let l : startOf s b at 0 < stopAt b at = omega (arith, ltb-true first end h, starts-first) in
+          sym (lt-ltb 0 (length ds) (another 0 l))
+      go false h =
+          let l : stopAt b at ≤ startOf s b at 0 = omega (arith, ltb-false first end h, starts-first) in
+          sym (le-ltb 0 (length ds) (omega (arith, no-more 0 (omega arith) l)))
+
   -- ---- a part of them
   module _ (from to : ℕ) (h : from ≤ to) where
     abbrev ys : List Declaration
@@ -167,7 +184,10 @@ module _ {s b : List ℕ} {d : Document} (a : Accepts s b d) where
 
     pub room : Room (callAct s b state q) c
     room =
-        call-room stands (take from ds) (ys from (q .stop) h) behind (not (state .begun)) (eqb from 0) (q .close) (parted from (q .stop) h) c
+        call-room stands (take from ds) (ys from (q .stop) h) behind (not (state .begun)) (eqb from 0) (q .close)
+        (keepsWaiting (q .mode))
+        (parted from (q .stop) h)
+        c
         (k .row)
         (k .number)
         (omega (arith, comments-count, k .placed))
@@ -176,6 +196,7 @@ module _ {s b : List ℕ} {d : Document} (a : Accepts s b d) where
     few-rows =
         few (given s b) (tree s b) at stands (take from ds) (ys from (q .stop) h) behind (parted from (q .stop) h) (not (state .begun)) (eqb from 0)
         (q .close)
+        (keepsWaiting (q .mode))
         (st c)
         (omega (arith, comments-count, k .placed))
         .rows

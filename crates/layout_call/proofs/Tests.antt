@@ -6,7 +6,7 @@ use mathlib.Core.List.{List, _++_}
 use Prim.Native.Nat.{ℕ}
 use Rattle.refusals.specs.Refusals.{any}
 use Rattle.refusals.proofs.Groups.{group-refuses, group-passes}
-use Rattle.cut_rule.specs.Tests.{placesTests, limitTests, begunTests, stopTests, layoutTestsIn}
+use Rattle.cut_rule.specs.Tests.{placesTests, limitTests, begunTests, stopTests, modeTests, layoutTestsIn}
 use Rattle.layout_call.specs.Calls.{toState, toArgs}
 use Rattle.layout_call.specs.declared.LayoutState.{LayoutState}
 use Rattle.layout_call.specs.declared.LayoutArgs.{LayoutArgs}
@@ -29,26 +29,36 @@ module _ (state : LayoutState) (q : LayoutArgs) (declarations comments size rows
   abbrev stop : List Bool
   stop = stopTests declarations (toArgs q) (toState state)
 
+  abbrev mode : List Bool
+  mode = modeTests (toArgs q .choice) (toState state)
+
   -- x is what the table's tests say
   abbrev Says : Bool → Type 0
   Says x = x ≡ not (any (layoutTestsIn declarations comments size rows (toArgs q) (toState state)))
 
   pub places-fail : (x : Bool) → x ≡ not (any places) → not x ≡ true → Says false
-  places-fail x e h = group-refuses x places (limits ++ (begun ++ stop)) e h
+  places-fail x e h = group-refuses x places (limits ++ (begun ++ (stop ++ mode))) e h
 
   module _ (x : Bool) (e : x ≡ not (any places)) (h : not x ≡ false) where
-    after-places : (y : Bool) → y ≡ not (any (limits ++ (begun ++ stop))) → Says y
-    after-places y f = group-passes x y places (limits ++ (begun ++ stop)) e h f
+    after-places : (y : Bool) → y ≡ not (any (limits ++ (begun ++ (stop ++ mode)))) → Says y
+    after-places y f = group-passes x y places (limits ++ (begun ++ (stop ++ mode))) e h f
 
     pub limits-fail : (y : Bool) → y ≡ not (any limits) → not y ≡ true → Says false
-    limits-fail y f i = after-places false (group-refuses y limits (begun ++ stop) f i)
+    limits-fail y f i = after-places false (group-refuses y limits (begun ++ (stop ++ mode)) f i)
 
     module _ (y : Bool) (f : y ≡ not (any limits)) (i : not y ≡ false) where
-      after-limits : (z : Bool) → z ≡ not (any (begun ++ stop)) → Says z
-      after-limits z g = after-places z (group-passes y z limits (begun ++ stop) f i g)
+      after-limits : (z : Bool) → z ≡ not (any (begun ++ (stop ++ mode))) → Says z
+      after-limits z g = after-places z (group-passes y z limits (begun ++ (stop ++ mode)) f i g)
 
       pub begun-fails : (z : Bool) → z ≡ not (any begun) → not z ≡ true → Says false
-      begun-fails z g j = after-limits false (group-refuses z begun stop g j)
+      begun-fails z g j = after-limits false (group-refuses z begun (stop ++ mode) g j)
 
-      pub stop-says : (z w : Bool) → z ≡ not (any begun) → not z ≡ false → w ≡ not (any stop) → Says w
-      stop-says z w g j k = after-limits w (group-passes z w begun stop g j k)
+      module _ (z : Bool) (g : z ≡ not (any begun)) (j : not z ≡ false) where
+        after-begun : (w : Bool) → w ≡ not (any (stop ++ mode)) → Says w
+        after-begun w k = after-limits w (group-passes z w begun (stop ++ mode) g j k)
+
+        pub stop-fails : (w : Bool) → w ≡ not (any stop) → not w ≡ true → Says false
+        stop-fails w k l = after-begun false (group-refuses w stop mode k l)
+
+        pub mode-says : (w v : Bool) → w ≡ not (any stop) → not w ≡ false → v ≡ not (any mode) → Says v
+        mode-says w v k l m = after-begun v (group-passes w v stop mode k l m)

@@ -17,7 +17,7 @@ use Rattle.state.specs.declared.Cursor.{Cursor}
 use Rattle.refusals.specs.Refusals.{any}
 use Rattle.cut_rule.specs.Tests.{rowsIn}
 use Rattle.cut_rule.specs.Parts.{layoutTests, rowsNeeded}
-use Rattle.plain_run.specs.Parts.{acceptedTree, partsOf}
+use Rattle.plain_run.specs.Parts.{acceptedTree, keepsWaiting, partsOf}
 use Rattle.layout_call.specs.Calls.{toState, toArgs}
 use Rattle.layout_call.specs.declared.LayoutState.{LayoutState}
 use Rattle.layout_call.specs.declared.LayoutArgs.{LayoutArgs}
@@ -43,6 +43,7 @@ abbrev pub callAct : List ℕ → List ℕ → LayoutState → LayoutArgs → Ac
 callAct s b state q =
     let from = state .declaration in
     callRule (given s b) (tree s b) (not (state .begun)) (take (q .stop - from) (drop from (declared s b))) (eqb from 0) (q .close)
+    (keepsWaiting (q .mode))
 
 -- the cursor's numbers are within the limits of refusal 12
 pub record SmallCursor (c : Cursor) (d : Document) : Type 0 where

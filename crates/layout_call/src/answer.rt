@@ -49,6 +49,7 @@ pub(crate) fn laid(
         number: to_usize(e.number),
         placed: placed,
         position: to_usize(e.pos),
+        mode: args.mode,
     };
     Laying::Laid(t, doc.comments - placed)
 }

@@ -2,10 +2,11 @@
 ghost use mathlib.Core.Path.{_≡_};
 ghost use mathlib.Core.Bool.{not};
 ghost use Rattle.refusals.specs.Refusals.{any};
-ghost use Rattle.cut_rule.specs.Tests.{numbersZero, placesTests, limitTests, begunTests, stopTests, layoutTestsIn};
+ghost use Rattle.cut_rule.specs.Tests.{numbersZero, placesTests, limitTests, begunTests, stopTests, modeTests, layoutTestsIn};
 ghost use Rattle.layout_call.specs.Calls.{toState, toArgs};
 use crate::LayoutArgs;
 use crate::LayoutState;
+use crate::modes::NEW_MODE;
 use rows::limits::MAX_NUMBER;
 use rows::limits::MAX_ROWS;
 
@@ -57,7 +58,10 @@ fn is_zero(state: LayoutState) -> bool
     if state.placed != 0 {
         return false;
     }
-    state.position == 0
+    if state.position != 0 {
+        return false;
+    }
+    state.mode == 0
 }
 
 // Whether the state has begun, or is all 0.
@@ -92,6 +96,19 @@ fn stop_fits(state: LayoutState, args: LayoutArgs, declarations: usize) -> bool
     true
 }
 
+// Whether the mode is one, and the carried one once begun.
+fn mode_fits(state: LayoutState, args: LayoutArgs) -> bool
+    ensures { λ r. ⌜ r ≡ not (any (modeTests (toArgs args .choice) (toState state))) ⌝ }
+{
+    if NEW_MODE < args.mode {
+        return false;
+    }
+    if state.begun {
+        return args.mode == state.mode;
+    }
+    true
+}
+
 // Whether the state is one that this call may have, for a source of `size` bytes and a store of `rows` rows.
 pub(crate) fn state_fits(
     state: LayoutState,
@@ -112,5 +129,8 @@ pub(crate) fn state_fits(
     if !begins_fresh(state) {
         return false;
     }
-    stop_fits(state, args, declarations)
+    if !stop_fits(state, args, declarations) {
+        return false;
+    }
+    mode_fits(state, args)
 }

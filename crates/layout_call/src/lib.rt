@@ -1,6 +1,8 @@
 // Layout calls: state, arguments, answer, and the call.
 mod answer;
+mod closing;
 mod fits;
+pub mod modes;
 mod room;
 pub mod steps;
 
@@ -15,7 +17,7 @@ use image::Answer;
 use image::check;
 use rows::places::PLACES;
 
-// Begun, closed, next declaration, next row, next number, comments placed, position.
+// Begun, closed, next declaration, next row, next number, comments placed, position, mode.
 pub struct LayoutState {
     pub begun: bool,
     pub closed: bool,
@@ -24,12 +26,14 @@ pub struct LayoutState {
     pub number: usize,
     pub placed: usize,
     pub position: usize,
+    pub mode: usize,
 }
 
-// The declaration to stop before, and whether to close.
+// The declaration to stop before, whether to close, and the mode (modes.rt).
 pub struct LayoutArgs {
     pub stop: usize,
     pub close: bool,
+    pub mode: usize,
 }
 
 // A source and an image that are accepted: how many comments there are, and where the tree stands.

@@ -3,22 +3,23 @@ ghost use mathlib.Core.Path.{_≡_};
 ghost use mathlib.Core.Bool.{not};
 ghost use Prim.Native.Nat.{_+_, _≤_};
 ghost use lib.ListN.{length};
-ghost use Rattle.rows.specs.Node.{line as lineNode};
-ghost use Rattle.state.specs.Act.{when, push};
+ghost use Rattle.state.specs.Act.{when};
 ghost use Rattle.state.specs.Laid.{Room, Laid};
 ghost use Rattle.comments.specs.Listed.{given};
 ghost use Rattle.layout.specs.Layout.{shebangRule};
+ghost use Rattle.layout_facts.specs.Accepted.{closing};
+ghost use Rattle.plain_run.specs.Parts.{keepsWaiting};
 ghost use Rattle.layout_call.specs.Steps.{Accepts, tree, declared, startOf, callAct};
 use crate::Document;
 use crate::LayoutArgs;
 use crate::LayoutState;
+use crate::closing::close_document;
 use layout::declarations::declarations;
 use layout::declarations::shebang;
 use layout::numbers::HEAD;
 use layout::numbers::past;
 use layout::numbers::second;
 use state::Cursor;
-use state::leaves::line;
 
 // How many declarations there are.
 pub fn count_declarations(s: &[u8], b: &[u8], doc: Document) -> usize
@@ -63,18 +64,19 @@ fn begin(store: &mut [u32], c: Cursor, s: &[u8], b: &[u8], doc: Document, begun:
     shebang(store, c, s, b, doc.tree + HEAD)
 }
 
-// "closing .. adds the final `Line`"
-fn end(store: &mut [u32], c: Cursor, close: bool) -> Cursor
-    requires { ⌜ Room (when close (push lineNode)) c ⌝ }
-    ensures { λ r. ⌜ Laid (when close (push lineNode)) (now (store .entry)) c (now (store .exit)) r ⌝ }
+// "closing .. adds the final `Line`", by the mode
+fn end(store: &mut [u32], c: Cursor, s: &[u8], b: &[u8], doc: Document, args: LayoutArgs) -> Cursor
+    requires { ⌜ Accepts (now s) (now b) doc ⌝ }
+    requires { ⌜ Room (when (args .close) (closing (given (now s) (now b)) (tree (now s) (now b)) (keepsWaiting (args .mode)))) c ⌝ }
+    ensures { λ r. ⌜ Laid (when (args .close) (closing (given (now (s .entry)) (now (b .entry))) (tree (now (s .entry)) (now (b .entry))) (keepsWaiting (args .mode)))) (now (store .entry)) c (now (store .exit)) r ⌝ }
 {
-    if close {
-        return line(store, c);
+    if args.close {
+        return close_document(store, c, s, b, doc, args.mode);
     }
     c
 }
 
-// The shebang if nothing is laid yet, the declarations from one up to another, the final `Line` if the call closes.
+// The shebang if nothing is laid yet, the declarations from one up to another, what closing adds if the call closes.
 pub(crate) fn lay(
     store: &mut [u32],
     c: Cursor,
@@ -93,5 +95,5 @@ pub(crate) fn lay(
     let p = declaration_at(s, b, doc, from);
     let q = declaration_at(s, b, doc, args.stop);
     let e = declarations(store, d, s, b, p, q, from == 0);
-    end(store, e, args.close)
+    end(store, e, s, b, doc, args)
 }

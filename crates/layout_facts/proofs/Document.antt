@@ -17,8 +17,9 @@ use Rattle.state.specs.Act.{Given, Act}
 use Rattle.comments.specs.Comments.{popWhitespace}
 use Rattle.layout.specs.declared.forms.WrapStyle.the-variants.{Tight, Wrap}
 use Rattle.layout.specs.Layout.{someTypeParams, Bottom, params, typeParams, identElems, fieldElems, opening, variantElems, declaration, declares, shebangRule}
-use Rattle.layout.specs.Layout.{declarationsRule, fmtParsed, importSpan, unlessEmpty}
+use Rattle.layout.specs.Layout.{declarationsRule, importSpan, unlessEmpty}
 use Rattle.layout_facts.specs.Sound.{Ranged, Commented, BYTE-GIVES, ROW-TAKES, Sounds}
+use Rattle.layout_facts.specs.Accepted.{closing, wholeRule}
 use Rattle.layout_facts.specs.Height.{fieldsHeight, variantsHeight, declarationHeight, declarationsHeight, treeHeight}
 use Rattle.layout_facts.proofs.Steps.{_⨾_, fewer, sound-skip, sound-line, sound-emptyLine, sound-str, sound-when, sound-asks}
 use Rattle.layout_facts.proofs.Gaps.{sound-gap}
@@ -186,12 +187,17 @@ module _ {g : Given} (commented : Commented g) where
       (supplied _ a)
       ⨾ sound-emptyLine
 
-  pub sound-fmtParsed : (t : SyntaxTree) (at : ℕ) {d : ℕ} → TreeAt (g .source) (g .image) t at → 2 * treeHeight t ≤ d + 2
-      → Sounds g (points g at 0) d (fmtParsed g t)
-  unfolding fmtParsed treeHeight points
-  sound-fmtParsed t at a h =
+  -- comments that wait take three rows each at most, as all do, so that closing takes one of the bytes' own
+  pub sound-closing : {d : ℕ} (t : SyntaxTree) (keeps : Bool) → Sounds g ROW-TAKES d (closing g t keeps)
+  sound-closing t true = fewer (sound-gap commented _ _ _ false (omega arith) ⨾ sound-line) (omega arith)
+  sound-closing t false = sound-line
+
+  pub sound-whole : (t : SyntaxTree) (at : ℕ) {d : ℕ} (keeps : Bool) → TreeAt (g .source) (g .image) t at → 2 * treeHeight t ≤ d + 2
+      → Sounds g (points g at 0) d (wholeRule g t keeps)
+  unfolding treeHeight points
+  sound-whole t at keeps a h =
       fewer
       (sound-shebang (t .shebang) (at + 13) (a .shebang)
       ⨾ sound-declarations (t .declarations) (past (g .source) (g .image) (at + 13)) (past (g .source) (g .image) at) true (a .declarations) (omega arith)
-      ⨾ sound-line)
+      ⨾ sound-closing t keeps)
       (omega (arith, a .inside .least))

@@ -19,9 +19,9 @@ use Rattle.rows.specs.Node.{Text, Node, ascii, str, line, emptyLine, lineOrSpac
 use Rattle.state.specs.Act.{Given, Act, Asking, _⨟_, _⨟?_, skip, when, push, told, grouped, indented, indentedNext, called, says}
 use Rattle.layout.specs.declared.forms.WrapStyle.{WrapStyle}
 use Rattle.layout.specs.declared.forms.WrapStyle.the-variants.{Tight, Spaced, Wrap}
-use Rattle.layout.specs.Layout.{edge, isWrap, opens, ends, inside, beforeElem, pathNext, operator, maybeExpr, placeholder, clause, blockStart, beforeStmt, afterStmt, leftmost, pickOperands, popped, someTypeParams, Elem, Operands, Bottom, Chain, Unit′, binopPrecedence, elements, separated, pathMore, pathRule, identElems, typeExpr, typeForm, typeArgs, typeElems, fieldElems, params, typeParams, importPath, importGroup, importItems, importElems, pattern, binop, literalRule, exprWithPrecedence, exprForm, operands, operandsForm, otherwise, exprElems, groupedElems, entryElems, armElems, partsRule, blockRule, stmtsRule, lastRule, stmtRule, stmtForm, opening, variantElems, declaration, declares, shebangRule, declarationsRule, fmtParsed, importSpan, noneOf, isEmpty, isBlock, isBraced, unlessEmpty, oneOr}
+use Rattle.layout.specs.Layout.{edge, isWrap, opens, ends, inside, beforeElem, pathNext, operator, maybeExpr, placeholder, clause, blockStart, beforeStmt, afterStmt, leftmost, pickOperands, popped, someTypeParams, Elem, Operands, Bottom, Chain, Unit′, binopPrecedence, elements, separated, pathMore, pathRule, identElems, typeExpr, typeForm, typeArgs, typeElems, fieldElems, params, typeParams, importPath, importGroup, importItems, importElems, pattern, binop, literalRule, exprWithPrecedence, exprForm, operands, operandsForm, otherwise, exprElems, groupedElems, entryElems, armElems, partsRule, blockRule, stmtsRule, lastRule, stmtRule, stmtForm, opening, variantElems, declaration, declares, shebangRule, declarationsRule, importSpan, noneOf, isEmpty, isBlock, isBraced, unlessEmpty, oneOr}
 use Rattle.comments.specs.Comments.{popWhitespace, popTrailingComment}
-use Rattle.layout_facts.specs.Accepted.{callRule}
+use Rattle.layout_facts.specs.Accepted.{closing, wholeRule, callRule}
 
 -- the nodes without parts and numbers that a rule pushes
 pub data Leaf : Node → Type 0 where
@@ -440,11 +440,14 @@ module _ {g : Given} {P : ℕ → Act → Type 0} (J : Joining g P) where
   every-shebang nothing = every-skip
   every-shebang (some i) = named ⨾ (λ k. J .pushes emptyLine-leaf)
 
-  pub every-fmtParsed : (t : SyntaxTree) → Every (fmtParsed g t)
-  unfolding fmtParsed
-  every-fmtParsed t = every-shebang (t .shebang) ⨾ every-declarations (t .declarations) true ⨾ lined
+  pub every-closing : (t : SyntaxTree) (keeps : Bool) → Every (closing g t keeps)
+  every-closing t true = every-gap _ _ _ _ ⨾ lined
+  every-closing t false = lined
 
-  pub every-call : (t : SyntaxTree) (begins : Bool) (ds : List Declaration) (first closes : Bool)
-      → Every (callRule g t begins ds first closes)
-  every-call t begins ds first closes =
-      every-when begins (every-shebang (t .shebang)) ⨾ every-declarations ds first ⨾ every-when closes lined
+  pub every-whole : (t : SyntaxTree) (keeps : Bool) → Every (wholeRule g t keeps)
+  every-whole t keeps = every-shebang (t .shebang) ⨾ every-declarations (t .declarations) true ⨾ every-closing t keeps
+
+  pub every-call : (t : SyntaxTree) (begins : Bool) (ds : List Declaration) (first closes keeps : Bool)
+      → Every (callRule g t begins ds first closes keeps)
+  every-call t begins ds first closes keeps =
+      every-when begins (every-shebang (t .shebang)) ⨾ every-declarations ds first ⨾ every-when closes (every-closing t keeps)

@@ -52,9 +52,9 @@ module _ {g : Given} (commented : Commented g) where
       at s (some c) = let i : min p (c .start) ≤ length (g .source) = omega arith in sound-moveTo i .from s
 
   -- they take neither numbers nor comments
-  record Free (s : St) (o : Out) : Type 0 where
-    taken : o .taken ≡ 0
-    placed : o .placed ≡ s .placed
+  pub record Free (s : St) (o : Out) : Type 0 where
+    pub taken : o .taken ≡ 0
+    pub placed : o .placed ≡ s .placed
 
   newlines-free : (p : ℕ) (s : St) → Free s (told (newlines g p) s)
   unfolding newlines _⨟_
@@ -65,7 +65,7 @@ module _ {g : Given} (commented : Commented g) where
       counted false true = record { taken = refl; placed = refl }
       counted false false = record { taken = refl; placed = refl }
 
-  before-free : (leading : Bool) (p : ℕ) (s : St) → Free s (cond leading (told (newlines g p)) (ignoreNewlines g p) s)
+  pub before-free : (leading : Bool) (p : ℕ) (s : St) → Free s (cond leading (told (newlines g p)) (ignoreNewlines g p) s)
   unfolding ignoreNewlines
   before-free true p s = newlines-free p s
   before-free false p s = record { taken = refl; placed = refl }

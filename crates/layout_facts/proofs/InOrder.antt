@@ -10,13 +10,13 @@ use lib.ListN.{take}
 use Rattle.tree.specs.Syntax.{Ident, Declaration, SyntaxTree}
 use Rattle.rows.specs.Node.{Node}
 use Rattle.state.specs.Act.{Given}
-use Rattle.layout.specs.Layout.{declaration, declarationsRule, shebangRule, fmtParsed}
+use Rattle.layout.specs.Layout.{declaration, declarationsRule, shebangRule}
 use Rattle.layout_facts.specs.Placing.{commentsOfNode, commentsInNodes, trimmed, Places}
-use Rattle.layout_facts.specs.Accepted.{fresh, callRule}
+use Rattle.layout_facts.specs.Accepted.{fresh, closing, wholeRule, callRule}
 use Rattle.layout_facts.proofs.Placing.{_⨾_, places-skip, places-push, places-grouped, places-indented, places-indentedNext}
 use Rattle.layout_facts.proofs.Placing.{places-called, places-asks, places-gap, places-trailing}
 use Rattle.layout_facts.proofs.EveryRule.{Leaf, ascii-leaf, str-leaf, line-leaf, emptyLine-leaf, lineOrSpace-leaf, wrapParent-leaf, Joining}
-use Rattle.layout_facts.proofs.EveryRule.{every-declaration, every-declarations, every-shebang, every-fmtParsed, every-call}
+use Rattle.layout_facts.proofs.EveryRule.{every-declaration, every-declarations, every-shebang, every-closing, every-whole, every-call}
 
 leaf-none : {n : Node} → Leaf n → commentsOfNode n ≡ []
 unfolding commentsOfNode
@@ -53,18 +53,21 @@ module _ (g : Given) where
   pub places-shebang : (i : Option Ident) → Places g (shebangRule g i)
   places-shebang i = every-shebang joining i 0
 
-  pub places-fmtParsed : (t : SyntaxTree) → Places g (fmtParsed g t)
-  places-fmtParsed t = every-fmtParsed joining t 0
+  pub places-closing : (t : SyntaxTree) (keeps : Bool) → Places g (closing g t keeps)
+  places-closing t keeps = every-closing joining t keeps 0
 
-  pub places-call : (t : SyntaxTree) (begins : Bool) (ds : List Declaration) (first closes : Bool)
-      → Places g (callRule g t begins ds first closes)
-  places-call t begins ds first closes = every-call joining t begins ds first closes 0
+  pub places-whole : (t : SyntaxTree) (keeps : Bool) → Places g (wholeRule g t keeps)
+  places-whole t keeps = every-whole joining t keeps 0
+
+  pub places-call : (t : SyntaxTree) (begins : Bool) (ds : List Declaration) (first closes keeps : Bool)
+      → Places g (callRule g t begins ds first closes keeps)
+  places-call t begins ds first closes keeps = every-call joining t begins ds first closes keeps 0
 
   -- From the fresh state: the comments among the nodes of a document are the first of the list, as many as it placed. Those left are the
   -- others.
-  pub in-order : (t : SyntaxTree)
-      → commentsInNodes (fmtParsed g t fresh .nodes) ≡ take (fmtParsed g t fresh .placed) (map (trimmed g) (g .comments))
-  in-order t =
-      let n : ℕ = fmtParsed g t fresh .placed in
+  pub in-order : (t : SyntaxTree) (keeps : Bool)
+      → commentsInNodes (wholeRule g t keeps fresh .nodes) ≡ take (wholeRule g t keeps fresh .placed) (map (trimmed g) (g .comments))
+  in-order t keeps =
+      let n : ℕ = wholeRule g t keeps fresh .placed in
       let same : n - 0 ≡ n = omega arith in
-      places-fmtParsed t .from fresh (omega arith) .same ∙ ap (λ (k : ℕ). take k (map (trimmed g) (g .comments))) same
+      places-whole t keeps .from fresh (omega arith) .same ∙ ap (λ (k : ℕ). take k (map (trimmed g) (g .comments))) same

@@ -11,3 +11,4 @@ pub mod Levels
 pub mod Rights
 pub mod Passes
 pub mod Limits
+pub mod Foot

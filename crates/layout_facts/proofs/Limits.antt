@@ -3,7 +3,7 @@
 -- Assumes nothing.
 use Prim.Native.Nat.{ℕ, _+_, _*_, _≤_}
 use mathlib.Core.Path.{_≡_, refl, ap}
-use mathlib.Core.Bool.{Bool, true}
+use mathlib.Core.Bool.{Bool, true, false}
 use mathlib.Core.List.{List, [], _∷_, _++_}
 use mathlib.Core.Option.{none as nothing}
 use native.Mathlib.Omega.{arith}
@@ -31,17 +31,17 @@ use Rattle.layout.specs.Layout.{fmtParsed}
 use Rattle.layout_facts.specs.Placing.{Places}
 use Rattle.layout_facts.specs.Sound.{Commented, Sounds}
 use Rattle.layout_facts.specs.Height.{declarationsHeight, treeHeight}
-use Rattle.layout_facts.specs.Accepted.{WordsDue, Few, FewRows, Stands, fresh, upTo, callRule, Within}
+use Rattle.layout_facts.specs.Accepted.{WordsDue, Few, FewRows, Stands, fresh, upTo, wholeRule, callRule, Within}
 use Rattle.layout_facts.proofs.Placing.{places-then}
-use Rattle.layout_facts.proofs.InOrder.{places-shebang, places-declarations, places-fmtParsed, places-call}
-use Rattle.layout_facts.proofs.Steps.{_⨾_, fewer, sound-when, sound-line}
+use Rattle.layout_facts.proofs.InOrder.{places-shebang, places-declarations, places-whole, places-call}
+use Rattle.layout_facts.proofs.Steps.{_⨾_, fewer, sound-when}
 use Rattle.layout_facts.proofs.Parts.{points}
-use Rattle.layout_facts.proofs.Document.{sound-shebang, sound-declarations, sound-fmtParsed}
+use Rattle.layout_facts.proofs.Document.{sound-shebang, sound-declarations, sound-closing, sound-whole}
 use Rattle.layout_facts.proofs.Passes.{not-refused}
 use Rattle.layout_facts.proofs.Levels.{accepted-high}
 
 -- ---- an accepted image
-commented : {s b : List ℕ} → Listed s b → Commented (given s b)
+pub commented : {s b : List ℕ} → Listed s b → Commented (given s b)
 commented {s} l =
     record {
       ranged =
@@ -102,8 +102,8 @@ module _ {g : Given} {t : SyntaxTree} {at : ℕ} (a : Stands g t at) where
   low = omega (arith, a .high)
 
   -- ---- the whole, what is laid up to a stop, and what is laid between two
-  pub whole-sound : Sounds g (points g at 0) 132 (fmtParsed g t)
-  whole-sound = sound-fmtParsed (a .comments) t at (a .tree) (omega (arith, a .high))
+  whole-sound : (keeps : Bool) → Sounds g (points g at 0) 132 (wholeRule g t keeps)
+  whole-sound keeps = sound-whole (a .comments) t at keeps (a .tree) (omega (arith, a .high))
 
   pub upTo-sound : (xs ys : List Declaration) → xs ++ ys ≡ t .declarations → Sounds g (points g at 0) 132 (upTo g t xs)
   unfolding points
@@ -116,10 +116,10 @@ module _ {g : Given} {t : SyntaxTree} {at : ℕ} (a : Stands g t at) where
       ⨾ sound-declarations (a .comments) xs from (p .mid) true (p .first) (omega arith))
       (omega (arith, p .order, a .tree .inside .least))
 
-  pub call-sound : (xs ys zs : List Declaration) (begins first closes : Bool) → xs ++ (ys ++ zs) ≡ t .declarations
-      → Sounds g (points g at 0) 132 (callRule g t begins ys first closes)
+  pub call-sound : (xs ys zs : List Declaration) (begins first closes keeps : Bool) → xs ++ (ys ++ zs) ≡ t .declarations
+      → Sounds g (points g at 0) 132 (callRule g t begins ys first closes keeps)
   unfolding points
-  call-sound xs ys zs begins first closes e =
+  call-sound xs ys zs begins first closes keeps e =
       let from : ℕ = past (g .source) (g .image) (at + 13) in
       let end : ℕ = past (g .source) (g .image) at in
       let p = parted (g .source) (g .image) xs (ys ++ zs) from end (rw e (a .tree .declarations)) in
@@ -129,7 +129,7 @@ module _ {g : Given} {t : SyntaxTree} {at : ℕ} (a : Stands g t at) where
       fewer
       (sound-when begins (sound-shebang (a .comments) (t .shebang) (at + 13) (a .tree .shebang))
       ⨾ sound-declarations (a .comments) ys (p .mid) (q .mid) first (q .first) (omega arith)
-      ⨾ sound-when closes sound-line)
+      ⨾ sound-when closes (sound-closing (a .comments) t keeps))
       (omega (arith, o, q .order, a .tree .inside .least))
 
   -- ---- the limits, from the fresh state: three rows a comment are less than its eight bytes give
@@ -147,22 +147,26 @@ module _ {g : Given} {t : SyntaxTree} {at : ℕ} (a : Stands g t at) where
         placed = w .within;
       }
 
+  pub closed-within : (keeps : Bool) → Within g (wholeRule g t keeps fresh)
+  closed-within keeps = within (wholeRule g t keeps) (omega arith) (whole-sound keeps) (places-whole g t keeps)
+
   pub whole-within : Within g (fmtParsed g t fresh)
-  whole-within = within (fmtParsed g t) (omega arith) whole-sound (places-fmtParsed g t)
+  unfolding fmtParsed
+  whole-within = closed-within false
 
   pub upTo-within : (xs ys : List Declaration) → xs ++ ys ≡ t .declarations → Within g (upTo g t xs fresh)
   upTo-within xs ys e =
       within (upTo g t xs) (omega arith) (upTo-sound xs ys e) (places-then (places-shebang g (t .shebang)) (places-declarations g xs true))
 
   -- ---- the rows of a layout call pass the row check, from any state and wherever they stand
-  pub call-passes : (xs ys zs : List Declaration) (begins first closes : Bool) → xs ++ (ys ++ zs) ≡ t .declarations
+  pub call-passes : (xs ys zs : List Declaration) (begins first closes keeps : Bool) → xs ++ (ys ++ zs) ≡ t .declarations
       → (s : St) (store : List ℕ) (r : ℕ)
-      → let ns : Nodes = callRule g t begins ys first closes s .nodes in
+      → let ns : Nodes = callRule g t begins ys first closes keeps s .nodes in
       Holds store r (rows ns r) → r + sizes ns ≤ MAX-ROWS → (r + sizes ns) * PLACES ≤ length store
       → wrongPlace (g .source) (g .image) store r (r + sizes ns) ≡ nothing
-  call-passes xs ys zs begins first closes e s store r h few fits =
-      let p = call-sound xs ys zs begins first closes e .from s in
-      not-refused g (callRule g t begins ys first closes s .nodes) store r h (omega (arith, p .deep)) (p .texts) few fits
+  call-passes xs ys zs begins first closes keeps e s store r h few fits =
+      let p = call-sound xs ys zs begins first closes keeps e .from s in
+      not-refused g (callRule g t begins ys first closes keeps s .nodes) store r h (omega (arith, p .deep)) (p .texts) few fits
 
   -- the rows due from the fresh state, at the start of the store
   pub due-passes : {o : Out} → Within g o → (store : List ℕ) → Holds store 0 (rows (o .nodes) 0) → sizes (o .nodes) * PLACES ≤ length store
@@ -181,25 +185,25 @@ module _ {g : Given} {t : SyntaxTree} {at : ℕ} (a : Stands g t at) where
         numbers-fit = omega (arith, r .taken, a .tree .end, a .place, a .small);
       }
 
-  pub call-room : (xs ys zs : List Declaration) (begins first closes : Bool) → xs ++ (ys ++ zs) ≡ t .declarations → (c : Cursor)
-      → c .row ≤ MAX-ROWS → c .number ≤ MAX-NUMBER → c .placed ≤ length (g .comments) → Room (callRule g t begins ys first closes) c
-  call-room xs ys zs begins first closes e =
-      room (callRule g t begins ys first closes) (call-sound xs ys zs begins first closes e) (places-call g t begins ys first closes)
+  pub call-room : (xs ys zs : List Declaration) (begins first closes keeps : Bool) → xs ++ (ys ++ zs) ≡ t .declarations → (c : Cursor)
+      → c .row ≤ MAX-ROWS → c .number ≤ MAX-NUMBER → c .placed ≤ length (g .comments) → Room (callRule g t begins ys first closes keeps) c
+  call-room xs ys zs begins first closes keeps e =
+      room (callRule g t begins ys first closes keeps) (call-sound xs ys zs begins first closes keeps e) (places-call g t begins ys first closes keeps)
 
   -- no call takes more rows than the image's bytes give
-  call-few : (xs ys zs : List Declaration) (begins first closes : Bool) → xs ++ (ys ++ zs) ≡ t .declarations → (s : St)
-      → s .placed ≤ length (g .comments) → Few g (callRule g t begins ys first closes s)
+  call-few : (xs ys zs : List Declaration) (begins first closes keeps : Bool) → xs ++ (ys ++ zs) ≡ t .declarations → (s : St)
+      → s .placed ≤ length (g .comments) → Few g (callRule g t begins ys first closes keeps s)
   unfolding points
-  call-few xs ys zs begins first closes e s h =
-      let r = call-sound xs ys zs begins first closes e .from s in
-      let w = places-call g t begins ys first closes .from s h in
+  call-few xs ys zs begins first closes keeps e s h =
+      let r = call-sound xs ys zs begins first closes keeps e .from s in
+      let w = places-call g t begins ys first closes keeps .from s h in
       record {
         rows = omega (arith, r .rows, w .within, a .tree .end, a .place);
         numbers = omega (arith, r .taken, a .tree .end, a .place);
       }
 
 pub few-rows : FewRows
-few-rows g t at a xs ys zs e begins first closes s h = call-few a xs ys zs begins first closes e s h
+few-rows g t at a xs ys zs e begins first closes keeps s h = call-few a xs ys zs begins first closes keeps e s h
 
 pub words-due : WordsDue
-words-due g t at a xs ys zs e begins first closes s = call-sound a xs ys zs begins first closes e .from s .texts
+words-due g t at a xs ys zs e begins first closes keeps s = call-sound a xs ys zs begins first closes keeps e .from s .texts

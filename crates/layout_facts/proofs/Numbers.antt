@@ -19,8 +19,8 @@ use Rattle.state.specs.Act.{Given, St, Out, Act, next, _⨟_, _⨟?_, _⨟!_, s
 use Rattle.state.specs.Act.{indentedNext, called}
 use Rattle.comments.specs.Comments.{front, pushComment, newlines, ignoreNewlines, popComment, waits, popComments, popWhitespace, popTrailingComment}
 use Rattle.layout.specs.Layout.{fmtParsed}
-use Rattle.layout_facts.specs.Accepted.{fresh}
-use Rattle.layout_facts.proofs.EveryRule.{Leaf, ascii-leaf, str-leaf, line-leaf, emptyLine-leaf, lineOrSpace-leaf, wrapParent-leaf, Joining, every-fmtParsed}
+use Rattle.layout_facts.specs.Accepted.{fresh, wholeRule}
+use Rattle.layout_facts.proofs.EveryRule.{Leaf, ascii-leaf, str-leaf, line-leaf, emptyLine-leaf, lineOrSpace-leaf, wrapParent-leaf, Joining, every-whole}
 
 no-either : (a b : Bool) → a ≡ false → b ≡ false → (a || b) ≡ false
 no-either a b e f = ap₂ _||_ e f
@@ -200,5 +200,10 @@ joining g =
     }
 
 -- No number of a document is at or past those that it takes.
+pub whole-below : (g : Given) (t : SyntaxTree) (keeps : Bool) (x : ℕ) → wholeRule g t keeps fresh .taken ≤ x
+    → namesIn x (wholeRule g t keeps fresh .nodes) ≡ false
+whole-below g t keeps x h = every-whole (joining g) t keeps 0 .below fresh (omega arith) x (omega arith)
+
 pub numbers-below : (g : Given) (t : SyntaxTree) (x : ℕ) → fmtParsed g t fresh .taken ≤ x → namesIn x (fmtParsed g t fresh .nodes) ≡ false
-numbers-below g t x h = every-fmtParsed (joining g) t 0 .below fresh (omega arith) x (omega arith)
+unfolding fmtParsed
+numbers-below g t x h = whole-below g t false x h

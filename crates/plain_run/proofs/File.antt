@@ -1,5 +1,5 @@
--- A whole file laid out and rendered by two calls from fresh. 12 refuses neither call, and 11 finds nothing wrong with the rows that the first
--- call leaves. Where 15 refuses the width, neither is made.
+-- A whole file laid out and rendered by two calls from fresh. But for the mode 12 refuses neither call, and 11 finds nothing wrong with the rows
+-- that the first call leaves. Where 12 refuses the mode or 15 the width, neither is made.
 -- Assumes nothing.
 use mathlib.Core.Path.{_≡_, refl, sym, ap, ap₂, subst₂, _∙_}
 use mathlib.Core.Bool.{Bool, true, false}
@@ -22,22 +22,26 @@ use Rattle.rows.specs.View.{viewOf, nodesAt}
 use Rattle.rows.proofs.Sizes.{length-rows}
 use Rattle.rows.proofs.Flatten.{holds-part, read-back}
 use Rattle.marks.specs.Marks.{marksNeeded}
-use Rattle.comments.specs.Listed.{commentsOf}
+use Rattle.comments.specs.Listed.{commentsOf, given}
+use Rattle.layout.specs.Layout.{fmtParsed}
+use Rattle.layout_facts.specs.Accepted.{fresh, wholeRule}
 use Rattle.renderer_rules.specs.Check.{wrongPlace}
 use Rattle.renderer_rules.specs.Widest.{greatestColumn}
 use Rattle.refusals.specs.Refusals.{Refusal, unless, first, refuseIf, refuseAt, any}
-use Rattle.refusals.proofs.Groups.{none-both, passes-line}
+use Rattle.refusals.proofs.Groups.{none-both, passes-line, passes-others, not-if}
 use Rattle.cut_rule.specs.Rules.{LayoutArgs, RenderArgs, LayoutResult, RenderResult}
 use Rattle.cut_rule.specs.Laws.{SameBefore}
 use Rattle.cut_rule.specs.Run.{writeFront, answerBy, laidOut, written}
 use Rattle.cut_rule.specs.Entries.{layoutAnswer, layoutStore, renderGives, renderAnswer, renderMarks, renderOutput}
 use Rattle.cut_rule.specs.States.{LayoutState, RenderState, layoutFresh, renderFresh, LayoutChoice, RenderChoice}
-use Rattle.cut_rule.specs.Tests.{rowsIn, renderTests, placesTests, limitTests, begunTests, stopTests, rowTests, penTests, markTests}
+use Rattle.cut_rule.specs.Tests.{rowsIn, renderTests, placesTests, limitTests, begunTests, stopTests, modeTests, rowTests, penTests, markTests}
 use Rattle.cut_rule.specs.Parts.{layoutTests, rowsNeeded, withCleared, widthLine, drawnOf, beforeMarks, renderTable}
-use Rattle.plain_run.specs.Parts.{readRefusal, renderImage, acceptedTree, page, drawn, widestDrawn, partsOf}
+use Rattle.plain_run.specs.Parts.{readRefusal, renderImage, acceptedTree, keepsWaiting, page, drawn, widestDrawn, partsOf}
 use Rattle.plain_run.specs.Demands.{rulesOf, laidTo, closingAt}
-use Rattle.plain_run.specs.File.{FileChoice, renderChoice, built, rowsDue, marksDue, drawnDue, columnDue, laidRefusal, refusalIn, storeLeft, marksLeft, outputLeft}
+use Rattle.plain_run.specs.File.{FileChoice, modeLine, renderChoice, built, rowsDue, marksDue, drawnDue, columnDue, laidRefusal, refusalIn, storeLeft, marksLeft, outputLeft}
+use Rattle.plain_run.specs.File.{formatted, fileAnswerBy, OldModeIsFmtParsed, NewModeLeavesNone}
 use Rattle.plain_run.proofs.Whole.{fmt-parsed}
+use Rattle.plain_run.proofs.Foot.{closing-places-all}
 use Rattle.plain_run.proofs.Limits.{all-limited}
 use Rattle.plain_run.proofs.RenderParts.{render-parts}
 
@@ -59,54 +63,6 @@ module _ (s b : List ℕ) where
   abbrev count : ℕ
   count = length (acceptedTree b (readAll s b) .declarations)
 
-  -- ---- the layout call: up to the last declaration, closing
-  abbrev pub layoutArgs : LayoutArgs LayoutChoice
-  layoutArgs = closingAt count
-
-  -- the state that it answers
-  abbrev pub stateDue : LayoutState
-  stateDue = record {
-    begun = true;
-    closed = true;
-    declaration = count;
-    cursor = record { row = rowsDue s b; number = built s b .taken; placed = built s b .placed; position = built s b .pos };
-  }
-
-  laid-due : _≡_ {A = LayoutResult LayoutState} (laidTo (readAll s b) s b layoutArgs)
-      (record { state = stateDue; rows = rows (built s b .nodes) 0; left = length (commentsOf b) - built s b .placed })
-  laid-due =
-      let g = fmt-parsed (readAll s b) s b .closed in
-      λ t.
-      record {
-        state = record {
-          begun = true;
-          closed = true;
-          declaration = count;
-          cursor = record { row = g .row-due t; number = g .number-due t; placed = g .placed-due t; position = g .position-due t };
-        };
-        rows = g .rows-due t;
-        left = g .left-due t;
-      }
-
-  -- 12
-  layout-passes : (store : List ℕ) → any (layoutTests (partsOf s b) layoutArgs layoutFresh store) ≡ false
-  layout-passes store =
-      let stop = stopTests count layoutArgs layoutFresh in
-      none-both (placesTests count (length (commentsOf b)) (length s) (rowsIn store) layoutFresh)
-      (limitTests layoutFresh ++ (begunTests layoutFresh ++ stop))
-      (rw (
-        le-ltb count 0 (omega arith),
-        le-ltb (length (commentsOf b)) 0 (omega arith),
-        le-ltb (length s) 0 (omega arith),
-        le-ltb (rowsIn store) 0 (omega arith),
-      ))
-      (none-both (limitTests layoutFresh) (begunTests layoutFresh ++ stop) refl
-      (none-both (begunTests layoutFresh) stop refl
-      (rw (le-ltb count 0 (omega arith), le-ltb count count (omega arith), eq-eqb count count refl))))
-
-  rows-needed : rowsNeeded (partsOf s b) layoutArgs layoutFresh ≡ rowsDue s b
-  rows-needed = fmt-parsed (readAll s b) s b .closed .row-due
-
   -- 1 and 3
   pub image-passes : readRefusal (readAll s b) ≡ none → renderImage s b ≡ none
   image-passes h = go (readAll s b) refl h
@@ -117,186 +73,271 @@ module _ (s b : List ℕ) where
           let a = accepted s b (i .comments) (i .at) (ap answerOf e) in
           rw (fits-source s (a .short), fits-header b (a .root .head))
 
-  -- the rows that the layout call leaves
-  same-rows : (store : List ℕ) → SameBefore (rowsDue s b) (rows (built s b .nodes) 0) (writeFront (rows (built s b .nodes) 0) store)
-  same-rows store =
-      let r = rows (built s b .nodes) 0 in
-      sym (take-append-le (PLACES * rowsDue s b) r (drop (length r) store) (omega (arith, length-rows (built s b .nodes) 0)))
-
-  -- ---- at a width that 15 doesn't refuse
-  module _ (c : FileChoice) (legal : widthLine (renderChoice c) renderFresh ≡ none) where
-    pub layout-refusal-due : (store : List ℕ) → rulesOf s b .layout-refusal layoutArgs layoutFresh store ≡ laidRefusal s b c (rowsIn store)
-    layout-refusal-due store =
-        ap (λ (x : Bool).
-        first
-        (readRefusal (readAll s b)
-        ∷ refuseIf x 12 0
-        ∷ refuseIf (ltb (rowsIn store) (rowsNeeded (partsOf s b) layoutArgs layoutFresh)) 8 (rowsNeeded (partsOf s b) layoutArgs layoutFresh)
-        ∷ []))
-        (layout-passes store)
-        ∙ ap (λ (n : ℕ). first (readRefusal (readAll s b) ∷ refuseIf (ltb (rowsIn store) n) 8 n ∷ [])) rows-needed
-        ∙ ap (λ (r : Option Refusal). first (readRefusal (readAll s b) ∷ r ∷ refuseIf (ltb (rowsIn store) (rowsDue s b)) 8 (rowsDue s b) ∷ [])) (sym legal)
-
-    -- what it answers and leaves
-    pub layout-answer-due : (store : List ℕ)
-        → layoutAnswer (rulesOf s b) layoutArgs layoutFresh store
-        ≡ answerBy (rulesOf s b) (laidRefusal s b c (rowsIn store)) (laidOut stateDue (length (commentsOf b) - built s b .placed))
-    layout-answer-due store =
-        ap₂ (λ (r : Option Refusal) (l : LayoutResult LayoutState). answerBy (rulesOf s b) r (laidOut (l .state) (l .left)))
-        (layout-refusal-due store)
-        laid-due
-
-    pub layout-store-due : (store : List ℕ) → layoutStore (rulesOf s b) layoutArgs layoutFresh store ≡ storeLeft s b c store
-    layout-store-due store =
-        ap₂ (λ (r : Option Refusal) (l : LayoutResult LayoutState). unless r store (writeFront (l .rows) store)) (layout-refusal-due store) laid-due
-
-    -- ---- the rendering call: up to the last row
-    abbrev pub renderArgs : List ℕ → RenderArgs RenderChoice
-    renderArgs out = record { stop = rowsDue s b; room = length out; choice = renderChoice c }
-
-    -- 12
-    render-passes : (store marks out : List ℕ) → any (renderTests (renderArgs out) renderFresh store marks) ≡ false
-    render-passes store marks out =
-        none-both (rowTests (rowsIn store) (rowsDue s b) 0) (penTests (renderFresh .pen) ++ markTests marks 0)
-        (rw (le-ltb (rowsIn store) 0 (omega arith), le-ltb (rowsDue s b) 0 (omega arith)))
-        (none-both (penTests (renderFresh .pen)) (markTests marks 0) refl (rw (le-ltb (length marks) 0 (omega arith))))
-
-    module _ (store : List ℕ) (h : readRefusal (readAll s b) ≡ none) where
-      abbrev rowed : List ℕ
-      rowed = writeFront (rows (built s b .nodes) 0) store
-
-      -- 11
-      rows-right : wrongPlace s b rowed 0 (rowsDue s b) ≡ none
-      rows-right =
-          let g = fmt-parsed (readAll s b) s b .closed in
-          render-parts s b (readAll s b) .right-local (rows (built s b .nodes) 0) rowed (rowsDue s b) (same-rows store)
-          (subst₂ (λ (x : List ℕ) (n : ℕ). wrongPlace s b x 0 n ≡ none) (g .rows-due) (g .row-due) (all-limited s b h .closed .right))
-
-      marks-due : marksNeeded (rowsDue s b - 0) rowed 0 ≡ marksDue s b
-      marks-due =
-          sym (render-parts s b (readAll s b) .needed-local (rows (built s b .nodes) 0) rowed 0 (rowsDue s b) (same-rows store))
-          ∙ ap (λ (n : ℕ). marksNeeded n (rows (built s b .nodes) 0) 0) (sub-zero (rowsDue s b))
-
-      drawn-due : drawnOf (partsOf s b) (c .width) renderFresh [] rowed (rowsDue s b) ≡ drawnDue s b c
-      drawn-due =
-          let g = fmt-parsed (readAll s b) s b .closed in
-          let z = renderFresh .pen in
-          let m = marksNeeded (rowsDue s b - 0) rowed 0 in
-          let cleared : List ℕ = replicate (marksDue s b) 0 in
-          sym (render-parts s b (readAll s b) .draw-local (c .width) z (replicate (m - 0) 0) (rows (built s b .nodes) 0) rowed 0 (rowsDue s b) (same-rows store))
-          ∙ ap (λ (n : ℕ). drawn s b (c .width) z (replicate n 0) (rows (built s b .nodes) 0) 0 (rowsDue s b)) (sub-zero m ∙ marks-due)
-          ∙ ap₂ (λ (x : List ℕ) (n : ℕ). drawn s b (c .width) z cleared x 0 n) (sym (g .rows-due)) (sym (g .row-due))
-          ∙ g .drawn-due (c .width) z cleared
-
-      -- the rows are read back as the nodes that they are of
-      nodes-due : nodesAt (viewOf rowed) 0 (rowsDue s b) ≡ built s b .nodes
-      nodes-due =
-          let r = rows (built s b .nodes) 0 in
-          ap (nodesAt (viewOf rowed) 0) (sym (zero-add (rowsDue s b)))
-          ∙ read-back (built s b .nodes) rowed 0 (holds-part rowed 0 r (take-append-seam r (drop (length r) store)))
-
-      widest-due : widestDrawn s b (c .width) (renderFresh .pen) (withCleared (partsOf s b) [] (marksNeeded (rowsDue s b - 0) rowed 0)) rowed 0 (rowsDue s b)
-          ≡ columnDue s b c
-      widest-due =
-          ap₂ (λ (ns : Nodes) (m : ℕ). greatestColumn (page (c .width) s b) ns (replicate m 0)) nodes-due
-          (sub-zero (marksNeeded (rowsDue s b - 0) rowed 0) ∙ marks-due)
-
-      render-table-due : (marks out : List ℕ)
-          → first (renderTable (partsOf s b) (renderArgs out) renderFresh rowed marks)
-          ≡ first
-          (refuseIf (ltb (length marks) (marksDue s b)) 9 (marksDue s b)
-          ∷ refuseIf (ltb (length out) (length (drawnDue s b c .text))) 10 (length (drawnDue s b c .text))
-          ∷ [])
-      render-table-due marks out =
-          λ t.
-          first
-          (image-passes h t
-          ∷ refuseAt (rows-right t) 11
-          ∷ refuseIf (render-passes rowed marks out t) 12 0
-          ∷ legal t
-          ∷ refuseIf (ltb (length marks) (marks-due t)) 9 (marks-due t)
-          ∷ refuseIf (ltb (length out) (length (drawn-due t .text))) 10 (length (drawn-due t .text))
-          ∷ [])
-
-      -- but for marks that are too few and too long a text, nothing refuses
-      early-due : (marks out : List ℕ) → first (beforeMarks (partsOf s b) (renderArgs out) renderFresh rowed marks) ≡ none
-      early-due marks out =
-          λ t. first (image-passes h t ∷ refuseAt (rows-right t) 11 ∷ refuseIf (render-passes rowed marks out t) 12 0 ∷ legal t ∷ [])
-
-      rendered-due : (marks out : List ℕ)
-          → renderGives (rulesOf s b) (renderArgs out) renderFresh rowed marks
-          ≡ record {
-            state = record { pen = drawnDue s b c .pen; in-use = max 0 (marksDue s b); row = rowsDue s b; width = c .width };
-            marks = drawnDue s b c .marks;
-            text = drawnDue s b c .text;
-          }
-      rendered-due marks out =
-          λ t.
-          record {
-            state = record { pen = drawn-due t .pen; in-use = max 0 (marks-due t); row = rowsDue s b; width = c .width };
-            marks = drawn-due t .marks;
-            text = drawn-due t .text;
-          }
+  -- ---- as a caller chooses
+  module _ (c : FileChoice) where
+    -- ---- the layout call: up to the last declaration, closing
+    abbrev pub layoutArgs : LayoutArgs LayoutChoice
+    layoutArgs = closingAt (c .mode) count
 
     -- the state that it answers
-    abbrev pub renderedDue : RenderState
-    renderedDue = record { pen = drawnDue s b c .pen; in-use = max 0 (marksDue s b); row = rowsDue s b; width = c .width }
+    abbrev pub stateDue : LayoutState
+    stateDue = record {
+      begun = true;
+      closed = true;
+      declaration = count;
+      cursor = record { row = rowsDue s b c; number = built s b c .taken; placed = built s b c .placed; position = built s b c .pos };
+      mode = c .mode;
+    }
 
-    -- what it answers and leaves, of what the layout call left
-    module _ (store marks out : List ℕ) (h : laidRefusal s b c (rowsIn store) ≡ none) where
-      read : readRefusal (readAll s b) ≡ none
-      read =
-          passes-line (readRefusal (readAll s b)) (widthLine (renderChoice c) renderFresh ∷ refuseIf (ltb (rowsIn store) (rowsDue s b)) 8 (rowsDue s b) ∷ []) h
+    laid-due : _≡_ {A = LayoutResult LayoutState} (laidTo (readAll s b) s b layoutArgs)
+        (record { state = stateDue; rows = rows (built s b c .nodes) 0; left = length (commentsOf b) - built s b c .placed })
+    laid-due =
+        let g = fmt-parsed (readAll s b) s b .closed-in (c .mode) in
+        λ t.
+        record {
+          state = record {
+            begun = true;
+            closed = true;
+            declaration = count;
+            cursor = record { row = g .row-due t; number = g .number-due t; placed = g .placed-due t; position = g .position-due t };
+            mode = c .mode;
+          };
+          rows = g .rows-due t;
+          left = g .left-due t;
+        }
 
-      left-store : storeLeft s b c store ≡ writeFront (rows (built s b .nodes) 0) store
-      left-store = ap (λ (r : Option Refusal). unless r store (writeFront (rows (built s b .nodes) 0) store)) h
+    rows-needed : rowsNeeded (partsOf s b) layoutArgs layoutFresh ≡ rowsDue s b c
+    rows-needed = fmt-parsed (readAll s b) s b .closed-in (c .mode) .row-due
 
-      pub render-refusal-due : rulesOf s b .render-refusal (renderArgs out) renderFresh (storeLeft s b c store) marks ≡ refusalIn s b c (rowsIn store) (length marks) (length out)
-      render-refusal-due =
-          ap (λ (x : List ℕ). first (renderTable (partsOf s b) (renderArgs out) renderFresh x marks)) left-store
-          ∙ render-table-due store read marks out
-          ∙ ap (λ (r : Option Refusal).
+    -- the rows that the layout call leaves
+    same-rows : (store : List ℕ) → SameBefore (rowsDue s b c) (rows (built s b c .nodes) 0) (writeFront (rows (built s b c .nodes) 0) store)
+    same-rows store =
+        let r = rows (built s b c .nodes) 0 in
+        sym (take-append-le (PLACES * rowsDue s b c) r (drop (length r) store) (omega (arith, length-rows (built s b c .nodes) 0)))
+
+    -- 12
+    layout-passes : modeLine c ≡ none → (store : List ℕ) → any (layoutTests (partsOf s b) layoutArgs layoutFresh store) ≡ false
+    layout-passes moded store =
+        let stop = stopTests count layoutArgs layoutFresh in
+        let mode = modeTests (layoutArgs .choice) layoutFresh in
+        none-both (placesTests count (length (commentsOf b)) (length s) (rowsIn store) layoutFresh)
+        (limitTests layoutFresh ++ (begunTests layoutFresh ++ (stop ++ mode)))
+        (rw (
+          le-ltb count 0 (omega arith),
+          le-ltb (length (commentsOf b)) 0 (omega arith),
+          le-ltb (length s) 0 (omega arith),
+          le-ltb (rowsIn store) 0 (omega arith),
+        ))
+        (none-both (limitTests layoutFresh) (begunTests layoutFresh ++ (stop ++ mode)) refl
+        (none-both (begunTests layoutFresh) (stop ++ mode) refl
+        (none-both stop mode
+        (rw (le-ltb count 0 (omega arith), le-ltb count count (omega arith), eq-eqb count count refl))
+        (not-if (any mode) 12 0 moded))))
+
+    -- ---- in a mode that 12 doesn't refuse, at a width that 15 doesn't
+    module _ (moded : modeLine c ≡ none) (legal : widthLine (renderChoice c) renderFresh ≡ none) where
+      pub layout-refusal-due : (store : List ℕ) → rulesOf s b .layout-refusal layoutArgs layoutFresh store ≡ laidRefusal s b c (rowsIn store)
+      layout-refusal-due store =
+          ap (λ (x : Bool).
           first
-          (r
-          ∷ refuseIf (ltb (length marks) (marksDue s b)) 9 (marksDue s b)
-          ∷ refuseIf (ltb (length out) (length (drawnDue s b c .text))) 10 (length (drawnDue s b c .text))
+          (readRefusal (readAll s b)
+          ∷ refuseIf x 12 0
+          ∷ refuseIf (ltb (rowsIn store) (rowsNeeded (partsOf s b) layoutArgs layoutFresh)) 8 (rowsNeeded (partsOf s b) layoutArgs layoutFresh)
           ∷ []))
-          (sym h)
+          (layout-passes moded store)
+          ∙ ap (λ (n : ℕ). first (readRefusal (readAll s b) ∷ refuseIf (ltb (rowsIn store) n) 8 n ∷ [])) rows-needed
+          ∙ ap₂ (λ (r w : Option Refusal). first (readRefusal (readAll s b) ∷ r ∷ w ∷ refuseIf (ltb (rowsIn store) (rowsDue s b c)) 8 (rowsDue s b c) ∷ []))
+          (sym moded)
+          (sym legal)
 
-      pub render-early-due : first (beforeMarks (partsOf s b) (renderArgs out) renderFresh (storeLeft s b c store) marks) ≡ none
-      render-early-due =
-          ap (λ (x : List ℕ). first (beforeMarks (partsOf s b) (renderArgs out) renderFresh x marks)) left-store ∙ early-due store read marks out
+      -- what it answers and leaves
+      pub layout-answer-due : (store : List ℕ)
+          → layoutAnswer (rulesOf s b) layoutArgs layoutFresh store
+          ≡ answerBy (rulesOf s b) (laidRefusal s b c (rowsIn store)) (laidOut stateDue (length (commentsOf b) - built s b c .placed))
+      layout-answer-due store =
+          ap₂ (λ (r : Option Refusal) (l : LayoutResult LayoutState). answerBy (rulesOf s b) r (laidOut (l .state) (l .left)))
+          (layout-refusal-due store)
+          laid-due
 
-      gives-due : renderGives (rulesOf s b) (renderArgs out) renderFresh (storeLeft s b c store) marks
-          ≡ record { state = renderedDue; marks = drawnDue s b c .marks; text = drawnDue s b c .text }
-      gives-due =
-          ap (λ (x : List ℕ). renderGives (rulesOf s b) (renderArgs out) renderFresh x marks) left-store ∙ rendered-due store read marks out
+      pub layout-store-due : (store : List ℕ) → layoutStore (rulesOf s b) layoutArgs layoutFresh store ≡ storeLeft s b c store
+      layout-store-due store =
+          ap₂ (λ (r : Option Refusal) (l : LayoutResult LayoutState). unless r store (writeFront (l .rows) store)) (layout-refusal-due store) laid-due
 
-      pub render-answer-due : renderAnswer (rulesOf s b) (renderArgs out) renderFresh (storeLeft s b c store) marks
-          ≡ answerBy (rulesOf s b) (refusalIn s b c (rowsIn store) (length marks) (length out)) (written renderedDue (length (drawnDue s b c .text)))
-      render-answer-due =
-          ap₂ (λ (r : Option Refusal) (l : RenderResult RenderState). answerBy (rulesOf s b) r (written (l .state) (length (l .text))))
-          render-refusal-due
-          gives-due
+      -- ---- the rendering call: up to the last row
+      abbrev pub renderArgs : List ℕ → RenderArgs RenderChoice
+      renderArgs out = record { stop = rowsDue s b c; room = length out; choice = renderChoice c }
 
-      pub render-marks-due : renderMarks (rulesOf s b) (renderArgs out) renderFresh (storeLeft s b c store) marks ≡ marksLeft s b c store marks out
-      render-marks-due =
-          ap₂ (λ (r : Option Refusal) (l : RenderResult RenderState). unless r marks (writeFront (l .marks) marks)) render-refusal-due gives-due
+      -- 12
+      render-passes : (store marks out : List ℕ) → any (renderTests (renderArgs out) renderFresh store marks) ≡ false
+      render-passes store marks out =
+          none-both (rowTests (rowsIn store) (rowsDue s b c) 0) (penTests (renderFresh .pen) ++ markTests marks 0)
+          (rw (le-ltb (rowsIn store) 0 (omega arith), le-ltb (rowsDue s b c) 0 (omega arith)))
+          (none-both (penTests (renderFresh .pen)) (markTests marks 0) refl (rw (le-ltb (length marks) 0 (omega arith))))
 
-      pub render-output-due : renderOutput (rulesOf s b) (renderArgs out) renderFresh (storeLeft s b c store) marks out ≡ outputLeft s b c store marks out
-      render-output-due =
-          ap₂ (λ (r : Option Refusal) (l : RenderResult RenderState). unless r out (writeFront (l .text) out)) render-refusal-due gives-due
+      module _ (store : List ℕ) (h : readRefusal (readAll s b) ≡ none) where
+        abbrev rowed : List ℕ
+        rowed = writeFront (rows (built s b c .nodes) 0) store
 
-      -- the greatest column that it tells
-      pub render-widest-due : unless (rulesOf s b .render-refusal (renderArgs out) renderFresh (storeLeft s b c store) marks) 0
-          (widestDrawn s b (c .width) (renderFresh .pen) (withCleared (partsOf s b) [] (marksNeeded (rowsDue s b - 0) (storeLeft s b c store) 0))
-          (storeLeft s b c store)
-          0
-          (rowsDue s b))
-          ≡ unless (refusalIn s b c (rowsIn store) (length marks) (length out)) 0 (columnDue s b c)
-      render-widest-due =
-          ap₂ (λ (r : Option Refusal) (n : ℕ). unless r 0 n) render-refusal-due
-          (ap (λ (x : List ℕ).
-          widestDrawn s b (c .width) (renderFresh .pen) (withCleared (partsOf s b) [] (marksNeeded (rowsDue s b - 0) x 0)) x 0 (rowsDue s b))
-          left-store
-          ∙ widest-due store read)
+        -- 11
+        rows-right : wrongPlace s b rowed 0 (rowsDue s b c) ≡ none
+        rows-right =
+            let g = fmt-parsed (readAll s b) s b .closed-in (c .mode) in
+            render-parts s b (readAll s b) .right-local (rows (built s b c .nodes) 0) rowed (rowsDue s b c) (same-rows store)
+            (subst₂ (λ (x : List ℕ) (n : ℕ). wrongPlace s b x 0 n ≡ none) (g .rows-due) (g .row-due) (all-limited s b h .closed (c .mode) .right))
+
+        marks-due : marksNeeded (rowsDue s b c - 0) rowed 0 ≡ marksDue s b c
+        marks-due =
+            sym (render-parts s b (readAll s b) .needed-local (rows (built s b c .nodes) 0) rowed 0 (rowsDue s b c) (same-rows store))
+            ∙ ap (λ (n : ℕ). marksNeeded n (rows (built s b c .nodes) 0) 0) (sub-zero (rowsDue s b c))
+
+        drawn-due : drawnOf (partsOf s b) (c .width) renderFresh [] rowed (rowsDue s b c) ≡ drawnDue s b c
+        drawn-due =
+            let g = fmt-parsed (readAll s b) s b .closed-in (c .mode) in
+            let z = renderFresh .pen in
+            let m = marksNeeded (rowsDue s b c - 0) rowed 0 in
+            let cleared : List ℕ = replicate (marksDue s b c) 0 in
+            sym (render-parts s b (readAll s b) .draw-local (c .width) z (replicate (m - 0) 0) (rows (built s b c .nodes) 0) rowed 0 (rowsDue s b c) (same-rows store))
+            ∙ ap (λ (n : ℕ). drawn s b (c .width) z (replicate n 0) (rows (built s b c .nodes) 0) 0 (rowsDue s b c)) (sub-zero m ∙ marks-due)
+            ∙ ap₂ (λ (x : List ℕ) (n : ℕ). drawn s b (c .width) z cleared x 0 n) (sym (g .rows-due)) (sym (g .row-due))
+            ∙ g .drawn-due (c .width) z cleared
+
+        -- the rows are read back as the nodes that they are of
+        nodes-due : nodesAt (viewOf rowed) 0 (rowsDue s b c) ≡ built s b c .nodes
+        nodes-due =
+            let r = rows (built s b c .nodes) 0 in
+            ap (nodesAt (viewOf rowed) 0) (sym (zero-add (rowsDue s b c)))
+            ∙ read-back (built s b c .nodes) rowed 0 (holds-part rowed 0 r (take-append-seam r (drop (length r) store)))
+
+        widest-due : widestDrawn s b (c .width) (renderFresh .pen) (withCleared (partsOf s b) [] (marksNeeded (rowsDue s b c - 0) rowed 0)) rowed 0 (rowsDue s b c)
+            ≡ columnDue s b c
+        widest-due =
+            ap₂ (λ (ns : Nodes) (m : ℕ). greatestColumn (page (c .width) s b) ns (replicate m 0)) nodes-due
+            (sub-zero (marksNeeded (rowsDue s b c - 0) rowed 0) ∙ marks-due)
+
+        render-table-due : (marks out : List ℕ)
+            → first (renderTable (partsOf s b) (renderArgs out) renderFresh rowed marks)
+            ≡ first
+            (refuseIf (ltb (length marks) (marksDue s b c)) 9 (marksDue s b c)
+            ∷ refuseIf (ltb (length out) (length (drawnDue s b c .text))) 10 (length (drawnDue s b c .text))
+            ∷ [])
+        render-table-due marks out =
+            λ t.
+            first
+            (image-passes h t
+            ∷ refuseAt (rows-right t) 11
+            ∷ refuseIf (render-passes rowed marks out t) 12 0
+            ∷ legal t
+            ∷ refuseIf (ltb (length marks) (marks-due t)) 9 (marks-due t)
+            ∷ refuseIf (ltb (length out) (length (drawn-due t .text))) 10 (length (drawn-due t .text))
+            ∷ [])
+
+        -- but for marks that are too few and too long a text, nothing refuses
+        early-due : (marks out : List ℕ) → first (beforeMarks (partsOf s b) (renderArgs out) renderFresh rowed marks) ≡ none
+        early-due marks out =
+            λ t. first (image-passes h t ∷ refuseAt (rows-right t) 11 ∷ refuseIf (render-passes rowed marks out t) 12 0 ∷ legal t ∷ [])
+
+        rendered-due : (marks out : List ℕ)
+            → renderGives (rulesOf s b) (renderArgs out) renderFresh rowed marks
+            ≡ record {
+              state = record { pen = drawnDue s b c .pen; in-use = max 0 (marksDue s b c); row = rowsDue s b c; width = c .width };
+              marks = drawnDue s b c .marks;
+              text = drawnDue s b c .text;
+            }
+        rendered-due marks out =
+            λ t.
+            record {
+              state = record { pen = drawn-due t .pen; in-use = max 0 (marks-due t); row = rowsDue s b c; width = c .width };
+              marks = drawn-due t .marks;
+              text = drawn-due t .text;
+            }
+
+      -- the state that it answers
+      abbrev pub renderedDue : RenderState
+      renderedDue = record { pen = drawnDue s b c .pen; in-use = max 0 (marksDue s b c); row = rowsDue s b c; width = c .width }
+
+      -- what it answers and leaves, of what the layout call left
+      module _ (store marks out : List ℕ) (h : laidRefusal s b c (rowsIn store) ≡ none) where
+        read : readRefusal (readAll s b) ≡ none
+        read =
+            passes-line (readRefusal (readAll s b)) (modeLine c ∷ widthLine (renderChoice c) renderFresh ∷ refuseIf (ltb (rowsIn store) (rowsDue s b c)) 8 (rowsDue s b c) ∷ []) h
+
+        left-store : storeLeft s b c store ≡ writeFront (rows (built s b c .nodes) 0) store
+        left-store = ap (λ (r : Option Refusal). unless r store (writeFront (rows (built s b c .nodes) 0) store)) h
+
+        pub render-refusal-due : rulesOf s b .render-refusal (renderArgs out) renderFresh (storeLeft s b c store) marks ≡ refusalIn s b c (rowsIn store) (length marks) (length out)
+        render-refusal-due =
+            ap (λ (x : List ℕ). first (renderTable (partsOf s b) (renderArgs out) renderFresh x marks)) left-store
+            ∙ render-table-due store read marks out
+            ∙ ap (λ (r : Option Refusal).
+            first
+            (r
+            ∷ refuseIf (ltb (length marks) (marksDue s b c)) 9 (marksDue s b c)
+            ∷ refuseIf (ltb (length out) (length (drawnDue s b c .text))) 10 (length (drawnDue s b c .text))
+            ∷ []))
+            (sym h)
+
+        pub render-early-due : first (beforeMarks (partsOf s b) (renderArgs out) renderFresh (storeLeft s b c store) marks) ≡ none
+        render-early-due =
+            ap (λ (x : List ℕ). first (beforeMarks (partsOf s b) (renderArgs out) renderFresh x marks)) left-store ∙ early-due store read marks out
+
+        gives-due : renderGives (rulesOf s b) (renderArgs out) renderFresh (storeLeft s b c store) marks
+            ≡ record { state = renderedDue; marks = drawnDue s b c .marks; text = drawnDue s b c .text }
+        gives-due =
+            ap (λ (x : List ℕ). renderGives (rulesOf s b) (renderArgs out) renderFresh x marks) left-store ∙ rendered-due store read marks out
+
+        pub render-answer-due : renderAnswer (rulesOf s b) (renderArgs out) renderFresh (storeLeft s b c store) marks
+            ≡ answerBy (rulesOf s b) (refusalIn s b c (rowsIn store) (length marks) (length out)) (written renderedDue (length (drawnDue s b c .text)))
+        render-answer-due =
+            ap₂ (λ (r : Option Refusal) (l : RenderResult RenderState). answerBy (rulesOf s b) r (written (l .state) (length (l .text))))
+            render-refusal-due
+            gives-due
+
+        pub render-marks-due : renderMarks (rulesOf s b) (renderArgs out) renderFresh (storeLeft s b c store) marks ≡ marksLeft s b c store marks out
+        render-marks-due =
+            ap₂ (λ (r : Option Refusal) (l : RenderResult RenderState). unless r marks (writeFront (l .marks) marks)) render-refusal-due gives-due
+
+        pub render-output-due : renderOutput (rulesOf s b) (renderArgs out) renderFresh (storeLeft s b c store) marks out ≡ outputLeft s b c store marks out
+        render-output-due =
+            ap₂ (λ (r : Option Refusal) (l : RenderResult RenderState). unless r out (writeFront (l .text) out)) render-refusal-due gives-due
+
+        -- the greatest column that it tells
+        pub render-widest-due : unless (rulesOf s b .render-refusal (renderArgs out) renderFresh (storeLeft s b c store) marks) 0
+            (widestDrawn s b (c .width) (renderFresh .pen) (withCleared (partsOf s b) [] (marksNeeded (rowsDue s b c - 0) (storeLeft s b c store) 0))
+            (storeLeft s b c store)
+            0
+            (rowsDue s b c))
+            ≡ unless (refusalIn s b c (rowsIn store) (length marks) (length out)) 0 (columnDue s b c)
+        render-widest-due =
+            ap₂ (λ (r : Option Refusal) (n : ℕ). unless r 0 n) render-refusal-due
+            (ap (λ (x : List ℕ).
+            widestDrawn s b (c .width) (renderFresh .pen) (withCleared (partsOf s b) [] (marksNeeded (rowsDue s b c - 0) x 0)) x 0 (rowsDue s b c))
+            left-store
+            ∙ widest-due store read)
+
+-- ---- the modes
+pub old-mode-is-fmt-parsed : OldModeIsFmtParsed
+unfolding fmtParsed
+old-mode-is-fmt-parsed s b c e = ap (λ (m : ℕ). wholeRule (given s b) (acceptedTree b (readAll s b)) (keepsWaiting m) fresh) e
+
+pub new-mode-leaves-none : NewModeLeavesNone
+new-mode-leaves-none s b c inRows inMarks room bytes left inAll numbers new e = go (refusalIn s b c inRows inMarks room) refl e
+  where
+    eights : List (Option Refusal)
+    eights = widthLine (renderChoice c) renderFresh ∷ refuseIf (ltb inRows (rowsDue s b c)) 8 (rowsDue s b c) ∷ []
+
+    go : (o : Option Refusal) → refusalIn s b c inRows inMarks room ≡ o
+        → fileAnswerBy o (formatted (length (drawnDue s b c .text)) (length (commentsOf b) - built s b c .placed) (rowsDue s b c) (built s b c .taken))
+        ≡ formatted bytes left inAll numbers
+        → left ≡ 0
+    go (some r) h f = let z : _≡_ {A = ℕ} 0 1 = cc in absurd (omega arith)
+    go none h f =
+        let n : length (commentsOf b) - built s b c .placed ≡ left = cc in
+        let laid : laidRefusal s b c inRows ≡ none =
+        passes-line (laidRefusal s b c inRows)
+        (refuseIf (ltb inMarks (marksDue s b c)) 9 (marksDue s b c) ∷ refuseIf (ltb room (length (drawnDue s b c .text))) 10 (length (drawnDue s b c .text)) ∷ [])
+        h
+        in
+        let read : readRefusal (readAll s b) ≡ none = passes-line (readRefusal (readAll s b)) (modeLine c ∷ eights) laid in
+        let moded : modeLine c ≡ none = passes-line (modeLine c) eights (passes-others (readRefusal (readAll s b)) (modeLine c ∷ eights) laid) in
+        let all = closing-places-all s b [] (layoutArgs s b c) layoutFresh read (layout-passes s b c moded []) refl new in
+        sym n ∙ sym (fmt-parsed (readAll s b) s b .closed-in (c .mode) .left-due) ∙ all .left

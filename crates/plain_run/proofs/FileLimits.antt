@@ -29,7 +29,7 @@ use Rattle.rows.proofs.Nested.{leaf-within}
 use Rattle.rows.proofs.Table.{words-size}
 use Rattle.comments.specs.Listed.{given}
 use Rattle.layout_facts.specs.Sound.{Inside, Supplied, TextsOf, TextsIn}
-use Rattle.layout_facts.proofs.Limits.{whole-within}
+use Rattle.layout_facts.proofs.Limits.{closed-within}
 use Rattle.renderer_rules.specs.Check.{usesNumber, usesNumber2, usesSecond, usesText, usesWidth, textFits, noTextFits, placesFit}
 use Rattle.renderer_rules.specs.Most.{rowMost, rowsMost}
 use Rattle.renderer_rules.specs.Page.{pageOf}
@@ -39,9 +39,9 @@ use Rattle.refusals.specs.Refusals.{Refusal, refuseIf}
 use Rattle.refusals.proofs.Groups.{passes-line, passes-others, not-if}
 use Rattle.cut_rule.specs.States.{renderFresh}
 use Rattle.cut_rule.specs.Parts.{Drawn, widthLine}
-use Rattle.plain_run.specs.Parts.{readRefusal, renderImage, rendererOf}
+use Rattle.plain_run.specs.Parts.{readRefusal, keepsWaiting, renderImage, rendererOf}
 use Rattle.plain_run.specs.Demands.{laidTo}
-use Rattle.plain_run.specs.File.{FileChoice, renderChoice, fileRows, built, rowsDue, marksDue, laidRefusal}
+use Rattle.plain_run.specs.File.{FileChoice, modeLine, renderChoice, fileRows, built, rowsDue, marksDue, laidRefusal}
 use Rattle.plain_run.specs.FileLimits.{MAX-IMAGE, RowsTextLimited, FileTextLimited, AreBytes, FileColumnLimited}
 use Rattle.plain_run.proofs.Right.{Right, right}
 use Rattle.plain_run.proofs.Whole.{fmt-parsed}
@@ -194,34 +194,39 @@ rows-text-limited max s b store marks n few image e =
 -- ---- a file
 module _ (s b : List ℕ) (c : FileChoice) (h : laidRefusal s b c fileRows ≡ none) where
   abbrev eights : List (Option Refusal)
-  eights = refuseIf (ltb fileRows (rowsDue s b)) 8 (rowsDue s b) ∷ []
+  eights = refuseIf (ltb fileRows (rowsDue s b c)) 8 (rowsDue s b c) ∷ []
 
   abbrev widths : List (Option Refusal)
   widths = widthLine (renderChoice c) renderFresh ∷ eights
 
-  pub laid-read : readRefusal (readAll s b) ≡ none
-  laid-read = passes-line (readRefusal (readAll s b)) widths h
+  abbrev modes : List (Option Refusal)
+  modes = modeLine c ∷ widths
 
-  few : rowsDue s b ≤ fileRows
+  pub laid-read : readRefusal (readAll s b) ≡ none
+  laid-read = passes-line (readRefusal (readAll s b)) modes h
+
+  few : rowsDue s b c ≤ fileRows
   few =
-      ltb-false fileRows (rowsDue s b)
-      (not-if (ltb fileRows (rowsDue s b)) 8 (rowsDue s b)
-      (passes-line _ [] (passes-others (widthLine (renderChoice c) renderFresh) eights (passes-others (readRefusal (readAll s b)) widths h))))
+      ltb-false fileRows (rowsDue s b c)
+      (not-if (ltb fileRows (rowsDue s b c)) 8 (rowsDue s b c)
+      (passes-line _ []
+      (passes-others (widthLine (renderChoice c) renderFresh) eights
+      (passes-others (modeLine c) widths (passes-others (readRefusal (readAll s b)) modes h)))))
 
 pub file-text-limited : FileTextLimited
 file-text-limited s b c h =
-    let g = fmt-parsed (readAll s b) s b .closed in
-    let l = laidTo (readAll s b) s b (layoutArgs s b) in
-    let marks : List ℕ = replicate (marksDue s b) 0 in
+    let g = fmt-parsed (readAll s b) s b .closed-in (c .mode) in
+    let l = laidTo (readAll s b) s b (layoutArgs s b c) in
+    let marks : List ℕ = replicate (marksDue s b c) 0 in
     let e = ap (λ (d : Drawn). length (d .text)) (g .drawn-due (c .width) (renderFresh .pen) marks) in
     let m =
     rows-text-limited (c .width) s b (l .rows) marks (l .state .cursor .row) (omega (arith, g .row-due, few s b c h)) (image-passes s b (laid-read s b c h))
-    (all-limited s b (laid-read s b c h) .closed .right)
+    (all-limited s b (laid-read s b c h) .closed (c .mode) .right)
     in
     omega arith
 
 pub file-column-limited : FileColumnLimited
 file-column-limited max s b marks c bytes h =
     let z = sized s b (image-passes s b (laid-read s b c h)) in
-    let m = nodes-measure z bytes max (built s b .nodes) (whole-within (stood s b (laid-read s b c h) .stood) .texts) in
-    omega (arith, column-most (pageOf max s b) (built s b .nodes) marks, few s b c h)
+    let m = nodes-measure z bytes max (built s b c .nodes) (closed-within (stood s b (laid-read s b c h) .stood) (keepsWaiting (c .mode)) .texts) in
+    omega (arith, column-most (pageOf max s b) (built s b c .nodes) marks, few s b c h)

@@ -17,18 +17,19 @@ use Rattle.rows.specs.Node.{Text, Node, Nodes, group, indent, indentNext, wrapP
 use Rattle.rows.specs.Node.{ifWrap, call, none, _then_}
 use Rattle.rows.specs.Rows.{row, noText, size, sizes, rowsOf, rows}
 use Rattle.rows.proofs.Sizes.{length-rowsOf, length-rows}
-use Rattle.state.specs.Act.{Given, St, Act, push}
+use Rattle.state.specs.Act.{Given, St, Act}
 use Rattle.comments.specs.Comments.{nth}
 use Rattle.comments.specs.Listed.{commentsOf, given}
 use Rattle.layout.specs.Layout.{shebangRule}
+use Rattle.layout_facts.specs.Accepted.{closing}
 use Rattle.layout_facts.specs.Placing.{commentsOfNode, commentsInNodes, Places as StepPlaces}
-use Rattle.layout_facts.proofs.Placing.{places-skip, places-push}
-use Rattle.layout_facts.proofs.InOrder.{places-shebang, places-declaration}
+use Rattle.layout_facts.proofs.Placing.{places-skip}
+use Rattle.layout_facts.proofs.InOrder.{places-shebang, places-declaration, places-closing}
 use Rattle.cut_rule.specs.CutRule.{commentsIn}
 use Rattle.cut_rule.specs.States.{Cursor}
 use Rattle.cut_rule.specs.PartLaws.{Counts, LayoutPartLaws, PlacesNext, CommentPartLaws}
 use Rattle.cut_rule.proofs.Comments.{comments-join}
-use Rattle.plain_run.specs.Parts.{acceptedTree, listed, actPiece, declarationAct, partsBy}
+use Rattle.plain_run.specs.Parts.{acceptedTree, listed, actPiece, declarationAct, keepsWaiting, partsBy}
 
 -- ---- rows
 counts : (a : Act) (c : Cursor) → Counts c (actPiece a c)
@@ -40,7 +41,7 @@ pub layout-parts : (r : Read Image) (s b : List ℕ) → LayoutPartLaws (partsBy
 layout-parts r s b = record {
   shebang-counts = λ e c. counts (shebangRule (given s b) (acceptedTree b r .shebang)) c;
   declaration-counts = λ e n c l. counts (declarationAct s b n (nth (acceptedTree b r .declarations) n)) c;
-  final-counts = λ e c. counts (push line) c;
+  final-counts = λ e m c. counts (closing (given s b) (acceptedTree b r) (keepsWaiting m)) c;
 }
 
 -- ---- the comments among the rows of nodes
@@ -113,10 +114,6 @@ module _ (s b : List ℕ) where
   places-one n nothing = places-skip
   places-one n (some d) = places-declaration g d _
 
-  places-final : StepPlaces g (push line)
-  unfolding commentsOfNode
-  places-final = places-push refl
-
   pub comment-parts : (r : Read Image) → CommentPartLaws (partsBy r s b) (listed s b)
   comment-parts r =
       let t = acceptedTree b r in
@@ -125,5 +122,5 @@ module _ (s b : List ℕ) where
         shebang-places = λ e c h. places (shebangRule g (t .shebang)) c (places-shebang g (t .shebang)) h;
         declaration-places =
             λ e n c l h. places (declarationAct s b n (nth (t .declarations) n)) c (places-one n (nth (t .declarations) n)) h;
-        final-places = λ e c h. places (push line) c places-final h;
+        final-places = λ e m c h. places (closing g t (keepsWaiting m)) c (places-closing g t (keepsWaiting m)) h;
       }

@@ -7,6 +7,7 @@ pub mod LayoutParts
 pub mod Whole
 pub mod Limits
 pub mod Demands
+pub mod Foot
 pub mod Edges
 pub mod File
 pub mod FileLimits

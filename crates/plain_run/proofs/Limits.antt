@@ -22,11 +22,11 @@ use Rattle.rows.proofs.Flatten.{Holds}
 use Rattle.state.specs.Act.{Given, Out}
 use Rattle.comments.specs.Listed.{given}
 use Rattle.layout_facts.specs.Accepted.{Stands, Within}
-use Rattle.layout_facts.proofs.Limits.{stands, whole-within, upTo-within, due-passes}
+use Rattle.layout_facts.proofs.Limits.{stands, closed-within, upTo-within, due-passes}
 use Rattle.renderer_rules.specs.Check.{wrongPlace}
 use Rattle.cut_rule.specs.Rules.{LayoutResult}
 use Rattle.cut_rule.specs.States.{LayoutState}
-use Rattle.plain_run.specs.Parts.{readRefusal, acceptedTree}
+use Rattle.plain_run.specs.Parts.{readRefusal, acceptedTree, keepsWaiting}
 use Rattle.plain_run.specs.Demands.{Gives, Limited, AllLimited}
 use Rattle.plain_run.proofs.Whole.{fmt-parsed}
 
@@ -83,10 +83,10 @@ module _ (s b : List ℕ) where
       let f = fmt-parsed r s b in
       record {
         at-stop =
-            λ n i.
-            limited r a _ _ (f .at-stop n i)
+            λ mode n i.
+            limited r a _ _ (f .at-stop mode n i)
             (upTo-within (a .stood) (take n (t .declarations)) (drop n (t .declarations)) (take-append-drop n (t .declarations)));
-        closed = limited r a _ _ (f .closed) (whole-within (a .stood));
+        closed = λ mode. limited r a _ _ (f .closed-in mode) (closed-within (a .stood) (keepsWaiting mode));
       }
 
   pub all-limited : readRefusal (readAll s b) ≡ none → AllLimited (readAll s b) s b (acceptedTree b (readAll s b))

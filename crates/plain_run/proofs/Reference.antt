@@ -1,4 +1,5 @@
--- With 80 all is as it was: at a width that is 80, and carried as none or 80, 15 computes to no refusal.
+-- With 80 and in the old mode all is as it was: at a width that is 80, and carried as none or 80, 15 computes to no refusal, and so does 12 in the
+-- old mode.
 -- Assumes nothing.
 use mathlib.Core.Logic.{_⊎_, inl, inr}
 use mathlib.Core.Path.{_≡_, refl, ap}
@@ -7,6 +8,7 @@ use mathlib.Core.List.{List, [], _∷_}
 use Prim.Native.Nat.{ℕ, _-_}
 use lib.Dec.{ltb}
 use lib.ListN.{length, take}
+use Rattle.layout.specs.Layout.{fmtParsed}
 use Rattle.marks.specs.Marks.{marksNeeded}
 use Rattle.renderer_rules.specs.Check.{wrongPlace}
 use Rattle.refusals.specs.Refusals.{Refusal, first, refuseIf, refuseAt, any}
@@ -26,7 +28,8 @@ never-15 carried (inr e) = ap (λ (w : ℕ). refuseIf (any (widthTests REFERENCE
 
 module _ (s b : List ℕ) where
   file-as-before : FileAsBefore s b
-  file-as-before = record { not-15 = refl; refusal = λ room. refl; answer = λ room. refl; output = λ out. refl }
+  unfolding fmtParsed
+  file-as-before = record { not-12 = refl; not-15 = refl; same-built = refl; refusal = λ room. refl; answer = λ room. refl; output = λ out. refl }
 
   module _ (stop room : ℕ) (z : RenderState) (store marks : List ℕ) (h : (z .width ≡ 0) ⊎ (z .width ≡ REFERENCE-WIDTH)) where
     abbrev q : RenderArgs RenderChoice

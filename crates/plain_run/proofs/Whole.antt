@@ -14,23 +14,23 @@ use lib.ListN.{length, take, drop, length-drop}
 use lib.Seq.{take-length}
 use Rattle.image.specs.Read.{Read, Image}
 use Rattle.tree.specs.Syntax.{Declaration, SyntaxTree}
-use Rattle.rows.specs.Node.{Nodes, line, join}
+use Rattle.rows.specs.Node.{Nodes, join}
 use Rattle.rows.specs.Rows.{sizes, rows}
 use Rattle.rows.specs.View.{viewOf, nodesAt}
 use Rattle.rows.proofs.Flatten.{flattened}
-use Rattle.state.specs.Act.{Given, St, Act, _⨟_, when, skip, push, next}
+use Rattle.state.specs.Act.{Given, St, Act, _⨟_, when, skip, next}
 use Rattle.state.proofs.Joins.{sizes-join, rows-join}
 use Rattle.comments.specs.Comments.{nth}
 use Rattle.comments.specs.Listed.{commentsOf, given}
 use Rattle.layout.specs.Layout.{shebangRule, declaration, declarationsRule, fmtParsed}
-use Rattle.layout_facts.specs.Accepted.{fresh, upTo, callRule}
+use Rattle.layout_facts.specs.Accepted.{fresh, upTo, closing, wholeRule, callRule}
 use Rattle.renderer_rules.specs.Renderer.{renderNodes}
 use Rattle.cut_rule.specs.Rules.{LayoutArgs}
 use Rattle.cut_rule.specs.Parts as cut
 use Rattle.renderer_rules.specs.declared.Pen.{Pen}
-use Rattle.cut_rule.specs.States.{LayoutChoice, Cursor, LayoutState, layoutFresh}
+use Rattle.cut_rule.specs.States.{LayoutChoice, Cursor, LayoutState, layoutFresh, OLD-MODE}
 use Rattle.cut_rule.specs.Parts.{Piece, still, andThen, begin, several, end}
-use Rattle.plain_run.specs.Parts.{acceptedTree, actPiece, declarationAct, rendererOf, drawnBy, page, drawn, partsBy}
+use Rattle.plain_run.specs.Parts.{acceptedTree, actPiece, declarationAct, keepsWaiting, rendererOf, drawnBy, page, drawn, partsBy}
 use Rattle.plain_run.specs.Demands.{Gives, laidTo, stoppingAt, closingAt, FmtParsed}
 
 -- ---- pieces
@@ -146,15 +146,17 @@ module _ (r : Read Image) (s b : List ℕ) where
   -- what a call lays from any state, by the rules
   pub call-piece : (z : LayoutState) (q : LayoutArgs LayoutChoice) → z .declaration ≤ q .stop → q .stop ≤ length ds
       → cut.callPiece (partsBy r s b) z q
-      ≡ actPiece (callRule g tree (not (z .begun)) (take (q .stop - z .declaration) (drop (z .declaration) ds)) (eqb (z .declaration) 0) (q .close)) (z .cursor)
+      ≡ actPiece (callRule g tree (not (z .begun)) (take (q .stop - z .declaration) (drop (z .declaration) ds)) (eqb (z .declaration) 0) (q .close)
+      (keepsWaiting (q .choice .mode))) (z .cursor)
   call-piece z q h k =
       let d = z .declaration in
       let stop = q .stop in
       let close = q .close in
       let a = when (not (z .begun)) (shebangRule g (tree .shebang)) in
       let rule = declarationsRule g (take (stop - d) (drop d ds)) (eqb d 0) in
-      let last = when close (push line) in
-      ends close (several (partsBy r s b) (stop - d) d (begin (partsBy r s b) (z .begun) (z .cursor)))
+      let mode = q .choice .mode in
+      let last = when close (closing g tree (keepsWaiting mode)) in
+      ends close mode (several (partsBy r s b) (stop - d) d (begin (partsBy r s b) (z .begun) (z .cursor)))
       ∙ ap (λ (p : Piece). andThen p (actPiece last)) (loop (stop - d) d (begin (partsBy r s b) (z .begun) (z .cursor)) (omega arith))
       ∙ ap (λ (p : Piece). andThen (andThen p (actPiece rule)) (actPiece last)) (begins (z .begun) (z .cursor))
       ∙ then-then (actPiece a (z .cursor)) (actPiece rule) (actPiece last)
@@ -166,9 +168,10 @@ module _ (r : Read Image) (s b : List ℕ) where
       begins true c = sym (piece-skip c)
       begins false c = refl
 
-      ends : (close : Bool) (p : Piece) → end (partsBy r s b) close p ≡ andThen p (actPiece (when close (push line)))
-      ends true p = refl
-      ends false p = sym (then-skip p)
+      ends : (close : Bool) (mode : ℕ) (p : Piece)
+          → end (partsBy r s b) close mode p ≡ andThen p (actPiece (when close (closing g tree (keepsWaiting mode))))
+      ends true mode p = refl
+      ends false mode p = sym (then-skip p)
 
   abbrev start : Cursor
   start = layoutFresh .cursor
@@ -204,26 +207,33 @@ module _ (r : Read Image) (s b : List ℕ) where
         ∙ read-back (a fresh .nodes) w z marks;
   }
 
+  closed-in : (mode : ℕ) → Gives s b (wholeRule g tree (keepsWaiting mode) fresh) (laidTo r s b (closingAt mode (length ds)))
+  closed-in mode =
+      gives (closingAt mode (length ds)) (wholeRule g tree (keepsWaiting mode)) (ap (λ (p : Piece). p .rows) closes) (ap (λ (p : Piece). p .cursor) closes)
+    where
+      last : Act
+      last = closing g tree (keepsWaiting mode)
+
+      closes : andThen (several (partsBy r s b) (length ds - 0) 0 (partsBy r s b .shebang start)) (actPiece last)
+          ≡ actPiece (wholeRule g tree (keepsWaiting mode)) start
+      closes =
+          let one = shebangRule g (tree .shebang) in
+          let rule = declarationsRule g ds true in
+          ap (λ (p : Piece). andThen p (actPiece last)) (laid (length ds) (omega arith))
+          ∙ ap (λ (xs : List Declaration). andThen (actPiece (upTo g tree xs) start) (actPiece last)) (take-length ds)
+          ∙ ap (λ (p : Piece). andThen p (actPiece last)) (piece-then one rule start)
+          ∙ then-then (actPiece one start) (actPiece rule) (actPiece last)
+          ∙ then-at (actPiece one start) (λ c. andThen (actPiece rule c) (actPiece last)) (actPiece (rule ⨟ last))
+          (sym (piece-then rule last (actPiece one start .cursor)))
+          ∙ sym (piece-then one (rule ⨟ last) start)
+
   pub fmt-parsed : FmtParsed r s b tree
   unfolding fmtParsed
   fmt-parsed = record {
     at-stop =
-        λ n h.
+        λ mode n h.
         let e = laid n h in
-        gives (stoppingAt n) (upTo g tree (take n ds)) (ap (λ (p : Piece). p .rows) e) (ap (λ (p : Piece). p .cursor) e);
-    closed =
-        let e = closes in
-        gives (closingAt (length ds)) (fmtParsed g tree) (ap (λ (p : Piece). p .rows) e) (ap (λ (p : Piece). p .cursor) e);
+        gives (stoppingAt mode n) (upTo g tree (take n ds)) (ap (λ (p : Piece). p .rows) e) (ap (λ (p : Piece). p .cursor) e);
+    closed = closed-in OLD-MODE;
+    closed-in = closed-in;
   }
-    where
-      closes : andThen (several (partsBy r s b) (length ds - 0) 0 (partsBy r s b .shebang start)) (actPiece (push line)) ≡ actPiece (fmtParsed g tree) start
-      closes =
-          let one = shebangRule g (tree .shebang) in
-          let rule = declarationsRule g ds true in
-          ap (λ (p : Piece). andThen p (actPiece (push line))) (laid (length ds) (omega arith))
-          ∙ ap (λ (xs : List Declaration). andThen (actPiece (upTo g tree xs) start) (actPiece (push line))) (take-length ds)
-          ∙ ap (λ (p : Piece). andThen p (actPiece (push line))) (piece-then one rule start)
-          ∙ then-then (actPiece one start) (actPiece rule) (actPiece (push line))
-          ∙ then-at (actPiece one start) (λ c. andThen (actPiece rule c) (actPiece (push line))) (actPiece (rule ⨟ push line))
-          (sym (piece-then rule (push line) (actPiece one start .cursor)))
-          ∙ sym (piece-then one (rule ⨟ push line) start)

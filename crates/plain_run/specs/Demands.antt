@@ -13,7 +13,7 @@ use Rattle.rows.specs.Rows.{sizes, rows}
 use Rattle.state.specs.Act.{Out}
 use Rattle.comments.specs.Listed.{commentsOf, given}
 use Rattle.layout.specs.Layout.{fmtParsed}
-use Rattle.layout_facts.specs.Accepted.{fresh, upTo}
+use Rattle.layout_facts.specs.Accepted.{fresh, upTo, wholeRule}
 use Rattle.renderer_rules.specs.Renderer.{renderNodes}
 use Rattle.renderer_rules.specs.Check.{wrongPlace}
 use Rattle.cut_rule.specs.Rules.{LayoutArgs, LayoutResult, Rules}
@@ -21,9 +21,9 @@ use Rattle.cut_rule.specs.Run.{Call, start}
 use Rattle.cut_rule.specs.Plain.{AllReadLaid}
 use Rattle.cut_rule.specs.CutRule.{CutRule}
 use Rattle.renderer_rules.specs.declared.Pen.{Pen}
-use Rattle.cut_rule.specs.States.{LayoutChoice, onlyLayoutChoice, LayoutState, layoutFresh}
+use Rattle.cut_rule.specs.States.{LayoutChoice, LayoutState, layoutFresh, OLD-MODE}
 use Rattle.cut_rule.specs.Parts.{laidOf, rules}
-use Rattle.plain_run.specs.Parts.{readRefusal, acceptedTree, listed, rendererOf, drawnBy, page, drawn, partsBy}
+use Rattle.plain_run.specs.Parts.{readRefusal, acceptedTree, listed, keepsWaiting, rendererOf, drawnBy, page, drawn, partsBy}
 
 -- the rules and the table for one source s and one image b, by what was read of the image
 abbrev pub rulesBy : Read Image → List ℕ → List ℕ → Rules
@@ -58,19 +58,22 @@ pub record Gives (s b : List ℕ) (o : Out) (l : LayoutResult LayoutState) : Typ
 abbrev pub laidTo : Read Image → List ℕ → List ℕ → LayoutArgs LayoutChoice → LayoutResult LayoutState
 laidTo r s b q = laidOf (partsBy r s b) layoutFresh q
 
--- the arguments that name a stop, and close there or not
-abbrev pub stoppingAt : ℕ → LayoutArgs LayoutChoice
-stoppingAt n = record { stop = n; close = false; choice = onlyLayoutChoice }
+-- the arguments that name a stop, by the mode, and close there or not
+abbrev pub stoppingAt : ℕ → ℕ → LayoutArgs LayoutChoice
+stoppingAt mode n = record { stop = n; close = false; choice = record { mode = mode } }
 
-abbrev pub closingAt : ℕ → LayoutArgs LayoutChoice
-closingAt n = record { stop = n; close = true; choice = onlyLayoutChoice }
+abbrev pub closingAt : ℕ → ℕ → LayoutArgs LayoutChoice
+closingAt mode n = record { stop = n; close = true; choice = record { mode = mode } }
 
--- "The rows and state due at a stop are those `fmt_parsed` has when its loop reaches that declaration", and closed, those that it has in the
--- end. (Of an image that is refused nothing is laid out but the final `Line`.)
+-- "The rows and state due at a stop are those `fmt_parsed` has when its loop reaches that declaration", whatever the mode, and closed in the old
+-- mode, those that it has in the end. Closed in the new mode, the same, with the comments that wait before the final `Line`. (Of an image that
+-- is refused nothing is laid out but what closing adds.)
 pub record FmtParsed (r : Read Image) (s b : List ℕ) (t : SyntaxTree) : Type 0 where
-  pub at-stop : (n : ℕ) → n ≤ length (t .declarations)
-      → Gives s b (upTo (given s b) t (take n (t .declarations)) fresh) (laidTo r s b (stoppingAt n))
-  pub closed : Gives s b (fmtParsed (given s b) t fresh) (laidTo r s b (closingAt (length (t .declarations))))
+  pub at-stop : (mode n : ℕ) → n ≤ length (t .declarations)
+      → Gives s b (upTo (given s b) t (take n (t .declarations)) fresh) (laidTo r s b (stoppingAt mode n))
+  pub closed : Gives s b (fmtParsed (given s b) t fresh) (laidTo r s b (closingAt OLD-MODE (length (t .declarations))))
+  pub closed-in : (mode : ℕ)
+      → Gives s b (wholeRule (given s b) t (keepsWaiting mode) fresh) (laidTo r s b (closingAt mode (length (t .declarations))))
 
 abbrev pub DueIsFmtParsed : Type 0
 DueIsFmtParsed = (r : Read Image) (s b : List ℕ) → FmtParsed r s b (acceptedTree b r)
@@ -86,8 +89,8 @@ pub record Limited (s b : List ℕ) (l : LayoutResult LayoutState) : Type 0 wher
   pub placed-in : l .state .cursor .placed ≤ length (commentsOf b)
 
 pub record AllLimited (r : Read Image) (s b : List ℕ) (t : SyntaxTree) : Type 0 where
-  pub at-stop : (n : ℕ) → n ≤ length (t .declarations) → Limited s b (laidTo r s b (stoppingAt n))
-  pub closed : Limited s b (laidTo r s b (closingAt (length (t .declarations))))
+  pub at-stop : (mode n : ℕ) → n ≤ length (t .declarations) → Limited s b (laidTo r s b (stoppingAt mode n))
+  pub closed : (mode : ℕ) → Limited s b (laidTo r s b (closingAt mode (length (t .declarations))))
 
 abbrev pub LaidWithinLimits : Type 0
 LaidWithinLimits = (s b : List ℕ) → readRefusal (readAll s b) ≡ none → AllLimited (readAll s b) s b (acceptedTree b (readAll s b))

@@ -1,5 +1,5 @@
--- The edges that document 01 marks with *, as a single list. Each is run by the rules of the two calls at 80 columns, refusals included.
--- Below them is the edge of a line at other widths.
+-- The edges that document 01 marks with *, as a single list, with the second answers of document 02's request 4. Each is run by the rules of the
+-- two calls at 80 columns, refusals included. Below them is the edge of a line at other widths.
 use mathlib.Core.Path.{_≡_}
 use mathlib.Core.Option.{Option, none, some}
 use mathlib.Core.List.{List, [], _∷_, _++_, map}
@@ -15,7 +15,7 @@ use Rattle.rows.specs.View.{cell}
 use Rattle.comments.specs.Listed.{span}
 use Rattle.cut_rule.specs.Run.{layoutCall, renderCall, Carried, start, run}
 use Rattle.cut_rule.specs.Limits.{REFERENCE-WIDTH}
-use Rattle.cut_rule.specs.States.{layoutFresh}
+use Rattle.cut_rule.specs.States.{layoutFresh, OLD-MODE, NEW-MODE}
 use Rattle.plain_run.specs.Demands.{rulesOf, closingAt}
 
 -- ---- what an edge is
@@ -27,12 +27,13 @@ pub record EdgeRendering : Type 0 where
   pub nodes : Nodes
   pub text : List ℕ
 
--- a file without a shebang, laid out and closed in one call, then rendered in one: how many rows, their kinds, how many group numbers, the text
--- with its length, the comments left
+-- a file without a shebang, laid out and closed in one call by a mode, then rendered in one: how many rows, their kinds, how many group
+-- numbers, the text with its length, the comments left
 pub record EdgeFile : Type 0 where
   pub source : List ℕ
   pub comments : List Span
   pub declarations : List Plain
+  pub mode : ℕ
   pub rows : ℕ
   pub kinds : List ℕ
   pub numbers : ℕ
@@ -107,7 +108,7 @@ formatsAs f =
     let r = rulesOf (f .source) image in
     seen (f .source) image
     (run r (start r (replicate 216 0) (0 ∷ 0 ∷ []))
-    (layoutCall (closingAt (length (f .declarations)))
+    (layoutCall (closingAt (f .mode) (length (f .declarations)))
     ∷ renderCall (record { stop = f .rows; room = 200; choice = record { width = REFERENCE-WIDTH } })
     ∷ []))
 
@@ -233,6 +234,7 @@ nothingIn source comments left = file (record {
   source = source;
   comments = comments;
   declarations = [];
+  mode = OLD-MODE;
   rows = 1;
   kinds = lineKind;
   numbers = 0;
@@ -246,6 +248,7 @@ oneIn source comments left = file (record {
   source = source;
   comments = comments;
   declarations = constAt 0 (bytes "A") ∷ [];
+  mode = OLD-MODE;
   rows = 10;
   kinds = constKinds ++ lineKind;
   numbers = 1;
@@ -259,12 +262,42 @@ twoIn source comments left = file (record {
   source = source;
   comments = comments;
   declarations = constAt 0 (bytes "A") ∷ constAt 23 (bytes "B") ∷ [];
+  mode = OLD-MODE;
   rows = 21;
   kinds = constKinds ++ commentKind ++ lineKind ++ constKinds ++ lineKind;
   numbers = 2;
   text = bytes "const A: u32 = 1; # ok\nconst B: u32 = 2;\n";
   size = 41;
   left = left;
+})
+
+-- closed in the new mode: no declarations; one
+abbrev pub footOfNothing : List ℕ → List Span → List ℕ → List ℕ → Edge
+footOfNothing source comments kinds text = file (record {
+  source = source;
+  comments = comments;
+  declarations = [];
+  mode = NEW-MODE;
+  rows = length kinds;
+  kinds = kinds;
+  numbers = 0;
+  text = text;
+  size = length text;
+  left = 0;
+})
+
+abbrev pub footOfOne : List ℕ → List Span → List ℕ → List ℕ → Edge
+footOfOne source comments kinds text = file (record {
+  source = source;
+  comments = comments;
+  declarations = constAt 0 (bytes "A") ∷ [];
+  mode = NEW-MODE;
+  rows = length (constKinds ++ kinds);
+  kinds = constKinds ++ kinds;
+  numbers = 1;
+  text = text;
+  size = length text;
+  left = 0;
 })
 
 abbrev pub fileEdges : List Edge
@@ -280,8 +313,21 @@ fileEdges =
     ∷ twoIn (bytes "const A: u32 = 1; # ok\nconst B: u32 = 2;") (span 18 22 ∷ []) 0
     ∷ []
 
+-- "The comment-only file and the `# ok` case get second answers." In both, no newline stands between the position (0, and 16,
+-- where A's literal ends) and the comment, so that no row comes before it; the comment ends its line, and at column 0 the final `Line` writes
+-- nothing.
+abbrev pub footEdges : List Edge
+footEdges =
+    footOfNothing (bytes "# c") (span 0 3 ∷ []) (commentKind ++ lineKind) (bytes "# c\n")
+    ∷ footOfOne (bytes "const A: u32 = 1; # ok\n") (span 18 22 ∷ []) (commentKind ++ lineKind) (bytes "const A: u32 = 1; # ok\n")
+    -- "with leading newlines kept if there is at least one declaration, trailing ones and newlines without a comment not"
+    ∷ footOfNothing (bytes "\n\n# c\n") (span 2 5 ∷ []) (commentKind ++ lineKind) (bytes "# c\n")
+    ∷ footOfOne (bytes "const A: u32 = 1;\n# ok\n\n") (span 18 22 ∷ []) (lineKind ++ commentKind ++ lineKind) (bytes "const A: u32 = 1;\n# ok\n")
+    ∷ footOfOne (bytes "const A: u32 = 1;\n\n") [] lineKind (bytes "const A: u32 = 1;\n")
+    ∷ []
+
 abbrev pub edges : List Edge
-edges = renderingEdges ++ fileEdges
+edges = renderingEdges ++ (fileEdges ++ footEdges)
 
 -- the one theorem about it
 abbrev pub EdgesHold : Type 0

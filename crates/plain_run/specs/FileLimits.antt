@@ -34,7 +34,7 @@ RowsTextLimited =
     (max : ℕ) (s b store marks : List ℕ) (n : ℕ) → n ≤ fileRows → renderImage s b ≡ none → wrongPlace s b store 0 n ≡ none
     → length (renderNodes (pageOf max s b) (nodesAt (viewOf store) 0 n) true (rendererOf (renderFresh .pen) marks) .buf) ≤ FILE-TEXT
 
--- of a file that 1 to 7, 15 and 8 let pass
+-- of a file that 1 to 7, 12, 15 and 8 let pass
 abbrev pub FileTextLimited : Type 0
 FileTextLimited = (s b : List ℕ) (c : FileChoice) → laidRefusal s b c fileRows ≡ none → length (drawnDue s b c .text) ≤ FILE-TEXT
 
@@ -42,8 +42,8 @@ FileTextLimited = (s b : List ℕ) (c : FileChoice) → laidRefusal s b c fileRo
 abbrev pub AreBytes : List ℕ → Type 0
 AreBytes l = (i : ℕ) → getD l i 0 ≤ 255
 
--- of a file that 1 to 7, 15 and 8 let pass, at any width of a line, with any marks
+-- of a file that 1 to 7, 12, 15 and 8 let pass, at any width of a line, with any marks
 abbrev pub FileColumnLimited : Type 0
 FileColumnLimited =
     (max : ℕ) (s b marks : List ℕ) (c : FileChoice) → AreBytes b → laidRefusal s b c fileRows ≡ none
-    → greatestColumn (pageOf max s b) (built s b .nodes) marks ≤ FILE-COLUMN
+    → greatestColumn (pageOf max s b) (built s b c .nodes) marks ≤ FILE-COLUMN

@@ -1,5 +1,6 @@
 pub mod Parts
 pub mod Demands
+pub mod Foot
 pub mod Edges
 pub mod File
 pub mod FileLimits

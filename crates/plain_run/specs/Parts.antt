@@ -1,6 +1,6 @@
 -- Document 01's rules for one source s and one image b, as the cut rule takes them. Each part is a definition of a lower layer; here they are
 -- only put together.
-use mathlib.Core.Bool.{true, not}
+use mathlib.Core.Bool.{Bool, true, not}
 use mathlib.Core.Option.{Option, none, some}
 use mathlib.Core.List.{List, [], _∷_, map}
 use Prim.Native.Nat.{ℕ, _+_, _-_}
@@ -10,21 +10,21 @@ use Rattle.text.specs.Space.{trimEnd}
 use Rattle.image.specs.Read.{Read, got, bad, Image, header, sourceFits, readAll}
 use Rattle.tree.specs.Syntax.{Declaration, SyntaxTree}
 use Rattle.tree.specs.Records.{syntaxTree}
-use Rattle.rows.specs.Node.{line}
 use Rattle.rows.specs.Rows.{sizes, rows}
 use Rattle.rows.specs.View.{viewOf, nodesAt}
 use Rattle.marks.specs.Marks.{marksNeeded}
-use Rattle.state.specs.Act.{Act, skip, push}
+use Rattle.state.specs.Act.{Act, skip}
 use Rattle.comments.specs.Comments.{nth}
 use Rattle.comments.specs.Listed.{commentsOf, given}
 use Rattle.layout.specs.Layout.{shebangRule, declaration}
+use Rattle.layout_facts.specs.Accepted.{closing}
 use Rattle.renderer_rules.specs.Renderer.{Page, Renderer, freshRenderer, renderNodes}
 use Rattle.renderer_rules.specs.Page.{pageOf}
 use Rattle.renderer_rules.specs.Check.{wrongPlace}
 use Rattle.refusals.specs.Refusals.{Refusal, first, refuseIf}
 use Rattle.rows.specs.Node.{Text}
 use Rattle.renderer_rules.specs.declared.Pen.{Pen}
-use Rattle.cut_rule.specs.States.{Cursor}
+use Rattle.cut_rule.specs.States.{Cursor, NEW-MODE}
 use Rattle.cut_rule.specs.Parts.{Piece, Drawn, RuleParts}
 
 -- ---- source and image
@@ -61,6 +61,10 @@ abbrev pub declarationAct : List ℕ → List ℕ → ℕ → Option Declaration
 declarationAct s b n none = skip
 declarationAct s b n (some d) = declaration (given s b) d (eqb n 0)
 
+-- whether closing keeps the comments that wait: in the new mode alone
+abbrev pub keepsWaiting : ℕ → Bool
+keepsWaiting mode = eqb mode NEW-MODE
+
 -- ---- rendering
 -- `Renderer` as a call makes it, and what a call takes from it
 abbrev pub rendererOf : Pen → List ℕ → Renderer
@@ -94,7 +98,7 @@ partsBy r s b =
       render-image = renderImage s b;
       shebang = actPiece (shebangRule (given s b) (tree .shebang));
       declaration = λ n. actPiece (declarationAct s b n (nth (tree .declarations) n));
-      final = actPiece (push line);
+      final = λ mode. actPiece (closing (given s b) tree (keepsWaiting mode));
       wrong-row = wrongPlace s b;
       needed = λ store i stop. marksNeeded (stop - i) store i;
       draw = drawn s b;

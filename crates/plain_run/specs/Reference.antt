@@ -1,5 +1,6 @@
--- "80 is the reference": with 80 all is as it was before a caller could choose a width. 15 refuses nothing, and `Renderer` has the Rust's `max`.
--- The definitions here have no width; proofs/Reference.antt proves that those with a width are these at 80.
+-- "80 is the reference", and "equality with the Rust in the old" mode: with these all is as it was before a caller could choose. 12 and 15 refuse
+-- no file, what is built is what `fmt_parsed` builds, and `Renderer` has the Rust's `max`.
+-- The definitions here have no choice; proofs/Reference.antt proves that those with a choice are these at 80 and in the old mode.
 use mathlib.Core.Logic.{_⊎_}
 use mathlib.Core.Path.{_≡_}
 use mathlib.Core.Bool.{true}
@@ -10,7 +11,11 @@ use lib.Dec.{ltb}
 use lib.ListN.{length, take, replicate}
 use Rattle.image.specs.Read.{readAll}
 use Rattle.rows.specs.View.{viewOf, nodesAt}
-use Rattle.comments.specs.Listed.{commentsOf}
+use Rattle.rows.specs.Rows.{sizes, rows}
+use Rattle.state.specs.Act.{Out}
+use Rattle.comments.specs.Listed.{commentsOf, given}
+use Rattle.layout.specs.Layout.{fmtParsed}
+use Rattle.layout_facts.specs.Accepted.{fresh}
 use Rattle.marks.specs.Marks.{marksNeeded}
 use Rattle.renderer_rules.specs.Renderer.{renderNodes}
 use Rattle.renderer_rules.specs.Page.{pageOf}
@@ -23,35 +28,47 @@ use Rattle.cut_rule.specs.Run.{writeFront}
 use Rattle.cut_rule.specs.States.{RenderChoice, RenderState, renderFresh}
 use Rattle.cut_rule.specs.Tests.{renderTests}
 use Rattle.cut_rule.specs.Parts.{Drawn, withCleared, widthLine, renderTable, renderedOf}
-use Rattle.plain_run.specs.Parts.{readRefusal, renderImage, rendererOf, drawnBy, partsOf}
-use Rattle.plain_run.specs.File.{fileRows, fileMarks, referenceChoice, renderChoice, built, rowsDue, marksDue, fileRefusal, fileOutput}
+use Rattle.plain_run.specs.Parts.{readRefusal, acceptedTree, renderImage, rendererOf, drawnBy, partsOf}
+use Rattle.plain_run.specs.File.{fileRows, fileMarks, referenceChoice, modeLine, renderChoice, built, fileRefusal, fileOutput}
 use Rattle.plain_run.specs.File.{FileAnswer, formatted, fileAnswerBy, fileAnswer}
 
 module _ (s b : List ℕ) where
   -- ---- a whole file
-  -- what `Renderer` makes of what `fmt_parsed` builds
+  -- what `fmt_parsed` builds, its rows and its marks
+  abbrev pub builtThen : Out
+  builtThen = fmtParsed (given s b) (acceptedTree b (readAll s b)) fresh
+
+  abbrev pub rowsThen : ℕ
+  rowsThen = sizes (builtThen .nodes)
+
+  abbrev pub marksThen : ℕ
+  marksThen = marksNeeded rowsThen (rows (builtThen .nodes) 0) 0
+
+  -- what `Renderer` makes of it
   abbrev pub drawnThen : Drawn
-  drawnThen = drawnBy (renderNodes (pageOf 80 s b) (built s b .nodes) true (rendererOf (renderFresh .pen) (replicate (marksDue s b) 0)))
+  drawnThen = drawnBy (renderNodes (pageOf 80 s b) (builtThen .nodes) true (rendererOf (renderFresh .pen) (replicate marksThen 0)))
 
   -- 1 to 7, then 8, 9, 10
   abbrev pub refusalThen : ℕ → Option Refusal
   refusalThen room =
       first
-      (first (readRefusal (readAll s b) ∷ refuseIf (ltb fileRows (rowsDue s b)) 8 (rowsDue s b) ∷ [])
-      ∷ refuseIf (ltb fileMarks (marksDue s b)) 9 (marksDue s b)
+      (first (readRefusal (readAll s b) ∷ refuseIf (ltb fileRows rowsThen) 8 rowsThen ∷ [])
+      ∷ refuseIf (ltb fileMarks marksThen) 9 marksThen
       ∷ refuseIf (ltb room (length (drawnThen .text))) 10 (length (drawnThen .text))
       ∷ [])
 
   abbrev pub answerThen : ℕ → FileAnswer
   answerThen room =
       fileAnswerBy (refusalThen room)
-      (formatted (length (drawnThen .text)) (length (commentsOf b) - built s b .placed) (rowsDue s b) (built s b .taken))
+      (formatted (length (drawnThen .text)) (length (commentsOf b) - builtThen .placed) rowsThen (builtThen .taken))
 
   abbrev pub outputThen : List ℕ → List ℕ
   outputThen out = unless (refusalThen (length out)) out (writeFront (drawnThen .text) out)
 
   pub record FileAsBefore : Type 0 where
+    pub not-12 : modeLine referenceChoice ≡ none
     pub not-15 : widthLine (renderChoice referenceChoice) renderFresh ≡ none
+    pub same-built : built s b referenceChoice ≡ builtThen
     pub refusal : (room : ℕ) → fileRefusal s b referenceChoice room ≡ refusalThen room
     pub answer : (room : ℕ) → fileAnswer s b referenceChoice room ≡ answerThen room
     pub output : (out : List ℕ) → fileOutput s b referenceChoice out ≡ outputThen out

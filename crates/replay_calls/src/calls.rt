@@ -154,6 +154,7 @@ fn lay(
     let args = LayoutArgs {
         stop: long(d, past(at, STOP)),
         close: long(d, past(at, ARGUMENT)) != 0,
+        mode: long(d, past(at, CHOICE)),
     };
     let answer = layout_call(source, image, store, state, args);
     after_layout(d, counts, run, answer)

@@ -8,7 +8,7 @@ use stored_answers::numbers::long;
 use stored_answers::numbers::past;
 
 // How many bytes a layout state has.
-pub(crate) const LAYOUT: usize = 22;
+pub(crate) const LAYOUT: usize = 26;
 // How many bytes a rendering state has.
 pub(crate) const RENDER: usize = 28;
 
@@ -21,6 +21,7 @@ pub(crate) fn layout_state(d: &[u8], at: usize) -> LayoutState {
         number: long(d, past(at, 10)),
         placed: long(d, past(at, 14)),
         position: long(d, past(at, 18)),
+        mode: long(d, past(at, 22)),
     }
 }
 
@@ -54,7 +55,10 @@ pub(crate) fn same_layout(s: LayoutState, t: LayoutState) -> bool {
     if s.placed != t.placed {
         return false;
     }
-    s.position == t.position
+    if s.position != t.position {
+        return false;
+    }
+    s.mode == t.mode
 }
 
 pub(crate) fn same_render(s: RenderState, t: RenderState) -> bool {

@@ -9,6 +9,7 @@ use layout_call::Laying;
 use layout_call::LayoutArgs;
 use layout_call::LayoutState;
 use layout_call::layout_call;
+use layout_call::modes::OLD_MODE;
 use render_call::RenderArgs;
 use render_call::RenderState;
 use render_call::Rendering;
@@ -39,6 +40,7 @@ fn layout_fresh() -> LayoutState {
         number: 0,
         placed: 0,
         position: 0,
+        mode: 0,
     }
 }
 
@@ -113,6 +115,7 @@ fn to(stop: usize, close: bool) -> LayoutArgs {
     LayoutArgs {
         stop: stop,
         close: close,
+        mode: OLD_MODE,
     }
 }
 

@@ -88,23 +88,26 @@ impl Buffers {
         source: &[u8],
         image: &[u8],
     ) -> Result<FileWritten, Refusal> {
+        self.format_as(source, image, &Options::default())
+    }
+
+    /// The same with what is chosen.
+    pub fn format_as(
+        &mut self,
+        source: &[u8],
+        image: &[u8],
+        options: &Options,
+    ) -> Result<FileWritten, Refusal> {
         let Buffers {
             store,
             marks,
             output,
         } = self;
         let (fresh, stop) = (LayoutState::default(), declarations(image));
-        let laid = layout(source, image, store, &fresh, stop, true)?;
+        let laid = layout(source, image, store, &fresh, stop, true, options)?;
         let (fresh, rows) = (RenderState::default(), laid.state.next_row);
         let written = render(
-            source,
-            image,
-            store,
-            marks,
-            output,
-            &fresh,
-            rows,
-            &Options::default(),
+            source, image, store, marks, output, &fresh, rows, options,
         )?;
         Ok(FileWritten {
             bytes: written.bytes,

@@ -1,22 +1,27 @@
 //! The editor's crate and its plug beside the judge, on one frame.
 
 use judge::{
+    choice::Choice,
     frame::{self, Frame},
+    mode,
     program::{self, Widths},
     reader::{self, Accepted},
     tree,
 };
 use rrufthim::{
-    ImageWriter, Span, encode_with_widths, fmt_parsed_with_widths,
+    Formatter, ImageWriter, Options, Span, encode_with_widths,
+    fmt_parsed_with_widths,
 };
 
 use crate::{File, as_written, convert, decode, plug};
 
-/// What the original makes of a file.
+/// What the original makes of a file, and what it makes of it when it closes
+/// in the new mode of request 4: the crate's default.
 pub struct Due {
     pub image: Vec<u8>,
     pub text: String,
     pub comments_left: Vec<Span>,
+    pub kept: String,
 }
 
 impl Due {
@@ -24,10 +29,16 @@ impl Due {
     pub fn of(frame: Frame, accepted: &Accepted) -> Self {
         let run = program::format(frame, Widths::Supplied).expect("accepted");
         let placed = accepted.comments.len() - run.comments_left;
+        let choice = Choice {
+            mode: mode::NEW,
+            ..Choice::REFERENCE
+        };
+        let kept = program::format_as(frame, Widths::Supplied, choice);
         Due {
             image: as_written(frame.image, &accepted.tree),
             text: run.text,
             comments_left: accepted.comments[placed..].to_vec(),
+            kept: kept.expect("accepted").text,
         }
     }
 }
@@ -46,20 +57,29 @@ pub fn differences(bytes: &[u8]) -> Option<Vec<&'static str>> {
     Some(found)
 }
 
-/// The encoder and `fmt_parsed` on a tree of the crate's own types.
+/// The encoder and `fmt_parsed` on a tree of the crate's own types; as Roto
+/// has it by a `Formatter`.
 pub fn of_the_crate(file: &File, due: &Due) -> Vec<&'static str> {
-    let File { tree, extras, .. } = file;
+    let File {
+        source,
+        tree,
+        extras,
+        ..
+    } = file;
     let image = encode_with_widths(tree, &extras.comments, supply(file));
-    let formatted =
-        fmt_parsed_with_widths(tree, file.source, extras, supply(file));
-    let formatted = formatted.expect("accepted");
+    let mut formatter = Formatter::new();
+    formatter.set_options(Options::AS_ROTO);
+    let roto = formatter
+        .format_tree_with_widths(tree, source, extras, supply(file))
+        .expect("accepted");
+    let kept = fmt_parsed_with_widths(tree, source, extras, supply(file))
+        .expect("accepted");
     named([
         ("image", image.as_ref() == Ok(&due.image)),
-        ("text", formatted.text == due.text),
-        (
-            "comments left",
-            formatted.comments_left == due.comments_left,
-        ),
+        ("text", roto.text == due.text),
+        ("comments left", roto.comments_left == due.comments_left),
+        ("text with all comments", kept.text == due.kept),
+        ("no comment left", kept.comments_left.is_empty()),
     ])
 }
 
@@ -96,15 +116,21 @@ pub fn of_the_plug(
     plug::write(&mut writer, ast, spans, extras)
         .and_then(|()| writer.finish())
         .expect("within the limits");
-    let formatted = plug::fmt_parsed(ast, source, spans, extras);
-    let formatted = formatted.expect("accepted");
+    let options = Options::AS_ROTO;
+    let roto =
+        plug::fmt_parsed_with_options(ast, source, spans, extras, options)
+            .expect("accepted");
+    let kept = plug::fmt_parsed(ast, source, spans, extras);
+    let kept = kept.expect("accepted");
     named([
         ("the plug's image", image == due.image),
-        ("the plug's text", formatted.text == due.text),
+        ("the plug's text", roto.text == due.text),
         (
             "the plug's comments left",
-            formatted.comments_left == due.comments_left,
+            roto.comments_left == due.comments_left,
         ),
+        ("the plug's text with all comments", kept.text == due.kept),
+        ("no comment left by the plug", kept.comments_left.is_empty()),
     ])
 }
 

@@ -1,8 +1,6 @@
 //! `fmt_parsed` of Roto's src/fmt.rs with the plug in its place, as
 //! editor/README.md shows it.
 
-use rrufthim::Formatted;
-
 use crate::{
     RotoError, RotoReport, ast,
     load::FileTree,
@@ -18,10 +16,8 @@ pub fn fmt_parsed(
     extras: &Extras,
 ) -> Result<String, RotoReport> {
     let text = &source.files[0].contents;
-    let formatted = plug::fmt_parsed(ast, text, &spans, extras);
-    let error = match formatted.map(Formatted::complete) {
-        Ok(Ok(text)) => return Ok(text),
-        Ok(Err(comments_left)) => comments_left.to_string(),
+    let error = match plug::fmt_parsed(ast, text, &spans, extras) {
+        Ok(formatted) => return Ok(formatted.text),
         Err(error) => error.to_string(),
     };
     Err(RotoReport {

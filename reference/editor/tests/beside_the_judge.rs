@@ -1,5 +1,6 @@
 //! The encoder's images are the judge's, byte for byte, and the texts that
-//! the editor's crate gives for them are the original's.
+//! the editor's crate gives for them are the original's: as Roto has them, and
+//! by default those of the original when it keeps every comment.
 
 #[allow(dead_code)]
 #[path = "../../../editor/examples/format.rs"]
@@ -13,9 +14,12 @@ use editor::{
     decode, patched,
 };
 use judge::{
-    RotoError, driver, examples,
+    RotoError,
+    choice::Choice,
+    driver, examples,
     frame::{self, Frame},
     generate::{self, Class},
+    mode::NEW,
     reader, script, tree,
 };
 use rrufthim::{Formatter, encode, encode_with_widths};
@@ -69,6 +73,12 @@ fn differences_are_found() {
     assert_eq!(text, ["text", "the plug's text"]);
     let left = found(|due| due.comments_left.clear());
     assert_eq!(left, ["comments left", "the plug's comments left"]);
+    let kept = found(|due| due.kept.push(' '));
+    let texts = [
+        "text with all comments",
+        "the plug's text with all comments",
+    ];
+    assert_eq!(kept, texts);
 }
 
 #[test]
@@ -80,6 +90,14 @@ fn generated_frames() {
     }
     for bytes in generate::frames(Class::Realistic, SEED, FRAMES) {
         compare_true_widths(&bytes);
+    }
+}
+
+/// Files with comments after their last declaration.
+#[test]
+fn feet() {
+    for index in 0..FRAMES {
+        assert!(compare(&generate::foot_frame(SEED, index)), "{index}");
     }
 }
 
@@ -101,17 +119,22 @@ fn sizes() {
     assert!(accepted > 10, "{accepted}");
 }
 
-/// The patched `fmt_parsed` gives the original's text, or an error where that
-/// text lacks a comment.
+/// The patched `fmt_parsed` gives the original's text, and at its foot the
+/// comments that the original drops.
 #[test]
 fn the_patch() {
-    let (mut whole, mut held) = (0, 0);
+    let (mut whole, mut kept) = (0, 0);
     for bytes in generate::frames(Class::Realistic, SEED, FRAMES / 10) {
         let frame = frame::split_any_size(&bytes).expect("a frame");
         let accepted = reader::read(frame.source, frame.image);
         let accepted = accepted.expect("accepted");
         let input = tree::Input::new(&accepted, frame.image);
-        let due = driver::run(&input);
+        let choice = Choice {
+            mode: NEW,
+            ..Choice::REFERENCE
+        };
+        let [original, due] = [Choice::REFERENCE, choice]
+            .map(|choice| driver::run_as(&input, choice));
         let tree::Input {
             ast,
             files,
@@ -119,23 +142,45 @@ fn the_patch() {
             extras,
             ..
         } = input;
-        match patched::fmt_parsed(&ast, files, spans, &extras) {
-            Ok(text) => {
+        let text = patched::fmt_parsed(&ast, files, spans, &extras);
+        let text = text.unwrap_or_else(|_| panic!("a text"));
+        assert_eq!(text, due.text);
+        match original.comments_left {
+            0 => {
                 whole += 1;
-                assert_eq!(text, due.text);
-                assert_eq!(due.comments_left, 0);
+                assert_eq!(text, original.text);
             }
-            Err(report) => {
-                held += 1;
-                let [RotoError::Custom(error)] = &report.errors[..] else {
-                    panic!("one error");
-                };
-                assert!(error.contains("drops the comments"), "{error}");
-                assert!(due.comments_left > 0);
+            _ => {
+                kept += 1;
+                assert_ne!(text, original.text);
             }
         }
     }
-    assert!(whole > 10 && held > 10, "{whole}, {held}");
+    assert!(whole > 10 && kept > 10, "{whole}, {kept}");
+}
+
+/// What can't be formatted is an error of Roto's.
+#[test]
+fn the_patch_refuses() {
+    let bytes = generate::frames(Class::Realistic, SEED, 40).find(|bytes| {
+        let frame = frame::split_any_size(bytes).expect("a frame");
+        reader::read(frame.source, frame.image)
+            .is_ok_and(|read| !read.comments.is_empty())
+    });
+    let bytes = bytes.expect("one with comments");
+    let frame = frame::split_any_size(&bytes).expect("a frame");
+    let accepted = reader::read(frame.source, frame.image).expect("accepted");
+    let tree::Input {
+        ast,
+        mut files,
+        spans,
+        extras,
+        ..
+    } = tree::Input::new(&accepted, frame.image);
+    files.files[0].contents.clear();
+    let report = patched::fmt_parsed(&ast, files, spans, &extras);
+    let errors = report.expect_err("refused").errors;
+    assert!(matches!(&errors[..], [RotoError::Custom(_)]));
 }
 
 /// What README.md shows of the patch is what is compiled here.

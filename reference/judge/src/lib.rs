@@ -22,6 +22,7 @@ pub use fmt::driver;
 
 pub mod answers;
 pub mod calls;
+pub mod choice;
 pub mod examples;
 pub mod explain;
 pub mod figures;
@@ -29,6 +30,7 @@ pub mod frame;
 pub mod generate;
 pub mod grammar;
 pub mod image;
+pub mod mode;
 pub mod newlines;
 pub mod program;
 pub mod random;

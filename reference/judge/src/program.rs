@@ -1,13 +1,13 @@
 //! What the program `rotofmt` must answer to a frame.
 
 use crate::{
+    choice::Choice,
     driver::{self, Run},
     frame::{self, Frame},
     reader,
     refusal::{Refusal, refusal},
     rows,
     tree::Input,
-    width,
 };
 
 pub const ROWS: usize = 1_800;
@@ -25,20 +25,20 @@ pub enum Widths {
 
 /// Runs the formatter on a source and an image of any legal size.
 pub fn format(frame: Frame, widths: Widths) -> Result<Run, Refusal> {
-    format_at(frame, widths, width::REFERENCE)
+    format_as(frame, widths, Choice::REFERENCE)
 }
 
-/// The same with a width of the caller's: the reader's refusals, then 15.
-pub fn format_at(
+/// The same by its caller's choice: the reader's refusals, then 12 and 15.
+pub fn format_as(
     frame: Frame,
     widths: Widths,
-    width: usize,
+    choice: Choice,
 ) -> Result<Run, Refusal> {
     let accepted = reader::read(frame.source, frame.image)?;
-    width::check(width, 0)?;
+    choice.check()?;
     let input = Input::new(&accepted, frame.image);
     let _held = (widths == Widths::Supplied).then(|| input.supply_widths());
-    Ok(driver::run_at(&input, width))
+    Ok(driver::run_as(&input, choice))
 }
 
 /// What the program makes of a frame: 13, then as [`within_limits`].

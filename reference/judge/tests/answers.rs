@@ -138,12 +138,14 @@ fn skip_world(input: &mut Input) -> usize {
     cells
 }
 
-const LAYOUT_STATE: usize = 2 + 5 * 4;
+const LAYOUT_STATE: usize = 2 + 6 * 4;
 const RENDER_STATE: usize = 2 * 4 + 8 + 3 * 4;
 
 #[test]
 fn call_answers_are_laid_out_as_described() {
-    let random = (0..100).map(|index| generate::call_case(3, index));
+    let random = (0..100).flat_map(|index| {
+        [generate::call_case, generate::foot_case].map(|make| make(3, index))
+    });
     for case in random.chain(generate::rendering_cases()) {
         let answered = answers::calls::answered(&case);
         let mut input = Input(&answered);

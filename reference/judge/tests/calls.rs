@@ -5,7 +5,8 @@ use judge::{
     driver::{Pen, Texts, render_rows},
     examples,
     frame::{self, Frame},
-    generate::{self, Class},
+    generate::{self, CallCase, Class},
+    mode::{NEW, OLD},
     program::{self, Widths},
     rows::{self, Row},
     width::REFERENCE,
@@ -34,7 +35,11 @@ fn given<'g>(frame: &Frame<'g>) -> Given<'g> {
 }
 
 fn layout(stop: usize, close: bool) -> Call {
-    Call::Layout { stop, close }
+    layout_in(OLD, stop, close)
+}
+
+fn layout_in(mode: usize, stop: usize, close: bool) -> Call {
+    Call::Layout { stop, close, mode }
 }
 
 fn render(stop: usize) -> Call {
@@ -217,6 +222,63 @@ fn layout_states_are_tested() {
     assert_eq!(with(|s| s.begun = false), Some((12, 0)));
     assert_eq!(with(|s| s.closed = true), Some((12, 0)));
     assert_eq!(with(|s| s.next_declaration = 3), Some((12, 0)));
+    assert_eq!(with(|s| s.mode = 1), Some((12, 0)));
+    assert_eq!(with(|s| s.mode = 7), Some((12, 0)));
+}
+
+/// Each cause of 12 by the mode: over 1, another than the carried one once
+/// begun, and one carried before that. It comes before 8.
+#[test]
+fn modes_are_tested() {
+    let with = |state: LayoutState, mode: usize| {
+        let mut world = world(30, 2);
+        world.laying = state;
+        refusals(&mut world, &[layout_in(mode, 2, true)])[0]
+    };
+    let refused = Some((12, 0));
+    let fresh = LayoutState::default();
+    let begun = |mode| LayoutState {
+        begun: true,
+        mode,
+        ..fresh
+    };
+    for mode in [OLD, NEW] {
+        assert_eq!(with(fresh, mode), None);
+        assert_eq!(with(begun(mode), mode), None);
+        assert_eq!(with(begun(1 - mode), mode), refused);
+        assert_eq!(with(begun(2), mode), refused);
+        assert_eq!(with(LayoutState { mode: 1, ..fresh }, mode), refused);
+    }
+    for mode in [2, 3, 1 << 32, usize::MAX] {
+        assert_eq!(with(fresh, mode), refused, "{mode}");
+        assert_eq!(with(begun(mode), mode), refused, "{mode}");
+    }
+    let calls = [layout_in(2, 2, true), layout(2, true)];
+    let refused = [refused, Some((8, 21))];
+    assert_eq!(refusals(&mut world(20, 1), &calls), refused);
+}
+
+/// An accepted call chooses, also one that lays nothing; a refused one
+/// doesn't.
+#[test]
+fn an_accepted_call_chooses_the_mode() {
+    let mut world = world(25, 2);
+    let calls = [
+        layout_in(2, 0, false),
+        layout_in(OLD, 3, false),
+        layout_in(NEW, 0, false),
+        layout_in(OLD, 1, false),
+        layout_in(NEW, 1, false),
+        layout_in(OLD, 2, true),
+        layout_in(NEW, 2, true),
+    ];
+    let refused = Some((12, 0));
+    assert_eq!(
+        refusals(&mut world, &calls),
+        [refused, refused, None, refused, None, refused, None]
+    );
+    assert_eq!(world.laying.mode, NEW);
+    assert!(world.laying.closed);
 }
 
 /// The first wrong row among these, by a rendering from row 0.
@@ -330,9 +392,16 @@ fn rows_nest_256_deep() {
 
 #[test]
 fn the_cut_rule_holds_of_the_original() {
+    assert!(cut_rule_holds(generate::call_case, 600) > 200);
+    assert!(cut_rule_holds(generate::foot_case, 600) > 400);
+}
+
+/// Holds calls one by one against the plain run, on lists of which the rule
+/// speaks; how many they were.
+fn cut_rule_holds(make: fn(u64, u64) -> CallCase, count: u64) -> usize {
     let mut spoken_of = 0;
-    for index in 0..600 {
-        let case = generate::call_case(SEED, index);
+    for index in 0..count {
+        let case = make(SEED, index);
         let given = Given {
             source: &case.source,
             image: &case.image,
@@ -351,7 +420,7 @@ fn the_cut_rule_holds_of_the_original() {
         let plain = calls::plain_run(given, store, marks, &case.calls);
         assert_eq!((answers, world), plain, "case {index}");
     }
-    assert!(spoken_of > 200, "{spoken_of}");
+    spoken_of
 }
 
 /// docs/ARCHITECTURE.md, "The way of one file": the smallest list on which the

@@ -4,6 +4,7 @@ use std::collections::BTreeMap;
 
 use judge::{
     calls::{self, Answer, Given},
+    choice::Choice,
     frame::{self, Frame},
     generate::{self, CallCase, Class},
     program::{self, Widths},
@@ -177,7 +178,11 @@ fn wide_frames_have_every_width_and_its_edges() {
         let Ok(frame) = judge::frame::split_any_size(&bytes) else {
             continue;
         };
-        let run = program::format_at(frame, Widths::Supplied, width);
+        let choice = Choice {
+            width,
+            ..Choice::REFERENCE
+        };
+        let run = program::format_as(frame, Widths::Supplied, choice);
         let Ok(run) = run else {
             continue;
         };

@@ -44,7 +44,9 @@ fn a_source_too_long_is_among_the_lists() {
 fn lists_stop_at_every_declaration() {
     let stops = |case: &judge::generate::CallCase| {
         let stops = case.calls.iter().filter_map(|call| match call {
-            Call::Layout { stop, close: false } => Some(*stop),
+            Call::Layout {
+                stop, close: false, ..
+            } => Some(*stop),
             _ => None,
         });
         stops.collect::<BTreeSet<_>>()
@@ -92,6 +94,60 @@ fn every_cause_of_15_is_among_the_lists() {
     ];
     for one in due {
         assert!(causes.contains(&one), "{one:?} {causes:?}");
+    }
+}
+
+/// What 12 refuses by the mode, and calls in both modes that are accepted,
+/// closing with comments that waited among them.
+#[test]
+fn every_cause_of_12_by_the_mode_is_among_the_lists() {
+    let mut causes = BTreeSet::new();
+    for case in replay::lists() {
+        let given = Given {
+            source: &case.source,
+            image: &case.image,
+        };
+        let mut world = case.world.clone();
+        for one in &case.calls {
+            let before = world.laying;
+            let answer = judge::calls::call(given, &mut world, *one);
+            let number = answer.err().map(|refusal| refusal.number);
+            if let Call::Layout { close, mode, .. } = *one {
+                let carried = (before.begun, before.mode);
+                causes.insert((number, mode_cause(mode, carried)));
+                let placed = world.laying.at.comments_placed;
+                if close && placed > before.at.comments_placed {
+                    causes.insert((number, "closed with more comments"));
+                }
+            }
+        }
+    }
+    let due = [
+        (Some(12), "over 1"),
+        (Some(12), "the largest"),
+        (Some(12), "another"),
+        (Some(12), "carried before it has begun"),
+        (Some(12), "none that is legal"),
+        (None, "the first"),
+        (None, "the old one again"),
+        (None, "the new one again"),
+        (None, "closed with more comments"),
+    ];
+    for one in due {
+        assert!(causes.contains(&one), "{one:?} {causes:?}");
+    }
+}
+
+fn mode_cause(mode: usize, carried: (bool, usize)) -> &'static str {
+    match (mode, carried) {
+        (0xFFFF_FFFF, _) => "the largest",
+        (2.., _) => "over 1",
+        (_, (false, 0)) => "the first",
+        (_, (false, _)) => "carried before it has begun",
+        (_, (true, 2..)) => "none that is legal",
+        (0, (true, 0)) => "the old one again",
+        (1, (true, 1)) => "the new one again",
+        _ => "another",
     }
 }
 

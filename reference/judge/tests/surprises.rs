@@ -3,8 +3,10 @@
 use std::{any::Any, ops::Range, panic};
 
 use judge::{
+    choice::Choice,
     driver, examples, frame,
     image::{self, Tree, chosen, node, text},
+    mode::NEW,
     program::{self, Widths},
     reader::{self, Ranges},
     script,
@@ -52,6 +54,30 @@ fn texts() {
         if last != "not read\n" {
             assert_eq!(formatted(last), *last);
         }
+    }
+}
+
+/// What the page shows of the mode that keeps every comment.
+#[test]
+fn texts_that_keep_all() {
+    let blocks = blocks("kept");
+    assert!(blocks.len() > 3, "{} blocks", blocks.len());
+    let kept = |source: &str| {
+        let bytes = script::frame(source).expect("it can be read");
+        let frame = frame::split(&bytes).expect("a frame");
+        let choice = Choice {
+            mode: NEW,
+            ..Choice::REFERENCE
+        };
+        let run = program::format_as(frame, Widths::Supplied, choice);
+        run.expect("accepted").text
+    };
+    for block in blocks {
+        let [source, due] = &block[..] else {
+            panic!("{block:?}");
+        };
+        assert_eq!(kept(source), *due);
+        assert_eq!(kept(due), *due, "a second run changes nothing");
     }
 }
 

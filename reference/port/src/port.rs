@@ -28,10 +28,9 @@ mod linked {
             image_len: usize,
             store: *mut u32,
             store_len: usize,
-            state: *const [u64; 7],
-            stop: u64,
-            close: u64,
-            out: *mut [u64; 9],
+            state: *const [u64; 8],
+            args: *const [u64; 3],
+            out: *mut [u64; 10],
         );
         fn rrufthim_render(
             source: *const u8,
@@ -53,7 +52,7 @@ mod linked {
             source_len: usize,
             image: *const u8,
             image_len: usize,
-            choice: *const [u64; 1],
+            choice: *const [u64; 2],
             output: *mut u8,
             output_len: usize,
             out: *mut [u64; 5],
@@ -90,17 +89,17 @@ mod linked {
     }
 
     /// `state`: begun, closed, next declaration, next row, next number,
-    /// comments placed, position. `out`: 0, comments left, the new state; or
-    /// number, place.
+    /// comments placed, position, mode. `args`: the declaration to stop
+    /// before, whether to close, the mode. `out`: 0, comments left, the new
+    /// state; or number, place.
     #[cfg(feature = "calls")]
     pub fn layout(
         source: &[u8],
         image: &[u8],
         store: &mut [u32],
-        state: &[u64; 7],
-        stop: u64,
-        close: u64,
-        out: &mut [u64; 9],
+        state: &[u64; 8],
+        args: &[u64; 3],
+        out: &mut [u64; 10],
     ) {
         // Safety: as in `check`.
         unsafe {
@@ -112,8 +111,7 @@ mod linked {
                 store.as_mut_ptr(),
                 store.len(),
                 state,
-                stop,
-                close,
+                args,
                 out,
             );
         }
@@ -154,13 +152,13 @@ mod linked {
         }
     }
 
-    /// `choice`: the width. `out`: 0, bytes written, comments left, rows,
+    /// `choice`: the width, the mode. `out`: 0, bytes written, comments left, rows,
     /// numbers; or number, place.
     #[cfg(feature = "calls")]
     pub fn format(
         source: &[u8],
         image: &[u8],
-        choice: &[u64; 1],
+        choice: &[u64; 2],
         output: &mut [u8],
         out: &mut [u64; 5],
     ) {

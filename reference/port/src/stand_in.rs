@@ -12,6 +12,7 @@ use judge::{
     figures::{self, Counted, Figures, Fraction, MOST_FILES, Tallies},
     frame::Frame,
     image::{self, node},
+    mode::{self, NEW, OLD},
     newlines,
     program::{MARKS, ROWS},
     reader,
@@ -89,10 +90,26 @@ pub enum Fault {
     WidthFirst,
     /// A whole file's 8 comes before 15.
     RowsFirst,
+    /// A comment is left behind at the foot.
+    OneLeftBehind,
+    /// Leading newlines are kept where nothing is declared.
+    LeadingKept,
+    /// The old mode places the comments at the foot too.
+    Flushed,
+    /// The new mode leaves them in the list.
+    FootForgotten,
+    /// A carried mode is forgotten.
+    ModeNotKept,
+    /// The answered state has no mode.
+    ModeNotCarried,
+    /// A state that has not begun may carry a mode.
+    ModeBeforeBegun,
+    /// A whole file's 15 comes before 12.
+    WidthBeforeMode,
 }
 
 impl Fault {
-    pub const ALL: [Fault; 32] = [
+    pub const ALL: [Fault; 40] = [
         Fault::CheckPlace,
         Fault::Declarations,
         Fault::CommentsLeft,
@@ -125,6 +142,14 @@ impl Fault {
         Fault::WidthNotKept,
         Fault::WidthFirst,
         Fault::RowsFirst,
+        Fault::OneLeftBehind,
+        Fault::LeadingKept,
+        Fault::Flushed,
+        Fault::FootForgotten,
+        Fault::ModeNotKept,
+        Fault::ModeNotCarried,
+        Fault::ModeBeforeBegun,
+        Fault::WidthBeforeMode,
     ];
 }
 
@@ -152,8 +177,8 @@ fn put_refusal(out: &mut [u64], refusal: Refusal) {
     }
 }
 
-fn layout_state(state: &[u64; 7]) -> LayoutState {
-    let [begun, closed, next_declaration, at @ ..] =
+fn layout_state(state: &[u64; 8]) -> LayoutState {
+    let [begun, closed, next_declaration, at @ .., mode] =
         state.map(|number| number as usize);
     let [next_row, next_number, comments_placed, position] = at;
     LayoutState {
@@ -166,6 +191,7 @@ fn layout_state(state: &[u64; 7]) -> LayoutState {
             comments_placed,
             position,
         },
+        mode,
     }
 }
 
@@ -203,10 +229,9 @@ pub fn layout(
     source: &[u8],
     image: &[u8],
     store: &mut [u32],
-    state: &[u64; 7],
-    stop: u64,
-    close: u64,
-    out: &mut [u64; 9],
+    state: &[u64; 8],
+    args: &[u64; 3],
+    out: &mut [u64; 10],
 ) {
     let mut world = World {
         store: store.to_vec(),
@@ -215,7 +240,7 @@ pub fn layout(
     };
     let given = Given { source, image };
     let before = world.laying.at.next_row;
-    match layout_call(given, &mut world, stop as usize, close != 0) {
+    match lay_out(given, &mut world, args.map(|number| number as usize)) {
         Ok(Answer::LaidOut {
             state,
             comments_left,
@@ -234,6 +259,103 @@ pub fn layout(
         }
         _ => unreachable!("a layout call"),
     }
+}
+
+/// A layout call, wrong where a fault on modes is planted.
+fn lay_out(
+    given: Given,
+    world: &mut World,
+    [stop, close, mode]: [usize; 3],
+) -> Result<Answer, Refusal> {
+    let carried = &mut world.laying;
+    if planted(Fault::ModeNotKept) && carried.begun {
+        carried.mode = mode;
+    }
+    if planted(Fault::ModeBeforeBegun) && !carried.begun {
+        carried.mode = 0;
+    }
+    let close = close != 0;
+    let mut right = world.clone();
+    let answer = layout_call(given, &mut right, stop, close, mode)?;
+    let wrong = (close && closes_wrongly(mode))
+        .then(|| close_wrongly(given, world, stop, mode));
+    if let Some(Some(answer)) = wrong {
+        return Ok(answer);
+    }
+    *world = right;
+    Ok(answer)
+}
+
+fn closes_wrongly(mode: usize) -> bool {
+    let faults: &[Fault] = match mode {
+        OLD => &[Fault::Flushed],
+        _ => &[
+            Fault::OneLeftBehind,
+            Fault::LeadingKept,
+            Fault::FootForgotten,
+        ],
+    };
+    faults.iter().any(|fault| planted(*fault))
+}
+
+/// Goes on to the stop, then closes with another image or in the other mode.
+/// What stands at the foot lies in the source.
+fn close_wrongly(
+    given: Given,
+    world: &mut World,
+    stop: usize,
+    mode: usize,
+) -> Option<Answer> {
+    let before = world.clone();
+    let read = reader::read(given.source, given.image).ok()?;
+    let comments = read.comments.len();
+    layout_call(given, world, stop, false, mode).expect("it closes too");
+    let (image, end, way) = if planted(Fault::OneLeftBehind) {
+        (without_last_comment(given.image), stop, mode)
+    } else if planted(Fault::LeadingKept) && stop == 0 {
+        let import = node(16, 0..0, [None, None]);
+        let tree = node(1, 0..0, [None, Some(import)]);
+        (image::write(&read.comments, &tree), 1, mode)
+    } else {
+        (given.image.to_vec(), stop, NEW + OLD - mode)
+    };
+    let Given { source, .. } = given;
+    let image = &image[..];
+    (world.laying.next_declaration, world.laying.mode) = (end, way);
+    let closed = layout_call(Given { source, image }, world, end, true, way);
+    if closed.is_err() || (planted(Fault::LeadingKept) && stop > 0) {
+        *world = before;
+        return None;
+    }
+    (world.laying.next_declaration, world.laying.mode) = (stop, mode);
+    Some(Answer::LaidOut {
+        state: world.laying,
+        comments_left: comments - world.laying.at.comments_placed,
+    })
+}
+
+/// The image without the last comment of its list, if it has any.
+fn without_last_comment(image: &[u8]) -> Vec<u8> {
+    const COUNT: usize = 5;
+    const LIST: usize = COUNT + 2;
+    const PAIR: usize = 8;
+    let mut image = image.to_vec();
+    let number = |bytes: &[u8]| {
+        bytes
+            .iter()
+            .fold(0, |sum, byte| sum << 8 | usize::from(*byte))
+    };
+    let body = number(&image[1..COUNT]);
+    let count = number(&image[COUNT..LIST]);
+    if count > 0 {
+        let end = LIST + count * PAIR;
+        image.drain(end - PAIR..end);
+        let body = (body - PAIR) as u32;
+        image[1..COUNT].copy_from_slice(&body.to_be_bytes());
+        let count = (count - 1) as u16;
+        image[COUNT..LIST].copy_from_slice(&count.to_be_bytes());
+    }
+    image
 }
 
 fn spoil_rows(world: &mut World, from: usize, to: usize) {
@@ -274,6 +396,11 @@ fn put_laid(out: &mut [u64], state: &LayoutState, comments_left: usize) {
         state.at.next_number,
         state.at.comments_placed,
         state.at.position + usize::from(shift),
+        if planted(Fault::ModeNotCarried) {
+            0
+        } else {
+            state.mode
+        },
     ];
     put(out, &numbers.map(|number| number as u64));
 }
@@ -397,7 +524,7 @@ fn put_written(out: &mut [u64], state: &RenderState, bytes: usize) {
 pub fn format(
     source: &[u8],
     image: &[u8],
-    choice: &[u64; 1],
+    choice: &[u64; 2],
     output: &mut [u8],
     out: &mut [u64; 5],
 ) {
@@ -405,17 +532,24 @@ pub fn format(
         Ok(read) => read.tree.children.len() as u64 - 1,
         Err(refusal) => return put_refusal(out, refusal),
     };
-    let [width] = *choice;
-    if !planted(Fault::RowsFirst)
-        && let Err(refusal) = width::check(width as usize, 0)
-    {
+    let [width, mode] = *choice;
+    let mut tests =
+        [mode::check(mode as usize), width::check(width as usize, 0)];
+    if planted(Fault::WidthBeforeMode) {
+        tests.reverse();
+    }
+    if planted(Fault::RowsFirst) {
+        tests[1] = Ok(());
+    }
+    if let Some(refusal) = tests.into_iter().find_map(Result::err) {
         return put_refusal(out, refusal);
     }
     let mut store = vec![0; ROWS * Row::CELLS];
     let mut marks = vec![0; MARKS as usize];
-    let mut laid = [0; 9];
-    let (fresh, store) = ([0; 7], &mut store);
-    layout(source, image, store, &fresh, declarations, 1, &mut laid);
+    let mut laid = [0; 10];
+    let (fresh, store) = ([0; 8], &mut store);
+    let args = [declarations, 1, mode];
+    layout(source, image, store, &fresh, &args, &mut laid);
     if laid[0] != 0 {
         return put(out, &laid[..2]);
     }

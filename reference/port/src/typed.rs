@@ -2,6 +2,7 @@
 
 use judge::{
     calls::{Answer, Given, LayoutState, RenderState},
+    choice::Choice,
     driver::{Pen, Stop},
     refusal::Refusal,
 };
@@ -24,8 +25,9 @@ pub fn layout(
     state: &LayoutState,
     stop: usize,
     close: bool,
+    mode: usize,
 ) -> Result<Answer, Refusal> {
-    let mut out = Out::<10>::new();
+    let mut out = Out::<11>::new();
     let numbers = [
         truth(state.begun),
         truth(state.closed),
@@ -34,19 +36,19 @@ pub fn layout(
         state.at.next_number as u64,
         state.at.comments_placed as u64,
         state.at.position as u64,
+        state.mode as u64,
     ];
     port::layout(
         given.source,
         given.image,
         store,
         &numbers,
-        stop as u64,
-        truth(close),
+        &[stop as u64, truth(close), mode as u64],
         out.places(),
     );
     let [comments_left, begun, closed, next, at @ ..] =
-        out.accepted::<8>()?;
-    let [next_row, next_number, comments_placed, position] =
+        out.accepted::<9>()?;
+    let [next_row, next_number, comments_placed, position, mode] =
         at.map(|number| number as usize);
     Ok(Answer::LaidOut {
         state: LayoutState {
@@ -59,6 +61,7 @@ pub fn layout(
                 comments_placed,
                 position,
             },
+            mode,
         },
         comments_left: comments_left as usize,
     })
@@ -118,15 +121,16 @@ pub fn render(
     })
 }
 
-/// The port's whole run, with a width.
+/// The port's whole run, by its caller's choice.
 pub fn format(
     given: Given,
-    width: usize,
+    choice: Choice,
     output: &mut [u8],
 ) -> Result<Formatted, Refusal> {
     let mut out = Out::<6>::new();
     let Given { source, image } = given;
-    port::format(source, image, &[width as u64], output, out.places());
+    let choice = [choice.width, choice.mode].map(|number| number as u64);
+    port::format(source, image, &choice, output, out.places());
     let [bytes, comments_left, rows, numbers] = out.accepted()?;
     Ok(Formatted {
         bytes,

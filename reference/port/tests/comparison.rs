@@ -32,7 +32,7 @@ fn each_planted_fault_is_found() {
         plant(fault);
         let mut tally = Tally::default();
         for item in PLAN.items() {
-            if !matches!(item, Item::Large(_)) {
+            if !matches!(item, Item::Large(_)) && tally.differences == 0 {
                 one(&mut tally, item, PLAN.seed);
             }
         }
@@ -42,7 +42,7 @@ fn each_planted_fault_is_found() {
         }
         plant(Fault::None);
         assert!(tally.differences > 0, "{fault:?} isn't found");
-        println!("{fault:?}: {} differences", tally.differences);
+        println!("{fault:?}\n{}", tally.report());
     }
 }
 
@@ -62,6 +62,8 @@ fn items_are_repeated_by_their_names() {
     assert!(matches!(wild, Some(Item::Frame(_, 3))));
     assert_eq!(Item::from_words("list", 4), Some(Item::List(4)));
     assert_eq!(Item::from_words("widths", 6), Some(Item::Wide(6)));
+    assert_eq!(Item::from_words("feet", 7), Some(Item::Foot(7)));
+    assert_eq!(Item::from_words("foot-list", 8), Some(Item::FootList(8)));
     assert_eq!(Item::from_words("ranges", 5), Some(Item::Ranges(5)));
     assert_eq!(Item::from_words("files", 90), Some(Item::Files(90)));
     assert_eq!(Item::from_words("other", 4), None);

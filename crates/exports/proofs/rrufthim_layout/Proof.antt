@@ -1,16 +1,15 @@
 -- The answer's numbers are stored one after the other.
-use mathlib.Core.Path.{refl, ap}
-use mathlib.Core.Bool.{Bool}
+use mathlib.Core.Path.{refl}
 use Rattle.exports.proofs.Told.{lays}
 use borrow.Author.Needs.{needs}
 use Rattle.exports.proofs.rrufthim_layout.Statement.{statement}
 use Rattle.exports.proofs.rrufthim_layout.Tie as tie
 
 returns : tie.Need-returns
-returns c = lays _ _ _ _ _ _ _ _ _ _ _ _ _ (c .before .before .before .before .before .before .before .before .layout-state .ensures) (ap (λ (x : Bool). record { stop = c .before .before .before .before .before .before .before .before .before .before .before .before .args .stop; close = x }) (c .before .before .before .before .before .before .before .flag .ensures)) (c .before .before .before .before .before .layout-call .ensures) (c .before .n .given .1) refl
+returns c = lays _ _ _ _ _ _ _ _ _ _ _ _ (c .before .before .before .before .before .before .before .before .layout-state .ensures) (c .before .before .before .before .before .before .before .layout-args .ensures) (c .before .before .before .before .before .layout-call .ensures) (c .before .n .given .1) refl
 
 returns-2 : tie.Need-returns-2
-returns-2 c = lays _ _ _ _ _ _ _ _ _ _ _ _ _ (c .before .before .before .before .before .before .before .before .before .before .layout-state .ensures) (ap (λ (x : Bool). record { stop = c .before .before .before .before .before .before .before .before .before .before .before .before .before .before .args .stop; close = x }) (c .before .before .before .before .before .before .before .before .before .flag .ensures)) (c .before .before .before .before .before .before .before .layout-call .ensures) (c .before .before .before .t .given .1) (c .put-laid .ensures)
+returns-2 c = lays _ _ _ _ _ _ _ _ _ _ _ _ (c .before .before .before .before .before .before .before .before .before .before .layout-state .ensures) (c .before .before .before .before .before .before .before .before .before .layout-args .ensures) (c .before .before .before .before .before .before .before .layout-call .ensures) (c .before .before .before .t .given .1) (c .put-laid .ensures)
 
 pub rrufthim-layout-spec : {M : Type 1} → statement M
 rrufthim-layout-spec =

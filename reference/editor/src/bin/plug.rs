@@ -1,5 +1,5 @@
 //! `plug SEED FILES` runs the crate and its plug beside the original, on so
-//! many generated files of each class.
+//! many generated files of each class, and with comments at the foot.
 
 use std::{env, process::ExitCode};
 
@@ -28,6 +28,8 @@ fn main() -> ExitCode {
     for class in CLASSES {
         differing += run(class, *seed, *files);
     }
+    let feet = (0..*files).map(|index| generate::foot_frame(*seed, index));
+    differing += compare("Feet", *seed, feet);
     println!("{differing} files differ");
     match differing {
         0 => ExitCode::SUCCESS,
@@ -41,8 +43,18 @@ fn run(class: Class, seed: u64, files: u64) -> usize {
         Class::Sizes => generate::size_cases().len() as u64,
         _ => files,
     };
-    let (mut accepted, mut differing) = (0, 0);
-    for (index, bytes) in generate::frames(class, seed, count).enumerate() {
+    let frames = generate::frames(class, seed, count);
+    compare(&format!("{class:?}"), seed, frames)
+}
+
+fn compare(
+    class: &str,
+    seed: u64,
+    frames: impl Iterator<Item = Vec<u8>>,
+) -> usize {
+    let (mut count, mut accepted, mut differing) = (0, 0, 0);
+    for (index, bytes) in frames.enumerate() {
+        count += 1;
         if frame::split_any_size(&bytes).is_err() {
             continue;
         }
@@ -52,9 +64,9 @@ fn run(class: Class, seed: u64, files: u64) -> usize {
         accepted += 1;
         if !found.is_empty() {
             differing += 1;
-            println!("{class:?} {seed} {index}: {}", found.join(", "));
+            println!("{class} {seed} {index}: {}", found.join(", "));
         }
     }
-    println!("{class:?}: {count} files, {accepted} accepted");
+    println!("{class}: {count} files, {accepted} accepted");
     differing
 }

@@ -40,12 +40,11 @@ fn put_world(out: &mut Vec<u8>, world: &World) {
 
 fn put_call(out: &mut Vec<u8>, call: &Call) {
     match *call {
-        Call::Layout { stop, close } => {
+        Call::Layout { stop, close, mode } => {
             out.push(0);
             put_number(out, stop);
             put_number(out, usize::from(close));
-            // A layout call has nothing to choose.
-            put_number(out, 0);
+            put_number(out, mode);
         }
         Call::Render { stop, room, width } => {
             out.push(1);
@@ -91,6 +90,7 @@ fn put_layout_state(out: &mut Vec<u8>, state: &LayoutState) {
     put_number(out, next_number);
     put_number(out, comments_placed);
     put_number(out, position);
+    put_number(out, state.mode);
 }
 
 fn put_render_state(out: &mut Vec<u8>, state: &RenderState) {

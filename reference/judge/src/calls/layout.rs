@@ -3,6 +3,7 @@
 use super::{Answer, Given, MOST_ROWS, World};
 use crate::{
     driver::{Layout, Stop},
+    mode,
     reader::{self, Accepted},
     refusal::{Refusal, refusal},
     tree::Input,
@@ -17,17 +18,22 @@ pub struct LayoutState {
     pub closed: bool,
     pub next_declaration: usize,
     pub at: Stop,
+    /// That of the calls so far; 0 before the first.
+    pub mode: usize,
 }
 
-/// Lays out from where the state stands to before declaration `stop`.
+/// Lays out from where the state stands to before declaration `stop`, and
+/// closes by the mode.
 pub fn layout_call(
     given: Given,
     world: &mut World,
     stop: usize,
     close: bool,
+    mode: usize,
 ) -> Result<Answer, Refusal> {
     let accepted = reader::read(given.source, given.image)?;
     check_state(world, &accepted, stop, close)?;
+    check_mode(&world.laying, mode)?;
     let input = Input::new(&accepted, given.image);
     let _held = input.supply_widths();
     let state = world.laying;
@@ -39,7 +45,7 @@ pub fn layout_call(
         layout.declaration(place);
     }
     if close {
-        layout.close();
+        layout.close(mode);
     }
     let at = layout.stop();
     if at.next_row > world.room_for_rows() {
@@ -51,6 +57,7 @@ pub fn layout_call(
         closed: close,
         next_declaration: stop,
         at,
+        mode,
     };
     Ok(Answer::LaidOut {
         state: world.laying,
@@ -58,7 +65,17 @@ pub fn layout_call(
     })
 }
 
-/// Refusal 12, on the state and on the arguments.
+/// Refusal 12, on the mode: one over 1, or another than that of the calls
+/// before. That fresh states carry none is tested with the others.
+fn check_mode(state: &LayoutState, mode: usize) -> Result<(), Refusal> {
+    mode::check(mode)?;
+    if state.begun && state.mode != mode {
+        return Err(refusal(12, 0));
+    }
+    Ok(())
+}
+
+/// Refusal 12, on the state and on the other arguments.
 fn check_state(
     world: &World,
     accepted: &Accepted,

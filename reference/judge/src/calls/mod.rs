@@ -20,8 +20,12 @@ pub const MOST_ROW_DEPTH: usize = 256;
 /// A call's arguments, but for what it is handed on.
 #[derive(Clone, Copy, Debug, PartialEq, Eq)]
 pub enum Call {
-    /// The declaration to stop before, and whether to close.
-    Layout { stop: usize, close: bool },
+    /// The declaration to stop before, whether to close, and the mode.
+    Layout {
+        stop: usize,
+        close: bool,
+        mode: usize,
+    },
     /// The row to stop before, the bytes of output, and the width.
     Render {
         stop: usize,
@@ -90,8 +94,8 @@ pub fn call(
     call: Call,
 ) -> Result<Answer, Refusal> {
     match call {
-        Call::Layout { stop, close } => {
-            layout_call(given, world, stop, close)
+        Call::Layout { stop, close, mode } => {
+            layout_call(given, world, stop, close, mode)
         }
         Call::Render { stop, room, width } => {
             render_call(given, world, stop, room, width)

@@ -7,7 +7,8 @@ use crate::refusal::Refusal;
 /// How far both came; `None` before the first accepted call of a kind.
 #[derive(Clone, Copy, Default)]
 struct Far {
-    laid: Option<(usize, bool)>,
+    /// With the mode that the accepted calls chose.
+    laid: Option<(usize, bool, usize)>,
     /// With the width that the accepted calls chose.
     shown: Option<(usize, usize)>,
 }
@@ -28,8 +29,8 @@ pub fn plain_run(
         let answer = call(given, &mut due(given, store, marks, far), *one);
         if answer.is_ok() {
             match *one {
-                Call::Layout { stop, close } => {
-                    far.laid = Some((stop, close))
+                Call::Layout { stop, close, mode } => {
+                    far.laid = Some((stop, close, mode))
                 }
                 Call::Render { stop, width, .. } => {
                     far.shown = Some((stop, width))
@@ -49,8 +50,8 @@ fn due(given: Given, store: &[u32], marks: &[u8], far: Far) -> World {
         marks: marks.to_vec(),
         ..World::default()
     };
-    if let Some((stop, close)) = far.laid {
-        let one = Call::Layout { stop, close };
+    if let Some((stop, close, mode)) = far.laid {
+        let one = Call::Layout { stop, close, mode };
         call(given, &mut world, one).expect("accepted before");
     }
     if let Some((stop, width)) = far.shown {

@@ -7,7 +7,7 @@ use super::{
     Layout, Stop, Texts,
     decode::{Shadow, decode},
 };
-use crate::{rows::Row, tree::Input, width};
+use crate::{mode, rows::Row, tree::Input, width};
 
 /// `fmt_parsed` itself.
 pub fn format(input: &Input) -> String {
@@ -25,7 +25,7 @@ impl<'s> Held<'s> {
         for place in 0..input.declarations() {
             layout.declaration(place);
         }
-        layout.close();
+        layout.close(mode::OLD);
         Held(layout.nodes)
     }
 

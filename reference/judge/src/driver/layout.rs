@@ -4,13 +4,14 @@ use super::{
     super::{Node, Nodes, State, fmt_parsed},
     Run,
     render::{Pen, Rendering, Shown},
-    with_width,
+    with_choice,
 };
 use crate::{
+    choice::Choice,
+    mode,
     parser::Extras,
     rows::{self, Row},
     tree::Input,
-    width,
 };
 
 /// How far a layout came, but for the declarations.
@@ -24,11 +25,11 @@ pub struct Stop {
 
 /// Runs the formatter. Panics if the driver and `fmt_parsed` disagree.
 pub fn run(input: &Input) -> Run {
-    run_at(input, width::REFERENCE)
+    run_as(input, Choice::REFERENCE)
 }
 
-/// The same with another `max`.
-pub fn run_at(input: &Input, width: usize) -> Run {
+/// The same with another `max` or mode.
+pub fn run_as(input: &Input, choice: Choice) -> Run {
     let mut layout = Layout::new(input, Stop::default());
     layout.shebang();
     let mut stops = vec![layout.stop()];
@@ -38,11 +39,11 @@ pub fn run_at(input: &Input, width: usize) -> Run {
         stops.push(layout.stop());
         ends.push(layout.nodes.len());
     }
-    layout.close();
+    layout.close(choice.mode);
     let closed = layout.stop();
-    let (shown, rendering) = rendered(&layout.nodes, &ends, width);
+    let (shown, rendering) = rendered(&layout.nodes, &ends, choice.width);
     let rendered = rendering.finish();
-    let original = with_width(width, || {
+    let original = with_choice(choice, || {
         fmt_parsed(&input.ast, &input.files, &input.spans, &input.extras)
     });
     assert_eq!(rendered.text, original, "the driver strays from fmt_parsed");
@@ -130,7 +131,16 @@ impl<'s> Layout<'s> {
         self.state().declaration(declaration, place == 0);
     }
 
-    pub fn close(&mut self) {
+    /// The final `Line`. In the new mode the waiting comments come before it,
+    /// and none is left: each starts before the source's end.
+    pub fn close(&mut self, mode: usize) {
+        if mode == mode::NEW {
+            let length = self.input.files.files[0].contents.len();
+            let leading = self.input.declarations() > 0;
+            self.state().pop_whitespace(length, leading, false, false);
+            assert!(self.extras.comments.is_empty(), "all are placed");
+            assert_eq!(self.position, length);
+        }
         self.nodes.push(Node::Line);
     }
 

@@ -10,27 +10,32 @@ mod render;
 
 pub use decode::{RenderedRows, Texts, render_rows};
 pub use held::{Held, HeldTexts, format};
-pub use layout::{Layout, Stop, run, run_at};
+pub use layout::{Layout, Stop, run, run_as};
 pub use render::{Pen, Shown};
 
 use std::cell::Cell;
 
-use crate::{rows::Row, width};
+use crate::{choice::Choice, mode, rows::Row};
 
 thread_local! {
-    static WIDTH: Cell<usize> = const { Cell::new(width::REFERENCE) };
+    static CHOICE: Cell<Choice> = const { Cell::new(Choice::REFERENCE) };
 }
 
 /// The `max` that `fmt_parsed` gets on this thread.
 pub(super) fn width() -> usize {
-    WIDTH.get()
+    CHOICE.get().width
 }
 
-/// Runs something for which `fmt_parsed` has another `max`.
-fn with_width<T>(width: usize, run: impl FnOnce() -> T) -> T {
-    let before = WIDTH.replace(width);
+/// Whether `fmt_parsed` closes in the new mode on this thread.
+pub(super) fn keeps_all() -> bool {
+    CHOICE.get().mode == mode::NEW
+}
+
+/// Runs something for which `fmt_parsed` has another `max` or mode.
+fn with_choice<T>(choice: Choice, run: impl FnOnce() -> T) -> T {
+    let before = CHOICE.replace(choice);
     let result = run();
-    WIDTH.set(before);
+    CHOICE.set(before);
     result
 }
 

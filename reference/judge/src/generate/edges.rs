@@ -11,6 +11,7 @@ use super::{
     shape::{Fill, Shapes},
 };
 use crate::{
+    choice::Choice,
     frame::Frame,
     grammar::Place,
     image::{Tree, node, text},
@@ -158,7 +159,11 @@ fn marked_line_end(draft: &Draft, width: usize) -> usize {
         source: draft.source.as_bytes(),
         image: &image,
     };
-    let run = program::format_at(frame, Widths::Supplied, width);
+    let choice = Choice {
+        width,
+        ..Choice::REFERENCE
+    };
+    let run = program::format_as(frame, Widths::Supplied, choice);
     let run = run.expect("a legal tree");
     let mut lines = run.text.lines();
     let line = lines.find(|line| line.contains(MARK));

@@ -1,10 +1,14 @@
 //! Lists of calls to try, and single calls from states of any kind.
 
-use super::{Draft, damaged, edges, random_rows, realistic, widths, wild};
+use super::{
+    Draft, damaged, edges, feet, modes, random_rows, realistic, widths, wild,
+};
 use crate::{
     calls::{Call, LayoutState, RenderState, World},
+    choice::Choice,
     driver::{Pen, Run, Stop},
     frame::{self, Frame},
+    mode::OLD,
     program::{self, Widths},
     random::Random,
     reader::MOST_SOURCE,
@@ -38,23 +42,36 @@ pub fn cut_case(seed: u64, index: u64) -> CallCase {
     every_declaration(&mut Random::new(102, seed, index))
 }
 
+/// Such a list, or any, on a file with comments after its last declaration,
+/// by seed and index.
+pub fn foot_case(seed: u64, index: u64) -> CallCase {
+    let random = &mut Random::new(106, seed, index);
+    let (choice, draft) = (choice(random), feet::draft(random));
+    if random.once_in(2) {
+        at_every_declaration(random, draft, choice)
+    } else {
+        listed(random, draft, choice)
+    }
+}
+
 /// A source or an image that the reader turns down, by seed and index.
 pub fn unreadable_case(seed: u64, index: u64) -> CallCase {
     unreadable(&mut Random::new(103, seed, index))
 }
 
 fn draft(random: &mut Random, width: usize) -> Draft {
-    match random.below(4) {
+    match random.below(5) {
         0 => wild::draft(random),
         1 => edges::draft_at(random, width),
+        2 => feet::draft(random),
         _ => realistic::draft(random),
     }
 }
 
-fn formatted(draft: &Draft, image: &[u8], width: usize) -> Option<Run> {
+fn formatted(draft: &Draft, image: &[u8], choice: Choice) -> Option<Run> {
     let source = draft.source.as_bytes();
     let frame = Frame { source, image };
-    program::format_at(frame, Widths::Supplied, width).ok()
+    program::format_as(frame, Widths::Supplied, choice).ok()
 }
 
 /// The width of a list: that of `fmt_parsed`, or any.
@@ -63,6 +80,14 @@ fn width(random: &mut Random) -> usize {
         REFERENCE
     } else {
         widths::legal(random)
+    }
+}
+
+/// Width and mode of a list.
+fn choice(random: &mut Random) -> Choice {
+    Choice {
+        width: width(random),
+        mode: modes::legal(random),
     }
 }
 
@@ -93,10 +118,14 @@ fn cell(random: &mut Random, junk: usize) -> u32 {
 
 /// Calls from fresh states; most stop where a caller would.
 fn list(random: &mut Random) -> CallCase {
-    let width = width(random);
-    let draft = draft(random, width);
+    let choice = choice(random);
+    let draft = draft(random, choice.width);
+    listed(random, draft, choice)
+}
+
+fn listed(random: &mut Random, draft: Draft, choice: Choice) -> CallCase {
     let image = draft.image();
-    let Some(run) = formatted(&draft, &image, width) else {
+    let Some(run) = formatted(&draft, &image, choice) else {
         return unreadable(random);
     };
     let world = world(random, run.rows.len(), run.marks.len());
@@ -104,9 +133,9 @@ fn list(random: &mut Random) -> CallCase {
     let mut laid = 0;
     for _ in 0..random.between(1, 9) {
         calls.push(if random.once_in(2) {
-            layout(random, &run, &mut laid)
+            layout(random, &run, &mut laid, choice.mode)
         } else {
-            rendering(random, &run, laid, width)
+            rendering(random, &run, laid, choice.width)
         });
     }
     CallCase {
@@ -120,13 +149,21 @@ fn list(random: &mut Random) -> CallCase {
 /// Layout with a stop before each declaration, rendering behind it with a
 /// stop at the same rows, and calls between that are refused.
 fn every_declaration(random: &mut Random) -> CallCase {
-    let width = width(random);
+    let choice = choice(random);
     let draft = match random.below(3) {
-        0 => draft(random, width),
+        0 => draft(random, choice.width),
         _ => realistic::short_draft(random),
     };
+    at_every_declaration(random, draft, choice)
+}
+
+fn at_every_declaration(
+    random: &mut Random,
+    draft: Draft,
+    choice: Choice,
+) -> CallCase {
     let image = draft.image();
-    let Some(run) = formatted(&draft, &image, width) else {
+    let Some(run) = formatted(&draft, &image, choice) else {
         return unreadable(random);
     };
     let world = World {
@@ -135,7 +172,7 @@ fn every_declaration(random: &mut Random) -> CallCase {
         ..World::default()
     };
     CallCase {
-        calls: through(random, &run, width),
+        calls: through(random, &run, choice),
         source: draft.source.into_bytes(),
         image,
         world,
@@ -143,15 +180,17 @@ fn every_declaration(random: &mut Random) -> CallCase {
 }
 
 /// Calls that stop at each declaration in turn.
-fn through(random: &mut Random, run: &Run, width: usize) -> Vec<Call> {
+fn through(random: &mut Random, run: &Run, choice: Choice) -> Vec<Call> {
+    let Choice { width, mode } = choice;
     let last = run.stops.len() - 1;
     let mut calls = Vec::new();
     for (place, stop) in run.stops.iter().enumerate() {
         calls.push(Call::Layout {
             stop: place,
             close: false,
+            mode,
         });
-        calls.extend(refused_at(random, run, place, width));
+        calls.extend(refused_at(random, run, place, choice));
         // Rendering may lag behind, and is level again at the last.
         if place == last || !random.once_in(3) {
             calls.push(Call::Render {
@@ -164,8 +203,9 @@ fn through(random: &mut Random, run: &Run, width: usize) -> Vec<Call> {
     calls.push(Call::Layout {
         stop: last,
         close: true,
+        mode,
     });
-    calls.extend(refused_at(random, run, last, width));
+    calls.extend(refused_at(random, run, last, choice));
     calls.push(Call::Render {
         stop: run.rows.len(),
         room: run.text.len(),
@@ -184,11 +224,12 @@ fn refused_at(
     random: &mut Random,
     run: &Run,
     place: usize,
-    width: usize,
+    choice: Choice,
 ) -> Option<Call> {
+    let Choice { width, mode } = choice;
     let last = run.stops.len() - 1;
-    let layout = |stop, close| Some(Call::Layout { stop, close });
-    match random.below(12) {
+    let layout = |stop, close| Some(Call::Layout { stop, close, mode });
+    match random.below(14) {
         0 => layout(last + 1, false),
         1 => layout(place.saturating_sub(1), false),
         2 => layout(place, place < last),
@@ -213,11 +254,26 @@ fn refused_at(
             room: 0,
             width: widths::legal(random),
         }),
+        7 | 8 => Some(Call::Layout {
+            stop: random.between(place, last),
+            close: place == last && random.once_in(2),
+            mode: modes::other(mode),
+        }),
+        9 => Some(Call::Layout {
+            stop: place,
+            close: false,
+            mode: *random.pick(&modes::ILLEGAL),
+        }),
         _ => None,
     }
 }
 
-fn layout(random: &mut Random, run: &Run, laid: &mut usize) -> Call {
+fn layout(
+    random: &mut Random,
+    run: &Run,
+    laid: &mut usize,
+    mode: usize,
+) -> Call {
     let declarations = run.stops.len() - 1;
     let stop = match random.below(8) {
         0 => random.between(0, declarations + 1),
@@ -230,7 +286,8 @@ fn layout(random: &mut Random, run: &Run, laid: &mut usize) -> Call {
         random.once_in(10)
     };
     *laid = stop;
-    Call::Layout { stop, close }
+    let mode = modes::chosen(random, mode);
+    Call::Layout { stop, close, mode }
 }
 
 fn rendering(
@@ -275,6 +332,7 @@ fn unreadable(random: &mut Random) -> CallCase {
             Call::Layout {
                 stop: 0,
                 close: random.once_in(2),
+                mode: modes::chosen(random, OLD),
             },
             Call::Render {
                 stop: 0,
@@ -289,11 +347,22 @@ fn unreadable(random: &mut Random) -> CallCase {
 fn one_layout(random: &mut Random) -> CallCase {
     let draft = draft(random, REFERENCE);
     let image = draft.image();
-    let Some(run) = formatted(&draft, &image, REFERENCE) else {
+    let mode = modes::legal(random);
+    let choice = Choice {
+        mode,
+        ..Choice::REFERENCE
+    };
+    let Some(run) = formatted(&draft, &image, choice) else {
         return unreadable(random);
     };
     let mut world = world(random, run.rows.len() + 3, 1);
-    world.laying = layout_state(random, &run, &draft, &world);
+    world.laying = LayoutState {
+        mode: modes::carried(random, mode),
+        ..layout_state(random, &run, &draft, &world)
+    };
+    if !world.laying.begun && random.once_in(2) {
+        world.laying.mode = 0;
+    }
     let declarations = run.stops.len() - 1;
     let past = usize::from(random.once_in(9));
     let stop = random.between(0, declarations + past);
@@ -302,7 +371,11 @@ fn one_layout(random: &mut Random) -> CallCase {
         source: draft.source.into_bytes(),
         image,
         world,
-        calls: vec![Call::Layout { stop, close }],
+        calls: vec![Call::Layout {
+            stop,
+            close,
+            mode: modes::chosen(random, mode),
+        }],
     }
 }
 
@@ -324,6 +397,7 @@ fn layout_state(
             comments_placed: random.between(0, draft.comments.len() + past),
             position: random.between(0, draft.source.len() + past),
         },
+        mode: 0,
     };
     if random.once_in(12) {
         LayoutState::default()

@@ -2,7 +2,9 @@
 
 mod damaged;
 mod edges;
+mod feet;
 mod lists;
+mod modes;
 mod random_rows;
 mod ranges;
 mod realistic;
@@ -20,7 +22,10 @@ use crate::{
     random::Random,
 };
 
-pub use lists::{CallCase, case as call_case, cut_case, unreadable_case};
+pub use feet::frame as foot_frame;
+pub use lists::{
+    CallCase, case as call_case, cut_case, foot_case, unreadable_case,
+};
 pub use ranges::{RangeCase, case as range_case};
 pub use rendering::cases as rendering_cases;
 pub use sizes::{

@@ -7,6 +7,7 @@ use crate::{
     calls::{Call, World},
     frame::{self, Frame},
     image::{self, Tree, chosen, node, text},
+    mode,
     program::{self, Widths},
     reader,
     rows::Row,
@@ -49,6 +50,7 @@ impl Case {
         let layout = Call::Layout {
             stop: declarations,
             close: true,
+            mode: mode::OLD,
         };
         let rendering = Call::Render {
             stop: rows,

@@ -5,7 +5,7 @@ use std::{env, process::ExitCode, time::Instant};
 use port::compare::{Item, Plan, Tally, one};
 
 const USAGE: &str = "\
-usage: compare SEED FRAMES [LISTS [FILES]]    FRAMES frames of each class and with widths, LISTS lists of calls, FILES files counted
+usage: compare SEED FRAMES [LISTS [FILES]]    FRAMES frames of each class, with widths and with comments at the foot, LISTS lists of calls of each sort, FILES files counted
        compare KIND SEED INDEX                one of them again; KIND as a difference names it
 ";
 
@@ -43,7 +43,7 @@ fn compare(words: &[&str]) -> Option<Tally> {
             files: more(1),
         };
         println!(
-            "{} frames of each class and with widths, {} lists, {} files counted",
+            "{} frames of each class, with widths and with comments at the foot, {} lists of each sort, {} files counted",
             plan.frames, plan.lists, plan.files
         );
         return Some(plan.run());

@@ -1,10 +1,13 @@
 //! A file laid out with a stop before each declaration, then rendered with a
-//! stop at the same rows; and the whole run with the program's sizes.
+//! stop at the same rows; and the whole run with the program's sizes. All of
+//! it in both modes.
 
 use judge::{
     calls::{Answer, Given, LayoutState, RenderState},
+    choice::Choice,
     driver::{Run, Shown},
     frame::Frame,
+    mode::{NEW, OLD},
     program::{self, OUTPUT, Widths},
     refusal::{Refusal, refusal},
     rows::{self, Row},
@@ -18,11 +21,18 @@ use crate::Formatted;
 
 /// Compares layout and rendering in pieces, and the whole run.
 pub fn compare(tally: &mut Tally, class: &str, frame: Frame, width: usize) {
+    for mode in [OLD, NEW] {
+        compare_as(tally, class, frame, Choice { width, mode });
+    }
+    compare_illegal(tally, frame);
+}
+
+fn compare_as(tally: &mut Tally, class: &str, frame: Frame, choice: Choice) {
     let given = Given {
         source: frame.source,
         image: frame.image,
     };
-    let run = program::format_at(frame, Widths::Supplied, width);
+    let run = program::format_as(frame, Widths::Supplied, choice);
     let due = run.as_ref().map_err(|refusal| *refusal).and_then(|run| {
         program::fits(run).map(|()| Formatted {
             bytes: run.text.len() as u64,
@@ -32,18 +42,18 @@ pub fn compare(tally: &mut Tally, class: &str, frame: Frame, width: usize) {
         })
     });
     let number = due.err().map_or(0, |refusal| refusal.number);
-    tally.count(&format!("whole run, {class}"), number);
-    compare_whole(tally, given, width, run.as_ref().ok(), due);
-    compare_narrow(tally, frame);
+    let way = if choice.mode == OLD { "" } else { ", mode 1" };
+    tally.count(&format!("whole run, {class}{way}"), number);
+    compare_whole(tally, given, choice, run.as_ref().ok(), due);
     match run {
         // A layout call has no width.
         Err(Refusal { number: 15, .. }) => {}
-        Err(refusal) => compare_refused(tally, given, refusal),
+        Err(refusal) => compare_refused(tally, given, choice.mode, refusal),
         Ok(run) => {
             let mut cut = Cut {
                 tally,
                 given,
-                width,
+                choice,
                 run: &run,
                 store: junk_cells((run.rows.len() + 2) * Row::CELLS + 4),
                 marks: junk_bytes(run.marks.len() + 3),
@@ -57,13 +67,13 @@ pub fn compare(tally: &mut Tally, class: &str, frame: Frame, width: usize) {
 fn compare_whole(
     tally: &mut Tally,
     given: Given,
-    width: usize,
+    choice: Choice,
     run: Option<&Run>,
     due: Result<Formatted, Refusal>,
 ) {
     let mut output = junk_bytes(OUTPUT);
     let mut due_output = output.clone();
-    let got = crate::format(given, width, &mut output);
+    let got = crate::format(given, choice, &mut output);
     if let Some(run) = run.filter(|_| due.is_ok()) {
         due_output[..run.text.len()].copy_from_slice(run.text.as_bytes());
     }
@@ -71,22 +81,35 @@ fn compare_whole(
         && tally.expect_bytes("the whole run's output", &due_output, &output);
 }
 
-/// The whole run with a width that can't be chosen: 15, also where there are
-/// too many rows.
-fn compare_narrow(tally: &mut Tally, frame: Frame) {
+/// The whole run with a width or a mode that can't be chosen: 12, then 15,
+/// also where there are too many rows.
+fn compare_illegal(tally: &mut Tally, frame: Frame) {
     const NARROW: usize = 39;
     let Frame { source, image } = frame;
-    let run = program::format_at(frame, Widths::Supplied, NARROW);
-    let due = Err(run.expect_err("a width that isn't legal"));
-    compare_whole(tally, Given { source, image }, NARROW, None, due);
+    let choice = |width, mode| Choice { width, mode };
+    for choice in [
+        choice(NARROW, OLD),
+        choice(NARROW, NEW),
+        choice(80, 2),
+        choice(NARROW, usize::MAX),
+    ] {
+        let run = program::format_as(frame, Widths::Supplied, choice);
+        let due = Err(run.expect_err("a choice that isn't legal"));
+        compare_whole(tally, Given { source, image }, choice, None, due);
+    }
 }
 
 /// A layout call that the reader refuses.
-fn compare_refused(tally: &mut Tally, given: Given, refusal: Refusal) {
+fn compare_refused(
+    tally: &mut Tally,
+    given: Given,
+    mode: usize,
+    refusal: Refusal,
+) {
     let mut store = junk_cells(20);
     let due_store = store.clone();
     let fresh = LayoutState::default();
-    let got = crate::layout(given, &mut store, &fresh, 0, false);
+    let got = crate::layout(given, &mut store, &fresh, 0, false, mode);
     let _ = tally.expect("a refused layout", &Err(refusal), &got)
         && expect_store(tally, "a refused layout", &due_store, &store);
 }
@@ -94,7 +117,7 @@ fn compare_refused(tally: &mut Tally, given: Given, refusal: Refusal) {
 struct Cut<'c> {
     tally: &'c mut Tally,
     given: Given<'c>,
-    width: usize,
+    choice: Choice,
     run: &'c Run,
     store: Vec<u32>,
     marks: Vec<u8>,
@@ -113,14 +136,17 @@ impl Cut<'_> {
                 closed: false,
                 next_declaration: place,
                 at: *stop,
+                mode: self.choice.mode,
             };
             let rows = &self.run.rows[from..stop.next_row];
             put_rows(&mut due_store, from, rows);
             self.lay_out(&mut state, due, &due_store)?;
+            self.other_mode(&state)?;
         }
         self.one_row_short(&state)?;
-        let last = self.run.rows.len() - 1;
-        put_rows(&mut due_store, last, &self.run.rows[last..]);
+        // The final `Line`, and in the new mode what waited.
+        let from = state.at.next_row;
+        put_rows(&mut due_store, from, &self.run.rows[from..]);
         let due = LayoutState {
             closed: true,
             at: self.run.closed,
@@ -148,6 +174,7 @@ impl Cut<'_> {
             state,
             due.next_declaration,
             due.closed,
+            self.choice.mode,
         );
         *state = due;
         let right = self.tally.expect(&what, &Ok(answer), &got)
@@ -161,10 +188,27 @@ impl Cut<'_> {
         let before = self.store.clone();
         let room = &mut self.store[..rows * Row::CELLS - 1];
         let stop = state.next_declaration;
-        let got = crate::layout(self.given, room, state, stop, true);
+        let mode = self.choice.mode;
+        let got = crate::layout(self.given, room, state, stop, true, mode);
         let what = "layout one row short";
         let due = Err(refusal(8, rows));
         let right = self.tally.expect(what, &due, &got)
+            && expect_store(self.tally, what, &before, &self.store);
+        right.then_some(())
+    }
+
+    /// Another mode than the carried one, legal or not: 12, and no cell is
+    /// changed.
+    fn other_mode(&mut self, state: &LayoutState) -> Option<()> {
+        let others = [1 - self.choice.mode, 2, 1 << 32, usize::MAX];
+        let stop = state.next_declaration;
+        let other = others[stop % others.len()];
+        let close = stop + 1 == self.run.stops.len();
+        let before = self.store.clone();
+        let (given, store) = (self.given, &mut self.store);
+        let got = crate::layout(given, store, state, stop, close, other);
+        let what = "layout in another mode";
+        let right = self.tally.expect(what, &Err(refusal(12, 0)), &got)
             && expect_store(self.tally, what, &before, &self.store);
         right.then_some(())
     }
@@ -208,7 +252,7 @@ impl Cut<'_> {
             pen: shown.pen,
             marks_in_use: shown.marks.len(),
             next_row: stop,
-            width: self.width,
+            width: self.choice.width,
         };
         let answer = Answer::Written {
             state: due,
@@ -251,9 +295,10 @@ impl Cut<'_> {
         state: &RenderState,
         stop: usize,
     ) -> Option<()> {
-        let others = [0, 39, 40, 80, 200, 201, usize::MAX, self.width + 1];
+        let width = self.choice.width;
+        let others = [0, 39, 40, 80, 200, 201, usize::MAX, width + 1];
         let other = others[stop % others.len()];
-        if other == self.width {
+        if other == width {
             return Some(());
         }
         let mut output = junk_bytes(9);
@@ -281,7 +326,7 @@ impl Cut<'_> {
             &mut [],
             &RenderState::default(),
             rows,
-            self.width,
+            self.choice.width,
         );
         let what = "rendering one mark short";
         let due = Err(refusal(9, needed));
@@ -297,7 +342,7 @@ impl Cut<'_> {
         stop: usize,
         output: &mut [u8],
     ) -> Result<Answer, Refusal> {
-        self.call_at(self.width, state, stop, output)
+        self.call_at(self.choice.width, state, stop, output)
     }
 
     fn call_at(

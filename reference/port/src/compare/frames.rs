@@ -10,7 +10,8 @@ use judge::{
 use super::Tally;
 use crate::Accepted;
 
-/// Compares all that the port makes of a frame, with a width.
+/// Compares all that the port makes of a frame, with a width and in both
+/// modes.
 pub fn compare(tally: &mut Tally, class: &str, bytes: &[u8], width: usize) {
     match frame::split_any_size(bytes) {
         Ok(frame) => compare_parts(tally, class, frame, width),

@@ -5,6 +5,7 @@ use judge::{
     driver::Stop,
     generate::CallCase,
     image::{self, node},
+    mode::OLD,
     rows::{self, Row},
     width::REFERENCE,
 };
@@ -29,6 +30,7 @@ pub fn numbered(place: usize) -> CallCase {
     let close = Call::Layout {
         stop: 0,
         close: true,
+        mode: OLD,
     };
     let fresh = LayoutState::default();
     match place {

@@ -79,8 +79,8 @@ fn port_call(
 ) -> Result<Answer, Refusal> {
     let World { store, marks, .. } = world;
     match one {
-        Call::Layout { stop, close } => {
-            crate::layout(given, store, &world.laying, stop, close)
+        Call::Layout { stop, close, mode } => {
+            crate::layout(given, store, &world.laying, stop, close, mode)
         }
         Call::Render { stop, width, .. } => {
             let state = &world.rendering;
@@ -106,7 +106,7 @@ pub fn stretched(case: &CallCase, seed: u64, index: u64) -> CallCase {
     let random = &mut Random::new(101, seed, index);
     let mut case = case.clone();
     let far = *random.pick(&FAR);
-    let chosen = random.below(14);
+    let chosen = random.below(16);
     let which = random.below(case.calls.len());
     let laying = &mut case.world.laying;
     let rendering = &mut case.world.rendering;
@@ -127,6 +127,17 @@ pub fn stretched(case: &CallCase, seed: u64, index: u64) -> CallCase {
             for call in &mut case.calls[which..] {
                 if let Call::Render { width, .. } = call {
                     *width = far;
+                }
+            }
+        }
+        12 => {
+            laying.begun |= index.is_multiple_of(2);
+            laying.mode = far;
+        }
+        13 => {
+            for call in &mut case.calls[which..] {
+                if let Call::Layout { mode, .. } = call {
+                    *mode = far;
                 }
             }
         }

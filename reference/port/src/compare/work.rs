@@ -24,10 +24,15 @@ pub enum Item {
     Frame(Class, u64),
     /// A frame with a width of its own.
     Wide(u64),
+    /// A file with comments after its last declaration.
+    Foot(u64),
     /// A size of document 01, without the frame's limit.
     Size(usize),
     #[cfg(feature = "calls")]
     List(u64),
+    /// A list on a file with comments after its last declaration.
+    #[cfg(feature = "calls")]
+    FootList(u64),
     /// A list with a number far out.
     #[cfg(feature = "calls")]
     Stretched(u64),
@@ -48,9 +53,10 @@ pub enum Item {
 }
 
 /// All items of a run: so many frames of each class but `sizes`, as many
-/// with widths of their own and as many texts with ranges, all sizes and
-/// rendering answers once, and so many lists. With lists come the largest
-/// stores. Last, so many files to count.
+/// with widths of their own, with comments after the last declaration, and
+/// as many texts with ranges, all sizes and rendering answers once, and so
+/// many lists, as many of them on files with such comments. With lists come
+/// the largest stores. Last, so many files to count.
 #[derive(Clone, Copy, Debug)]
 pub struct Plan {
     pub seed: u64,
@@ -90,11 +96,13 @@ impl Plan {
             items.extend((0..self.frames).map(|i| Item::Frame(class, i)));
         }
         items.extend((0..self.frames).map(Item::Wide));
+        items.extend((0..self.frames).map(Item::Foot));
         #[cfg(feature = "calls")]
         items.extend((0..self.frames).map(Item::Ranges));
         #[cfg(feature = "calls")]
         for index in 0..self.lists {
-            items.extend([Item::List(index), Item::Stretched(index)]);
+            let list = [Item::List, Item::Stretched, Item::FootList];
+            items.extend(list.map(|item| item(index)));
         }
         items
     }
@@ -153,6 +161,10 @@ fn compare(tally: &mut Tally, item: Item, seed: u64) {
             let (bytes, width) = generate::wide_frame(seed, index);
             frames::compare(tally, "widths", &bytes, width);
         }
+        Item::Foot(index) => {
+            let bytes = generate::foot_frame(seed, index);
+            frames::compare(tally, "feet", &bytes, REFERENCE);
+        }
         Item::Size(place) => {
             let case = &generate::size_cases()[place];
             let frame = Frame {
@@ -165,6 +177,11 @@ fn compare(tally: &mut Tally, item: Item, seed: u64) {
         Item::List(index) => {
             let case = generate::call_case(seed, index);
             super::lists::compare(tally, "lists", &case);
+        }
+        #[cfg(feature = "calls")]
+        Item::FootList(index) => {
+            let case = generate::foot_case(seed, index);
+            super::lists::compare(tally, "lists, feet", &case);
         }
         #[cfg(feature = "calls")]
         Item::Stretched(index) => {
@@ -214,9 +231,12 @@ fn name(item: Item, seed: u64) -> String {
     let (kind, index) = match item {
         Item::Frame(class, index) => (class_name(class), index),
         Item::Wide(index) => ("widths", index),
+        Item::Foot(index) => ("feet", index),
         Item::Size(place) => ("sizes", place as u64),
         #[cfg(feature = "calls")]
         Item::List(index) => ("list", index),
+        #[cfg(feature = "calls")]
+        Item::FootList(index) => ("foot-list", index),
         #[cfg(feature = "calls")]
         Item::Stretched(index) => ("stretched", index),
         #[cfg(feature = "calls")]
@@ -239,8 +259,11 @@ impl Item {
         match kind {
             "sizes" => Some(Item::Size(index as usize)),
             "widths" => Some(Item::Wide(index)),
+            "feet" => Some(Item::Foot(index)),
             #[cfg(feature = "calls")]
             "list" => Some(Item::List(index)),
+            #[cfg(feature = "calls")]
+            "foot-list" => Some(Item::FootList(index)),
             #[cfg(feature = "calls")]
             "stretched" => Some(Item::Stretched(index)),
             #[cfg(feature = "calls")]

@@ -8,7 +8,7 @@ use judge::{
     reader::{self, Accepted},
     tree,
 };
-use rrufthim::{Formatter, ast::SyntaxTree, fmt_parsed};
+use rrufthim::{Formatter, Options, ast::SyntaxTree, fmt_parsed};
 
 use super::{
     both,
@@ -96,6 +96,7 @@ fn converted_and_kept(sources: &[&str], trees: &[tree::Input]) -> [f64; 2] {
 /// The text is the original's, whose widths the plug asks for too.
 fn plugged(sources: &[&str], trees: &[tree::Input]) -> [f64; 2] {
     let mut formatter = Formatter::new();
+    formatter.set_options(Options::AS_ROTO);
     let mut save = |place: usize, input: &tree::Input| {
         let tree::Input {
             ast, spans, extras, ..

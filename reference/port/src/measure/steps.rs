@@ -4,9 +4,11 @@ use std::{fmt::Write, hint::black_box};
 
 use judge::{
     calls::{Answer, Given, LayoutState, RenderState},
+    choice::Choice,
     driver::{self, Held, Run},
     frame::Frame,
     generate::{self, SizeCase},
+    mode::OLD,
     program::{self, ROWS, Widths},
     reader,
     rows::{self, Row},
@@ -41,8 +43,9 @@ impl Ported<'_> {
             declarations,
             ..
         } = *self;
+        let store = &mut self.store;
         let answer =
-            crate::layout(given, &mut self.store, &fresh, declarations, true);
+            crate::layout(given, store, &fresh, declarations, true, OLD);
         assert!(answer.is_ok(), "{answer:?}");
     }
 
@@ -65,7 +68,8 @@ impl Ported<'_> {
 
     /// The text of the whole run, which has rows and marks of its own.
     fn format(&mut self) -> &[u8] {
-        let answer = crate::format(self.given, REFERENCE, &mut self.output);
+        let answer =
+            crate::format(self.given, Choice::REFERENCE, &mut self.output);
         &self.output[..answer.expect("room for all").bytes as usize]
     }
 

@@ -21,4 +21,5 @@ put-laid-spec =
     (λ c. search needs)
     (λ c. search needs)
     (λ c. search needs)
+    (λ c. search needs)
     returns)

@@ -16,7 +16,7 @@ sub-t13 : tie.Need-sub-t13
 sub-t13 c = omega (arith, c .before .before .before .before .to-usize .ensures, placed-in (c .before .before .before .before .before .before .before .before .before .before .before .before .before .args .source .now) (c .before .before .before .before .before .before .before .before .before .before .before .before .before .args .image .now) (c .before .before .before .before .before .before .before .before .before .before .before .before .before .args .state) (c .before .before .before .before .before .before .before .before .before .before .before .before .before .args .args) (c .before .before .before .before .before .before .before .before .before .before .before .before .before .args .store .now) (c .before .before .before .before .before .before .before .before .before .before .before .before .before .pre .0) (c .before .before .before .before .before .before .before .before .before .before .before .before .before .pre .1 .0) (c .before .before .before .before .before .before .before .before .before .before .before .before .before .pre .1 .1) _ _ (rw (c .before .before .before .before .before .before .before .before .before .cursor-of .ensures) at (c .before .before .before .before .before .before .before .lay .ensures)))
 
 returns : tie.Need-returns
-returns c = ends-laid (c .before .before .before .before .before .before .before .before .before .before .before .before .before .args .source .now) (c .before .before .before .before .before .before .before .before .before .before .before .before .before .args .image .now) (c .before .before .before .before .before .before .before .before .before .before .before .before .before .args .state) (c .before .before .before .before .before .before .before .before .before .before .before .before .before .args .args) (c .before .before .before .before .before .before .before .before .before .before .before .before .before .args .store .now) (c .before .before .before .before .before .before .before .before .before .before .before .before .before .pre .0) (c .before .before .before .before .before .before .before .before .before .before .before .before .before .pre .1 .0) (c .before .before .before .before .before .before .before .before .before .before .before .before .before .pre .1 .1) _ _ (rw (c .before .before .before .before .before .before .before .before .before .cursor-of .ensures) at (c .before .before .before .before .before .before .before .lay .ensures)) _ _ refl refl refl (c .before .before .before .to-usize2 .ensures) (c .before .before .to-usize3 .ensures) (c .before .before .before .before .to-usize .ensures) (c .before .to-usize4 .ensures) (ap (λ (m : ℕ). c .before .before .before .before .before .before .before .before .before .before .before .before .before .args .doc .comments - m) (c .before .before .before .before .to-usize .ensures))
+returns c = ends-laid (c .before .before .before .before .before .before .before .before .before .before .before .before .before .args .source .now) (c .before .before .before .before .before .before .before .before .before .before .before .before .before .args .image .now) (c .before .before .before .before .before .before .before .before .before .before .before .before .before .args .state) (c .before .before .before .before .before .before .before .before .before .before .before .before .before .args .args) (c .before .before .before .before .before .before .before .before .before .before .before .before .before .args .store .now) (c .before .before .before .before .before .before .before .before .before .before .before .before .before .pre .0) (c .before .before .before .before .before .before .before .before .before .before .before .before .before .pre .1 .0) (c .before .before .before .before .before .before .before .before .before .before .before .before .before .pre .1 .1) _ _ (rw (c .before .before .before .before .before .before .before .before .before .cursor-of .ensures) at (c .before .before .before .before .before .before .before .lay .ensures)) _ _ refl refl refl (c .before .before .before .to-usize2 .ensures) (c .before .before .to-usize3 .ensures) (c .before .before .before .before .to-usize .ensures) (c .before .to-usize4 .ensures) refl (ap (λ (m : ℕ). c .before .before .before .before .before .before .before .before .before .before .before .before .before .args .doc .comments - m) (c .before .before .before .before .to-usize .ensures))
 
 pub laid-spec : {M : Type 1} → statement M
 laid-spec =

@@ -1,16 +1,16 @@
-use borrow.Author.Needs.{needs}
 use Rattle.state.proofs.Laws.{laid-skip}
+use borrow.Author.Needs.{needs}
 use Rattle.layout_call.proofs.steps.end.Statement.{statement}
 use Rattle.layout_call.proofs.steps.end.Tie as tie
 
-line-requires : tie.Need-line-requires
-line-requires c κs = rw (c .before .if1 .taken) at (c .before .before .before .pre)
+close-document-requires : tie.Need-close-document-requires
+close-document-requires c κs = (c .before .before .before .before .before .pre .0, rw (c .before .if1 .taken) at (c .before .before .before .before .before .pre .1))
 
 returns : tie.Need-returns
-returns c = rw (c .before .before .before .before .if1 .taken) (c .before .before .line .ensures)
+returns c = rw (c .before .before .before .before .if1 .taken) (c .before .before .close-document .ensures)
 
 returns-2 : tie.Need-returns-2
 returns-2 c = rw (c .if1 .left) laid-skip
 
 pub end-spec : {M : Type 1} → statement M
-end-spec = tie.close (tie.spec line-requires (λ c. search needs) returns returns-2)
+end-spec = tie.close (tie.spec close-document-requires (λ c. search needs) returns returns-2)

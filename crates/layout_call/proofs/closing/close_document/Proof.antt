@@ -1,0 +1,32 @@
+use borrow.Author.Tests.{eq-eqb, ne-eqb}
+use Rattle.state.proofs.Laws.{room-first, room-past, laid-then}
+use borrow.Author.Needs.{needs}
+use Rattle.layout_call.proofs.closing.close_document.Statement.{statement}
+use Rattle.layout_call.proofs.closing.close_document.Tie as tie
+
+place-waiting-requires : tie.Need-place-waiting-requires
+place-waiting-requires c κs = (c .before .before .before .before .before .pre .0, room-first _ (rw (eq-eqb _ _ (c .before .if1 .taken)) at (c .before .before .before .before .before .pre .1)))
+
+line-requires : tie.Need-line-requires
+line-requires c κs = room-past (rw (eq-eqb _ _ (c .before .before .before .before .before .if1 .taken)) at (c .before .before .before .before .before .before .before .before .before .pre .1)) (c .before .before .before .place-waiting .ensures)
+
+returns : tie.Need-returns
+returns c = rw (eq-eqb _ _ (c .before .before .before .before .before .before .before .before .if1 .taken)) (laid-then (c .before .before .before .before .before .before .place-waiting .ensures) (c .before .before .line .ensures))
+
+line-requires-2 : tie.Need-line-requires-2
+line-requires-2 c κs = rw (ne-eqb _ _ (c .before .if1 .left)) at (c .before .before .before .before .before .pre .1)
+
+returns-2 : tie.Need-returns-2
+returns-2 c = rw (ne-eqb _ _ (c .before .before .before .before .if1 .left)) (c .before .before .line2 .ensures)
+
+pub close-document-spec : {M : Type 1} → statement M
+close-document-spec =
+    tie.close
+    (tie.spec
+    place-waiting-requires
+    line-requires
+    (λ c. search needs)
+    returns
+    line-requires-2
+    (λ c. search needs)
+    returns-2)
