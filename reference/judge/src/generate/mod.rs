@@ -9,6 +9,8 @@ mod realistic;
 mod rendering;
 mod shape;
 mod sizes;
+mod step_lists;
+mod step_sizes;
 mod wild;
 
 use std::ops::Range;
@@ -25,6 +27,8 @@ pub use rendering::cases as rendering_cases;
 pub use sizes::{
     Case as SizeCase, call_cases as size_call_cases, cases as size_cases,
 };
+pub use step_lists::list as step_list;
+pub use step_sizes::{Case as StepSizeCase, cases as step_size_cases};
 
 /// What a generator aims at.
 #[derive(Clone, Copy, Debug, PartialEq, Eq)]
