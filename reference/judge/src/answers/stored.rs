@@ -1,7 +1,7 @@
 //! The fixed sets of frames, lists of calls and lists of steps that a port's
 //! own tests keep.
 
-use std::collections::BTreeMap;
+use std::collections::{BTreeMap, BTreeSet};
 
 use super::calls;
 use crate::{
@@ -69,13 +69,15 @@ pub fn step_lists() -> Vec<Vec<u8>> {
     let mut kept: BTreeMap<Option<Cause>, usize> = BTreeMap::new();
     let made = (0..count).map(|index| generate::step_list(seed, index));
     let all = [vec![]].into_iter().chain(made);
-    all.filter(|list| {
-        let cause = steps::follow(list).err().map(|fault| fault.cause);
-        let each = STEP_LISTS_EACH[usize::from(cause.is_none())];
-        let known = kept.entry(cause).or_default();
-        let keep = list.len() <= most && *known < each;
-        *known += usize::from(keep);
-        keep
-    })
-    .collect()
+    let mut seen = BTreeSet::new();
+    all.filter(|list| seen.insert(list.clone()))
+        .filter(|list| {
+            let cause = steps::follow(list).err().map(|fault| fault.cause);
+            let each = STEP_LISTS_EACH[usize::from(cause.is_none())];
+            let known = kept.entry(cause).or_default();
+            let keep = list.len() <= most && *known < each;
+            *known += usize::from(keep);
+            keep
+        })
+        .collect()
 }
