@@ -11,7 +11,8 @@
 //! [`format_file`], over slices that the caller lends; what they promise is
 //! proved, and any arguments that safe Rust can give them end in an answer or
 //! a [`Refusal`]. [`newlines`] finds the gap that made a blank line. [`count`]
-//! and [`report`] give the figures of files and their totals.
+//! and [`report`] give the figures of files and their totals. [`generator`]
+//! has images from steps, for who has no source and no tree of ours.
 //!
 //! docs/01-scope.md and docs/02-change-requests.md of the repository have the
 //! rules.
@@ -29,6 +30,7 @@ mod error;
 mod figures;
 mod fmt;
 mod formatter;
+pub mod generator;
 mod image;
 mod linked;
 mod place;

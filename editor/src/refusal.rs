@@ -1,5 +1,5 @@
-//! Why a call is turned down: the table of docs/01-scope.md, and 14 of
-//! docs/02-change-requests.md.
+//! Why a call is turned down: the table of docs/01-scope.md, and 14, 16 and
+//! 17 of docs/02-change-requests.md.
 
 use std::{error::Error, fmt};
 
@@ -70,6 +70,18 @@ pub enum Refusal {
     /// 14: the tallies handed in count 4,096 files, or one of them is over
     /// 4,294,967,296, or they have more groups wrapped than given.
     BadTallies,
+    /// 16: a step is unknown, cut off or wrong there, or the list of steps
+    /// ends while something is missing.
+    BadStep {
+        /// The step's offset in the list, or the list's length.
+        at: u64,
+    },
+    /// 17: an image or a list of steps is longer than the output, or the
+    /// body of an image from steps over 1,048,576 bytes.
+    MoreRoom {
+        /// Bytes needed.
+        needed: u64,
+    },
     /// A number that the table doesn't have: the static library isn't the
     /// one this crate was written for.
     Unknown {
@@ -100,6 +112,8 @@ impl Refusal {
             12 => BadState,
             13 => BadFrame,
             14 => BadTallies,
+            16 => BadStep { at: place },
+            17 => MoreRoom { needed: place },
             _ => Unknown { number, place },
         }
     }
@@ -121,6 +135,8 @@ impl Refusal {
             BadState => 12,
             BadFrame => 13,
             BadTallies => 14,
+            BadStep { .. } => 16,
+            MoreRoom { .. } => 17,
             Unknown { number, .. } => number,
         }
     }
@@ -133,10 +149,12 @@ impl Refusal {
             | BadRecord { at }
             | TooDeep { at }
             | BadSpan { at }
-            | BadComment { at } => at,
+            | BadComment { at }
+            | BadStep { at } => at,
             MoreRows { needed }
             | MoreMarks { needed }
-            | MoreOutput { needed } => needed,
+            | MoreOutput { needed }
+            | MoreRoom { needed } => needed,
             BadRow { row } => row,
             Unknown { place, .. } => place,
         }
@@ -189,6 +207,14 @@ impl Refusal {
                 "no file can be counted on top of these tallies: 4,096 \
                  files are counted, one of them is over 4,294,967,296, or \
                  more groups are wrapped than given"
+            }
+            BadStep { .. } => {
+                "the step at byte # of the list is unknown, cut off or \
+                 wrong there, or something is missing at the list's end"
+            }
+            MoreRoom { .. } => {
+                "# bytes are needed: more than the output has, or than an \
+                 image may have"
             }
             Unknown { .. } => {
                 "the static library refuses for a cause that this crate \

@@ -15,10 +15,14 @@ fn image() -> Vec<u8> {
     encode(&constants(SOURCE), &[0..5]).expect("within the limits")
 }
 
+/// The numbers that this crate has words for.
+const KNOWN: [u64; 16] =
+    [1, 2, 3, 4, 5, 6, 7, 8, 9, 10, 11, 12, 13, 14, 16, 17];
+
 #[test]
 fn numbers_and_places_come_back() {
     const NO_PLACE: [u64; 5] = [1, 3, 12, 13, 14];
-    for number in 1..=14 {
+    for number in KNOWN {
         let place = if NO_PLACE.contains(&number) { 0 } else { 77 };
         let refusal = Refusal::from_numbers(number, place);
         assert!(!matches!(refusal, Refusal::Unknown { .. }));
@@ -30,10 +34,11 @@ fn numbers_and_places_come_back() {
 
 #[test]
 fn each_has_a_sentence_of_its_own() {
-    let sentences: HashSet<String> = (1..=14)
+    let sentences: HashSet<String> = KNOWN
+        .into_iter()
         .map(|number| Refusal::from_numbers(number, 77).to_string())
         .collect();
-    assert_eq!(sentences.len(), 14);
+    assert_eq!(sentences.len(), KNOWN.len());
 }
 
 /// An image with one byte set.
