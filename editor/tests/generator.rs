@@ -294,6 +294,9 @@ fn the_writer_has_the_last_word() {
     let step = Step::at(builder.list(), at as usize).expect("there");
     let line = "open 63 (binary operation) at 0..0";
     assert_eq!(step.to_string(), line);
+    // A later step that is turned down isn't the first that is wrong.
+    let later = builder.comment(0, 1).map(|_| ());
+    assert_eq!(later, Err(bad));
 }
 
 /// The list's end while something is missing.

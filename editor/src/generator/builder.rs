@@ -155,14 +155,17 @@ impl Builder {
     /// # Errors
     ///
     /// Refusal 16 with the offset that it would have in the list, or 17, as
-    /// the functions above say.
+    /// the functions above say; but if the proved writer finds a step before
+    /// it wrong, 16 with the offset of that one.
     pub fn step(&mut self, step: &Step) -> Result<&mut Self, Refusal> {
+        let image = self.image.saturating_add(step.image_bytes());
         if !self.fits(step) {
+            self.check()?;
             let at = self.list.len() as u64;
             return Err(Refusal::BadStep { at });
         }
-        let image = self.image.saturating_add(step.image_bytes());
         if step.bytes() > u32::MAX as usize {
+            self.check()?;
             let needed = image as u64;
             return Err(Refusal::MoreRoom { needed });
         }
