@@ -176,7 +176,7 @@ fn comments() {
         (u32::MAX, 0, Cause::CommentReversed),
     ] {
         let bad = comment(start, end);
-        at_fault(&with(&[bad.clone()]), 0, cause);
+        at_fault(&with(std::slice::from_ref(&bad)), 0, cause);
         at_fault(&with(&[good.clone(), bad.clone()]), 1, cause);
         at_fault(&with(&[bad, good.clone()]), 0, cause);
     }
