@@ -90,6 +90,38 @@ fn steps_in_words() {
     assert_eq!(newline.to_string(), "text \"\\n\", 0 wide");
 }
 
+#[test]
+fn steps_have_their_bytes() {
+    let text = Step::Text {
+        width: 258,
+        text: "é".into(),
+    };
+    let all = [
+        (
+            Step::Comment { span: 1..0x0203 },
+            &[1, 0, 0, 0, 1, 0, 0, 2, 3][..],
+        ),
+        (
+            Step::Open {
+                kind: 87,
+                span: 0..u32::MAX,
+            },
+            &[2, 87, 0, 0, 0, 0, 255, 255, 255, 255],
+        ),
+        (text, &[3, 1, 2, 0, 0, 0, 2, 0xC3, 0xA9]),
+        (Step::Payload(9), &[4, 9]),
+        (Step::Absent, &[5]),
+        (Step::Close, &[6]),
+    ];
+    for (step, due) in all {
+        let mut list = vec![7];
+        step.append(&mut list);
+        assert_eq!((&list[1..], step.bytes()), (due, due.len()));
+        assert_eq!(Step::at(&list, 1), Some(step));
+        assert_eq!(Step::at(&list[..list.len() - 1], 1), None);
+    }
+}
+
 /// Each kind of docs/01-scope.md has a name of its own, and no other has.
 #[test]
 fn kinds_have_names() {
@@ -167,33 +199,8 @@ fn turned_down(builder: &Builder, step: &Step) {
     assert_eq!(other.list(), builder.list());
     // The proved writer says the same.
     let mut list = builder.list().to_vec();
-    append(&mut list, step);
+    step.append(&mut list);
     assert_eq!(write_image(&list, &mut []), Err(bad), "{step}");
-}
-
-/// A step's bytes, which a fresh builder need not take.
-fn append(list: &mut Vec<u8>, step: &Step) {
-    match step {
-        Step::Comment { span } => {
-            list.push(1);
-            list.extend(span.start.to_be_bytes());
-            list.extend(span.end.to_be_bytes());
-        }
-        Step::Open { kind, span } => {
-            list.extend([2, *kind]);
-            list.extend(span.start.to_be_bytes());
-            list.extend(span.end.to_be_bytes());
-        }
-        Step::Text { width, text } => {
-            list.push(3);
-            list.extend(width.to_be_bytes());
-            list.extend((text.len() as u32).to_be_bytes());
-            list.extend(text.as_bytes());
-        }
-        Step::Payload(byte) => list.extend([4, *byte]),
-        Step::Absent => list.push(5),
-        Step::Close => list.push(6),
-    }
 }
 
 fn open(kind: u8) -> Step {

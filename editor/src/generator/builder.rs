@@ -170,7 +170,7 @@ impl Builder {
             return Err(Refusal::MoreRoom { needed });
         }
         self.image = image;
-        step.put(&mut self.list);
+        step.append(&mut self.list);
         self.follow(step);
         Ok(self)
     }

@@ -85,8 +85,12 @@ impl Step {
         }
     }
 
-    /// Adds its bytes to a list. A text's length must fit four bytes.
-    pub(super) fn put(&self, list: &mut Vec<u8>) {
+    /// Adds its bytes to a list.
+    ///
+    /// # Panics
+    ///
+    /// If four bytes don't hold the length of its text.
+    pub fn append(&self, list: &mut Vec<u8>) {
         match self {
             Step::Comment { span } => {
                 list.push(1);
@@ -97,9 +101,10 @@ impl Step {
                 put_span(list, span);
             }
             Step::Text { width, text } => {
+                let length = u32::try_from(text.len()).expect("four bytes");
                 list.push(3);
                 list.extend(width.to_be_bytes());
-                list.extend((text.len() as u32).to_be_bytes());
+                list.extend(length.to_be_bytes());
                 list.extend(text.as_bytes());
             }
             Step::Payload(byte) => list.extend([4, *byte]),

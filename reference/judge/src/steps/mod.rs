@@ -7,7 +7,7 @@ mod writer;
 
 pub use list::{Step, joined, split};
 pub use of_image::{of_image, of_record};
-pub use writer::{Cause, Fault, follow};
+pub use writer::{Cause, Contents, Fault, follow};
 
 use crate::{
     image,
