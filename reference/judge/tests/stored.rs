@@ -184,6 +184,16 @@ fn the_worked_frames_come_first() {
     assert_eq!(texts, ["#!/x\n\n", "refused 3 at 0\n"]);
 }
 
+#[test]
+fn lists_of_steps_take_less_than_sixty_kilobytes() {
+    assert!(replay::steps_input().len() <= 60_000);
+    let lists = stored::step_lists();
+    assert_eq!(lists[0], b"");
+    // Each is there once.
+    let distinct: BTreeSet<&Vec<u8>> = lists.iter().collect();
+    assert_eq!(distinct.len(), lists.len());
+}
+
 /// `reference/replay-answers` was run after the last change.
 #[test]
 fn the_replay_has_these_answers() {
