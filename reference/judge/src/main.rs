@@ -32,8 +32,8 @@ usage: judge run [--true-widths] < frame      what the program must write
        judge replay-calls-counts              what it must write
        judge replay-frames                    what replay_frames is run on
        judge replay-frames-counts             what it must write
-       judge replay-steps                     lists of steps, answered
-       judge replay-steps-counts              what their replay must write
+       judge replay-steps                     what replay_steps is run on
+       judge replay-steps-counts              what it must write
        judge text-answers                     answers of Rust's text functions
        judge report < files                   what the program report must write
        judge report-sample                    what report is run on

@@ -209,6 +209,16 @@ fn the_replay_has_these_answers() {
     );
 }
 
+/// The same of the lists of steps.
+#[test]
+fn the_replay_of_steps_has_these_answers() {
+    let at =
+        concat!(env!("CARGO_MANIFEST_DIR"), "/../../crates/replay_steps");
+    let read = |name| std::fs::read(format!("{at}/{name}")).expect("there");
+    assert!(read("stdin") == replay::steps_input());
+    assert!(read("stdout") == replay::steps_output().into_bytes());
+}
+
 /// The same of the program `report`.
 #[test]
 fn the_report_has_its_sample() {
