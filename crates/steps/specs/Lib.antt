@@ -1,0 +1,4 @@
+pub mod Steps
+pub mod Writer
+pub mod OfImage
+pub mod Exact
