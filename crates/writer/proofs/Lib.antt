@@ -1,0 +1,5 @@
+pub mod Stores
+pub mod Seen
+pub mod Runs
+pub mod Bounds
+pub mod Loops
