@@ -3,3 +3,4 @@ pub mod Seen
 pub mod Runs
 pub mod Bounds
 pub mod Loops
+pub mod Commented

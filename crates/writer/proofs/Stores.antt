@@ -10,6 +10,7 @@ use lib.Seq.{sets, set-comm, drop-cons}
 use Rattle.laws.proofs.Stores.{sets-append}
 use Rattle.image.specs.Bytes.{part}
 use Rattle.image.specs.Write.{bytes4}
+use Rattle.steps.specs.Steps.{bytes2}
 
 -- a store above the run
 set-above : (vs s : List ℕ) (i j v : ℕ) → j + length vs ≤ i → sets (set s i v) j vs ≡ set (sets s j vs) i v
@@ -87,3 +88,7 @@ copying-all x from to out₀ pos out at c h =
     let same : at ≡ to = omega (arith, c .within) in
     let none : part at to x ≡ [] = ap (λ (k : ℕ). part k to x) same ∙ part-none x to in
     sym (ap (λ (u : List ℕ). sets out (pos + (at - from)) u) none) ∙ c .ahead
+
+-- the two bytes of a number
+pub two-put : (s₀ s₁ s₂ : List ℕ) (i n : ℕ) → s₁ ≡ set s₀ i (n / 256) → s₂ ≡ set s₁ (i + 1) (n % 256) → s₂ ≡ sets s₀ i (bytes2 n)
+two-put s₀ s₁ s₂ i n p₁ p₂ = cc (add-one i)

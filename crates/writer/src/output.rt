@@ -5,6 +5,7 @@ ghost use lib.ListN.{length, set};
 ghost use lib.Seq.{sets};
 ghost use Rattle.image.specs.Bytes.{part};
 ghost use Rattle.image.specs.Write.{bytes4};
+ghost use Rattle.steps.specs.Steps.{bytes2};
 
 // Where the list goes on and the place behind what was put, or a refusal's number and place.
 pub enum Reached {
@@ -20,7 +21,16 @@ pub(crate) fn put(out: &mut [u8], pos: usize, x: u8)
     }
 }
 
-// A number of four bytes, big-endian.
+// A number of two bytes, big-endian.
+pub(crate) fn put16(out: &mut [u8], pos: usize, n: usize)
+    requires { ⌜ (pos + 2 < 2 ^ 64) × (n < 2 ^ 16) ⌝ }
+    ensures { λ r. ⌜ now (out .exit) ≡ sets (now (out .entry)) pos (bytes2 n) ⌝ }
+{
+    put(out, pos, (n / 256) as u8);
+    put(out, pos + 1, (n % 256) as u8);
+}
+
+// The low four bytes of a number, big-endian.
 pub(crate) fn put32(out: &mut [u8], pos: usize, n: usize)
     requires { ⌜ pos + 4 < 2 ^ 64 ⌝ }
     ensures { λ r. ⌜ now (out .exit) ≡ sets (now (out .entry)) pos (bytes4 (n % 4294967296)) ⌝ }

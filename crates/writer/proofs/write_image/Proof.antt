@@ -1,0 +1,62 @@
+use borrow.Author.Needs.{needs}
+use Rattle.writer.proofs.write_image.Statement.{statement}
+use Rattle.writer.proofs.write_image.Tie as tie
+use Rattle.writer.proofs.write_image.Reads as reads
+use Rattle.writer.proofs.write_image.Lts as lts
+use Rattle.writer.proofs.whole.measure.Reads as measure-reads
+use Rattle.writer.proofs.whole.put_image.Reads as put-image-reads
+
+-- src/lib.rt:31:11
+measure-requires : tie.Need-measure-requires
+measure-requires c κs = search needs
+
+-- src/lib.rt:32:25
+enum-known-n : tie.Need-enum-known-n
+enum-known-n c = search needs
+
+-- src/lib.rt:33:25
+enum-known-at : tie.Need-enum-known-at
+enum-known-at c = search needs
+
+-- src/lib.rt:34:16
+add-if1 : tie.Need-add-if1
+add-if1 c = search needs
+
+-- src/lib.rt:35:17
+returns : tie.Need-returns
+returns c = ?
+
+-- src/lib.rt:38:17
+returns-2 : tie.Need-returns-2
+returns-2 c = ?
+
+-- src/lib.rt:40:13
+put-image-requires : tie.Need-put-image-requires
+put-image-requires c κs = ?
+
+-- src/lib.rt:28:1
+returns-3 : tie.Need-returns-3
+returns-3 c = ?
+
+-- src/lib.rt:28:1
+same-length : tie.Need-same-length
+same-length c = search needs
+
+-- src/lib.rt:28:1
+returns-4 : tie.Need-returns-4
+returns-4 c = ?
+
+pub write-image-spec : {M : Type 1} → statement M
+write-image-spec =
+    tie.close
+    (tie.spec
+    measure-requires
+    enum-known-n
+    enum-known-at
+    add-if1
+    returns
+    returns-2
+    put-image-requires
+    returns-3
+    same-length
+    returns-4)
