@@ -4,3 +4,4 @@ pub mod Runs
 pub mod Bounds
 pub mod Loops
 pub mod Commented
+pub mod Imaged
