@@ -5,9 +5,6 @@ use borrow.Author.Needs.{needs}
 use Rattle.writer.proofs.Stores.{Copying, copying-none, copying-one, copying-all}
 use Rattle.writer.proofs.output.copy.Statement.{statement}
 use Rattle.writer.proofs.output.copy.Tie as tie
-use Rattle.writer.proofs.output.copy.Reads as reads
-use Rattle.writer.proofs.output.copy.Lts as lts
-use Rattle.writer.proofs.output.put.Reads as put-reads
 
 abbrev Inv-loop : tie.InvT-loop
 Inv-loop x from to out₀ pos at₀ out at = Copying x from to out₀ pos out at
@@ -15,43 +12,30 @@ Inv-loop x from to out₀ pos at₀ out at = Copying x from to out₀ pos out at
 abbrev μ-loop : tie.MeasureT-loop
 μ-loop x from to out₀ pos at₀ out at = to - at
 
--- src/output.rt:40:5
 loop-holds : tie.Need-loop-holds Inv-loop μ-loop
 loop-holds c = copying-none _ _ _ _ _ (c .before .before .pre .0)
 
--- src/output.rt:41:25
 sub-put : tie.Need-sub-put Inv-loop μ-loop
 sub-put c = omega (arith, c .before .before .loop .inv .begun)
 
--- src/output.rt:41:18
 add-put : tie.Need-add-put Inv-loop μ-loop
 add-put c = omega (arith, c .before .before .before .before .before .pre .1 .1, c .before .before .loop .inv .begun, c .before .loop-test .taken)
 
--- src/output.rt:41:37
 shared-slice-read-put : tie.Need-shared-slice-read-put Inv-loop μ-loop
 shared-slice-read-put c = omega (arith, c .before .before .before .before .before .before .pre .1 .0, c .before .before .loop-test .taken)
 
--- src/output.rt:41:9
-put-requires : tie.Need-put-requires Inv-loop μ-loop
-put-requires c κs = search needs
-
--- src/output.rt:42:9
 add-at : tie.Need-add-at Inv-loop μ-loop
 add-at c = omega (arith, c .before .before .before .before .before .before .before .before .before .pre .1 .0, c .before .before .before .before .before .loop-test .taken)
 
--- src/output.rt:40:5
 loop-less : tie.Need-loop-less Inv-loop μ-loop
 loop-less c = omega (arith, c .before .before .before .before .before .loop-test .taken)
 
--- src/output.rt:40:5
 loop-again : tie.Need-loop-again Inv-loop μ-loop
 loop-again c = copying-one _ _ _ _ _ _ _ _ (c .before .before .before .before .before .before .before .before .before .pre .1 .0) (c .before .before .before .before .before .loop-test .taken) (c .before .before .before .before .before .before .loop .inv) (c .before .before .put .ensures)
 
--- src/output.rt:35:1
 same-length : tie.Need-same-length Inv-loop μ-loop
 same-length c = c .before .loop .inv .room
 
--- src/output.rt:35:1
 returns : tie.Need-returns Inv-loop μ-loop
 returns c = copying-all _ _ _ _ _ _ _ (c .before .loop .inv) (c .loop-test .left)
 
@@ -65,7 +49,7 @@ copy-spec =
     sub-put
     add-put
     shared-slice-read-put
-    put-requires
+    (λ c κs. search needs)
     add-at
     loop-less
     loop-again

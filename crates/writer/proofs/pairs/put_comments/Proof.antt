@@ -3,7 +3,6 @@ use mathlib.Core.Path.{refl, sym, _∙_}
 use Prim.Native.Nat.{_-_}
 use native.Mathlib.Omega.{arith}
 use lib.ListN.{length}
-use borrow.Author.Needs.{needs}
 use borrow.Author.Tests.{not-true, not-false}
 use Rattle.image.specs.Limits.{MAX-COMMENTS}
 use Rattle.steps.specs.Steps.{pairBytes}
@@ -12,11 +11,6 @@ use Rattle.writer.specs.Put.{putBy}
 use Rattle.writer.proofs.Commented.{Listing, lists-on, lists-end, lists-wrong, pair-fits, from-many, from-wrong}
 use Rattle.writer.proofs.pairs.put_comments.Statement.{statement}
 use Rattle.writer.proofs.pairs.put_comments.Tie as tie
-use Rattle.writer.proofs.pairs.put_comments.Reads as reads
-use Rattle.writer.proofs.pairs.put_comments.Lts as lts
-use Rattle.writer.proofs.output.copy.Reads as copy-reads
-use Rattle.writer.proofs.pairs.pair_fits.Reads as pair-fits-reads
-use Rattle.writer.proofs.step.stands.Reads as stands-reads
 
 abbrev Inv-loop : tie.InvT-loop
 Inv-loop l out₀ start left₀ at₀ pos₀ out left at pos =
@@ -25,71 +19,54 @@ Inv-loop l out₀ start left₀ at₀ pos₀ out left at pos =
 abbrev μ-loop : tie.MeasureT-loop
 μ-loop l out₀ start left₀ at₀ pos₀ out left at pos = length l - at
 
--- src/pairs.rt:41:5
 loop-holds : tie.Need-loop-holds Inv-loop μ-loop
 loop-holds c = record { inside = omega arith; low = omega (arith, c .before .before .pre); room = refl; same = refl }
 
--- src/pairs.rt:42:13
 stands-requires : tie.Need-stands-requires Inv-loop μ-loop
 stands-requires c κs = (c .loop .inv .inside, omega arith)
 
--- src/pairs.rt:43:13
 same-length : tie.Need-same-length Inv-loop μ-loop
 same-length c = c .before .before .loop .inv .room
 
--- src/pairs.rt:43:13
 returns : tie.Need-returns Inv-loop μ-loop
 returns c = lists-end (c .before .before .loop .inv) _ refl (sym (c .before .stands .ensures) ∙ not-true _ (c .if1 .taken))
 
--- src/pairs.rt:46:13
 same-length-2 : tie.Need-same-length-2 Inv-loop μ-loop
 same-length-2 c = c .before .before .before .loop .inv .room
 
--- src/pairs.rt:46:13
 returns-2 : tie.Need-returns-2 Inv-loop μ-loop
 returns-2 c = lists-wrong (c .before .before .before .loop .inv) (from-many _ _ _ (c .if2 .taken) (sym (c .before .before .stands .ensures) ∙ not-false _ (c .before .if1 .left)))
 
--- src/pairs.rt:48:13
 pair-fits-requires : tie.Need-pair-fits-requires Inv-loop μ-loop
 pair-fits-requires c κs = c .before .before .before .loop .inv .inside
 
--- src/pairs.rt:49:13
 same-length-3 : tie.Need-same-length-3 Inv-loop μ-loop
 same-length-3 c = c .before .before .before .before .before .loop .inv .room
 
--- src/pairs.rt:49:13
 returns-3 : tie.Need-returns-3 Inv-loop μ-loop
 returns-3 c = lists-wrong (c .before .before .before .before .before .loop .inv) (from-wrong _ _ _ (sym (c .before .before .before .before .stands .ensures) ∙ not-false _ (c .before .before .before .if1 .left)) (sym (c .before .pair-fits .ensures) ∙ not-true _ (c .if3 .taken)))
 
--- src/pairs.rt:51:17
 add-copy : tie.Need-add-copy Inv-loop μ-loop
 add-copy c = omega (arith, pair-fits _ _ (sym (c .before .pair-fits .ensures) ∙ not-false _ (c .if3 .left)))
 
--- src/pairs.rt:51:25
 add-copy-2 : tie.Need-add-copy-2 Inv-loop μ-loop
 add-copy-2 c = omega (arith, pair-fits _ _ (sym (c .before .pair-fits .ensures) ∙ not-false _ (c .if3 .left)))
 
--- src/pairs.rt:51:9
 copy-requires : tie.Need-copy-requires Inv-loop μ-loop
 copy-requires c κs = (omega arith, (pair-fits _ _ (sym (c .before .before .pair-fits .ensures) ∙ not-false _ (c .before .if3 .left)), omega (arith, pair-fits _ _ (sym (c .before .before .pair-fits .ensures) ∙ not-false _ (c .before .if3 .left)), c .before .before .before .before .before .before .loop .inv .low)))
 
--- src/pairs.rt:52:9
 sub-left : tie.Need-sub-left Inv-loop μ-loop
 sub-left c = omega (arith, c .before .before .before .before .before .before .if2 .left)
 
--- src/pairs.rt:53:9
 add-at : tie.Need-add-at Inv-loop μ-loop
 add-at c = omega (arith, pair-fits _ _ (sym (c .before .before .before .before .before .pair-fits .ensures) ∙ not-false _ (c .before .before .before .before .if3 .left)))
 
--- src/pairs.rt:54:9
 add-pos : tie.Need-add-pos Inv-loop μ-loop
 add-pos c = omega (arith, pair-fits _ _ (sym (c .before .before .before .before .before .pair-fits .ensures) ∙ not-false _ (c .before .before .before .before .if3 .left)), c .before .before .before .before .before .before .before .before .before .loop .inv .low)
 
--- src/pairs.rt:41:5
 loop-less : tie.Need-loop-less Inv-loop μ-loop
 loop-less c = omega (arith, pair-fits _ _ (sym (c .before .before .before .before .before .pair-fits .ensures) ∙ not-false _ (c .before .before .before .before .if3 .left)))
 
--- src/pairs.rt:41:5
 loop-again : tie.Need-loop-again Inv-loop μ-loop
 loop-again c = lists-on (c .before .before .before .before .before .before .before .before .before .loop .inv) (c .before .before .copy .last .1 .1 .1 .0) (λ i. omega (arith, c .before .before .before .before .before .before .before .before .before .before .before .shared-slice-known .given i)) (c .before .before .copy .kept .1 .1 .1 .0) (c .before .before .before .before .before .before .if2 .left) (sym (c .before .before .before .before .before .before .before .before .stands .ensures) ∙ not-false _ (c .before .before .before .before .before .before .before .if1 .left)) (sym (c .before .before .before .before .before .pair-fits .ensures) ∙ not-false _ (c .before .before .before .before .if3 .left)) (c .before .before .copy .ensures)
 

@@ -8,98 +8,40 @@ use Rattle.writer.proofs.Runs.{is-held, text-held, text-ill}
 use borrow.Author.Needs.{needs}
 use Rattle.writer.proofs.payload.put_text.Statement.{statement}
 use Rattle.writer.proofs.payload.put_text.Tie as tie
-use Rattle.writer.proofs.payload.put_text.Reads as reads
-use Rattle.writer.proofs.payload.put_text.Lts as lts
-use Rattle.image.proofs.bytes.num32.Reads as num32-reads
-use Rattle.image.proofs.grammar.is_text.Reads as is-text-reads
-use Rattle.writer.proofs.output.copy.Reads as copy-reads
-use Rattle.writer.proofs.step.stands.Reads as stands-reads
 
--- src/payload.rt:28:9
-stands-requires : tie.Need-stands-requires
-stands-requires c κs = search needs
-
--- src/payload.rt:29:9
 returns : tie.Need-returns
 returns c = sym (ap (putBy _ _ _) (text-not _ _ (text-short _ _ (sym (c .before .stands .ensures) ∙ not-true _ (c .if1 .taken)))))
 
--- src/payload.rt:31:22
-add-num32 : tie.Need-add-num32
-add-num32 c = search needs
-
--- src/payload.rt:31:9
 num32-requires : tie.Need-num32-requires
 num32-requires c κs = omega (arith, stood _ _ _ _ (sym (c .before .stands .ensures) ∙ not-false _ (c .if1 .left)) .0)
 
--- src/payload.rt:32:8
-sub-if2 : tie.Need-sub-if2
-sub-if2 c = search needs
-
--- src/payload.rt:32:8
 sub-if2-2 : tie.Need-sub-if2-2
 sub-if2-2 c = omega (arith, stood _ _ _ _ (sym (c .before .before .stands .ensures) ∙ not-false _ (c .before .if1 .left)) .0)
 
--- src/payload.rt:33:9
 returns-2 : tie.Need-returns-2
 returns-2 c = sym (ap (putBy _ _ _) (text-not _ _ (not-short _ _ _ _ (omega (arith, stood _ _ _ _ (sym (c .before .before .before .stands .ensures) ∙ not-false _ (c .before .before .if1 .left)) .0, c .before .num32 .ensures .same, c .if2 .taken)))))
 
--- src/payload.rt:35:15
-add-end : tie.Need-add-end
-add-end c = search needs
-
--- src/payload.rt:35:15
-add-end-2 : tie.Need-add-end-2
-add-end-2 c = search needs
-
--- src/payload.rt:36:20
-add-is-text : tie.Need-add-is-text
-add-is-text c = search needs
-
--- src/payload.rt:36:9
 is-text-requires : tie.Need-is-text-requires
 is-text-requires c κs = (omega arith, omega (arith, stood _ _ _ _ (sym (c .before .before .before .stands .ensures) ∙ not-false _ (c .before .before .if1 .left)) .0, c .if2 .left))
 
--- src/payload.rt:37:9
 returns-3 : tie.Need-returns-3
 returns-3 c = sym (ap (putBy _ _ _) (text-ill _ _ _ (c .before .before .before .num32 .ensures .same) (is-standing _ _ _ _ (omega (arith, stood _ _ _ _ (sym (c .before .before .before .before .before .stands .ensures) ∙ not-false _ (c .before .before .before .before .if1 .left)) .0, c .before .before .before .num32 .ensures .same, c .before .before .if2 .left)) (stood _ _ _ _ (sym (c .before .before .before .before .before .stands .ensures) ∙ not-false _ (c .before .before .before .before .if1 .left)) .1)) (sym (c .before .is-text .ensures) ∙ not-true _ (c .if3 .taken))))
 
--- src/payload.rt:39:13
-add-copy : tie.Need-add-copy
-add-copy c = search needs
-
--- src/payload.rt:39:21
-add-copy-2 : tie.Need-add-copy-2
-add-copy-2 c = search needs
-
--- src/payload.rt:39:5
 copy-requires : tie.Need-copy-requires
 copy-requires c κs = (omega arith, (omega (arith, stood _ _ _ _ (sym (c .before .before .before .before .before .before .stands .ensures) ∙ not-false _ (c .before .before .before .before .before .if1 .left)) .0), omega (arith, stood _ _ _ _ (sym (c .before .before .before .before .before .before .stands .ensures) ∙ not-false _ (c .before .before .before .before .before .if1 .left)) .0, c .before .before .before .before .before .before .before .before .before .pre .below)))
 
--- src/payload.rt:40:13
-add-copy-3 : tie.Need-add-copy-3
-add-copy-3 c = search needs
-
--- src/payload.rt:40:40
 add-copy-4 : tie.Need-add-copy-4
 add-copy-4 c = omega (arith, stood _ _ _ _ (sym (c .before .before .before .before .before .before .before .before .before .before .stands .ensures) ∙ not-false _ (c .before .before .before .before .before .before .before .before .before .if1 .left)) .0, c .before .before .before .before .before .before .before .before .before .before .before .before .before .pre .below)
 
--- src/payload.rt:40:5
 copy-requires-2 : tie.Need-copy-requires-2
 copy-requires-2 c κs = (omega arith, (omega (arith, stood _ _ _ _ (sym (c .before .before .before .before .before .before .before .before .before .before .stands .ensures) ∙ not-false _ (c .before .before .before .before .before .before .before .before .before .if1 .left)) .0, c .before .before .before .before .before .before .before .if2 .left), omega (arith, stood _ _ _ _ (sym (c .before .before .before .before .before .before .before .before .before .before .stands .ensures) ∙ not-false _ (c .before .before .before .before .before .before .before .before .before .if1 .left)) .0, c .before .before .before .before .before .before .before .if2 .left, c .before .before .before .before .before .before .before .before .before .before .before .before .before .pre .below)))
 
--- src/payload.rt:41:24
 add-t10 : tie.Need-add-t10
 add-t10 c = omega (arith, stood _ _ _ _ (sym (c .before .before .before .before .before .before .before .before .before .before .before .before .before .stands .ensures) ∙ not-false _ (c .before .before .before .before .before .before .before .before .before .before .before .before .if1 .left)) .0, c .before .before .before .before .before .before .before .before .before .before .before .before .before .before .before .before .pre .below)
 
--- src/payload.rt:41:24
 add-t11 : tie.Need-add-t11
 add-t11 c = omega (arith, stood _ _ _ _ (sym (c .before .before .before .before .before .before .before .before .before .before .before .before .before .stands .ensures) ∙ not-false _ (c .before .before .before .before .before .before .before .before .before .before .before .before .if1 .left)) .0, c .before .before .before .before .before .before .before .before .before .before .if2 .left, c .before .before .before .before .before .before .before .before .before .before .before .before .before .before .before .before .pre .below)
 
--- src/payload.rt:24:1
-same-length : tie.Need-same-length
-same-length c = search needs
-
--- src/payload.rt:24:1
 returns-4 : tie.Need-returns-4
 returns-4 c = is-held _ _ _ _ _ _ _ (text-held _ _ _ _ (λ i. omega (arith, c .before .before .before .before .before .before .before .before .before .before .before .before .before .before .before .shared-slice-known .given i)) _ _ _ (c .before .before .before .before .before .before .before .before .before .before .before .num32 .ensures .same) (is-standing _ _ _ _ (omega (arith, stood _ _ _ _ (sym (c .before .before .before .before .before .before .before .before .before .before .before .before .before .stands .ensures) ∙ not-false _ (c .before .before .before .before .before .before .before .before .before .before .before .before .if1 .left)) .0, c .before .before .before .before .before .before .before .before .before .before .before .num32 .ensures .same, c .before .before .before .before .before .before .before .before .before .before .if2 .left)) (stood _ _ _ _ (sym (c .before .before .before .before .before .before .before .before .before .before .before .before .before .stands .ensures) ∙ not-false _ (c .before .before .before .before .before .before .before .before .before .before .before .before .if1 .left)) .1)) (sym (c .before .before .before .before .before .before .before .before .before .is-text .ensures) ∙ not-false _ (c .before .before .before .before .before .before .before .before .if3 .left)) (c .before .before .before .before .before .before .copy .ensures) (c .before .before .copy2 .ensures))
 
@@ -107,25 +49,25 @@ pub put-text-spec : {M : Type 1} → statement M
 put-text-spec =
     tie.close
     (tie.spec
-    stands-requires
+    (λ c κs. search needs)
     returns
-    add-num32
+    (λ c. search needs)
     num32-requires
-    sub-if2
+    (λ c. search needs)
     sub-if2-2
     returns-2
-    add-end
-    add-end-2
-    add-is-text
+    (λ c. search needs)
+    (λ c. search needs)
+    (λ c. search needs)
     is-text-requires
     returns-3
-    add-copy
-    add-copy-2
+    (λ c. search needs)
+    (λ c. search needs)
     copy-requires
-    add-copy-3
+    (λ c. search needs)
     add-copy-4
     copy-requires-2
     add-t10
     add-t11
-    same-length
+    (λ c. search needs)
     returns-4)

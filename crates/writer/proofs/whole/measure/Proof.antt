@@ -14,64 +14,25 @@ use Rattle.writer.proofs.Imaged.{read-next, read-fault, tree-size, cont
 use borrow.Author.Needs.{needs}
 use Rattle.writer.proofs.whole.measure.Statement.{statement}
 use Rattle.writer.proofs.whole.measure.Tie as tie
-use Rattle.writer.proofs.whole.measure.Reads as reads
-use Rattle.writer.proofs.whole.measure.Lts as lts
-use Rattle.writer.proofs.pairs.put_comments.Reads as put-comments-reads
-use Rattle.writer.proofs.records.put_record.Reads as put-record-reads
 
--- src/whole.rt:34:27
-slice-aggregate-put-comments : tie.Need-slice-aggregate-put-comments
-slice-aggregate-put-comments c = search needs
-
--- src/whole.rt:34:11
-put-comments-requires : tie.Need-put-comments-requires
-put-comments-requires c κs = search needs
-
--- src/whole.rt:35:24
-enum-known-n : tie.Need-enum-known-n
-enum-known-n c = search needs
-
--- src/whole.rt:36:23
-enum-known-at : tie.Need-enum-known-at
-enum-known-at c = search needs
-
--- src/whole.rt:37:61
-slice-aggregate-put-record : tie.Need-slice-aggregate-put-record
-slice-aggregate-put-record c = search needs
-
--- src/whole.rt:37:19
 put-record-requires : tie.Need-put-record-requires
 put-record-requires c κs = let a = read-next pairBytes 0 _ (commentsFrom (c .before .before .before .before .before .before .before .before .args .l .now) MAX-COMMENTS 0) _ _ _ _ (c .before .before .before .before .before .put-comments .ensures) (c .before .before .at .given .1) in record { inside = comments-got (c .before .before .before .before .before .before .before .before .args .l .now) MAX-COMMENTS 0 (a .what) _ (omega arith) (a .reads) .within; below = omega arith }
 
--- src/whole.rt:38:32
-enum-known-n-2 : tie.Need-enum-known-n-2
-enum-known-n-2 c = search needs
-
--- src/whole.rt:39:31
-enum-known-end : tie.Need-enum-known-end
-enum-known-end c = search needs
-
--- src/whole.rt:41:25
 returns : tie.Need-returns
 returns c = let a = read-next pairBytes 0 _ (commentsFrom (c .before .before .before .before .before .before .before .before .before .before .before .before .before .before .args .l .now) MAX-COMMENTS 0) _ _ _ _ (c .before .before .before .before .before .before .before .before .before .before .before .put-comments .ensures) (c .before .before .before .before .before .before .before .before .at .given .1) in let b = read-next written 0 _ (recordFrom (c .before .before .before .before .before .before .before .before .before .before .before .before .before .before .args .l .now) MAX-RECORDS-DEEP TREE (c .before .before .before .before .before .before .before .before .at .given .0 .0)) _ _ _ _ (c .before .before .before .before .before .put-record .ensures) (c .before .before .end .given .1) in sym (ap measured (contents-spare (c .before .before .before .before .before .before .before .before .before .before .before .before .before .before .args .l .now) (a .what) _ (b .what) _ (a .reads) (b .reads) (c .if1 .taken)))
 
--- src/whole.rt:43:41
 add-t19 : tie.Need-add-t19
 add-t19 c = let a = read-next pairBytes 0 _ (commentsFrom (c .before .before .before .before .before .before .before .before .before .before .before .before .before .before .args .l .now) MAX-COMMENTS 0) _ _ _ _ (c .before .before .before .before .before .before .before .before .before .before .before .put-comments .ensures) (c .before .before .before .before .before .before .before .before .at .given .1) in let k = comments-got (c .before .before .before .before .before .before .before .before .before .before .before .before .before .before .args .l .now) MAX-COMMENTS 0 (a .what) _ (omega arith) (a .reads) in let b = read-next written 0 _ (recordFrom (c .before .before .before .before .before .before .before .before .before .before .before .before .before .before .args .l .now) MAX-RECORDS-DEEP TREE (c .before .before .before .before .before .before .before .before .at .given .0 .0)) _ _ _ _ (c .before .before .before .before .before .put-record .ensures) (c .before .before .end .given .1) in let s = tree-size (c .before .before .before .before .before .before .before .before .before .before .before .before .before .before .args .l .now) _ (b .what) _ (b .reads) in omega (arith, k .ends, k .within, pairs-size (a .what), a .place, b .place, s .0, s .1 .0, s .1 .1, c .before .before .before .before .before .before .before .before .before .before .before .before .before .before .good .0 .1)
 
--- src/whole.rt:43:41
 add-t21 : tie.Need-add-t21
 add-t21 c = let a = read-next pairBytes 0 _ (commentsFrom (c .before .before .before .before .before .before .before .before .before .before .before .before .before .before .args .l .now) MAX-COMMENTS 0) _ _ _ _ (c .before .before .before .before .before .before .before .before .before .before .before .put-comments .ensures) (c .before .before .before .before .before .before .before .before .at .given .1) in let k = comments-got (c .before .before .before .before .before .before .before .before .before .before .before .before .before .before .args .l .now) MAX-COMMENTS 0 (a .what) _ (omega arith) (a .reads) in let b = read-next written 0 _ (recordFrom (c .before .before .before .before .before .before .before .before .before .before .before .before .before .before .args .l .now) MAX-RECORDS-DEEP TREE (c .before .before .before .before .before .before .before .before .at .given .0 .0)) _ _ _ _ (c .before .before .before .before .before .put-record .ensures) (c .before .before .end .given .1) in let s = tree-size (c .before .before .before .before .before .before .before .before .before .before .before .before .before .before .args .l .now) _ (b .what) _ (b .reads) in omega (arith, k .ends, k .within, pairs-size (a .what), a .place, b .place, s .0, s .1 .0, s .1 .1, c .before .before .before .before .before .before .before .before .before .before .before .before .before .before .good .0 .1)
 
--- src/whole.rt:30:1
 returns-2 : tie.Need-returns-2
 returns-2 c = sym (ap measured (contents-pairs (c .before .before .before .before .before .before .before .args .l .now) _ _ (read-fault pairBytes 0 _ (commentsFrom (c .before .before .before .before .before .before .before .args .l .now) MAX-COMMENTS 0) _ _ _ _ (c .before .before .before .before .put-comments .ensures) (c .before .n .given .1))))
 
--- src/whole.rt:30:1
 returns-3 : tie.Need-returns-3
 returns-3 c = let a = read-next pairBytes 0 _ (commentsFrom (c .before .before .before .before .before .before .before .before .before .before .before .before .before .args .l .now) MAX-COMMENTS 0) _ _ _ _ (c .before .before .before .before .before .before .before .before .before .before .put-comments .ensures) (c .before .before .before .before .before .before .before .at .given .1) in sym (ap measured (contents-tree (c .before .before .before .before .before .before .before .before .before .before .before .before .before .args .l .now) (a .what) _ _ _ (a .reads) (read-fault written 0 _ (recordFrom (c .before .before .before .before .before .before .before .before .before .before .before .before .before .args .l .now) MAX-RECORDS-DEEP TREE (c .before .before .before .before .before .before .before .at .given .0 .0)) _ _ _ _ (c .before .before .before .before .put-record .ensures) (c .before .n2 .given .1))))
 
--- src/whole.rt:30:1
 returns-4 : tie.Need-returns-4
 returns-4 c = let a = read-next pairBytes 0 _ (commentsFrom (c .before .before .before .before .before .before .before .before .before .before .before .before .before .before .args .l .now) MAX-COMMENTS 0) _ _ _ _ (c .before .before .before .before .before .before .before .before .before .before .before .put-comments .ensures) (c .before .before .before .before .before .before .before .before .at .given .1) in let b = read-next written 0 _ (recordFrom (c .before .before .before .before .before .before .before .before .before .before .before .before .before .before .args .l .now) MAX-RECORDS-DEEP TREE (c .before .before .before .before .before .before .before .before .at .given .0 .0)) _ _ _ _ (c .before .before .before .before .before .put-record .ensures) (c .before .before .end .given .1) in is-measured (c .before .before .before .before .before .before .before .before .before .before .before .before .before .before .args .l .now) (a .what) _ (b .what) _ _ _ (a .reads) (b .reads) (c .if1 .left) (a .place ∙ omega arith) (b .place ∙ omega arith)
 
@@ -79,14 +40,14 @@ pub measure-spec : {M : Type 1} → statement M
 measure-spec =
     tie.close
     (tie.spec
-    slice-aggregate-put-comments
-    put-comments-requires
-    enum-known-n
-    enum-known-at
-    slice-aggregate-put-record
+    (λ c. search needs)
+    (λ c κs. search needs)
+    (λ c. search needs)
+    (λ c. search needs)
+    (λ c. search needs)
     put-record-requires
-    enum-known-n-2
-    enum-known-end
+    (λ c. search needs)
+    (λ c. search needs)
     returns
     add-t19
     add-t21
