@@ -331,7 +331,7 @@ pub(crate) fn payload_fits(b: &[u8], v: usize, p: usize, k: usize, from: usize, 
 }
 
 // Where the payload ends and the children start.
-pub(crate) fn first_child(k: usize, from: usize, stop: usize) -> usize
+pub fn first_child(k: usize, from: usize, stop: usize) -> usize
     requires { ⌜ from + 1 < 2 ^ 64 ⌝ }
     ensures { λ r. ⌜ r ≡ firstChild k from stop ⌝ }
 {
