@@ -5,3 +5,5 @@ pub mod Bounds
 pub mod Loops
 pub mod Commented
 pub mod Imaged
+pub mod Standing
+pub mod Listed

@@ -8,6 +8,7 @@ use crate::output::Reached;
 use crate::output::copy;
 use crate::output::put;
 use crate::step::PAYLOAD_STEP;
+use crate::step::TEXT_BYTES;
 use crate::step::TEXT_STEP;
 use crate::step::stands;
 use image::bytes::num32;
@@ -16,9 +17,6 @@ use image::grammar::has_byte;
 use image::grammar::is_text;
 use image::grammar::top_byte;
 use image::kinds::TEXT;
-
-// How many bytes a text's step has before the text.
-const TEXT_BYTES: usize = 7;
 
 // Puts the width and the text of the step at `at`.
 fn put_text(l: &[u8], at: usize, out: &mut [u8], pos: usize) -> Reached

@@ -22,9 +22,9 @@ use image::grammar::is_over;
 use image::grammar::row_under;
 
 // How many bytes a record's length has, and all before its payload.
-const LENGTH: usize = 4;
+pub(crate) const LENGTH: usize = 4;
 
-const HEAD: usize = 13;
+pub(crate) const HEAD: usize = 13;
 
 // What stands where a child may: the step that closes the record, with what is behind it; a child, with what is behind it and the place
 // behind what was put; or a refusal's number and place.

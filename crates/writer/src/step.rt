@@ -25,6 +25,9 @@ pub(crate) const COMMENT_BYTES: usize = 9;
 
 pub(crate) const OPEN_BYTES: usize = 10;
 
+// And a text's step, before the text.
+pub(crate) const TEXT_BYTES: usize = 7;
+
 // Whether n bytes are left at `at`, and the first of them is k.
 pub(crate) fn stands(l: &[u8], at: usize, k: usize, n: usize) -> bool
     requires { ⌜ (at ≤ length (now l)) × (1 ≤ n) ⌝ }

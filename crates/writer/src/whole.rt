@@ -18,7 +18,7 @@ use image::limits::MAX_RECORDS_DEEP;
 // How many bytes an image has before its body, and before its comments.
 pub(crate) const HEADER: usize = 5;
 
-const PAIRS: usize = 7;
+pub(crate) const PAIRS: usize = 7;
 
 // The offset of the step that opens the tree, and how many bytes the image has; or a refusal's number and place.
 pub enum Measured {
