@@ -9,7 +9,8 @@ use native.Mathlib.Numerals.{sub-one}
 use lib.Dec.{ltb, leb, eqb}
 use lib.ListN.{length, length-append}
 use lib.Seq.{sets}
-use borrow.Author.Tests.{le-leb, ltb-true, ltb-false}
+use borrow.Author.Tests.{le-leb, lt-ltb, le-ltb, ltb-false}
+use Rattle.refusals.specs.Refusals.{Refusal}
 use Rattle.text.specs.Utf8.{wellFormed}
 use Rattle.image.specs.Bytes.{be16, be32, part}
 use Rattle.image.specs.Kinds.{TEXT}
@@ -24,7 +25,8 @@ use Rattle.image.proofs.Accepted.{Input, accepted as input}
 use Rattle.tree.specs.Syntax.{Span}
 use Rattle.comments.specs.Listed.{pairAt, pairsAt, commentsOf}
 use Rattle.steps.specs.Steps.{commentStep, listBytes, payloadSteps, treeSteps, childSteps}
-use Rattle.steps.specs.OfImage.{stepsOf}
+use Rattle.steps.specs.OfImage.{stepsOf, stepsOfAnswer, stepsOfOutput}
+use Rattle.steps.specs.Writer.{refused as turned-down, wrote as written-out}
 use Rattle.steps.proofs.Taken.{list-append}
 use Rattle.steps.proofs.Took.{took-four, took-join, took-is}
 use Rattle.steps.proofs.Views.{never, bind-got, passed, stayed}
@@ -303,7 +305,7 @@ module _ (s b : List ℕ) where
         width = λ k. omega (arith, text-payload b 2 p (at + 13) (stopAt b at) (rw k at (r .payload)) .0);
       } in
       let row = row-stands left (record-stands left) (suc (length b)) (rowUnder p (kindAt b at)) (headAt b at .first) (stopAt b at) (i .trees) (stopAt b at)
-          (opened-order (i .held)) (omega (arith, r .within)) (i .kept) in
+      (opened-order (i .held)) (omega (arith, r .within)) (i .kept) in
       let node-stands : Stands b (node (headAt b at) (i .trees)) at q = (record { is = refl; whole = whole; ends = i .stop }, row) in
       record { stands = subst (λ (x : Tree). Stands b x at q) (sym (i .is)) node-stands; within = omega (arith, i .stop, r .within) }
 
@@ -348,3 +350,62 @@ image-puts b n at pos r out o₁ o₂ a p q s i end h =
     ap (λ (k : ℕ). pairsBytes b k 7 ++ treeBytes b (i .tree)) (sym n₁)
     ∙ sym (list-append (map (λ (x : Span). commentStep (x .start) (x .end)) (pairsAt b (be16 b 5) 7)) (treeSteps (plain b (i .tree)))) in
     rw is at all
+
+-- ---- the answer
+pub image-there : (s b : List ℕ) (n at : ℕ) → accepted n at ≡ outcome (readAll s b) → ImageThere b n at
+image-there s b n at h = go (readAll s b) refl h
+  where
+    go : (r : Read Image) → readAll s b ≡ r → accepted n at ≡ outcome r → ImageThere b n at
+    go (got i end) e h = record { source = s; image = i; end = end; reads = e; count = (cc); place = (cc) }
+    go (bad m p) e h = let z : _≡_ {A = ℕ} 0 1 = cc in absurd (omega arith)
+
+pub comments-there : (b : List ℕ) (n at : ℕ) → ImageThere b n at → (7 + 8 * n ≤ length b) × (n ≤ 8192)
+comments-there b n at a =
+    let t = there (a .source) b (a .image) (a .end) (a .reads) in
+    (omega (arith, t .room, a .count), omega (arith, t .few, a .count))
+
+pub tree-there : (b : List ℕ) (n at pos : ℕ) (out o : List ℕ) → ImageThere b n at → Puts (pairsBytes b n 7) 0 out pos o → TreeThere b at pos
+tree-there b n at pos out o a p =
+    let t = there (a .source) b (a .image) (a .end) (a .reads) in
+    record {
+      tree = a .image .tree;
+      end = length b;
+      stands = rw (a .place) at (t .stands);
+      below = omega (arith, p .place, pairs-long b n 7, t .place, a .place, a .count);
+      short = t .short;
+    }
+
+module _ (s b out : List ℕ) where
+  pub lists-refused : (n p : ℕ) → refused (record { number = n; place = p }) ≡ outcome (readAll s b)
+      → (turned-down (record { number = n; place = p }) ≡ stepsOfAnswer s b (length out)) × (out ≡ stepsOfOutput s b out)
+  lists-refused n p h = go (readAll s b) refl h
+    where
+      go : (r : Read Image) → readAll s b ≡ r → refused (record { number = n; place = p }) ≡ outcome r
+          → (turned-down (record { number = n; place = p }) ≡ stepsOfAnswer s b (length out)) × (out ≡ stepsOfOutput s b out)
+      go (got i end) e h = let z : _≡_ {A = ℕ} 0 1 = cc in absurd (omega arith)
+      go (bad m q) e h =
+          let same : _≡_ {A = Refusal} (record { number = n; place = p }) (record { number = m; place = q }) = cc in
+          (rw e (ap turned-down same), rw e)
+
+  module _ (n at : ℕ) (h : accepted n at ≡ outcome (readAll s b)) (bytes : ℕ) (u v : List ℕ) (p : PutsImage b u bytes v) where
+    pub lists-long : length out < bytes
+        → (turned-down (record { number = 17; place = bytes }) ≡ stepsOfAnswer s b (length out)) × (out ≡ stepsOfOutput s b out)
+    lists-long k = go (readAll s b) refl h
+      where
+        go : (r : Read Image) → readAll s b ≡ r → accepted n at ≡ outcome r
+            → (turned-down (record { number = 17; place = bytes }) ≡ stepsOfAnswer s b (length out)) × (out ≡ stepsOfOutput s b out)
+        go (bad m q) e h = let z : _≡_ {A = ℕ} 0 1 = cc in absurd (omega arith)
+        go (got i end) e h =
+            let size : length (stepsOf b i) ≡ bytes = sym (p s i end e .place ∙ omega arith) in
+            (rw (e, size, lt-ltb (length out) bytes k), rw (e, size, lt-ltb (length out) bytes k))
+
+    pub lists-whole : (r : ℕ) (o : List ℕ) → bytes ≤ length out → PutsImage b out r o
+        → (written-out bytes ≡ stepsOfAnswer s b (length out)) × (o ≡ stepsOfOutput s b out)
+    lists-whole r o k q = go (readAll s b) refl h
+      where
+        go : (x : Read Image) → readAll s b ≡ x → accepted n at ≡ outcome x
+            → (written-out bytes ≡ stepsOfAnswer s b (length out)) × (o ≡ stepsOfOutput s b out)
+        go (bad m y) e h = let z : _≡_ {A = ℕ} 0 1 = cc in absurd (omega arith)
+        go (got i end) e h =
+            let size : length (stepsOf b i) ≡ bytes = sym (p s i end e .place ∙ omega arith) in
+            (rw (e, size, le-ltb (length out) bytes k), q s i end e .output ∙ rw (e, size, le-ltb (length out) bytes k))

@@ -87,7 +87,7 @@ mutual
       let o = row-order b ts (headAt b at .first) (stopAt b at) (s .1) in
       let x = part (at + 13) (headAt b at .first) b in
       let m : length (listBytes (payloadSteps (kindAt b at) x ++ (childSteps (plains b ts) ++ (closeStep ∷ []))))
-          ≡ length (listBytes (payloadSteps (kindAt b at) x)) + (length (rowBytes b ts) + 1) =
+      ≡ length (listBytes (payloadSteps (kindAt b at) x)) + (length (rowBytes b ts) + 1) =
       simp (list-append, length-append) in
       rw (s .0 .is) (omega (arith, s .0 .ends))
 

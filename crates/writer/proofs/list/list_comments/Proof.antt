@@ -6,10 +6,6 @@ use borrow.Author.Needs.{needs}
 use Rattle.writer.proofs.Listed.{Pairs, pairs-none, pairs-one, pairs-end}
 use Rattle.writer.proofs.list.list_comments.Statement.{statement}
 use Rattle.writer.proofs.list.list_comments.Tie as tie
-use Rattle.writer.proofs.list.list_comments.Reads as reads
-use Rattle.writer.proofs.list.list_comments.Lts as lts
-use Rattle.writer.proofs.output.copy.Reads as copy-reads
-use Rattle.writer.proofs.output.put.Reads as put-reads
 
 abbrev Inv-loop : tie.InvT-loop
 Inv-loop b count out₀ i₀ at₀ pos₀ out i at pos = Pairs b count out₀ i at pos out
@@ -17,55 +13,36 @@ Inv-loop b count out₀ i₀ at₀ pos₀ out i at pos = Pairs b count out₀ i 
 abbrev μ-loop : tie.MeasureT-loop
 μ-loop b count out₀ i₀ at₀ pos₀ out i at pos = count - i
 
--- src/list.rt:98:5
 loop-holds : tie.Need-loop-holds Inv-loop μ-loop
 loop-holds c = pairs-none _ _ _
 
--- src/list.rt:99:23
-cast-put : tie.Need-cast-put Inv-loop μ-loop
-cast-put c = search needs
-
--- src/list.rt:99:9
-put-requires : tie.Need-put-requires Inv-loop μ-loop
-put-requires c κs = search needs
-
--- src/list.rt:100:21
 add-copy : tie.Need-add-copy Inv-loop μ-loop
 add-copy c = omega (arith, c .before .before .before .before .before .before .before .before .pre .0, c .before .before .before .before .before .before .before .before .pre .1, c .before .before .before .before .before .loop .inv .place, c .before .before .before .before .before .loop .inv .far, c .before .before .before .before .loop-test .taken)
 
--- src/list.rt:100:37
 add-copy-2 : tie.Need-add-copy-2 Inv-loop μ-loop
 add-copy-2 c = omega (arith, c .before .before .before .before .before .before .before .before .before .pre .0, c .before .before .before .before .before .before .before .before .before .pre .1, c .before .before .before .before .before .before .loop .inv .place, c .before .before .before .before .before .before .loop .inv .far, c .before .before .before .before .before .loop-test .taken)
 
--- src/list.rt:100:9
 copy-requires : tie.Need-copy-requires Inv-loop μ-loop
 copy-requires c κs = (omega arith, (omega (arith, c .before .before .before .before .before .before .before .before .before .pre .0, c .before .before .before .before .before .before .before .before .before .pre .1, c .before .before .before .before .before .before .loop .inv .place, c .before .before .before .before .before .before .loop .inv .far, c .before .before .before .before .before .loop-test .taken), omega (arith, c .before .before .before .before .before .before .before .before .before .pre .0, c .before .before .before .before .before .before .before .before .before .pre .1, c .before .before .before .before .before .before .loop .inv .place, c .before .before .before .before .before .before .loop .inv .far, c .before .before .before .before .before .loop-test .taken)))
 
--- src/list.rt:101:9
 add-i : tie.Need-add-i Inv-loop μ-loop
 add-i c = omega (arith, c .before .before .before .before .before .before .before .before .before .before .before .before .pre .0, c .before .before .before .before .before .before .before .before .before .before .before .before .pre .1, c .before .before .before .before .before .before .before .before .before .loop .inv .place, c .before .before .before .before .before .before .before .before .before .loop .inv .far, c .before .before .before .before .before .before .before .before .loop-test .taken)
 
--- src/list.rt:102:9
 add-at : tie.Need-add-at Inv-loop μ-loop
 add-at c = omega (arith, c .before .before .before .before .before .before .before .before .before .before .before .before .pre .0, c .before .before .before .before .before .before .before .before .before .before .before .before .pre .1, c .before .before .before .before .before .before .before .before .before .loop .inv .place, c .before .before .before .before .before .before .before .before .before .loop .inv .far, c .before .before .before .before .before .before .before .before .loop-test .taken)
 
--- src/list.rt:103:9
 add-pos : tie.Need-add-pos Inv-loop μ-loop
 add-pos c = omega (arith, c .before .before .before .before .before .before .before .before .before .before .before .before .pre .0, c .before .before .before .before .before .before .before .before .before .before .before .before .pre .1, c .before .before .before .before .before .before .before .before .before .loop .inv .place, c .before .before .before .before .before .before .before .before .before .loop .inv .far, c .before .before .before .before .before .before .before .before .loop-test .taken)
 
--- src/list.rt:98:5
 loop-less : tie.Need-loop-less Inv-loop μ-loop
 loop-less c = omega (arith, c .before .before .before .before .before .before .before .before .before .before .before .before .pre .0, c .before .before .before .before .before .before .before .before .before .before .before .before .pre .1, c .before .before .before .before .before .before .before .before .before .loop .inv .place, c .before .before .before .before .before .before .before .before .before .loop .inv .far, c .before .before .before .before .before .before .before .before .loop-test .taken)
 
--- src/list.rt:98:5
 loop-again : tie.Need-loop-again Inv-loop μ-loop
 loop-again c = pairs-one _ _ _ _ _ _ _ _ _ (λ i. omega (arith, c .before .before .before .before .before .before .before .before .before .before .before .shared-slice-known .given i)) (c .before .before .before .before .before .before .before .before .before .before .before .before .pre .0) (c .before .before .before .before .before .before .before .before .before .loop .inv) (c .before .before .before .before .before .before .before .before .loop-test .taken) (c .before .before .copy .kept .1 .1 .1 .0 ∙ c .before .before .before .before .before .before .put .kept .0) (c .before .before .before .before .before .before .put .ensures) (c .before .before .copy .ensures)
 
--- src/list.rt:91:1
 same-length : tie.Need-same-length Inv-loop μ-loop
 same-length c = c .before .loop .inv .room
 
--- src/list.rt:91:1
 returns : tie.Need-returns Inv-loop μ-loop
 returns c = pairs-end _ _ _ _ _ _ _ (c .before .loop .inv) (c .loop-test .left)
 
@@ -76,8 +53,8 @@ list-comments-spec =
     Inv-loop
     μ-loop
     loop-holds
-    cast-put
-    put-requires
+    (λ c. search needs)
+    (λ c κs. search needs)
     add-copy
     add-copy-2
     copy-requires
