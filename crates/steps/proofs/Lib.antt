@@ -1,0 +1,9 @@
+pub mod Took
+pub mod Fits
+pub mod Views
+pub mod Taken
+pub mod WholeList
+pub mod Sizes
+pub mod Stands
+pub mod Accepts
+pub mod WholeAccepted
