@@ -4,3 +4,6 @@ pub mod Views
 pub mod Taken
 pub mod WholeList
 pub mod Sizes
+pub mod Stands
+pub mod Accepts
+pub mod WholeAccepted
