@@ -78,7 +78,7 @@ payload-there l {p} {kind} {x} (nothing e h is) at s =
 
 -- ---- children and records
 -- a turn is left where a byte is
-turn-left : (n : ℕ) → 1 ≤ n → (m : ℕ) × (n ≡ suc m)
+pub turn-left : (n : ℕ) → 1 ≤ n → (m : ℕ) × (n ≡ suc m)
 turn-left zero h = absurd (omega arith)
 turn-left (suc m) h = (m, refl)
 

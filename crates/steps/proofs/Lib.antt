@@ -7,3 +7,5 @@ pub mod Sizes
 pub mod Stands
 pub mod Accepts
 pub mod WholeAccepted
+pub mod ReadFits
+pub mod ReadsAgain

@@ -5,8 +5,8 @@ use mathlib.Core.List.{List, [], _∷_, _++_, append-assoc}
 use Prim.Native.Nat.{ℕ, _+_, _-_, _*_, _/_, _%_, _≤_, _<_}
 use native.Mathlib.Omega.{arith}
 use native.Mathlib.Numerals.{add-one}
-use lib.ListN.{length, getD, drop, length-append, take-append-drop}
-use lib.Seq.{drop-cons, drop-drop}
+use lib.ListN.{length, getD, take, drop, length-append, take-append-drop}
+use lib.Seq.{drop-cons, drop-drop, take-append-seam}
 use Rattle.image.specs.Bytes.{be16, be32, part}
 use Rattle.image.specs.Write.{bytes4}
 use Rattle.image.proofs.Exact.{four, part-length}
@@ -73,3 +73,9 @@ took-two l at end e h =
           both .bytes small
           ∙ ap₂ (λ (r z : List ℕ). r ++ z) (sym (digits (getD l at 0) (getD l (at + 1) 0) (small at) (small (at + 1)))) (ap (λ (n : ℕ). drop n l) far);
     }
+
+-- what was taken is that part of the list
+pub took-is : {l y : List ℕ} {at end : ℕ} → Took l at end y → Bytes l → part at end l ≡ y
+took-is {l} {y} {at} {end} t small =
+    let n : end - at ≡ length y = omega (arith, t .ends) in
+    ap (λ (k : ℕ). take k (drop at l)) n ∙ ap (take (length y)) (t .bytes small) ∙ take-append-seam y (drop end l)
