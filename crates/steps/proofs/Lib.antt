@@ -9,3 +9,6 @@ pub mod Accepts
 pub mod WholeAccepted
 pub mod ReadFits
 pub mod ReadsAgain
+pub mod WholeFits
+pub mod WholeAgain
+pub mod Claims

@@ -1,25 +1,23 @@
 -- What the reader reads fits.
 -- Assumes nothing.
-use mathlib.Core.Path.{_≡_, refl, sym, ap, _∙_}
+use mathlib.Core.Path.{_≡_, refl, ap, _∙_}
 use mathlib.Core.Bool.{Bool, true, false, cond, _&&_}
-use mathlib.Core.List.{List, [], _∷_, _++_}
-use Prim.Native.Nat.{ℕ, zero, suc, _+_, _-_, _≤_}
+use mathlib.Core.List.{List, _++_}
+use Prim.Native.Nat.{ℕ, zero, suc, _+_, _≤_}
 use native.Mathlib.Omega.{arith}
-use lib.ListN.{length, getD, take, drop}
+use lib.ListN.{length, getD}
 use lib.Dec.{ltb, leb, eqb}
 use borrow.Author.Tests.{eqb-true}
-use Rattle.laws.proofs.Booleans.{and-left, and-right}
-use Rattle.text.specs.Utf8.{wellFormed}
+use Rattle.laws.proofs.Booleans.{and-left}
 use Rattle.text.proofs.Counts.{range-order}
 use Rattle.image.specs.Bytes.{be16, be32, part}
 use Rattle.image.specs.Kinds.{TEXT}
 use Rattle.image.specs.Grammar.{isOptional, bare, place, after, complete, hasByte, payloadFits, firstChild}
-use Rattle.image.specs.Read.{Read, got, bad, bind, headAt, kindAt, stopAt, Tree, Trees, absent, node, nil, _▸_, skips, childAt, recordAt, childrenAt}
+use Rattle.image.specs.Read.{Read, got, bad, bind, kindAt, stopAt, Tree, Trees, absent, nil, _▸_, skips, childAt, recordAt, childrenAt}
 use Rattle.image.specs.Write.{plain, plains}
-use Rattle.image.proofs.Shapes.{Opened, text-payload, byte-payload}
+use Rattle.image.proofs.Shapes.{text-payload, byte-payload}
 use Rattle.image.proofs.Inside.{inside, none-deep}
 use Rattle.image.proofs.Exact.{join}
-use Rattle.steps.specs.Steps.{bytes2}
 use Rattle.steps.specs.Exact.{Bytes}
 use Rattle.steps.proofs.Took.{took-is, took-none, took-byte, took-two}
 use Rattle.steps.proofs.Fits.{Pays, text, byte, nothing, Fits, fits, FitsRow, ends, gone, here}

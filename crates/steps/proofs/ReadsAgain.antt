@@ -1,22 +1,21 @@
 -- What fits, written, is read as what it is, unless a span isn't one of the source's: refusal 6.
 -- Assumes nothing.
-use mathlib.Core.Path.{_≡_, refl, sym, ap, subst, _∙_}
-use mathlib.Core.Bool.{Bool, true, false, cond, not, _&&_, true≢false, false≢true}
+use mathlib.Core.Path.{_≡_, refl, ap, subst, _∙_}
+use mathlib.Core.Bool.{Bool, true, false, _&&_, true≢false, false≢true}
 use mathlib.Core.List.{List, [], _∷_, _++_, append-nil}
-use Prim.Native.Nat.{ℕ, zero, suc, _+_, _-_, _≤_, _<_}
+use Prim.Native.Nat.{ℕ, suc, _+_, _≤_, _<_}
 use native.Mathlib.Omega.{arith}
 use lib.ListN.{length, getD, length-append}
-use lib.Dec.{ltb, leb, eqb}
-use borrow.Author.Tests.{lt-ltb, le-leb, le-ltb, eq-eqb, ne-eqb, eqb-true, eqb-false}
+use lib.Dec.{leb, eqb}
+use borrow.Author.Tests.{lt-ltb, le-leb, ne-eqb, eqb-true}
 use Rattle.laws.proofs.Booleans.{and-false}
-use Rattle.text.specs.Utf8.{wellFormed}
 use Rattle.text.specs.Newlines.{isRange}
-use Rattle.image.specs.Bytes.{be16, be32, part}
+use Rattle.image.specs.Bytes.{be32, part}
 use Rattle.image.specs.Kinds.{TEXT}
-use Rattle.image.specs.Grammar.{isOptional, isList, bare, place, after, complete, hasByte, topByte, payloadFits, firstChild, rowOf, rowUnder, kindFits}
-use Rattle.image.specs.Read.{Read, got, bad, bind, Head, headAt, kindAt, stopAt, Tree, Trees, absent, node, nil, _▸_, opens, skips, childAt, recordAt, childrenAt}
-use Rattle.image.specs.Write.{Plain, Plains, without, plainly, done, _next_, bytes4, content, framed, written, writtens, plain, plains}
-use Rattle.image.proofs.Shapes.{Opened, Shaped, is-shaped, kind-list}
+use Rattle.image.specs.Grammar.{isOptional, isList, bare, place, after, topByte, payloadFits, firstChild, rowOf, rowUnder, kindFits}
+use Rattle.image.specs.Read.{Read, got, bad, bind, Head, headAt, kindAt, stopAt, Tree, Trees, absent, node, _▸_, opens, skips, childAt, recordAt, childrenAt}
+use Rattle.image.specs.Write.{Plain, Plains, without, plainly, _next_, bytes4, content, framed, written, writtens, plain, plains}
+use Rattle.image.proofs.Shapes.{Shaped, is-shaped, kind-list}
 use Rattle.image.proofs.Reading.{record-bad, record-opens, within, ended}
 use Rattle.steps.specs.Steps.{bytes2}
 use Rattle.steps.proofs.Stands.{Stands, stands-within, stands-left, stands-right, stands-part, stands-byte, stands-be32}

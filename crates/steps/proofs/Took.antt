@@ -1,12 +1,12 @@
 -- Bytes taken from a list one after the other: y is what stands between `at` and `end`.
 -- Assumes nothing.
 use mathlib.Core.Path.{_≡_, refl, sym, ap, ap₂, _∙_}
-use mathlib.Core.List.{List, [], _∷_, _++_, append-assoc}
+use mathlib.Core.List.{List, [], _∷_, _++_, append-assoc, append-nil}
 use Prim.Native.Nat.{ℕ, _+_, _-_, _*_, _/_, _%_, _≤_, _<_}
 use native.Mathlib.Omega.{arith}
 use native.Mathlib.Numerals.{add-one}
 use lib.ListN.{length, getD, take, drop, length-append, take-append-drop}
-use lib.Seq.{drop-cons, drop-drop, take-append-seam}
+use lib.Seq.{drop-cons, drop-drop, take-append-seam, drop-length}
 use Rattle.image.specs.Bytes.{be16, be32, part}
 use Rattle.image.specs.Write.{bytes4}
 use Rattle.image.proofs.Exact.{four, part-length}
@@ -79,3 +79,7 @@ pub took-is : {l y : List ℕ} {at end : ℕ} → Took l at end y → Bytes l �
 took-is {l} {y} {at} {end} t small =
     let n : end - at ≡ length y = omega (arith, t .ends) in
     ap (λ (k : ℕ). take k (drop at l)) n ∙ ap (take (length y)) (t .bytes small) ∙ take-append-seam y (drop end l)
+
+-- all of the list
+pub took-all : {l y : List ℕ} → Took l 0 (length l) y → Bytes l → l ≡ y
+took-all {l} {y} t small = t .bytes small ∙ ap (λ (r : List ℕ). y ++ r) (drop-length l) ∙ append-nil y

@@ -2,11 +2,10 @@
 -- Assumes nothing.
 use mathlib.Core.Path.{_≡_, ap, _∙_}
 use mathlib.Core.Bool.{Bool, true, false, cond}
-use mathlib.Core.List.{List, [], _∷_, _++_, map, append-nil}
+use mathlib.Core.List.{List, [], _∷_, map}
 use Prim.Native.Nat.{ℕ, zero, suc, _≤_, _<_}
 use native.Mathlib.Omega.{arith}
 use lib.ListN.{length, getD}
-use lib.Seq.{drop-length}
 use lib.Dec.{ltb, eqb}
 use borrow.Author.Tests.{ltb-true, ltb-false}
 use Rattle.image.specs.Kinds.{TREE}
@@ -17,7 +16,7 @@ use Rattle.comments.specs.Listed.{span}
 use Rattle.steps.specs.Steps.{Step, commentStep, openStep, textStep, payloadStep, absentStep, closeStep, stepBytes, listBytes, treeSteps, Contents, steps}
 use Rattle.steps.specs.Writer.{stepFrom, pairBy, commentsFrom, recordFrom, contentsFrom}
 use Rattle.steps.specs.Exact.{Bytes}
-use Rattle.steps.proofs.Took.{Took, took-none, took-join}
+use Rattle.steps.proofs.Took.{took-all, Took, took-none, took-join}
 use Rattle.steps.proofs.Fits.{Listing, no-more, one-more, FitsAll}
 use Rattle.steps.proofs.Views.{never, bind-got, passed, stayed}
 use Rattle.steps.proofs.Taken.{step-took, list-append, record-taken}
@@ -90,5 +89,4 @@ contents-taken l c end h =
 
 -- a list of bytes is that of the steps of what it says
 pub list-is : (l : List ℕ) (c : Contents) (end : ℕ) → Bytes l → contentsFrom l ≡ got c end → l ≡ listBytes (steps c)
-list-is l c end small h =
-    contents-taken l c end h .1 .bytes small ∙ ap (λ (r : List ℕ). listBytes (steps c) ++ r) (drop-length l) ∙ append-nil (listBytes (steps c))
+list-is l c end small h = took-all (contents-taken l c end h .1) small
