@@ -12,3 +12,4 @@ pub mod ReadsAgain
 pub mod WholeFits
 pub mod WholeAgain
 pub mod Claims
+pub mod Examples
