@@ -51,21 +51,21 @@ module _ (b : List ℕ) (small : Bytes b) (p kind at stop : ℕ) (low : at ≤ s
 
 -- ---- children and records
 -- a turn over the children: none is left, or one is read
-pub data Turn (one : ℕ → ℕ → ℕ → Read Tree) (n row at stop : ℕ) (ts : Trees) (e : ℕ) : Type 0 where
-  ended : complete row ≡ true → ts ≡ nil → Turn one n row at stop ts e
+pub data ReadTurn (one : ℕ → ℕ → ℕ → Read Tree) (n row at stop : ℕ) (ts : Trees) (e : ℕ) : Type 0 where
+  ended : complete row ≡ true → ts ≡ nil → ReadTurn one n row at stop ts e
   next : (t : Tree) (m : ℕ) (us : Trees) → eqb row 0 ≡ false → one (place row) at stop ≡ got t m → childrenAt one n (after row) m stop ≡ got us e
-      → ts ≡ t ▸ us → Turn one n row at stop ts e
+      → ts ≡ t ▸ us → ReadTurn one n row at stop ts e
 
-pub turned : (one : ℕ → ℕ → ℕ → Read Tree) (n row at stop : ℕ) (ts : Trees) (e : ℕ) → childrenAt one (suc n) row at stop ≡ got ts e
-    → Turn one n row at stop ts e
+pub read-turned : (one : ℕ → ℕ → ℕ → Read Tree) (n row at stop : ℕ) (ts : Trees) (e : ℕ) → childrenAt one (suc n) row at stop ≡ got ts e
+    → ReadTurn one n row at stop ts e
 unfolding childrenAt
-turned one n row at stop ts e h = go (ltb at stop) h
+read-turned one n row at stop ts e h = go (ltb at stop) h
   where
     go : (t : Bool)
         → cond t
         (cond (eqb row 0) (bad 4 at) (bind (one (place row) at stop) (λ t next. bind (childrenAt one n (after row) next stop) (λ us end. got (t ▸ us) end))))
         (cond (complete row) (got nil stop) (bad 4 at))
-        ≡ got ts e → Turn one n row at stop ts e
+        ≡ got ts e → ReadTurn one n row at stop ts e
     go true h =
         let c = stayed (eqb row 0) _ 4 at ts e h in
         let y = bind-got (one (place row) at stop) _ ts e (c .1) in
@@ -91,11 +91,11 @@ children-fit : (s b : List ℕ) (left : ℕ) → Fit b left (recordAt s b 2 left
 unfolding childrenAt plain
 children-fit s b left f zero row at stop ts e far h = never h
 children-fit s b left f (suc n) row at stop ts e far h =
-    go (children-fit s b left f n (after row)) (turned (childAt s b 2 left) n row at stop ts e h)
+    go (children-fit s b left f n (after row)) (read-turned (childAt s b 2 left) n row at stop ts e h)
   where
     go : ((at stop : ℕ) (ts : Trees) (e : ℕ) → stop ≤ length b → childrenAt (childAt s b 2 left) n (after row) at stop ≡ got ts e
         → FitsRow left (after row) (plains b ts))
-        → Turn (childAt s b 2 left) n row at stop ts e → FitsRow left row (plains b ts)
+        → ReadTurn (childAt s b 2 left) n row at stop ts e → FitsRow left row (plains b ts)
     go more (ended c is) = rw is (ends c)
     go more (next t m us z o r is) = rw is (child (skips b (place row) at stop) refl o (more m stop us e far r))
       where

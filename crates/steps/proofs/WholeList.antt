@@ -14,6 +14,7 @@ use Rattle.image.specs.Read.{got, bind}
 use Rattle.tree.specs.Syntax.{Span}
 use Rattle.comments.specs.Listed.{span}
 use Rattle.steps.specs.Steps.{Step, commentStep, openStep, textStep, payloadStep, absentStep, closeStep, stepBytes, listBytes, treeSteps, Contents, steps}
+use Rattle.steps.specs.Steps.{COMMENT-STEP}
 use Rattle.steps.specs.Writer.{stepFrom, pairBy, commentsFrom, recordFrom, contentsFrom}
 use Rattle.steps.specs.Exact.{Bytes}
 use Rattle.steps.proofs.Took.{took-all, Took, took-none, took-join}
@@ -33,17 +34,18 @@ pub comments-taken : (l : List ℕ) (n at : ℕ) (cs : List Span) (end : ℕ) �
     → Listing n cs × Took l at end (listBytes (commentSteps cs))
 unfolding commentsFrom
 comments-taken l zero at cs end low h =
-    let c = stayed (eqb (getD l at 0) 1) _ 16 at cs end h in
+    let c = stayed (eqb (getD l at 0) COMMENT-STEP) _ 16 at cs end h in
     let is : [] ≡ cs = cc (c .1) in
     let same : at ≡ end = cc (c .1) in
     rw (← is, ← same) (no-more, took-none l at low)
-comments-taken l (suc n) at cs end low h = go (eqb (getD l at 0) 1) (comments-taken l n) h
+comments-taken l (suc n) at cs end low h = go (eqb (getD l at 0) COMMENT-STEP) (comments-taken l n) h
   where
     Goal : Type 0
     Goal = Listing (suc n) cs × Took l at end (listBytes (commentSteps cs))
 
     More : Type 0
-    More = (at : ℕ) (cs : List Span) (end : ℕ) → at ≤ length l → commentsFrom l n at ≡ got cs end → Listing n cs × Took l at end (listBytes (commentSteps cs))
+    More = (at : ℕ) (cs : List Span) (end : ℕ) → at ≤ length l → commentsFrom l n at ≡ got cs end
+        → Listing n cs × Took l at end (listBytes (commentSteps cs))
 
     pair : More → (x : Step) (past : ℕ) → stepFrom l at ≡ got x past → (c : Span) (q : ℕ) → pairBy at x past ≡ got c q
         → bind (commentsFrom l n q) (λ cs end. got (c ∷ cs) end) ≡ got cs end → Goal
