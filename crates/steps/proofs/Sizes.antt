@@ -14,17 +14,13 @@ use Rattle.image.specs.Read.{Read, got, bad}
 use Rattle.image.specs.Write.{Plain, Plains, written, writtens}
 use Rattle.tree.specs.Syntax.{Span}
 use Rattle.steps.specs.Steps.{Step, listBytes, payloadSteps, treeSteps, childSteps, pairBytes, closeStep, Contents, steps, imageOf}
+use Rattle.steps.specs.Rows.{short}
 use Rattle.steps.specs.Writer.{childrenFrom, recordFrom, contentsFrom, imageBy, imageDue}
 use Rattle.steps.proofs.Fits.{text-steps, byte-steps, no-steps, Pays, text, byte, nothing, Fits, fits, FitsRow, ends, gone, here}
 use Rattle.steps.proofs.Taken.{list-append, record-taken, children-taken}
 use Rattle.steps.proofs.WholeList.{commentSteps, contents-taken}
 
 -- ---- rows
--- n places at most, and no place that is marked `?` is marked `*`
-abbrev short : ℕ → ℕ → Bool
-short zero row = eqb row 0
-short (suc n) row = not (isMany row && isOptional (place row)) && short n (row / 65536)
-
 -- the rows of the grammar
 abbrev all-short : Grammar → Bool
 all-short others = true
@@ -45,7 +41,7 @@ list-short x h =
     let zeros : (32768 + x) / 65536 ≡ 0 = omega arith in
     rw (optional, zeros, and-false (isMany (32768 + x)))
 
-row-short : (p k : ℕ) → short 4 (rowUnder p k) ≡ true
+pub row-short : (p k : ℕ) → short 4 (rowUnder p k) ≡ true
 unfolding rowUnder rowOf
 row-short p k = go (isList p)
   where
@@ -54,7 +50,7 @@ row-short p k = go (isList p)
     go false = row-in-short k grammar refl
 
 -- an absent child takes a place; a child that is there leaves no more of them
-short-gone : (n row : ℕ) → isOptional (place row) ≡ true → short n row ≡ true → (m : ℕ) × (suc m ≡ n) × (short m (after row) ≡ true)
+pub short-gone : (n row : ℕ) → isOptional (place row) ≡ true → short n row ≡ true → (m : ℕ) × (suc m ≡ n) × (short m (after row) ≡ true)
 short-gone zero row o h = absurd (false≢true (rw (eqb-true row 0 h) at o))
 short-gone (suc n) row o h = (n, refl, go (isMany row) refl h)
   where
@@ -68,7 +64,7 @@ short-more (suc n) row h =
     let t = not (isMany row && isOptional (place row)) in
     rw (and-left t (short n (row / 65536)) h) (short-more n (row / 65536) (and-right t (short n (row / 65536)) h))
 
-short-here : (n row : ℕ) → short n row ≡ true → short n (after row) ≡ true
+pub short-here : (n row : ℕ) → short n row ≡ true → short n (after row) ≡ true
 short-here zero row h = rw (eqb-true row 0 h)
 short-here (suc n) row h = go (isMany row) refl
   where
@@ -78,7 +74,7 @@ short-here (suc n) row h = go (isMany row) refl
 
 -- ---- a record and its steps
 -- a payload, and the steps that give it
-payload-size : {p kind : ℕ} {x : List ℕ} → Pays p kind x → length x ≤ length (listBytes (payloadSteps kind x))
+pub payload-size : {p kind : ℕ} {x : List ℕ} → Pays p kind x → length x ≤ length (listBytes (payloadSteps kind x))
 payload-size {kind = kind} (text width t e w is) = rw (is, text-steps kind width t e, append-nil t) (omega arith)
 payload-size {kind = kind} (byte y e h top is) = rw (is, byte-steps kind y e h) (omega arith)
 payload-size {kind = kind} (nothing e h is) = rw (is, no-steps kind e h) (omega arith)
