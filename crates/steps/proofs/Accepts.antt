@@ -11,6 +11,7 @@ use Rattle.image.specs.Grammar.{topByte}
 use Rattle.image.specs.Read.{got}
 use Rattle.image.specs.Write.{Plain, Plains, without, plainly, done, _next_, bytes4}
 use Rattle.steps.specs.Steps.{Step, commentStep, openStep, textStep, payloadStep, absentStep, closeStep, bytes2, stepBytes, listBytes, payloadSteps, treeSteps, childSteps}
+use Rattle.steps.specs.Steps.{COMMENT-STEP, OPEN-STEP, TEXT-STEP, PAYLOAD-STEP, ABSENT-STEP, CLOSE-STEP}
 use Rattle.steps.specs.Writer.{stepFrom, payloadFrom, childrenFrom, recordFrom}
 use Rattle.steps.proofs.Stands.{Stands, stands-within, stands-left, stands-right, stands-part, stands-byte, stands-be32, stands-be16}
 use Rattle.steps.proofs.Fits.{Pays, text, byte, nothing, Fits, fits, FitsRow, ends, gone, here, text-steps, byte-steps, no-steps}
@@ -22,35 +23,35 @@ pub step-there : (l : List ℕ) (at : ℕ) (x : Step) → Stands l at (stepBytes
 unfolding stepFrom
 step-there l at (commentStep a b) s =
     let y = bytes4 a ++ bytes4 b in
-    let k : getD l at 0 ≡ 1 = stands-byte _ _ s in
-    let p : be32 l (at + 1) ≡ a = stands-be32 a (bytes4 b) (stands-right (1 ∷ []) y (at + 1) refl s) in
-    let q : be32 l (at + 5) ≡ b = stands-be32 b [] (stands-right (1 ∷ bytes4 a) (bytes4 b) (at + 5) refl s) in
+    let k : getD l at 0 ≡ COMMENT-STEP = stands-byte _ _ s in
+    let p : be32 l (at + 1) ≡ a = stands-be32 a (bytes4 b) (stands-right (COMMENT-STEP ∷ []) y (at + 1) refl s) in
+    let q : be32 l (at + 5) ≡ b = stands-be32 b [] (stands-right (COMMENT-STEP ∷ bytes4 a) (bytes4 b) (at + 5) refl s) in
     rw (k, p, q, le-leb (at + 9) (length l) (stands-within _ s))
 step-there l at (openStep n a b) s =
-    let k : getD l at 0 ≡ 2 = stands-byte _ _ s in
-    let o : getD l (at + 1) 0 ≡ n = stands-byte _ _ (stands-right (2 ∷ []) (n ∷ bytes4 a ++ bytes4 b) (at + 1) refl s) in
-    let p : be32 l (at + 2) ≡ a = stands-be32 a (bytes4 b) (stands-right (2 ∷ n ∷ []) (bytes4 a ++ bytes4 b) (at + 2) refl s) in
-    let q : be32 l (at + 6) ≡ b = stands-be32 b [] (stands-right (2 ∷ n ∷ bytes4 a) (bytes4 b) (at + 6) refl s) in
+    let k : getD l at 0 ≡ OPEN-STEP = stands-byte _ _ s in
+    let o : getD l (at + 1) 0 ≡ n = stands-byte _ _ (stands-right (OPEN-STEP ∷ []) (n ∷ bytes4 a ++ bytes4 b) (at + 1) refl s) in
+    let p : be32 l (at + 2) ≡ a = stands-be32 a (bytes4 b) (stands-right (OPEN-STEP ∷ n ∷ []) (bytes4 a ++ bytes4 b) (at + 2) refl s) in
+    let q : be32 l (at + 6) ≡ b = stands-be32 b [] (stands-right (OPEN-STEP ∷ n ∷ bytes4 a) (bytes4 b) (at + 6) refl s) in
     rw (k, o, p, q, le-leb (at + 10) (length l) (stands-within _ s))
 step-there l at (textStep w t) s =
     let n = length t in
-    let k : getD l at 0 ≡ 3 = stands-byte _ _ s in
-    let o : be16 l (at + 1) ≡ w = stands-be16 w (bytes4 n ++ t) (stands-right (3 ∷ []) (bytes2 w ++ bytes4 n ++ t) (at + 1) refl s) in
-    let p : be32 l (at + 3) ≡ n = stands-be32 n t (stands-right (3 ∷ bytes2 w) (bytes4 n ++ t) (at + 3) refl s) in
+    let k : getD l at 0 ≡ TEXT-STEP = stands-byte _ _ s in
+    let o : be16 l (at + 1) ≡ w = stands-be16 w (bytes4 n ++ t) (stands-right (TEXT-STEP ∷ []) (bytes2 w ++ bytes4 n ++ t) (at + 1) refl s) in
+    let p : be32 l (at + 3) ≡ n = stands-be32 n t (stands-right (TEXT-STEP ∷ bytes2 w) (bytes4 n ++ t) (at + 3) refl s) in
     let q : part (at + 7) (at + 7 + n) l ≡ t =
-    stands-part t (at + 7 + n) refl (stands-right (3 ∷ bytes2 w ++ bytes4 n) t (at + 7) refl s)
+    stands-part t (at + 7 + n) refl (stands-right (TEXT-STEP ∷ bytes2 w ++ bytes4 n) t (at + 7) refl s)
     in
     let here : at + (7 + n) ≡ at + length (stepBytes (textStep w t)) = omega arith in
     rw (k, o, p, q, here, le-leb (at + length (stepBytes (textStep w t))) (length l) (stands-within _ s))
 step-there l at (payloadStep x) s =
-    let k : getD l at 0 ≡ 4 = stands-byte _ _ s in
-    let o : getD l (at + 1) 0 ≡ x = stands-byte _ _ (stands-right (4 ∷ []) (x ∷ []) (at + 1) refl s) in
+    let k : getD l at 0 ≡ PAYLOAD-STEP = stands-byte _ _ s in
+    let o : getD l (at + 1) 0 ≡ x = stands-byte _ _ (stands-right (PAYLOAD-STEP ∷ []) (x ∷ []) (at + 1) refl s) in
     rw (k, o, le-leb (at + 2) (length l) (stands-within _ s))
 step-there l at absentStep s =
-    let k : getD l at 0 ≡ 5 = stands-byte _ _ s in
+    let k : getD l at 0 ≡ ABSENT-STEP = stands-byte _ _ s in
     rw (k, le-leb (at + 1) (length l) (stands-within _ s))
 step-there l at closeStep s =
-    let k : getD l at 0 ≡ 6 = stands-byte _ _ s in
+    let k : getD l at 0 ≡ CLOSE-STEP = stands-byte _ _ s in
     rw (k, le-leb (at + 1) (length l) (stands-within _ s))
 
 -- the first of several
@@ -78,7 +79,7 @@ payload-there l {p} {kind} {x} (nothing e h is) at s =
 
 -- ---- children and records
 -- a turn is left where a byte is
-turn-left : (n : ℕ) → 1 ≤ n → (m : ℕ) × (n ≡ suc m)
+pub turn-left : (n : ℕ) → 1 ≤ n → (m : ℕ) × (n ≡ suc m)
 turn-left zero h = absurd (omega arith)
 turn-left (suc m) h = (m, refl)
 
@@ -96,7 +97,9 @@ long (fits right order pays row) = omega arith
 -- the bytes of a child, then those of the others
 closing-next : (y : Plain) (ys : Plains) → closing (y next ys) ≡ listBytes (treeSteps y) ++ closing ys
 unfolding treeSteps
-closing-next y ys = ap listBytes (append-assoc (treeSteps y) (childSteps ys) (closeStep ∷ [])) ∙ list-append (treeSteps y) (childSteps ys ++ (closeStep ∷ []))
+closing-next y ys =
+    ap listBytes (append-assoc (treeSteps y) (childSteps ys) (closeStep ∷ []))
+    ∙ list-append (treeSteps y) (childSteps ys ++ (closeStep ∷ []))
 
 mutual
   unfolding treeSteps
@@ -104,14 +107,14 @@ mutual
   pub record-there : (l : List ℕ) {left p : ℕ} {x : Plain} → Fits left p x → (at : ℕ) → Stands l at (listBytes (treeSteps x))
       → recordFrom l left p at ≡ got x (at + length (listBytes (treeSteps x)))
   record-there l (fits {left = left} {p = p} {kind = kind} {from = from} {to = to} {x = x} {xs = xs} right order pays row) at s =
-      let P = payloadSteps kind x in
-      let C = childSteps xs ++ (closeStep ∷ []) in
-      let f = first-there l at (openStep kind from to) (P ++ C) s in
-      let both : Stands l (at + 10) (listBytes P ++ closing xs) = rw (list-append P C) at (f .1) in
-      let first = at + 10 + length (listBytes P) in
-      let inner : Stands l first (closing xs) = stands-right (listBytes P) (closing xs) first refl both in
+      let pay = payloadSteps kind x in
+      let kids = childSteps xs ++ (closeStep ∷ []) in
+      let f = first-there l at (openStep kind from to) (pay ++ kids) s in
+      let both : Stands l (at + 10) (listBytes pay ++ closing xs) = rw (list-append pay kids) at (f .1) in
+      let first = at + 10 + length (listBytes pay) in
+      let inner : Stands l first (closing xs) = stands-right (listBytes pay) (closing xs) first refl both in
       let here : first + length (closing xs) ≡ at + length (listBytes (treeSteps (plainly kind from to x xs))) =
-      omega (arith, ap length (list-append P C) ∙ length-append (listBytes P) (closing xs))
+      omega (arith, ap length (list-append pay kids) ∙ length-append (listBytes pay) (closing xs))
       in
       rw (← here)
       (opened-as l left p at (plainly kind from to x xs) (first + length (closing xs))
@@ -126,7 +129,7 @@ mutual
         step = f .0;
         right = right;
         order = order;
-        pays = payload-there l pays (at + 10) (stands-left (listBytes P) (closing xs) both);
+        pays = payload-there l pays (at + 10) (stands-left (listBytes pay) (closing xs) both);
         within = row-there l row (suc (length l)) first (omega (arith, stands-within (closing xs) inner)) inner;
         is = refl;
       }))
@@ -144,14 +147,14 @@ mutual
       rw (← here, m .1)
       (turns (recordFrom l left) l (m .0) row at (without next ys) (at + 1 + length (closing ys)) (absent (at + 1) ys (f .0) o r refl))
   row-there l (here {left = left} {row = row} {x = y} {xs = ys} z x more) n at enough s =
-      let Y = listBytes (treeSteps y) in
-      let both : Stands l at (Y ++ closing ys) = rw (closing-next y ys) at s in
-      let size : length (closing (y next ys)) ≡ length Y + length (closing ys) = ap length (closing-next y ys) ∙ length-append Y (closing ys) in
-      let here : at + length Y + length (closing ys) ≡ at + length (closing (y next ys)) = omega arith in
+      let its = listBytes (treeSteps y) in
+      let both : Stands l at (its ++ closing ys) = rw (closing-next y ys) at s in
+      let size : length (closing (y next ys)) ≡ length its + length (closing ys) = ap length (closing-next y ys) ∙ length-append its (closing ys) in
+      let here : at + length its + length (closing ys) ≡ at + length (closing (y next ys)) = omega arith in
       let m = turn-left n (omega (arith, long x)) in
-      let mine = stands-left Y (closing ys) both in
+      let mine = stands-left its (closing ys) both in
       let o = opens-there l x at mine in
-      let r = row-there l more (m .0) (at + length Y) (omega (arith, m .1, long x)) (stands-right Y (closing ys) _ refl both) in
+      let r = row-there l more (m .0) (at + length its) (omega (arith, m .1, long x)) (stands-right its (closing ys) _ refl both) in
       rw (← here, m .1)
-      (turns (recordFrom l left) l (m .0) row at (y next ys) (at + length Y + length (closing ys))
-      (opened (o .0) (o .1) (o .2) (at + 10) y (at + length Y) ys (o .3) z (record-there l x at mine) r refl))
+      (turns (recordFrom l left) l (m .0) row at (y next ys) (at + length its + length (closing ys))
+      (opened (o .0) (o .1) (o .2) (at + 10) y (at + length its) ys (o .3) z (record-there l x at mine) r refl))

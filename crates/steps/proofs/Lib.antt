@@ -7,3 +7,9 @@ pub mod Sizes
 pub mod Stands
 pub mod Accepts
 pub mod WholeAccepted
+pub mod ReadFits
+pub mod ReadsAgain
+pub mod WholeFits
+pub mod WholeAgain
+pub mod Claims
+pub mod Examples

@@ -49,7 +49,7 @@ row-short p k = go (isList p)
     go true = list-short (element p) (omega arith)
     go false = row-in-short k grammar refl
 
--- an absent child leaves a place less, and a child that is there no more
+-- an absent child takes a place; a child that is there leaves no more of them
 pub short-gone : (n row : ℕ) → isOptional (place row) ≡ true → short n row ≡ true → (m : ℕ) × (suc m ≡ n) × (short m (after row) ≡ true)
 short-gone zero row o h = absurd (false≢true (rw (eqb-true row 0 h) at o))
 short-gone (suc n) row o h = (n, refl, go (isMany row) refl h)
@@ -103,7 +103,11 @@ mutual
   row-size (here {row = row} {x = y} {xs = ys} z x more) n s =
       let a = record-size x in
       let later = row-size more n (short-here n row s) in
-      rw (length-append (written y) (writtens ys), list-append (treeSteps y) (childSteps ys), length-append (listBytes (treeSteps y)) (listBytes (childSteps ys)))
+      rw (
+        length-append (written y) (writtens ys),
+        list-append (treeSteps y) (childSteps ys),
+        length-append (listBytes (treeSteps y)) (listBytes (childSteps ys)),
+      )
       (omega arith)
 
 -- ---- what the writer takes

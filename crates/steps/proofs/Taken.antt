@@ -16,6 +16,7 @@ use Rattle.image.specs.Read.{Read, got, bad, bind}
 use Rattle.image.specs.Write.{Plain, Plains, bytes4}
 use Rattle.image.proofs.Exact.{part-length}
 use Rattle.steps.specs.Steps.{Step, commentStep, openStep, textStep, payloadStep, absentStep, closeStep, bytes2, stepBytes, listBytes, payloadSteps, treeSteps, childSteps}
+use Rattle.steps.specs.Steps.{COMMENT-STEP, OPEN-STEP, TEXT-STEP, PAYLOAD-STEP, ABSENT-STEP, CLOSE-STEP}
 use Rattle.steps.specs.Writer.{whole, stepFrom, textBy, byteBy, payloadFrom, childrenFrom, recordFrom}
 use Rattle.steps.proofs.Took.{Took, took-none, took-join, took-part, took-byte, took-four, took-two}
 use Rattle.steps.proofs.Fits.{text-steps, byte-steps, no-steps, Pays, text, byte, nothing, Fits, fits, FitsRow, ends, gone, here}
@@ -41,20 +42,21 @@ module _ (l : List ℕ) (at : ℕ) where
       took-join (took-four l from (from + 4) refl (omega arith)) (took-four l (from + 4) end (omega arith) h)
 
   -- bytes of each kind of step
-  comment-took : eqb (getD l at 0) 1 ≡ true → at + 9 ≤ length l → Took l at (at + 9) (stepBytes (commentStep (be32 l (at + 1)) (be32 l (at + 5))))
+  comment-took : eqb (getD l at 0) COMMENT-STEP ≡ true → at + 9 ≤ length l
+      → Took l at (at + 9) (stepBytes (commentStep (be32 l (at + 1)) (be32 l (at + 5))))
   comment-took k h =
       let e : at + 1 + 4 ≡ at + 5 = omega arith in
-      took-join (says 1 k (omega arith)) (rw e at (pair (at + 1) (at + 9) (omega arith) h))
+      took-join (says COMMENT-STEP k (omega arith)) (rw e at (pair (at + 1) (at + 9) (omega arith) h))
 
-  open-took : eqb (getD l at 0) 2 ≡ true → at + 10 ≤ length l
+  open-took : eqb (getD l at 0) OPEN-STEP ≡ true → at + 10 ≤ length l
       → Took l at (at + 10) (stepBytes (openStep (getD l (at + 1) 0) (be32 l (at + 2)) (be32 l (at + 6))))
   open-took k h =
       let e : at + 2 + 4 ≡ at + 6 = omega arith in
       let two : at + 1 + 1 ≡ at + 2 = omega arith in
-      took-join (says 2 k (omega arith))
+      took-join (says OPEN-STEP k (omega arith))
       (took-join (rw two at (took-byte l (at + 1) (omega arith))) (rw e at (pair (at + 2) (at + 10) (omega arith) h)))
 
-  text-took : (n : ℕ) → n ≡ be32 l (at + 3) → eqb (getD l at 0) 3 ≡ true → at + (7 + n) ≤ length l
+  text-took : (n : ℕ) → n ≡ be32 l (at + 3) → eqb (getD l at 0) TEXT-STEP ≡ true → at + (7 + n) ≤ length l
       → Took l at (at + (7 + n)) (stepBytes (textStep (be16 l (at + 1)) (part (at + 7) (at + 7 + n) l)))
   text-took n e k h =
       let size : length (part (at + 7) (at + 7 + n) l) ≡ n = part-length l (at + 7) (at + 7 + n) (omega arith) (omega arith) ∙ omega arith in
@@ -65,23 +67,24 @@ module _ (l : List ℕ) (at : ℕ) where
       let rest : Took l (at + 7) (at + (7 + n)) (part (at + 7) (at + 7 + n) l) =
       rw (← far) (took-part l (at + 7) (at + 7 + n) (omega arith) (omega arith))
       in
-      took-join (says 3 k (omega arith))
+      took-join (says TEXT-STEP k (omega arith))
       (took-join (took-two l (at + 1) (at + 3) (omega arith) (omega arith)) (took-join long rest))
 
-  payload-took : eqb (getD l at 0) 4 ≡ true → at + 2 ≤ length l → Took l at (at + 2) (stepBytes (payloadStep (getD l (at + 1) 0)))
+  payload-took : eqb (getD l at 0) PAYLOAD-STEP ≡ true → at + 2 ≤ length l → Took l at (at + 2) (stepBytes (payloadStep (getD l (at + 1) 0)))
   payload-took k h =
       let two : at + 1 + 1 ≡ at + 2 = omega arith in
-      took-join (says 4 k (omega arith)) (rw two at (took-byte l (at + 1) (omega arith)))
+      took-join (says PAYLOAD-STEP k (omega arith)) (rw two at (took-byte l (at + 1) (omega arith)))
 
 pub step-took : (l : List ℕ) (at : ℕ) (x : Step) (past : ℕ) → stepFrom l at ≡ got x past → Took l at past (stepBytes x)
 unfolding stepFrom
-step-took l at x past h = go (eqb k 1) refl (eqb k 2) refl (eqb k 3) refl (eqb k 4) refl (eqb k 5) refl (eqb k 6) refl h
+step-took l at x past h =
+    go (is COMMENT-STEP) refl (is OPEN-STEP) refl (is TEXT-STEP) refl (is PAYLOAD-STEP) refl (is ABSENT-STEP) refl (is CLOSE-STEP) refl h
   where
-    k : ℕ
-    k = getD l at 0
+    is : ℕ → Bool
+    is k = eqb (getD l at 0) k
 
-    go : (t₁ : Bool) → eqb (getD l at 0) 1 ≡ t₁ → (t₂ : Bool) → eqb (getD l at 0) 2 ≡ t₂ → (t₃ : Bool) → eqb (getD l at 0) 3 ≡ t₃
-        → (t₄ : Bool) → eqb (getD l at 0) 4 ≡ t₄ → (t₅ : Bool) → eqb (getD l at 0) 5 ≡ t₅ → (t₆ : Bool) → eqb (getD l at 0) 6 ≡ t₆
+    go : (t₁ : Bool) → is COMMENT-STEP ≡ t₁ → (t₂ : Bool) → is OPEN-STEP ≡ t₂ → (t₃ : Bool) → is TEXT-STEP ≡ t₃
+        → (t₄ : Bool) → is PAYLOAD-STEP ≡ t₄ → (t₅ : Bool) → is ABSENT-STEP ≡ t₅ → (t₆ : Bool) → is CLOSE-STEP ≡ t₆
         → cond t₁ (whole l at 9 (commentStep (be32 l (at + 1)) (be32 l (at + 5))))
         (cond t₂ (whole l at 10 (openStep (getD l (at + 1) 0) (be32 l (at + 2)) (be32 l (at + 6))))
         (cond t₃ (whole l at (7 + be32 l (at + 3)) (textStep (be16 l (at + 1)) (part (at + 7) (at + 7 + be32 l (at + 3)) l)))
@@ -94,8 +97,8 @@ step-took l at x past h = go (eqb k 1) refl (eqb k 2) refl (eqb k 3) refl (eqb k
     go false e₁ true e₂ t₃ e₃ t₄ e₄ t₅ e₅ t₆ e₆ h = whole-took l at 10 _ x past h (open-took l at e₂)
     go false e₁ false e₂ true e₃ t₄ e₄ t₅ e₅ t₆ e₆ h = whole-took l at (7 + be32 l (at + 3)) _ x past h (text-took l at (be32 l (at + 3)) refl e₃)
     go false e₁ false e₂ false e₃ true e₄ t₅ e₅ t₆ e₆ h = whole-took l at 2 _ x past h (payload-took l at e₄)
-    go false e₁ false e₂ false e₃ false e₄ true e₅ t₆ e₆ h = whole-took l at 1 _ x past h (says l at 5 e₅)
-    go false e₁ false e₂ false e₃ false e₄ false e₅ true e₆ h = whole-took l at 1 _ x past h (says l at 6 e₆)
+    go false e₁ false e₂ false e₃ false e₄ true e₅ t₆ e₆ h = whole-took l at 1 _ x past h (says l at ABSENT-STEP e₅)
+    go false e₁ false e₂ false e₃ false e₄ false e₅ true e₆ h = whole-took l at 1 _ x past h (says l at CLOSE-STEP e₆)
     go false e₁ false e₂ false e₃ false e₄ false e₅ false e₆ h = never h
 
 -- ---- a payload
@@ -105,7 +108,8 @@ module _ (l : List ℕ) (p kind at : ℕ) (x : List ℕ) (end : ℕ) where
       let s = bind-got (stepFrom l at) (textBy at) x end h in
       go (s .0) (s .1) (s .2) (s .3)
     where
-      go : (y : Step) (past : ℕ) → stepFrom l at ≡ got y past → textBy at y past ≡ got x end → Pays p kind x × Took l at end (listBytes (payloadSteps kind x))
+      go : (y : Step) (past : ℕ) → stepFrom l at ≡ got y past → textBy at y past ≡ got x end
+          → Pays p kind x × Took l at end (listBytes (payloadSteps kind x))
       go (commentStep a b) past s h = never h
       go (openStep a b c) past s h = never h
       go (payloadStep a) past s h = never h
@@ -176,7 +180,8 @@ unfolding childrenFrom treeSteps
 children-taken l left one f zero row at xs end h = never h
 children-taken l left one f (suc n) row at xs end h = go (children-taken l left one f n (after row)) (turned one l n row at xs end h)
   where
-    go : ((past : ℕ) (zs : Plains) (e : ℕ) → childrenFrom one l n (after row) past ≡ got zs e → FitsRow left (after row) zs × Took l past e (closing zs))
+    go : ((past : ℕ) (zs : Plains) (e : ℕ) → childrenFrom one l n (after row) past ≡ got zs e
+        → FitsRow left (after row) zs × Took l past e (closing zs))
         → Turn one l n row at xs end → FitsRow left row xs × Took l at end (closing xs)
     go more (closed s c is) =
         let o = step-took l at closeStep end s in

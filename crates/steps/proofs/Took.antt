@@ -1,19 +1,19 @@
--- Bytes taken from a list one after the other: y is what stands between `at` and `end`.
+-- Bytes taken from a list one after the other.
 -- Assumes nothing.
 use mathlib.Core.Path.{_≡_, refl, sym, ap, ap₂, _∙_}
-use mathlib.Core.List.{List, [], _∷_, _++_, append-assoc}
+use mathlib.Core.List.{List, [], _∷_, _++_, append-assoc, append-nil}
 use Prim.Native.Nat.{ℕ, _+_, _-_, _*_, _/_, _%_, _≤_, _<_}
 use native.Mathlib.Omega.{arith}
 use native.Mathlib.Numerals.{add-one}
 use lib.ListN.{length, getD, take, drop, length-append, take-append-drop}
-use lib.Seq.{drop-cons, drop-drop, take-append-seam}
+use lib.Seq.{drop-cons, drop-drop, take-append-seam, drop-length}
 use Rattle.image.specs.Bytes.{be16, be32, part}
 use Rattle.image.specs.Write.{bytes4}
 use Rattle.image.proofs.Exact.{four, part-length}
 use Rattle.steps.specs.Steps.{bytes2}
 use Rattle.steps.specs.Exact.{Bytes}
 
--- that they are the same bytes is asked of lists of bytes alone
+-- y was taken between `at` and `end`: so many bytes, and, where the list is one of bytes, the same
 pub record Took (l : List ℕ) (at end : ℕ) (y : List ℕ) : Type 0 where
   pub ends : end ≡ at + length y
   pub within : end ≤ length l
@@ -37,7 +37,9 @@ took-part l at end p q =
     record {
       ends = rw (part-length l at end p q) (omega arith);
       within = q;
-      bytes = λ small. sym (take-append-drop (end - at) (drop at l)) ∙ ap (λ (r : List ℕ). part at end l ++ r) (drop-drop (end - at) at l ∙ ap (λ (n : ℕ). drop n l) far);
+      bytes = λ small.
+          sym (take-append-drop (end - at) (drop at l))
+          ∙ ap (λ (r : List ℕ). part at end l ++ r) (drop-drop (end - at) at l ∙ ap (λ (n : ℕ). drop n l) far);
     }
 
 -- a byte, and the numbers in two and in four bytes
@@ -54,6 +56,7 @@ took-four l at end e h =
           ∙ ap (λ (r : List ℕ). r ++ drop end l) (ap (λ (n : ℕ). part at n l) e ∙ four l at small (omega arith));
     }
 
+-- the two bytes of a number are those it is written as
 digits : (x y : ℕ) → x < 256 → y < 256 → bytes2 (x * 256 + y) ≡ x ∷ y ∷ []
 digits x y a b =
     let n = x * 256 + y in
@@ -79,3 +82,7 @@ pub took-is : {l y : List ℕ} {at end : ℕ} → Took l at end y → Bytes l �
 took-is {l} {y} {at} {end} t small =
     let n : end - at ≡ length y = omega (arith, t .ends) in
     ap (λ (k : ℕ). take k (drop at l)) n ∙ ap (take (length y)) (t .bytes small) ∙ take-append-seam y (drop end l)
+
+-- all of the list
+pub took-all : {l y : List ℕ} → Took l 0 (length l) y → Bytes l → l ≡ y
+took-all {l} {y} t small = t .bytes small ∙ ap (λ (r : List ℕ). y ++ r) (drop-length l) ∙ append-nil y

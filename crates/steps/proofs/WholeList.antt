@@ -2,11 +2,10 @@
 -- Assumes nothing.
 use mathlib.Core.Path.{_≡_, ap, _∙_}
 use mathlib.Core.Bool.{Bool, true, false, cond}
-use mathlib.Core.List.{List, [], _∷_, _++_, map, append-nil}
+use mathlib.Core.List.{List, [], _∷_, map}
 use Prim.Native.Nat.{ℕ, zero, suc, _≤_, _<_}
 use native.Mathlib.Omega.{arith}
 use lib.ListN.{length, getD}
-use lib.Seq.{drop-length}
 use lib.Dec.{ltb, eqb}
 use borrow.Author.Tests.{ltb-true, ltb-false}
 use Rattle.image.specs.Kinds.{TREE}
@@ -15,9 +14,10 @@ use Rattle.image.specs.Read.{got, bind}
 use Rattle.tree.specs.Syntax.{Span}
 use Rattle.comments.specs.Listed.{span}
 use Rattle.steps.specs.Steps.{Step, commentStep, openStep, textStep, payloadStep, absentStep, closeStep, stepBytes, listBytes, treeSteps, Contents, steps}
+use Rattle.steps.specs.Steps.{COMMENT-STEP}
 use Rattle.steps.specs.Writer.{stepFrom, pairBy, commentsFrom, recordFrom, contentsFrom}
 use Rattle.steps.specs.Exact.{Bytes}
-use Rattle.steps.proofs.Took.{Took, took-none, took-join}
+use Rattle.steps.proofs.Took.{took-all, Took, took-none, took-join}
 use Rattle.steps.proofs.Fits.{Listing, no-more, one-more, FitsAll}
 use Rattle.steps.proofs.Views.{never, bind-got, passed, stayed}
 use Rattle.steps.proofs.Taken.{step-took, list-append, record-taken}
@@ -34,17 +34,18 @@ pub comments-taken : (l : List ℕ) (n at : ℕ) (cs : List Span) (end : ℕ) �
     → Listing n cs × Took l at end (listBytes (commentSteps cs))
 unfolding commentsFrom
 comments-taken l zero at cs end low h =
-    let c = stayed (eqb (getD l at 0) 1) _ 16 at cs end h in
+    let c = stayed (eqb (getD l at 0) COMMENT-STEP) _ 16 at cs end h in
     let is : [] ≡ cs = cc (c .1) in
     let same : at ≡ end = cc (c .1) in
     rw (← is, ← same) (no-more, took-none l at low)
-comments-taken l (suc n) at cs end low h = go (eqb (getD l at 0) 1) (comments-taken l n) h
+comments-taken l (suc n) at cs end low h = go (eqb (getD l at 0) COMMENT-STEP) (comments-taken l n) h
   where
     Goal : Type 0
     Goal = Listing (suc n) cs × Took l at end (listBytes (commentSteps cs))
 
     More : Type 0
-    More = (at : ℕ) (cs : List Span) (end : ℕ) → at ≤ length l → commentsFrom l n at ≡ got cs end → Listing n cs × Took l at end (listBytes (commentSteps cs))
+    More = (at : ℕ) (cs : List Span) (end : ℕ) → at ≤ length l → commentsFrom l n at ≡ got cs end
+        → Listing n cs × Took l at end (listBytes (commentSteps cs))
 
     pair : More → (x : Step) (past : ℕ) → stepFrom l at ≡ got x past → (c : Span) (q : ℕ) → pairBy at x past ≡ got c q
         → bind (commentsFrom l n q) (λ cs end. got (c ∷ cs) end) ≡ got cs end → Goal
@@ -90,5 +91,4 @@ contents-taken l c end h =
 
 -- a list of bytes is that of the steps of what it says
 pub list-is : (l : List ℕ) (c : Contents) (end : ℕ) → Bytes l → contentsFrom l ≡ got c end → l ≡ listBytes (steps c)
-list-is l c end small h =
-    contents-taken l c end h .1 .bytes small ∙ ap (λ (r : List ℕ). listBytes (steps c) ++ r) (drop-length l) ∙ append-nil (listBytes (steps c))
+list-is l c end small h = took-all (contents-taken l c end h .1) small
