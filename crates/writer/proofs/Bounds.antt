@@ -2,23 +2,23 @@
 -- Assumes nothing.
 use mathlib.Core.Path.{_≡_, refl, sym, ap, _∙_}
 use mathlib.Core.Bool.{Bool, true, false, cond}
-use mathlib.Core.Option.{Option, none, some}
-use mathlib.Core.List.{List, _++_}
-use Prim.Native.Nat.{ℕ, zero, suc, _+_, _-_, _*_, _/_, _%_, _≤_, _<_}
+use mathlib.Core.Option.{none, some}
+use mathlib.Core.List.{List}
+use Prim.Native.Nat.{ℕ, zero, suc, _+_, _-_, _/_, _%_, _≤_, _<_}
 use native.Mathlib.Omega.{arith}
-use lib.ListN.{length, length-append}
+use lib.ListN.{length}
 use lib.Dec.{eqb}
 use borrow.Author.Tests.{eqb-true}
 use Rattle.image.specs.Grammar.{isOptional, bare, place, after, complete, rowUnder}
 use Rattle.image.specs.Read.{Read, got, bad, bind}
 use Rattle.image.specs.Write.{Plain, without, plainly, written}
 use Rattle.steps.specs.Rows.{short}
-use Rattle.steps.specs.Writer.{payloadFrom, childrenFrom, recordFrom}
+use Rattle.steps.specs.Writer.{payloadFrom, recordFrom}
 use Rattle.steps.proofs.Views.{never}
 use Rattle.steps.proofs.Taken.{payload-taken}
 use Rattle.steps.proofs.Sizes.{row-short, short-gone, short-here, payload-size, record-from-size}
 use Rattle.writer.specs.Steps.{stands, childFrom}
-use Rattle.writer.specs.Put.{Record, Children, Ran, putBy}
+use Rattle.writer.specs.Put.{AtRecord, AtChildren}
 use Rattle.writer.proofs.Seen.{stood, optional, child-close, child-absent, child-open, child-not}
 
 -- a record has its length at least
@@ -33,17 +33,17 @@ has-place zero row s z = absurd (z (eqb-true row 0 s))
 has-place (suc n) row s z = omega arith
 
 -- a place that may be empty is one
-pub optional-place : {l : List ℕ} {row at pos : ℕ} → (c : Children l row at pos) → row / 16384 % 2 ≡ 1 → 1 ≤ c .places
+pub optional-place : {l : List ℕ} {row at pos : ℕ} → (c : AtChildren l row at pos) → row / 16384 % 2 ≡ 1 → 1 ≤ c .places
 optional-place {l} {row} c e = let m = short-gone (c .places) row (optional row e) (c .few) in omega (arith, m .1)
 
-pub record-due : {l : List ℕ} {row at pos : ℕ} → Children l row at pos → ¬ (row ≡ 0) → Record l at pos
+pub record-due : {l : List ℕ} {row at pos : ℕ} → AtChildren l row at pos → ¬ (row ≡ 0) → AtRecord l at pos
 record-due {l} {row} {at} {pos} c z =
     let h = has-place (c .places) row (c .few) z in
     record { inside = c .inside; below = omega (arith, c .below) }
 
 -- behind a child
-pub behind : (l : List ℕ) (left row at pos : ℕ) → Children l row at pos → (y : Plain) (e : ℕ)
-    → childFrom (recordFrom l left) l row at ≡ got (some y) e → (at < e) × Children l (after row) e (pos + length (written y))
+pub behind : (l : List ℕ) (left row at pos : ℕ) → AtChildren l row at pos → (y : Plain) (e : ℕ)
+    → childFrom (recordFrom l left) l row at ≡ got (some y) e → (at < e) × AtChildren l (after row) e (pos + length (written y))
 unfolding written
 behind l left row at pos due y e h = closing (stands l at 6 1) refl
   where
@@ -51,7 +51,7 @@ behind l left row at pos due y e h = closing (stands l at 6 1) refl
     one = recordFrom l left
 
     gone : (t : Bool) → isOptional (place row) ≡ t → at + 1 ≤ length l → cond t (got (some without) (at + 1)) (bad 16 at) ≡ got (some y) e
-        → (at < e) × Children l (after row) e (pos + length (written y))
+        → (at < e) × AtChildren l (after row) e (pos + length (written y))
     gone true o w q =
         let m = short-gone (due .places) row o (due .few) in
         let same : at + 1 ≡ e = cc in
@@ -61,7 +61,7 @@ behind l left row at pos due y e h = closing (stands l at 6 1) refl
     gone false o w q = never q
 
     found : (r : Read Plain) → one (bare (place row)) at ≡ r → bind r (λ x b. got (some x) b) ≡ got (some y) e
-        → (at < e) × Children l (after row) e (pos + length (written y))
+        → (at < e) × AtChildren l (after row) e (pos + length (written y))
     found (bad n p) o q = never q
     found (got x b) o q =
         let same : b ≡ e = cc in
@@ -79,31 +79,31 @@ behind l left row at pos due y e h = closing (stands l at 6 1) refl
         )
 
     opening : (t : Bool) → stands l at 2 10 ≡ t → stands l at 6 1 ≡ false → stands l at 5 1 ≡ false
-        → (at < e) × Children l (after row) e (pos + length (written y))
+        → (at < e) × AtChildren l (after row) e (pos + length (written y))
     opening false s n6 n5 = never (sym (child-not one l row at n6 n5 s) ∙ h)
     opening true s n6 n5 = there (eqb row 0) (sym (child-open one l row at s) ∙ h)
       where
         there : (t : Bool) → cond t (bad 16 at) (bind (one (bare (place row)) at) (λ x b. got (some x) b)) ≡ got (some y) e
-            → (at < e) × Children l (after row) e (pos + length (written y))
+            → (at < e) × AtChildren l (after row) e (pos + length (written y))
         there true q = never q
         there false q = found (one (bare (place row)) at) refl q
 
-    absent : (t : Bool) → stands l at 5 1 ≡ t → stands l at 6 1 ≡ false → (at < e) × Children l (after row) e (pos + length (written y))
+    absent : (t : Bool) → stands l at 5 1 ≡ t → stands l at 6 1 ≡ false → (at < e) × AtChildren l (after row) e (pos + length (written y))
     absent true s n6 =
         gone (isOptional (place row)) refl (stood l at 5 1 s .0) (sym (child-absent one l row at s) ∙ h)
     absent false s n6 = opening (stands l at 2 10) refl n6 s
 
-    closing : (t : Bool) → stands l at 6 1 ≡ t → (at < e) × Children l (after row) e (pos + length (written y))
+    closing : (t : Bool) → stands l at 6 1 ≡ t → (at < e) × AtChildren l (after row) e (pos + length (written y))
     closing true s = no (complete row) (sym (child-close one l row at s) ∙ h)
       where
-        no : (t : Bool) → cond t (got none (at + 1)) (bad 16 at) ≡ got (some y) e → (at < e) × Children l (after row) e (pos + length (written y))
+        no : (t : Bool) → cond t (got none (at + 1)) (bad 16 at) ≡ got (some y) e → (at < e) × AtChildren l (after row) e (pos + length (written y))
         no true q = let z : _≡_ {A = ℕ} 0 1 = cc in absurd (omega arith)
         no false q = never q
     closing false s = absent (stands l at 5 1) refl s
 
 -- behind a payload
-pub children-due : (l : List ℕ) (p kind at pos : ℕ) → Record l at pos → at + 10 ≤ length l → (x : List ℕ) (first row : ℕ)
-    → payloadFrom l p kind (at + 10) ≡ got x first → row ≡ rowUnder p kind → Children l row first (pos + 13 + length x)
+pub children-due : (l : List ℕ) (p kind at pos : ℕ) → AtRecord l at pos → at + 10 ≤ length l → (x : List ℕ) (first row : ℕ)
+    → payloadFrom l p kind (at + 10) ≡ got x first → row ≡ rowUnder p kind → AtChildren l row first (pos + 13 + length x)
 children-due l p kind at pos r w x first row h e =
     let t = payload-taken l p kind (at + 10) x first w h in
     let s = payload-size (t .0) in

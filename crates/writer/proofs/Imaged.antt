@@ -1,36 +1,35 @@
 -- A whole list: what is measured, and the parts of its image as they are put.
 -- Assumes nothing.
 use mathlib.Core.Path.{_≡_, refl, sym, ap, ap₂, _∙_}
-use mathlib.Core.Bool.{Bool, true, false, cond, _||_}
+use mathlib.Core.Bool.{Bool, true, false, _||_}
 use mathlib.Core.List.{List, [], _∷_, _++_, append-nil}
 use Prim.Native.Nat.{ℕ, zero, suc, _+_, _-_, _*_, _/_, _%_, _≤_, _<_}
 use native.Mathlib.Omega.{arith}
 use native.Mathlib.Nat.{mod-eq-of-lt}
 use lib.Dec.{ltb}
-use lib.ListN.{length, take, drop, set, length-append, length-take, length-drop, take-append-drop, drop-of-length-le}
+use lib.ListN.{length, take, drop, set, length-append, length-drop, take-append-drop, drop-of-length-le}
 use lib.Seq.{sets, take-all, length-take-le}
 use borrow.Author.Tests.{lt-ltb, le-ltb, ltb-true, ltb-false}
 use Rattle.laws.proofs.Stores.{sets-append}
 use Rattle.image.specs.Kinds.{TREE}
-use Rattle.image.specs.Limits.{MAX-COMMENTS, MAX-RECORDS-DEEP, MAX-BODY}
+use Rattle.image.specs.Limits.{MAX-COMMENTS, MAX-RECORDS-DEEP}
 use Rattle.image.specs.Grammar.{isOptional, place, after, rowOf, rowUnder}
 use Rattle.image.specs.Read.{Read, got, bad}
 use Rattle.image.specs.Write.{Plain, Plains, bytes4, written, writtens}
 use Rattle.image.proofs.Shapes.{kind-range}
 use Rattle.tree.specs.Syntax.{Span}
 use Rattle.steps.specs.Steps.{listBytes, payloadSteps, treeSteps, childSteps, closeStep, bytes2, pairBytes, Contents, imageOf}
-use Rattle.steps.specs.Writer.{commentsFrom, recordFrom, contentsFrom, imageBy, imageDue, WriterAnswer, refused, wrote, writerAnswer, writerOutput}
+use Rattle.steps.specs.Writer.{commentsFrom, recordFrom, contentsFrom, imageBy, imageDue, refused, wrote, writerAnswer, writerOutput}
 use Rattle.steps.proofs.Fits.{Fits, fits, FitsRow, ends, gone, here}
 use Rattle.steps.proofs.Taken.{list-append, record-taken}
 use Rattle.steps.proofs.Sizes.{record-size, payload-size, pairs-size}
-use Rattle.writer.specs.Put.{putOf, putBy, upTo, fault}
-use Rattle.writer.specs.Wrote.{measured, Room}
+use Rattle.writer.specs.Put.{putOf, putBy}
+use Rattle.writer.specs.Wrote.{measured}
 use Rattle.writer.specs.declared.output.Reached.{Reached}
 use Rattle.writer.specs.declared.output.Reached.the-variants.{Next, Fault}
-use Rattle.writer.specs.declared.whole.Measured.{Measured}
 use Rattle.writer.specs.declared.whole.Measured.the-variants.{Image, Fault as Wrong}
 use Rattle.writer.proofs.Runs.{Held, was-held, was-fault}
-use Rattle.writer.proofs.Commented.{Counted, comments-got}
+use Rattle.writer.proofs.Commented.{comments-got}
 
 -- ---- the tree leaves room for the image's head: only one of its places may be empty
 steady : {left row : ℕ} {xs : Plains} → FitsRow left row xs → isOptional (place row) ≡ false → after row ≡ row

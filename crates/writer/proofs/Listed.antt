@@ -1,36 +1,32 @@
 -- The loops over an accepted image, and what is listed of the whole.
 -- Assumes nothing.
 use mathlib.Core.Path.{_≡_, refl, sym, ap, ap₂, subst, _∙_}
-use mathlib.Core.Bool.{Bool, true, false, cond, not, _||_}
+use mathlib.Core.Bool.{Bool, true, false, cond}
 use mathlib.Core.List.{List, [], _∷_, _++_, map}
 use Prim.Native.Nat.{ℕ, zero, suc, _+_, _-_, _*_, _≤_, _<_}
 use native.Mathlib.Omega.{arith}
-use native.Mathlib.Numerals.{sub-one}
-use lib.Dec.{ltb, leb, eqb}
+use lib.Dec.{ltb, eqb}
 use lib.ListN.{length, length-append}
 use lib.Seq.{sets}
 use borrow.Author.Tests.{le-leb, lt-ltb, le-ltb, ltb-false}
 use Rattle.refusals.specs.Refusals.{Refusal}
-use Rattle.text.specs.Utf8.{wellFormed}
 use Rattle.image.specs.Bytes.{be16, be32, part}
-use Rattle.image.specs.Kinds.{TEXT}
 use Rattle.image.specs.Grammar.{bare, place, after, complete, rowUnder, firstChild}
-use Rattle.image.specs.Read.{Read, got, bad, bind, Head, headAt, stopAt, kindAt, Tree, Trees, absent, node, nil, _▸_, Image, skips, childAt, recordAt, childrenAt, treeAt, readImage, readAll, sourceFits, outcome, accepted, refused, Outcome, outcomeOf, answerOf}
-use Rattle.image.specs.declared.Answer.the-variants.{Accepted}
+use Rattle.image.specs.Read.{Read, got, bad, bind, headAt, stopAt, kindAt, Tree, Trees, absent, node, nil, _▸_, Image, skips, childAt, recordAt, childrenAt, treeAt, readImage, readAll, sourceFits, outcome, accepted, refused, answerOf}
 use Rattle.image.specs.Write.{bytes4, plain, plains}
 use Rattle.image.proofs.Exact.{Small}
-use Rattle.image.proofs.Shapes.{Opened, opened-order, skips-within, text-payload}
+use Rattle.image.proofs.Shapes.{opened-order, skips-within, text-payload}
 use Rattle.image.proofs.Inside.{inside, none-deep}
-use Rattle.image.proofs.Accepted.{Input, accepted as input}
+use Rattle.image.proofs.Accepted.{accepted as input}
 use Rattle.tree.specs.Syntax.{Span}
-use Rattle.comments.specs.Listed.{pairAt, pairsAt, commentsOf}
+use Rattle.comments.specs.Listed.{pairsAt, commentsOf}
 use Rattle.steps.specs.Steps.{commentStep, listBytes, payloadSteps, treeSteps, childSteps}
 use Rattle.steps.specs.OfImage.{stepsOf, stepsOfAnswer, stepsOfOutput}
 use Rattle.steps.specs.Writer.{refused as turned-down, wrote as written-out}
 use Rattle.steps.proofs.Taken.{list-append}
 use Rattle.steps.proofs.Took.{took-four, took-join, took-is}
 use Rattle.steps.proofs.Views.{never, bind-got, passed, stayed}
-use Rattle.writer.specs.Stands.{Gap, Whole, Stood, Stands, Row, Puts, TreeThere, RowThere, ImageThere, PutsTree, PutsRow, PutsImage, treeBytes, rowBytes}
+use Rattle.writer.specs.Stands.{Whole, Stands, Row, Puts, TreeThere, RowThere, ImageThere, PutsTree, PutsRow, PutsImage, treeBytes, rowBytes}
 use Rattle.writer.proofs.Stores.{sets-behind}
 use Rattle.writer.proofs.Standing.{tree-ends, row-order, first-behind, payload-bytes, tree-bytes, row-bytes, puts-join}
 

@@ -1,25 +1,24 @@
 -- The loop over the children of a record.
 -- Assumes nothing.
-use mathlib.Core.Path.{_≡_, refl, sym, ap, _∙_}
+use mathlib.Core.Path.{_≡_, sym, ap, _∙_}
 use mathlib.Core.List.{List}
-use mathlib.Core.Option.{some}
 use Prim.Native.Nat.{ℕ, zero, suc, _+_, _-_, _≤_, _<_}
 use native.Mathlib.Omega.{arith}
 use lib.ListN.{length}
 use Rattle.image.specs.Grammar.{after}
-use Rattle.image.specs.Read.{Read, got}
+use Rattle.image.specs.Read.{Read}
 use Rattle.image.specs.Write.{Plain, written, writtens}
 use Rattle.steps.specs.Writer.{childrenFrom, recordFrom}
 use Rattle.writer.specs.Steps.{childFrom}
-use Rattle.writer.specs.Put.{Children, Ran, fault, closed, upTo, putBy, childBy}
-use Rattle.writer.proofs.Runs.{Held, was-child, turn-closed, turn-wrong, turn-next}
+use Rattle.writer.specs.Put.{AtChildren, Ran, fault, closed, upTo, putBy, childBy}
+use Rattle.writer.proofs.Runs.{was-child, turn-closed, turn-wrong, turn-next}
 use Rattle.writer.proofs.Bounds.{behind}
 
 -- The whole run over the children ends as the run from here on does, with turns enough for the bytes that are left.
 pub record Going (one : ℕ → ℕ → Read Plain) (l : List ℕ) (whole : Ran) (size row at pos : ℕ) (out : List ℕ) : Type 0 where
   pub turns : ℕ
   pub enough : length l - at ≤ turns
-  pub due : Children l row at pos
+  pub due : AtChildren l row at pos
   pub room : length out ≡ size
   pub same : whole ≡ putBy writtens pos out (childrenFrom one l (suc turns) row at)
 
@@ -45,7 +44,7 @@ module _ (l : List ℕ) (left : ℕ) (whole : Ran) (size row at pos : ℕ) (out 
           (b .0, (b .1 .inside, turn n le s (b .0) (b .1 .inside) (rw same at (b .1))))
         where
           turn : (n : ℕ) → length l - at ≤ n → whole ≡ putBy writtens pos out (childrenFrom (recordFrom l left) l (suc n) row at)
-              → at < e → e ≤ length l → Children l (after row) e q → Going (recordFrom l left) l whole size (after row) e q o
+              → at < e → e ≤ length l → AtChildren l (after row) e q → Going (recordFrom l left) l whole size (after row) e q o
           turn zero le s a b d = absurd (omega arith)
           turn (suc m) le s a b d =
               record {

@@ -23,7 +23,7 @@ use Rattle.steps.specs.Steps.{bytes2}
 use Rattle.steps.specs.Writer.{stepFrom, textBy, byteBy, Opened, openedFrom, payloadFrom, childrenFrom, recordFrom}
 use Rattle.steps.proofs.Took.{took-byte, took-two, took-four, took-join, took-is}
 use Rattle.writer.specs.Steps.{stands, childFrom}
-use Rattle.writer.specs.Put.{Ran, held, long, closed, fault, upTo, putBy, childBy}
+use Rattle.writer.specs.Put.{held, long, closed, fault, upTo, putBy, childBy}
 use Rattle.writer.proofs.Seen.{stood, text-step, payload-step, openedAt, child-close, child-absent, child-there, optional, children-turn}
 use Rattle.writer.proofs.Stores.{sets-before, sets-behind}
 

@@ -1,21 +1,20 @@
 -- The step at an offset, by the kind that stands there.
 -- Assumes nothing.
-use mathlib.Core.Path.{_≡_, refl, sym, ap, ap₂, _∙_}
+use mathlib.Core.Path.{_≡_, refl, sym, ap, _∙_}
 use mathlib.Core.Bool.{Bool, true, false, cond, _&&_}
 use mathlib.Core.Option.{Option, none, some}
-use mathlib.Core.List.{List, [], _∷_, _++_}
+use mathlib.Core.List.{List}
 use Prim.Native.Nat.{ℕ, suc, _+_, _/_, _%_, _≤_, _<_}
 use native.Mathlib.Omega.{arith}
 use lib.Dec.{leb, eqb}
 use lib.ListN.{length, getD}
 use borrow.Author.Tests.{le-leb, lt-leb, leb-true, leb-false, eqb-true, eqb-false, eq-eqb, ne-eqb}
 use Rattle.laws.proofs.Booleans.{both, and-false, clash}
-use Rattle.text.specs.Utf8.{wellFormed}
 use Rattle.image.specs.Bytes.{be16, be32, part}
 use Rattle.image.specs.Grammar.{isOptional, bare, place, after, complete, kindFits}
 use Rattle.image.specs.Read.{Read, got, bad, bind}
 use Rattle.image.specs.Write.{Plain, Plains, without, done, _next_}
-use Rattle.steps.specs.Steps.{Step, commentStep, openStep, textStep, payloadStep, absentStep, closeStep, bytes2}
+use Rattle.steps.specs.Steps.{Step, commentStep, openStep, textStep, payloadStep, absentStep, closeStep}
 use Rattle.steps.specs.Writer.{stepFrom, whole, Opened, openedBy, openedFrom, textBy, byteBy, atChild, childrenFrom}
 use Rattle.writer.specs.Steps.{stands, taken, childFrom}
 

@@ -1,9 +1,9 @@
 -- A tree that stands in an image: where it ends, how many bytes its steps have, and its steps as they are put.
 -- Assumes nothing.
 use mathlib.Core.Path.{_≡_, refl, sym, ap, ap₂, _∙_}
-use mathlib.Core.Bool.{Bool, true, false, cond}
-use mathlib.Core.List.{List, [], _∷_, _++_, append-nil, append-assoc}
-use Prim.Native.Nat.{ℕ, zero, suc, _+_, _-_, _*_, _%_, _≤_, _<_}
+use mathlib.Core.Bool.{Bool, true, false}
+use mathlib.Core.List.{List, [], _∷_, _++_, append-nil}
+use Prim.Native.Nat.{ℕ, suc, _+_, _-_, _*_, _%_, _≤_, _<_}
 use native.Mathlib.Omega.{arith}
 use native.Mathlib.Nat.{mod-eq-of-lt}
 use native.Mathlib.Numerals.{add-one}
@@ -14,15 +14,15 @@ use borrow.Author.Tests.{eqb-true, eq-eqb, ne-eqb}
 use Rattle.image.specs.Bytes.{be16, be32, part}
 use Rattle.image.specs.Kinds.{TEXT}
 use Rattle.image.specs.Grammar.{hasByte, firstChild}
-use Rattle.image.specs.Read.{Head, headAt, stopAt, kindAt, Tree, Trees, absent, node, nil, _▸_}
+use Rattle.image.specs.Read.{headAt, stopAt, kindAt, Tree, Trees, absent, node, nil, _▸_}
 use Rattle.image.specs.Write.{bytes4, plain, plains}
 use Rattle.image.proofs.Exact.{Small, part-length}
 use Rattle.image.proofs.Shapes.{first-after}
-use Rattle.steps.specs.Steps.{listBytes, payloadSteps, treeSteps, childSteps, openStep, closeStep, bytes2}
+use Rattle.steps.specs.Steps.{listBytes, payloadSteps, treeSteps, childSteps, closeStep, bytes2}
 use Rattle.steps.proofs.Fits.{text-steps, byte-steps, no-steps}
 use Rattle.steps.proofs.Taken.{list-append}
 use Rattle.steps.proofs.Took.{took-byte, took-two, took-four, took-part, took-join, took-is}
-use Rattle.writer.specs.Stands.{Gap, Whole, Stood, Stands, Row, Puts, PutsTree, PutsRow, treeBytes, rowBytes}
+use Rattle.writer.specs.Stands.{Whole, Stands, Row, Puts, PutsTree, PutsRow, treeBytes, rowBytes}
 use Rattle.writer.proofs.Stores.{sets-behind}
 
 -- ---- where it ends

@@ -51,11 +51,11 @@ childOf (Wrong n p) out = fault n p
 -- ---- no sum wraps
 -- An absent child has one byte in the list and four in the image; of every other step the image has no more than twice its bytes. So what is put
 -- stays below twice the list, where the step that opens a record leaves two bytes for each of its places.
-pub record Record (l : List ℕ) (at pos : ℕ) : Type 0 where
+pub record AtRecord (l : List ℕ) (at pos : ℕ) : Type 0 where
   pub inside : at ≤ length l
   pub below : pos ≤ 2 * at
 
-pub record Children (l : List ℕ) (row at pos : ℕ) : Type 0 where
+pub record AtChildren (l : List ℕ) (row at pos : ℕ) : Type 0 where
   pub inside : at ≤ length l
   pub places : ℕ
   pub few : short places row ≡ true

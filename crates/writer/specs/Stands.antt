@@ -4,7 +4,7 @@ use mathlib.Core.List.{List}
 use Prim.Native.Nat.{ℕ, _+_, _*_, _≤_}
 use lib.ListN.{length}
 use lib.Seq.{sets}
-use Rattle.image.specs.Bytes.{be32, part}
+use Rattle.image.specs.Bytes.{be32}
 use Rattle.image.specs.Kinds.{TEXT}
 use Rattle.image.specs.Read.{Head, headAt, stopAt, kindAt, Tree, Trees, absent, node, nil, _▸_, got, Image, readAll}
 use Rattle.image.specs.Write.{plain, plains}

@@ -1,5 +1,4 @@
 // The writer of images from a list of steps, and the steps of an image.
-
 mod list;
 mod output;
 mod pairs;

@@ -3,7 +3,7 @@ ghost use mathlib.Core.Path.{_≡_};
 ghost use Prim.Native.Nat.{_+_, _≤_};
 ghost use Rattle.image.specs.Read.{bind};
 ghost use Rattle.steps.specs.Writer.{stepFrom, textBy, byteBy, payloadFrom};
-ghost use Rattle.writer.specs.Put.{Record, putOf, putBy};
+ghost use Rattle.writer.specs.Put.{AtRecord, putOf, putBy};
 use crate::output::Reached;
 use crate::output::copy;
 use crate::output::put;
@@ -20,7 +20,7 @@ use image::kinds::TEXT;
 
 // Puts the width and the text of the step at `at`.
 fn put_text(l: &[u8], at: usize, out: &mut [u8], pos: usize) -> Reached
-    requires { ⌜ Record (now l) at pos ⌝ }
+    requires { ⌜ AtRecord (now l) at pos ⌝ }
     ensures { λ r. ⌜ putOf r (now (out .exit)) ≡ putBy (λ x. x) pos (now (out .entry)) (bind (stepFrom (now (l .entry)) at) (textBy at)) ⌝ }
 {
     if !stands(l, at, TEXT_STEP, TEXT_BYTES) {
@@ -41,7 +41,7 @@ fn put_text(l: &[u8], at: usize, out: &mut [u8], pos: usize) -> Reached
 
 // Puts the payload byte of the step at `at`, which is `top` at most.
 fn put_byte(l: &[u8], top: usize, at: usize, out: &mut [u8], pos: usize) -> Reached
-    requires { ⌜ Record (now l) at pos ⌝ }
+    requires { ⌜ AtRecord (now l) at pos ⌝ }
     ensures { λ r. ⌜ putOf r (now (out .exit)) ≡ putBy (λ x. x) pos (now (out .entry)) (bind (stepFrom (now (l .entry)) at) (byteBy at top)) ⌝ }
 {
     if !stands(l, at, PAYLOAD_STEP, 2) {
@@ -63,7 +63,7 @@ pub(crate) fn put_payload(
     out: &mut [u8],
     pos: usize,
 ) -> Reached
-    requires { ⌜ Record (now l) at pos ⌝ }
+    requires { ⌜ AtRecord (now l) at pos ⌝ }
     ensures { λ r. ⌜ putOf r (now (out .exit)) ≡ putBy (λ x. x) pos (now (out .entry)) (payloadFrom (now (l .entry)) p kind at) ⌝ }
 {
     if kind == TEXT {

@@ -5,7 +5,7 @@ ghost use lib.ListN.{length};
 ghost use Rattle.image.specs.Write.{written, writtens};
 ghost use Rattle.steps.specs.Writer.{recordFrom, childrenFrom};
 ghost use Rattle.writer.specs.Steps.{childFrom};
-ghost use Rattle.writer.specs.Put.{Record, Children, putOf, putBy, childOf, childBy};
+ghost use Rattle.writer.specs.Put.{AtRecord, AtChildren, putOf, putBy, childOf, childBy};
 use crate::output::Reached;
 use crate::output::copy;
 use crate::output::put32;
@@ -36,7 +36,7 @@ pub enum Child {
 
 // Puts the child at the row's first place.
 fn put_child(l: &[u8], left: u32, row: usize, at: usize, out: &mut [u8], pos: usize) -> Child
-    requires { ⌜ Children (now l) row at pos ⌝ }
+    requires { ⌜ AtChildren (now l) row at pos ⌝ }
     ensures { λ r. ⌜ childOf r (now (out .exit)) ≡ childBy pos (now (out .entry)) (childFrom (recordFrom (now (l .entry)) left) (now (l .entry)) row at) ⌝ }
 {
     if stands(l, at, CLOSE_STEP, 1) {
@@ -73,7 +73,7 @@ fn put_children(
     out: &mut [u8],
     start: usize,
 ) -> Reached
-    requires { ⌜ Children (now l) places first start ⌝ }
+    requires { ⌜ AtChildren (now l) places first start ⌝ }
     ensures { λ r. ⌜ putOf r (now (out .exit)) ≡ putBy writtens start (now (out .entry)) (childrenFrom (recordFrom (now (l .entry)) left) (now (l .entry)) (suc (length (now (l .entry)))) places first) ⌝ }
 {
     let mut row = places;
@@ -105,7 +105,7 @@ pub(crate) fn put_record(
     out: &mut [u8],
     pos: usize,
 ) -> Reached
-    requires { ⌜ Record (now l) at pos ⌝ }
+    requires { ⌜ AtRecord (now l) at pos ⌝ }
     ensures { λ r. ⌜ putOf r (now (out .exit)) ≡ putBy written pos (now (out .entry)) (recordFrom (now (l .entry)) left p at) ⌝ }
 {
     if left == 0 {

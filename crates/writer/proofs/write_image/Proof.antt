@@ -1,11 +1,6 @@
 -- The refusals in their order, then the image.
-use mathlib.Core.Path.{sym, ap, _∙_}
-use mathlib.Core.Bool.{Bool, _||_}
-use native.Mathlib.Omega.{arith}
-use lib.Dec.{ltb}
-use lib.ListN.{length}
+use mathlib.Core.Path.{sym, _∙_}
 use borrow.Author.Tests.{lt-ltb, le-ltb}
-use Rattle.writer.specs.Wrote.{measured}
 use Rattle.writer.proofs.Imaged.{answers-wrong, answers-long, answers-whole}
 use borrow.Author.Needs.{needs}
 use Rattle.writer.proofs.write_image.Statement.{statement}

@@ -1,11 +1,11 @@
 -- A child begins behind its parent, so that the bytes behind it are fewer; the two functions take turns at one place.
 -- Assumes nothing.
-use mathlib.Core.Path.{sym, ap, _∙_}
+use mathlib.Core.Path.{sym, _∙_}
 use Prim.Native.Nat.{_+_, _-_, _*_}
 use native.Mathlib.Omega.{arith}
 use lib.ListN.{length}
 use borrow.Author.Needs.{needs}
-use Rattle.writer.proofs.Standing.{first-behind, payload-bytes, puts-absent, puts-record}
+use Rattle.writer.proofs.Standing.{first-behind, puts-absent, puts-record}
 use Rattle.writer.proofs.Listed.{Rows, rows-none, rows-one, rows-end, row-tree, tree-within, tree-head, first-is, row-there, row-last, row-at}
 use Prim.Native.Nat.{ℕ, _<_}
 use borrow.Fn.Kinds.{In}
@@ -52,111 +52,84 @@ list-tree-calls t = (num32-reads.Asked, num32-reads.Learnt, put-reads.Asked, put
 abbrev list-trees-calls : ℕ → list-trees-lts.Claims
 list-trees-calls t = (list-tree-below t, list-tree.Post, num32-reads.Asked, num32-reads.Learnt)
 
--- src/list.rt:61:9
 list-tree-num32-requires : (t : ℕ) → list-tree-lts.Need-num32-requires (list-tree-calls t) (list-tree-at t) list-tree.Post
 list-tree-num32-requires t c κs = omega (arith, (tree-within (c .before .before .args .b .now) _ _ (c .before .before .pre .1)) .0, (tree-within (c .before .before .args .b .now) _ _ (c .before .before .pre .1)) .1, c .before .before .pre .1 .below, c .before .before .pre .1 .short)
 
--- src/list.rt:63:23
 list-tree-cast-put : (t : ℕ) → list-tree-lts.Need-cast-put (list-tree-calls t) (list-tree-at t) list-tree.Post
 list-tree-cast-put t c = search needs
 
--- src/list.rt:63:9
 list-tree-put-requires : (t : ℕ) → list-tree-lts.Need-put-requires (list-tree-calls t) (list-tree-at t) list-tree.Post
 list-tree-put-requires t c κs = search needs
 
--- src/list.rt:64:16
 list-tree-add-result : (t : ℕ) → list-tree-lts.Need-add-result (list-tree-calls t) (list-tree-at t) list-tree.Post
 list-tree-add-result t c = omega (arith, (tree-within (c .before .before .before .before .before .before .before .before .args .b .now) _ _ (c .before .before .before .before .before .before .before .before .pre .1)) .0, (tree-within (c .before .before .before .before .before .before .before .before .args .b .now) _ _ (c .before .before .before .before .before .before .before .before .pre .1)) .1, c .before .before .before .before .before .before .before .before .pre .1 .below, c .before .before .before .before .before .before .before .before .pre .1 .short)
 
--- src/list.rt:64:9
 list-tree-same-length : (t : ℕ) → list-tree-lts.Need-same-length (list-tree-calls t) (list-tree-at t) list-tree.Post
 list-tree-same-length t c = search needs
 
--- src/list.rt:64:9
 list-tree-returns : (t : ℕ) → list-tree-lts.Need-returns (list-tree-calls t) (list-tree-at t) list-tree.Post
 list-tree-returns t c = puts-absent (c .before .before .before .before .before .before .before .before .args .b .now) _ _ _ _ (sym (c .before .before .before .before .before .num32 .ensures .same) ∙ c .before .before .before .before .if1 .taken) (c .before .before .put .ensures)
 
--- src/list.rt:66:16
 list-tree-add-stop : (t : ℕ) → list-tree-lts.Need-add-stop (list-tree-calls t) (list-tree-at t) list-tree.Post
 list-tree-add-stop t c = omega (arith, (tree-head (c .before .before .before .before .args .b .now) _ _ (c .before .before .before .before .pre .1) (λ z. c .if1 .left (c .before .num32 .ensures .same ∙ z))) .0 .long, (tree-head (c .before .before .before .before .args .b .now) _ _ (c .before .before .before .before .pre .1) (λ z. c .if1 .left (c .before .num32 .ensures .same ∙ z))) .0 .inside, c .before .before .before .before .pre .1 .below, c .before .before .before .before .pre .1 .short, c .before .num32 .ensures .same)
 
--- src/list.rt:66:16
 list-tree-add-stop-2 : (t : ℕ) → list-tree-lts.Need-add-stop-2 (list-tree-calls t) (list-tree-at t) list-tree.Post
 list-tree-add-stop-2 t c = omega (arith, (tree-head (c .before .before .before .before .args .b .now) _ _ (c .before .before .before .before .pre .1) (λ z. c .if1 .left (c .before .num32 .ensures .same ∙ z))) .0 .long, (tree-head (c .before .before .before .before .args .b .now) _ _ (c .before .before .before .before .pre .1) (λ z. c .if1 .left (c .before .num32 .ensures .same ∙ z))) .0 .inside, c .before .before .before .before .pre .1 .below, c .before .before .before .before .pre .1 .short, c .before .num32 .ensures .same)
 
--- src/list.rt:67:19
 list-tree-cast-put-2 : (t : ℕ) → list-tree-lts.Need-cast-put-2 (list-tree-calls t) (list-tree-at t) list-tree.Post
 list-tree-cast-put-2 t c = search needs
 
--- src/list.rt:67:5
 list-tree-put-requires-2 : (t : ℕ) → list-tree-lts.Need-put-requires-2 (list-tree-calls t) (list-tree-at t) list-tree.Post
 list-tree-put-requires-2 t c κs = search needs
 
--- src/list.rt:68:13
 list-tree-add-copy : (t : ℕ) → list-tree-lts.Need-add-copy (list-tree-calls t) (list-tree-at t) list-tree.Post
 list-tree-add-copy t c = omega (arith, (tree-head (c .before .before .before .before .before .before .before .before .args .b .now) _ _ (c .before .before .before .before .before .before .before .before .pre .1) (λ z. c .before .before .before .before .if1 .left (c .before .before .before .before .before .num32 .ensures .same ∙ z))) .0 .long, (tree-head (c .before .before .before .before .before .before .before .before .args .b .now) _ _ (c .before .before .before .before .before .before .before .before .pre .1) (λ z. c .before .before .before .before .if1 .left (c .before .before .before .before .before .num32 .ensures .same ∙ z))) .0 .inside, c .before .before .before .before .before .before .before .before .pre .1 .below, c .before .before .before .before .before .before .before .before .pre .1 .short, c .before .before .before .before .before .num32 .ensures .same)
 
--- src/list.rt:68:26
 list-tree-add-copy-2 : (t : ℕ) → list-tree-lts.Need-add-copy-2 (list-tree-calls t) (list-tree-at t) list-tree.Post
 list-tree-add-copy-2 t c = omega (arith, (tree-head (c .before .before .before .before .before .before .before .before .args .b .now) _ _ (c .before .before .before .before .before .before .before .before .pre .1) (λ z. c .before .before .before .before .if1 .left (c .before .before .before .before .before .num32 .ensures .same ∙ z))) .0 .long, (tree-head (c .before .before .before .before .before .before .before .before .args .b .now) _ _ (c .before .before .before .before .before .before .before .before .pre .1) (λ z. c .before .before .before .before .if1 .left (c .before .before .before .before .before .num32 .ensures .same ∙ z))) .0 .inside, c .before .before .before .before .before .before .before .before .pre .1 .below, c .before .before .before .before .before .before .before .before .pre .1 .short, c .before .before .before .before .before .num32 .ensures .same)
 
--- src/list.rt:68:42
 list-tree-add-copy-3 : (t : ℕ) → list-tree-lts.Need-add-copy-3 (list-tree-calls t) (list-tree-at t) list-tree.Post
 list-tree-add-copy-3 t c = omega (arith, (tree-head (c .before .before .before .before .before .before .before .before .before .args .b .now) _ _ (c .before .before .before .before .before .before .before .before .before .pre .1) (λ z. c .before .before .before .before .before .if1 .left (c .before .before .before .before .before .before .num32 .ensures .same ∙ z))) .0 .long, (tree-head (c .before .before .before .before .before .before .before .before .before .args .b .now) _ _ (c .before .before .before .before .before .before .before .before .before .pre .1) (λ z. c .before .before .before .before .before .if1 .left (c .before .before .before .before .before .before .num32 .ensures .same ∙ z))) .0 .inside, c .before .before .before .before .before .before .before .before .before .pre .1 .below, c .before .before .before .before .before .before .before .before .before .pre .1 .short, c .before .before .before .before .before .before .num32 .ensures .same)
 
--- src/list.rt:68:5
 list-tree-copy-requires : (t : ℕ) → list-tree-lts.Need-copy-requires (list-tree-calls t) (list-tree-at t) list-tree.Post
 list-tree-copy-requires t c κs = (omega arith, (omega (arith, (tree-head (c .before .before .before .before .before .before .before .before .before .args .b .now) _ _ (c .before .before .before .before .before .before .before .before .before .pre .1) (λ z. c .before .before .before .before .before .if1 .left (c .before .before .before .before .before .before .num32 .ensures .same ∙ z))) .0 .long, (tree-head (c .before .before .before .before .before .before .before .before .before .args .b .now) _ _ (c .before .before .before .before .before .before .before .before .before .pre .1) (λ z. c .before .before .before .before .before .if1 .left (c .before .before .before .before .before .before .num32 .ensures .same ∙ z))) .0 .inside, c .before .before .before .before .before .before .before .before .before .pre .1 .below, c .before .before .before .before .before .before .before .before .before .pre .1 .short, c .before .before .before .before .before .before .num32 .ensures .same), omega (arith, (tree-head (c .before .before .before .before .before .before .before .before .before .args .b .now) _ _ (c .before .before .before .before .before .before .before .before .before .pre .1) (λ z. c .before .before .before .before .before .if1 .left (c .before .before .before .before .before .before .num32 .ensures .same ∙ z))) .0 .long, (tree-head (c .before .before .before .before .before .before .before .before .before .args .b .now) _ _ (c .before .before .before .before .before .before .before .before .before .pre .1) (λ z. c .before .before .before .before .before .if1 .left (c .before .before .before .before .before .before .num32 .ensures .same ∙ z))) .0 .inside, c .before .before .before .before .before .before .before .before .before .pre .1 .below, c .before .before .before .before .before .before .before .before .before .pre .1 .short, c .before .before .before .before .before .before .num32 .ensures .same)))
 
--- src/list.rt:69:42
 list-tree-add-list-payload : (t : ℕ) → list-tree-lts.Need-add-list-payload (list-tree-calls t) (list-tree-at t) list-tree.Post
 list-tree-add-list-payload t c = omega (arith, (tree-head (c .before .before .before .before .before .before .before .before .before .before .before .before .before .args .b .now) _ _ (c .before .before .before .before .before .before .before .before .before .before .before .before .before .pre .1) (λ z. c .before .before .before .before .before .before .before .before .before .if1 .left (c .before .before .before .before .before .before .before .before .before .before .num32 .ensures .same ∙ z))) .0 .long, (tree-head (c .before .before .before .before .before .before .before .before .before .before .before .before .before .args .b .now) _ _ (c .before .before .before .before .before .before .before .before .before .before .before .before .before .pre .1) (λ z. c .before .before .before .before .before .before .before .before .before .if1 .left (c .before .before .before .before .before .before .before .before .before .before .num32 .ensures .same ∙ z))) .0 .inside, c .before .before .before .before .before .before .before .before .before .before .before .before .before .pre .1 .below, c .before .before .before .before .before .before .before .before .before .before .before .before .before .pre .1 .short, c .before .before .before .before .before .before .before .before .before .before .num32 .ensures .same)
 
--- src/list.rt:69:9
 list-tree-list-payload-requires : (t : ℕ) → list-tree-lts.Need-list-payload-requires (list-tree-calls t) (list-tree-at t) list-tree.Post
 list-tree-list-payload-requires t c κs = record { whole = (tree-head (c .before .before .before .before .before .before .before .before .before .before .before .before .before .args .b .now) _ _ (c .before .before .before .before .before .before .before .before .before .before .before .before .before .pre .1) (λ z. c .before .before .before .before .before .before .before .before .before .if1 .left (c .before .before .before .before .before .before .before .before .before .before .num32 .ensures .same ∙ z))) .0; below = omega (arith, c .before .before .before .before .before .before .before .before .before .before .before .before .before .pre .1 .below); short = c .before .before .before .before .before .before .before .before .before .before .before .before .before .pre .1 .short }
 
--- src/list.rt:70:36
 list-tree-add-wide : (t : ℕ) → list-tree-lts.Need-add-wide (list-tree-calls t) (list-tree-at t) list-tree.Post
 list-tree-add-wide t c = omega (arith, (tree-head (c .before .before .before .before .before .before .before .before .before .before .before .before .before .before .before .before .args .b .now) _ _ (c .before .before .before .before .before .before .before .before .before .before .before .before .before .before .before .before .pre .1) (λ z. c .before .before .before .before .before .before .before .before .before .before .before .before .if1 .left (c .before .before .before .before .before .before .before .before .before .before .before .before .before .num32 .ensures .same ∙ z))) .0 .long, (tree-head (c .before .before .before .before .before .before .before .before .before .before .before .before .before .before .before .before .args .b .now) _ _ (c .before .before .before .before .before .before .before .before .before .before .before .before .before .before .before .before .pre .1) (λ z. c .before .before .before .before .before .before .before .before .before .before .before .before .if1 .left (c .before .before .before .before .before .before .before .before .before .before .before .before .before .num32 .ensures .same ∙ z))) .0 .inside, c .before .before .before .before .before .before .before .before .before .before .before .before .before .before .before .before .pre .1 .below, c .before .before .before .before .before .before .before .before .before .before .before .before .before .before .before .before .pre .1 .short, c .before .before .before .before .before .before .before .before .before .before .before .before .before .num32 .ensures .same)
 
--- src/list.rt:70:34
 list-tree-shared-slice-read-wide : (t : ℕ) → list-tree-lts.Need-shared-slice-read-wide (list-tree-calls t) (list-tree-at t) list-tree.Post
 list-tree-shared-slice-read-wide t c = omega (arith, (tree-head (c .before .before .before .before .before .before .before .before .before .before .before .before .before .before .before .before .before .args .b .now) _ _ (c .before .before .before .before .before .before .before .before .before .before .before .before .before .before .before .before .before .pre .1) (λ z. c .before .before .before .before .before .before .before .before .before .before .before .before .before .if1 .left (c .before .before .before .before .before .before .before .before .before .before .before .before .before .before .num32 .ensures .same ∙ z))) .0 .long, (tree-head (c .before .before .before .before .before .before .before .before .before .before .before .before .before .before .before .before .before .args .b .now) _ _ (c .before .before .before .before .before .before .before .before .before .before .before .before .before .before .before .before .before .pre .1) (λ z. c .before .before .before .before .before .before .before .before .before .before .before .before .before .if1 .left (c .before .before .before .before .before .before .before .before .before .before .before .before .before .before .num32 .ensures .same ∙ z))) .0 .inside, c .before .before .before .before .before .before .before .before .before .before .before .before .before .before .before .before .before .pre .1 .below, c .before .before .before .before .before .before .before .before .before .before .before .before .before .before .before .before .before .pre .1 .short, c .before .before .before .before .before .before .before .before .before .before .before .before .before .before .num32 .ensures .same)
 
--- src/list.rt:70:29
 list-tree-wide-requires : (t : ℕ) → list-tree-lts.Need-wide-requires (list-tree-calls t) (list-tree-at t) list-tree.Post
 list-tree-wide-requires t c κs = search needs
 
--- src/list.rt:70:51
 list-tree-add-first-child : (t : ℕ) → list-tree-lts.Need-add-first-child (list-tree-calls t) (list-tree-at t) list-tree.Post
 list-tree-add-first-child t c = omega (arith, (tree-head (c .before .before .before .before .before .before .before .before .before .before .before .before .before .before .before .before .before .before .args .b .now) _ _ (c .before .before .before .before .before .before .before .before .before .before .before .before .before .before .before .before .before .before .pre .1) (λ z. c .before .before .before .before .before .before .before .before .before .before .before .before .before .before .if1 .left (c .before .before .before .before .before .before .before .before .before .before .before .before .before .before .before .num32 .ensures .same ∙ z))) .0 .long, (tree-head (c .before .before .before .before .before .before .before .before .before .before .before .before .before .before .before .before .before .before .args .b .now) _ _ (c .before .before .before .before .before .before .before .before .before .before .before .before .before .before .before .before .before .before .pre .1) (λ z. c .before .before .before .before .before .before .before .before .before .before .before .before .before .before .if1 .left (c .before .before .before .before .before .before .before .before .before .before .before .before .before .before .before .num32 .ensures .same ∙ z))) .0 .inside, c .before .before .before .before .before .before .before .before .before .before .before .before .before .before .before .before .before .before .pre .1 .below, c .before .before .before .before .before .before .before .before .before .before .before .before .before .before .before .before .before .before .pre .1 .short, c .before .before .before .before .before .before .before .before .before .before .before .before .before .before .before .num32 .ensures .same)
 
--- src/list.rt:70:9
 list-tree-first-child-requires : (t : ℕ) → list-tree-lts.Need-first-child-requires (list-tree-calls t) (list-tree-at t) list-tree.Post
 list-tree-first-child-requires t c κs = omega (arith, (tree-head (c .before .before .before .before .before .before .before .before .before .before .before .before .before .before .before .before .before .before .args .b .now) _ _ (c .before .before .before .before .before .before .before .before .before .before .before .before .before .before .before .before .before .before .pre .1) (λ z. c .before .before .before .before .before .before .before .before .before .before .before .before .before .before .if1 .left (c .before .before .before .before .before .before .before .before .before .before .before .before .before .before .before .num32 .ensures .same ∙ z))) .0 .long, (tree-head (c .before .before .before .before .before .before .before .before .before .before .before .before .before .before .before .before .before .before .args .b .now) _ _ (c .before .before .before .before .before .before .before .before .before .before .before .before .before .before .before .before .before .before .pre .1) (λ z. c .before .before .before .before .before .before .before .before .before .before .before .before .before .before .if1 .left (c .before .before .before .before .before .before .before .before .before .before .before .before .before .before .before .num32 .ensures .same ∙ z))) .0 .inside, c .before .before .before .before .before .before .before .before .before .before .before .before .before .before .before .before .before .before .pre .1 .below, c .before .before .before .before .before .before .before .before .before .before .before .before .before .before .before .before .before .before .pre .1 .short, c .before .before .before .before .before .before .before .before .before .before .before .before .before .before .before .num32 .ensures .same)
 
--- src/list.rt:71:9
 list-tree-list-trees-requires : (t : ℕ) → list-tree-lts.Need-list-trees-requires (list-tree-calls t) (list-tree-at t) list-tree.Post
 list-tree-list-trees-requires t c κs = (omega (arith, c .before .before .before .before .before .before .before .before .before .before .before .before .before .before .before .before .before .before .before .before .pre .0, (tree-head (c .before .before .before .before .before .before .before .before .before .before .before .before .before .before .before .before .before .before .before .before .args .b .now) _ _ (c .before .before .before .before .before .before .before .before .before .before .before .before .before .before .before .before .before .before .before .before .pre .1) (λ z. c .before .before .before .before .before .before .before .before .before .before .before .before .before .before .before .before .if1 .left (c .before .before .before .before .before .before .before .before .before .before .before .before .before .before .before .before .before .num32 .ensures .same ∙ z))) .0 .long, (tree-head (c .before .before .before .before .before .before .before .before .before .before .before .before .before .before .before .before .before .before .before .before .args .b .now) _ _ (c .before .before .before .before .before .before .before .before .before .before .before .before .before .before .before .before .before .before .before .before .pre .1) (λ z. c .before .before .before .before .before .before .before .before .before .before .before .before .before .before .before .before .if1 .left (c .before .before .before .before .before .before .before .before .before .before .before .before .before .before .before .before .before .num32 .ensures .same ∙ z))) .0 .inside, c .before .before .before .before .before .before .before .before .before .before .before .before .before .before .before .before .before .before .before .before .pre .1 .below, c .before .before .before .before .before .before .before .before .before .before .before .before .before .before .before .before .before .before .before .before .pre .1 .short, c .before .before .before .before .before .before .before .before .before .before .before .before .before .before .before .before .before .num32 .ensures .same, first-is (c .before .before .before .before .before .before .before .before .before .before .before .before .before .before .before .before .before .before .before .before .args .b .now) _ _ _ _ (c .before .before .wide .ensures .0) (c .before .before .before .before .before .before .before .before .before .before .before .before .before .before .before .before .before .num32 .ensures .same) (c .before .first-child .ensures), first-behind (c .before .before .before .before .before .before .before .before .before .before .before .before .before .before .before .before .before .before .before .before .args .b .now) _ ((tree-head (c .before .before .before .before .before .before .before .before .before .before .before .before .before .before .before .before .before .before .before .before .args .b .now) _ _ (c .before .before .before .before .before .before .before .before .before .before .before .before .before .before .before .before .before .before .before .before .pre .1) (λ z. c .before .before .before .before .before .before .before .before .before .before .before .before .before .before .before .before .if1 .left (c .before .before .before .before .before .before .before .before .before .before .before .before .before .before .before .before .before .num32 .ensures .same ∙ z))) .0)), row-there (c .before .before .before .before .before .before .before .before .before .before .before .before .before .before .before .before .before .before .before .before .args .b .now) _ _ _ _ _ (c .before .before .before .before .before .before .before .before .before .before .copy .last .1 .1 .1 .0) (c .before .before .before .before .before .before .list-payload .last .1 .1 .0) (c .before .before .before .before .before .before .before .before .before .before .before .before .before .before .before .before .before .before .before .before .pre .1) (λ z. c .before .before .before .before .before .before .before .before .before .before .before .before .before .before .before .before .if1 .left (c .before .before .before .before .before .before .before .before .before .before .before .before .before .before .before .before .before .num32 .ensures .same ∙ z)) (c .before .before .before .before .before .before .before .before .before .before .before .before .before .before .before .before .before .num32 .ensures .same) (first-is (c .before .before .before .before .before .before .before .before .before .before .before .before .before .before .before .before .before .before .before .before .args .b .now) _ _ _ _ (c .before .before .wide .ensures .0) (c .before .before .before .before .before .before .before .before .before .before .before .before .before .before .before .before .before .num32 .ensures .same) (c .before .first-child .ensures)) (c .before .before .before .before .before .before .list-payload .ensures))
 
--- src/list.rt:72:20
 list-tree-cast-put-3 : (t : ℕ) → list-tree-lts.Need-cast-put-3 (list-tree-calls t) (list-tree-at t) list-tree.Post
 list-tree-cast-put-3 t c = search needs
 
--- src/list.rt:72:5
 list-tree-put-requires-3 : (t : ℕ) → list-tree-lts.Need-put-requires-3 (list-tree-calls t) (list-tree-at t) list-tree.Post
 list-tree-put-requires-3 t c κs = search needs
 
--- src/list.rt:73:5
 list-tree-add-result-2 : (t : ℕ) → list-tree-lts.Need-add-result-2 (list-tree-calls t) (list-tree-at t) list-tree.Post
 list-tree-add-result-2 t c = omega (arith, row-last (c .before .before .before .before .before .before .before .before .before .before .before .before .before .before .before .before .before .before .before .before .before .before .before .before .before .before .before .args .b .now) _ _ _ _ _ _ (row-there (c .before .before .before .before .before .before .before .before .before .before .before .before .before .before .before .before .before .before .before .before .before .before .before .before .before .before .before .args .b .now) _ _ _ _ _ (c .before .before .before .before .before .before .before .before .before .before .before .before .before .before .before .before .before .copy .last .1 .1 .1 .0) (c .before .before .before .before .before .before .before .before .before .before .before .before .before .list-payload .last .1 .1 .0) (c .before .before .before .before .before .before .before .before .before .before .before .before .before .before .before .before .before .before .before .before .before .before .before .before .before .before .before .pre .1) (λ z. c .before .before .before .before .before .before .before .before .before .before .before .before .before .before .before .before .before .before .before .before .before .before .before .if1 .left (c .before .before .before .before .before .before .before .before .before .before .before .before .before .before .before .before .before .before .before .before .before .before .before .before .num32 .ensures .same ∙ z)) (c .before .before .before .before .before .before .before .before .before .before .before .before .before .before .before .before .before .before .before .before .before .before .before .before .num32 .ensures .same) (first-is (c .before .before .before .before .before .before .before .before .before .before .before .before .before .before .before .before .before .before .before .before .before .before .before .before .before .before .before .args .b .now) _ _ _ _ (c .before .before .before .before .before .before .before .before .before .wide .ensures .0) (c .before .before .before .before .before .before .before .before .before .before .before .before .before .before .before .before .before .before .before .before .before .before .before .before .num32 .ensures .same) (c .before .before .before .before .before .before .before .before .first-child .ensures)) (c .before .before .before .before .before .before .before .before .before .before .before .before .before .list-payload .ensures)) (c .before .before .before .before .before .before .list-trees .ensures), (tree-head (c .before .before .before .before .before .before .before .before .before .before .before .before .before .before .before .before .before .before .before .before .before .before .before .before .before .before .before .args .b .now) _ _ (c .before .before .before .before .before .before .before .before .before .before .before .before .before .before .before .before .before .before .before .before .before .before .before .before .before .before .before .pre .1) (λ z. c .before .before .before .before .before .before .before .before .before .before .before .before .before .before .before .before .before .before .before .before .before .before .before .if1 .left (c .before .before .before .before .before .before .before .before .before .before .before .before .before .before .before .before .before .before .before .before .before .before .before .before .num32 .ensures .same ∙ z))) .0 .long, (tree-head (c .before .before .before .before .before .before .before .before .before .before .before .before .before .before .before .before .before .before .before .before .before .before .before .before .before .before .before .args .b .now) _ _ (c .before .before .before .before .before .before .before .before .before .before .before .before .before .before .before .before .before .before .before .before .before .before .before .before .before .before .before .pre .1) (λ z. c .before .before .before .before .before .before .before .before .before .before .before .before .before .before .before .before .before .before .before .before .before .before .before .if1 .left (c .before .before .before .before .before .before .before .before .before .before .before .before .before .before .before .before .before .before .before .before .before .before .before .before .num32 .ensures .same ∙ z))) .0 .inside, c .before .before .before .before .before .before .before .before .before .before .before .before .before .before .before .before .before .before .before .before .before .before .before .before .before .before .before .pre .1 .below, c .before .before .before .before .before .before .before .before .before .before .before .before .before .before .before .before .before .before .before .before .before .before .before .before .before .before .before .pre .1 .short, c .before .before .before .before .before .before .before .before .before .before .before .before .before .before .before .before .before .before .before .before .before .before .before .before .num32 .ensures .same)
 
--- src/list.rt:57:1
 list-tree-same-length-2 : (t : ℕ) → list-tree-lts.Need-same-length-2 (list-tree-calls t) (list-tree-at t) list-tree.Post
 list-tree-same-length-2 t c = search needs
 
--- src/list.rt:57:1
 list-tree-returns-2 : (t : ℕ) → list-tree-lts.Need-returns-2 (list-tree-calls t) (list-tree-at t) list-tree.Post
 list-tree-returns-2 t c = puts-record (c .before .before .before .before .before .before .before .before .before .before .before .before .before .before .before .before .before .before .before .before .before .before .before .before .before .before .before .args .b .now) _ _ _ _ _ _ _ _ _ _ (λ i. omega (arith, c .before .before .before .before .before .before .before .before .before .before .shared-slice-known2 .given i)) (λ z. c .before .before .before .before .before .before .before .before .before .before .before .before .before .before .before .before .before .before .before .before .before .before .before .if1 .left (c .before .before .before .before .before .before .before .before .before .before .before .before .before .before .before .before .before .before .before .before .before .before .before .before .num32 .ensures .same ∙ z)) (c .before .before .before .before .before .before .before .before .before .before .before .before .before .before .before .before .before .before .before .before .before .put2 .ensures) (c .before .before .before .before .before .before .before .before .before .before .before .before .before .before .before .before .before .copy .ensures) (c .before .before .before .before .before .before .before .before .before .before .before .before .before .list-payload .ensures) (row-at (c .before .before .before .before .before .before .before .before .before .before .before .before .before .before .before .before .before .before .before .before .before .before .before .before .before .before .before .args .b .now) _ _ _ _ _ _ _ (c .before .before .before .before .before .before .before .before .before .before .before .before .before .before .before .before .before .before .before .before .before .before .before .before .num32 .ensures .same) (first-is (c .before .before .before .before .before .before .before .before .before .before .before .before .before .before .before .before .before .before .before .before .before .before .before .before .before .before .before .args .b .now) _ _ _ _ (c .before .before .before .before .before .before .before .before .before .wide .ensures .0) (c .before .before .before .before .before .before .before .before .before .before .before .before .before .before .before .before .before .before .before .before .before .before .before .before .num32 .ensures .same) (c .before .before .before .before .before .before .before .before .first-child .ensures)) (c .before .before .before .before .before .before .list-trees .ensures)) (c .before .before .put3 .ensures)
 
@@ -166,39 +139,30 @@ list-trees-Inv-loop b first stop out₀ start at₀ pos₀ out at pos = Rows b f
 abbrev list-trees-μ-loop : list-trees-lts.MeasureT-loop
 list-trees-μ-loop b first stop out₀ start at₀ pos₀ out at pos = stop - at
 
--- src/list.rt:83:5
 list-trees-loop-holds : (t : ℕ) → list-trees-lts.Need-loop-holds (list-trees-calls t) (list-trees-at t) list-trees.Post list-trees-Inv-loop list-trees-μ-loop
 list-trees-loop-holds t c = rows-none _ _ _ _ _ (c .before .before .pre .1)
 
--- src/list.rt:84:9
 list-trees-list-tree-requires : (t : ℕ) → list-trees-lts.Need-list-tree-requires (list-trees-calls t) (list-trees-at t) list-trees.Post list-trees-Inv-loop list-trees-μ-loop
 list-trees-list-tree-requires t c κs = (omega (arith, c .before .before .before .before .before .pre .0, c .before .before .loop .inv .from), row-tree (c .before .before .before .before .before .args .b .now) _ _ _ _ _ _ _ (c .before .before .before .before .before .pre .1) (c .before .before .loop .inv) (c .before .loop-test .taken))
 
--- src/list.rt:85:24
 list-trees-num32-requires : (t : ℕ) → list-trees-lts.Need-num32-requires (list-trees-calls t) (list-trees-at t) list-trees.Post list-trees-Inv-loop list-trees-μ-loop
 list-trees-num32-requires t c κs = omega (arith, (tree-within (c .before .before .before .before .before .before .before .before .args .b .now) _ _ (row-tree (c .before .before .before .before .before .before .before .before .args .b .now) _ _ _ _ _ _ _ (c .before .before .before .before .before .before .before .before .pre .1) (c .before .before .before .before .before .loop .inv) (c .before .before .before .before .loop-test .taken))) .0, (tree-within (c .before .before .before .before .before .before .before .before .args .b .now) _ _ (row-tree (c .before .before .before .before .before .before .before .before .args .b .now) _ _ _ _ _ _ _ (c .before .before .before .before .before .before .before .before .pre .1) (c .before .before .before .before .before .loop .inv) (c .before .before .before .before .loop-test .taken))) .1)
 
--- src/list.rt:85:15
 list-trees-add-at : (t : ℕ) → list-trees-lts.Need-add-at (list-trees-calls t) (list-trees-at t) list-trees.Post list-trees-Inv-loop list-trees-μ-loop
 list-trees-add-at t c = omega (arith, c .num32 .ensures .small)
 
--- src/list.rt:85:9
 list-trees-add-at-2 : (t : ℕ) → list-trees-lts.Need-add-at-2 (list-trees-calls t) (list-trees-at t) list-trees.Post list-trees-Inv-loop list-trees-μ-loop
 list-trees-add-at-2 t c = omega (arith, (tree-within (c .before .before .before .before .before .before .before .before .before .args .b .now) _ _ (row-tree (c .before .before .before .before .before .before .before .before .before .args .b .now) _ _ _ _ _ _ _ (c .before .before .before .before .before .before .before .before .before .pre .1) (c .before .before .before .before .before .before .loop .inv) (c .before .before .before .before .before .loop-test .taken))) .1, c .num32 .ensures .same, c .before .before .before .before .before .before .before .before .before .pre .1 .short)
 
--- src/list.rt:83:5
 list-trees-loop-less : (t : ℕ) → list-trees-lts.Need-loop-less (list-trees-calls t) (list-trees-at t) list-trees.Post list-trees-Inv-loop list-trees-μ-loop
 list-trees-loop-less t c = omega (arith, (tree-within (c .before .before .before .before .before .before .before .before .before .args .b .now) _ _ (row-tree (c .before .before .before .before .before .before .before .before .before .args .b .now) _ _ _ _ _ _ _ (c .before .before .before .before .before .before .before .before .before .pre .1) (c .before .before .before .before .before .before .loop .inv) (c .before .before .before .before .before .loop-test .taken))) .0, c .num32 .ensures .same, c .before .before .before .before .before .loop-test .taken)
 
--- src/list.rt:83:5
 list-trees-loop-again : (t : ℕ) → list-trees-lts.Need-loop-again (list-trees-calls t) (list-trees-at t) list-trees.Post list-trees-Inv-loop list-trees-μ-loop
 list-trees-loop-again t c = rows-one (c .before .before .before .before .before .before .before .before .before .args .b .now) _ _ _ _ _ _ _ _ _ _ (c .before .before .before .before .before .before .before .before .before .pre .1) (c .before .before .before .before .before .before .loop .inv) (c .before .before .before .before .before .loop-test .taken) (c .before .before .before .list-tree .kept .1 .1 .0) (omega (arith, c .num32 .ensures .same)) (c .before .before .before .list-tree .ensures)
 
--- src/list.rt:77:1
 list-trees-same-length : (t : ℕ) → list-trees-lts.Need-same-length (list-trees-calls t) (list-trees-at t) list-trees.Post list-trees-Inv-loop list-trees-μ-loop
 list-trees-same-length t c = c .before .loop .inv .room
 
--- src/list.rt:77:1
 list-trees-returns : (t : ℕ) → list-trees-lts.Need-returns (list-trees-calls t) (list-trees-at t) list-trees.Post list-trees-Inv-loop list-trees-μ-loop
 list-trees-returns t c = rows-end (c .before .before .before .before .args .b .now) _ _ _ _ _ _ _ (c .before .loop .inv) (c .loop-test .left)
 

@@ -86,91 +86,69 @@ put-children-calls t = (put-child-below t, put-child.Post, after-row-reads.Asked
 abbrev put-record-calls : ℕ → put-record-lts.Claims
 put-record-calls t = (opens-reads.Asked, opens-reads.Learnt, wide-reads.Asked, wide-reads.Learnt, copy-reads.Asked, copy-reads.Learnt, put-payload-reads.Asked, put-payload-reads.Learnt, row-under-reads.Asked, row-under-reads.Learnt, put-children-below t, put-children.Post, put32-reads.Asked, put32-reads.Learnt)
 
--- src/records.rt:42:8
 put-child-stands-requires : (t : ℕ) → put-child-lts.Need-stands-requires (put-child-calls t) (put-child-at t) put-child.Post
 put-child-stands-requires t c κs = (c .before .before .pre .1 .inside, omega arith)
 
--- src/records.rt:43:12
 put-child-is-over-requires : (t : ℕ) → put-child-lts.Need-is-over-requires (put-child-calls t) (put-child-at t) put-child.Post
 put-child-is-over-requires t c κs = search needs
 
--- src/records.rt:44:34
 put-child-add-t13 : (t : ℕ) → put-child-lts.Need-add-t13 (put-child-calls t) (put-child-at t) put-child.Post
 put-child-add-t13 t c = omega (arith, stood _ _ _ _ (sym (c .before .before .before .stands .ensures) ∙ c .before .before .if1 .taken) .0)
 
--- src/records.rt:44:13
 put-child-returns : (t : ℕ) → put-child-lts.Need-returns (put-child-calls t) (put-child-at t) put-child.Post
 put-child-returns t c = close-held _ _ _ _ _ _ (sym (c .before .before .before .stands .ensures) ∙ c .before .before .if1 .taken) (sym (c .before .is-over .ensures) ∙ c .if2 .taken)
 
--- src/records.rt:46:9
 put-child-returns-2 : (t : ℕ) → put-child-lts.Need-returns-2 (put-child-calls t) (put-child-at t) put-child.Post
 put-child-returns-2 t c = sym (ap (childBy _ _) (child-unclosed _ _ _ _ (sym (c .before .before .before .stands .ensures) ∙ c .before .before .if1 .taken) (sym (c .before .is-over .ensures) ∙ c .if2 .left)))
 
--- src/records.rt:48:8
 put-child-stands-requires-2 : (t : ℕ) → put-child-lts.Need-stands-requires-2 (put-child-calls t) (put-child-at t) put-child.Post
 put-child-stands-requires-2 t c κs = (c .before .before .before .before .pre .1 .inside, omega arith)
 
--- src/records.rt:50:13
 put-child-put32-requires : (t : ℕ) → put-child-lts.Need-put32-requires (put-child-calls t) (put-child-at t) put-child.Post
 put-child-put32-requires t c κs = omega (arith, stood _ _ _ _ (sym (c .before .before .before .stands2 .ensures) ∙ c .before .before .if3 .taken) .0, optional-place (c .before .before .before .before .before .before .before .before .pre .1) (c .before .if4 .taken), c .before .before .before .before .before .before .before .before .pre .1 .below)
 
--- src/records.rt:51:32
 put-child-add-t21 : (t : ℕ) → put-child-lts.Need-add-t21 (put-child-calls t) (put-child-at t) put-child.Post
 put-child-add-t21 t c = omega (arith, stood _ _ _ _ (sym (c .before .before .before .before .before .before .stands2 .ensures) ∙ c .before .before .before .before .before .if3 .taken) .0)
 
--- src/records.rt:51:40
 put-child-add-t22 : (t : ℕ) → put-child-lts.Need-add-t22 (put-child-calls t) (put-child-at t) put-child.Post
 put-child-add-t22 t c = omega (arith, stood _ _ _ _ (sym (c .before .before .before .before .before .before .stands2 .ensures) ∙ c .before .before .before .before .before .if3 .taken) .0, optional-place (c .before .before .before .before .before .before .before .before .before .before .before .pre .1) (c .before .before .before .before .if4 .taken), c .before .before .before .before .before .before .before .before .before .before .before .pre .1 .below)
 
--- src/records.rt:51:13
 put-child-same-length : (t : ℕ) → put-child-lts.Need-same-length (put-child-calls t) (put-child-at t) put-child.Post
 put-child-same-length t c = search needs
 
--- src/records.rt:51:13
 put-child-returns-3 : (t : ℕ) → put-child-lts.Need-returns-3 (put-child-calls t) (put-child-at t) put-child.Post
 put-child-returns-3 t c = absent-held _ _ _ _ _ _ _ (sym (c .before .before .before .before .before .before .stands2 .ensures) ∙ c .before .before .before .before .before .if3 .taken) (c .before .before .before .before .if4 .taken) (c .before .before .put32 .ensures)
 
--- src/records.rt:53:9
 put-child-returns-4 : (t : ℕ) → put-child-lts.Need-returns-4 (put-child-calls t) (put-child-at t) put-child.Post
 put-child-returns-4 t c = sym (ap (childBy _ _) (child-due _ _ _ _ (sym (c .before .before .stands2 .ensures) ∙ c .before .if3 .taken) (c .if4 .left)))
 
--- src/records.rt:55:9
 put-child-stands-requires-3 : (t : ℕ) → put-child-lts.Need-stands-requires-3 (put-child-calls t) (put-child-at t) put-child.Post
 put-child-stands-requires-3 t c κs = (c .before .before .before .before .before .before .pre .1 .inside, omega arith)
 
--- src/records.rt:56:9
 put-child-returns-5 : (t : ℕ) → put-child-lts.Need-returns-5 (put-child-calls t) (put-child-at t) put-child.Post
 put-child-returns-5 t c = sym (ap (childBy _ _) (child-not _ _ _ _ (sym (c .before .before .before .before .before .stands .ensures) ∙ c .before .before .before .before .if1 .left) (sym (c .before .before .before .stands2 .ensures) ∙ c .before .before .if3 .left) (sym (c .before .stands3 .ensures) ∙ not-true _ (c .if5 .taken))))
 
--- src/records.rt:59:9
 put-child-returns-6 : (t : ℕ) → put-child-lts.Need-returns-6 (put-child-calls t) (put-child-at t) put-child.Post
 put-child-returns-6 t c = sym (ap (childBy _ _) (child-spare _ _ _ _ (sym (c .before .before .stands3 .ensures) ∙ not-false _ (c .before .if5 .left)) (c .if6 .taken)))
 
--- src/records.rt:61:11
 put-child-put-record-requires : (t : ℕ) → put-child-lts.Need-put-record-requires (put-child-calls t) (put-child-at t) put-child.Post
 put-child-put-record-requires t c κs = (omega (arith, c .before .before .before .before .before .before .before .before .before .before .pre .0), record-due (c .before .before .before .before .before .before .before .before .before .before .pre .1) (c .before .if6 .left))
 
--- src/records.rt:62:24
 put-child-enum-known-n : (t : ℕ) → put-child-lts.Need-enum-known-n (put-child-calls t) (put-child-at t) put-child.Post
 put-child-enum-known-n t c = search needs
 
--- src/records.rt:63:23
 put-child-enum-known-next : (t : ℕ) → put-child-lts.Need-enum-known-next (put-child-calls t) (put-child-at t) put-child.Post
 put-child-enum-known-next t c = search needs
 
--- src/records.rt:38:1
 put-child-same-length-2 : (t : ℕ) → put-child-lts.Need-same-length-2 (put-child-calls t) (put-child-at t) put-child.Post
 put-child-same-length-2 t c = search needs
 
--- src/records.rt:38:1
 put-child-returns-7 : (t : ℕ) → put-child-lts.Need-returns-7 (put-child-calls t) (put-child-at t) put-child.Post
 put-child-returns-7 t c = ap (λ (r : Reached). putOf r (c .before .before .before .before .before .put-record .last .1 .1 .1 .1 .0)) (sym (c .before .n .given .1)) ∙ c .before .before .before .before .before .put-record .ensures ∙ sym (open-held _ _ _ _ _ _ (sym (c .before .before .before .before .before .before .before .before .before .stands3 .ensures) ∙ not-false _ (c .before .before .before .before .before .before .before .before .if5 .left)) (c .before .before .before .before .before .before .before .if6 .left))
 
--- src/records.rt:38:1
 put-child-same-length-3 : (t : ℕ) → put-child-lts.Need-same-length-3 (put-child-calls t) (put-child-at t) put-child.Post
 put-child-same-length-3 t c = search needs
 
--- src/records.rt:38:1
 put-child-returns-8 : (t : ℕ) → put-child-lts.Need-returns-8 (put-child-calls t) (put-child-at t) put-child.Post
 put-child-returns-8 t c = ap (λ (r : Reached). putOf r (c .before .before .before .before .before .put-record .last .1 .1 .1 .1 .0)) (sym (c .before .next .given .1)) ∙ c .before .before .before .before .before .put-record .ensures ∙ sym (open-held _ _ _ _ _ _ (sym (c .before .before .before .before .before .before .before .before .before .stands3 .ensures) ∙ not-false _ (c .before .before .before .before .before .before .before .before .if5 .left)) (c .before .before .before .before .before .before .before .if6 .left))
 
@@ -181,167 +159,126 @@ put-children-Inv-loop l left places first out₀ start row₀ at₀ pos₀ out r
 abbrev put-children-μ-loop : put-children-lts.MeasureT-loop
 put-children-μ-loop l left places first out₀ start row₀ at₀ pos₀ out row at pos = length l - at
 
--- src/records.rt:82:5
 put-children-loop-holds : (t : ℕ) → put-children-lts.Need-loop-holds (put-children-calls t) (put-children-at t) put-children.Post put-children-Inv-loop put-children-μ-loop
 put-children-loop-holds t c = record { turns = length (c .before .before .args .l .now); enough = omega arith; due = c .before .before .pre .1; room = refl; same = refl }
 
--- src/records.rt:83:15
 put-children-put-child-requires : (t : ℕ) → put-children-lts.Need-put-child-requires (put-children-calls t) (put-children-at t) put-children.Post put-children-Inv-loop put-children-μ-loop
 put-children-put-child-requires t c κs = (omega (arith, c .before .before .before .before .pre .0), c .before .loop .inv .due)
 
--- src/records.rt:84:27
 put-children-enum-known-end : (t : ℕ) → put-children-lts.Need-enum-known-end (put-children-calls t) (put-children-at t) put-children.Post put-children-Inv-loop put-children-μ-loop
 put-children-enum-known-end t c = search needs
 
--- src/records.rt:85:17
 put-children-same-length : (t : ℕ) → put-children-lts.Need-same-length (put-children-calls t) (put-children-at t) put-children.Post put-children-Inv-loop put-children-μ-loop
 put-children-same-length t c = c .before .before .before .before .before .put-child .kept .1 .1 .1 .1 .0 ∙ c .before .before .before .before .before .before .before .loop .inv .room
 
--- src/records.rt:85:17
 put-children-returns : (t : ℕ) → put-children-lts.Need-returns (put-children-calls t) (put-children-at t) put-children.Post put-children-Inv-loop put-children-μ-loop
 put-children-returns t c = goes-closed (c .before .before .before .before .before .before .before .before .before .before .args .l .now) (c .before .before .before .before .before .before .before .before .before .before .args .left) _ _ _ _ _ _ (c .before .before .before .before .before .before .before .loop .inv) (c .before .end .given .0 .0) (c .before .before .before .before .before .put-child .last .1 .1 .1 .1 .0) (ap (λ (r : Child). childOf r (c .before .before .before .before .before .put-child .last .1 .1 .1 .1 .0)) (sym (c .before .end .given .1)) ∙ c .before .before .before .before .before .put-child .ensures)
 
--- src/records.rt:87:26
 put-children-enum-known-n : (t : ℕ) → put-children-lts.Need-enum-known-n (put-children-calls t) (put-children-at t) put-children.Post put-children-Inv-loop put-children-μ-loop
 put-children-enum-known-n t c = search needs
 
--- src/records.rt:88:17
 put-children-same-length-2 : (t : ℕ) → put-children-lts.Need-same-length-2 (put-children-calls t) (put-children-at t) put-children.Post put-children-Inv-loop put-children-μ-loop
 put-children-same-length-2 t c = c .before .before .before .before .before .put-child .kept .1 .1 .1 .1 .0 ∙ c .before .before .before .before .before .before .before .loop .inv .room
 
--- src/records.rt:88:17
 put-children-returns-2 : (t : ℕ) → put-children-lts.Need-returns-2 (put-children-calls t) (put-children-at t) put-children.Post put-children-Inv-loop put-children-μ-loop
 put-children-returns-2 t c = goes-wrong (c .before .before .before .before .before .before .before .before .before .before .args .l .now) (c .before .before .before .before .before .before .before .before .before .before .args .left) _ _ _ _ _ _ (c .before .before .before .before .before .before .before .loop .inv) (c .before .n .given .0 .0) (c .before .n .given .0 .1 .0) (ap (λ (r : Child). childOf r (c .before .before .before .before .before .put-child .last .1 .1 .1 .1 .0)) (sym (c .before .n .given .1)) ∙ c .before .before .before .before .before .put-child .ensures)
 
--- src/records.rt:90:25
 put-children-enum-known-next : (t : ℕ) → put-children-lts.Need-enum-known-next (put-children-calls t) (put-children-at t) put-children.Post put-children-Inv-loop put-children-μ-loop
 put-children-enum-known-next t c = search needs
 
--- src/records.rt:91:17
 put-children-after-row-requires : (t : ℕ) → put-children-lts.Need-after-row-requires (put-children-calls t) (put-children-at t) put-children.Post put-children-Inv-loop put-children-μ-loop
 put-children-after-row-requires t c κs = search needs
 
--- src/records.rt:82:5
 put-children-loop-less : (t : ℕ) → put-children-lts.Need-loop-less (put-children-calls t) (put-children-at t) put-children.Post put-children-Inv-loop put-children-μ-loop
 put-children-loop-less t c = let w = goes-on (c .before .before .before .before .before .before .before .before .before .before .before .args .l .now) (c .before .before .before .before .before .before .before .before .before .before .before .args .left) _ _ _ _ _ _ (c .before .before .before .before .before .before .before .before .loop .inv) (c .before .before .next .given .0 .0) (c .before .before .next .given .0 .1 .0) (c .before .before .before .before .before .before .put-child .last .1 .1 .1 .1 .0) (c .before .before .before .before .before .before .put-child .kept .1 .1 .1 .1 .0) (ap (λ (r : Child). childOf r (c .before .before .before .before .before .before .put-child .last .1 .1 .1 .1 .0)) (sym (c .before .before .next .given .1)) ∙ c .before .before .before .before .before .before .put-child .ensures) in omega (arith, w .0, w .1 .0)
 
--- src/records.rt:82:5
 put-children-loop-again : (t : ℕ) → put-children-lts.Need-loop-again (put-children-calls t) (put-children-at t) put-children.Post put-children-Inv-loop put-children-μ-loop
 put-children-loop-again t c = rw (c .after-row .ensures) ((goes-on (c .before .before .before .before .before .before .before .before .before .before .before .args .l .now) (c .before .before .before .before .before .before .before .before .before .before .before .args .left) _ _ _ _ _ _ (c .before .before .before .before .before .before .before .before .loop .inv) (c .before .before .next .given .0 .0) (c .before .before .next .given .0 .1 .0) (c .before .before .before .before .before .before .put-child .last .1 .1 .1 .1 .0) (c .before .before .before .before .before .before .put-child .kept .1 .1 .1 .1 .0) (ap (λ (r : Child). childOf r (c .before .before .before .before .before .before .put-child .last .1 .1 .1 .1 .0)) (sym (c .before .before .next .given .1)) ∙ c .before .before .before .before .before .before .put-child .ensures)) .1 .1)
 
--- src/records.rt:112:9
 put-record-returns : (t : ℕ) → put-record-lts.Need-returns (put-record-calls t) (put-record-at t) put-record.Post
 put-record-returns t c = sym (ap (putBy _ _ _) (record-deep _ _ _ _ (c .if1 .taken)))
 
--- src/records.rt:114:9
 put-record-opens-requires : (t : ℕ) → put-record-lts.Need-opens-requires (put-record-calls t) (put-record-at t) put-record.Post
 put-record-opens-requires t c κs = c .before .before .before .pre .1 .inside
 
--- src/records.rt:115:9
 put-record-returns-2 : (t : ℕ) → put-record-lts.Need-returns-2 (put-record-calls t) (put-record-at t) put-record.Post
 put-record-returns-2 t c = sym (ap (putBy _ _ _) (record-not _ _ _ _ (not-opened _ _ _ (sym (c .before .opens .ensures) ∙ not-true _ (c .if2 .taken)))))
 
--- src/records.rt:117:23
 put-record-add-wide : (t : ℕ) → put-record-lts.Need-add-wide (put-record-calls t) (put-record-at t) put-record.Post
 put-record-add-wide t c = omega (arith, stood _ _ _ _ ((was-opened _ _ _ (sym (c .before .opens .ensures) ∙ not-false _ (c .if2 .left))) .0) .0)
 
--- src/records.rt:117:21
 put-record-shared-slice-read-wide : (t : ℕ) → put-record-lts.Need-shared-slice-read-wide (put-record-calls t) (put-record-at t) put-record.Post
 put-record-shared-slice-read-wide t c = omega (arith, stood _ _ _ _ ((was-opened _ _ _ (sym (c .before .before .opens .ensures) ∙ not-false _ (c .before .if2 .left))) .0) .0)
 
--- src/records.rt:117:9
 put-record-wide-requires : (t : ℕ) → put-record-lts.Need-wide-requires (put-record-calls t) (put-record-at t) put-record.Post
 put-record-wide-requires t c κs = search needs
 
--- src/records.rt:118:13
 put-record-add-copy : (t : ℕ) → put-record-lts.Need-add-copy (put-record-calls t) (put-record-at t) put-record.Post
 put-record-add-copy t c = omega (arith, stood _ _ _ _ ((was-opened _ _ _ (sym (c .before .before .before .opens .ensures) ∙ not-false _ (c .before .before .if2 .left))) .0) .0)
 
--- src/records.rt:118:21
 put-record-add-copy-2 : (t : ℕ) → put-record-lts.Need-add-copy-2 (put-record-calls t) (put-record-at t) put-record.Post
 put-record-add-copy-2 t c = omega (arith, stood _ _ _ _ ((was-opened _ _ _ (sym (c .before .before .before .opens .ensures) ∙ not-false _ (c .before .before .if2 .left))) .0) .0)
 
--- src/records.rt:118:43
 put-record-add-copy-3 : (t : ℕ) → put-record-lts.Need-add-copy-3 (put-record-calls t) (put-record-at t) put-record.Post
 put-record-add-copy-3 t c = omega (arith, stood _ _ _ _ ((was-opened _ _ _ (sym (c .before .before .before .before .opens .ensures) ∙ not-false _ (c .before .before .before .if2 .left))) .0) .0, c .before .before .before .before .before .before .before .before .pre .1 .below)
 
--- src/records.rt:118:5
 put-record-copy-requires : (t : ℕ) → put-record-lts.Need-copy-requires (put-record-calls t) (put-record-at t) put-record.Post
 put-record-copy-requires t c κs = (omega arith, (stood _ _ _ _ ((was-opened _ _ _ (sym (c .before .before .before .before .opens .ensures) ∙ not-false _ (c .before .before .before .if2 .left))) .0) .0, omega (arith, stood _ _ _ _ ((was-opened _ _ _ (sym (c .before .before .before .before .opens .ensures) ∙ not-false _ (c .before .before .before .if2 .left))) .0) .0, c .before .before .before .before .before .before .before .before .pre .1 .below)))
 
--- src/records.rt:119:35
 put-record-add-put-payload : (t : ℕ) → put-record-lts.Need-add-put-payload (put-record-calls t) (put-record-at t) put-record.Post
 put-record-add-put-payload t c = omega (arith, stood _ _ _ _ ((was-opened _ _ _ (sym (c .before .before .before .before .before .before .before .opens .ensures) ∙ not-false _ (c .before .before .before .before .before .before .if2 .left))) .0) .0)
 
--- src/records.rt:119:57
 put-record-add-put-payload-2 : (t : ℕ) → put-record-lts.Need-add-put-payload-2 (put-record-calls t) (put-record-at t) put-record.Post
 put-record-add-put-payload-2 t c = omega (arith, stood _ _ _ _ ((was-opened _ _ _ (sym (c .before .before .before .before .before .before .before .before .opens .ensures) ∙ not-false _ (c .before .before .before .before .before .before .before .if2 .left))) .0) .0, c .before .before .before .before .before .before .before .before .before .before .before .before .pre .1 .below)
 
--- src/records.rt:119:11
 put-record-put-payload-requires : (t : ℕ) → put-record-lts.Need-put-payload-requires (put-record-calls t) (put-record-at t) put-record.Post
 put-record-put-payload-requires t c κs = record { inside = stood _ _ _ _ ((was-opened _ _ _ (sym (c .before .before .before .before .before .before .before .before .opens .ensures) ∙ not-false _ (c .before .before .before .before .before .before .before .if2 .left))) .0) .0; below = omega (arith, c .before .before .before .before .before .before .before .before .before .before .before .before .pre .1 .below) }
 
--- src/records.rt:120:24
 put-record-enum-known-n : (t : ℕ) → put-record-lts.Need-enum-known-n (put-record-calls t) (put-record-at t) put-record.Post
 put-record-enum-known-n t c = search needs
 
--- src/records.rt:121:23
 put-record-enum-known-first : (t : ℕ) → put-record-lts.Need-enum-known-first (put-record-calls t) (put-record-at t) put-record.Post
 put-record-enum-known-first t c = search needs
 
--- src/records.rt:122:35
 put-record-sub-put-children : (t : ℕ) → put-record-lts.Need-sub-put-children (put-record-calls t) (put-record-at t) put-record.Post
 put-record-sub-put-children t c = omega (arith, c .before .before .before .before .before .before .before .before .before .before .before .before .before .before .before .if1 .left)
 
--- src/records.rt:122:45
 put-record-row-under-requires : (t : ℕ) → put-record-lts.Need-row-under-requires (put-record-calls t) (put-record-at t) put-record.Post
 put-record-row-under-requires t c κs = search needs
 
--- src/records.rt:122:19
 put-record-put-children-requires : (t : ℕ) → put-record-lts.Need-put-children-requires (put-record-calls t) (put-record-at t) put-record.Post
 put-record-put-children-requires t c κs = let k = was-held (λ (x : List ℕ). x) (c .before .before .before .before .before .before .before .before .before .before .before .before .before .before .before .before .before .before .before .before .args .pos + 13) (c .before .before .before .before .before .before .before .before .before .before .before .copy .last .1 .1 .1 .0) (payloadFrom (c .before .before .before .before .before .before .before .before .before .before .before .before .before .before .before .before .before .before .before .before .args .l .now) (c .before .before .before .before .before .before .before .before .before .before .before .before .before .before .before .before .before .before .before .before .args .p) (c .before .before .before .before .before .before .before .before .before .before .before .before .before .wide .result) (c .before .before .before .before .before .before .before .before .before .before .before .before .before .before .before .before .before .before .before .before .args .at + 10)) (c .before .before .before .first .given .0 .0) (c .before .before .before .first .given .0 .1 .0) (c .before .before .before .before .before .before .before .put-payload .last .1 .1 .1 .1 .0) (ap (λ (r : Reached). putOf r (c .before .before .before .before .before .before .before .put-payload .last .1 .1 .1 .1 .0)) (sym (c .before .before .before .first .given .1)) ∙ c .before .before .before .before .before .before .before .put-payload .ensures) in (omega (arith, c .before .before .before .before .before .before .before .before .before .before .before .before .before .before .before .before .before .before .before .before .pre .0, c .before .before .before .before .before .before .before .before .before .before .before .before .before .before .before .before .before .if1 .left), rw (k .place) (children-due (c .before .before .before .before .before .before .before .before .before .before .before .before .before .before .before .before .before .before .before .before .args .l .now) (c .before .before .before .before .before .before .before .before .before .before .before .before .before .before .before .before .before .before .before .before .args .p) (c .before .before .before .before .before .before .before .before .before .before .before .before .before .wide .result) (c .before .before .before .before .before .before .before .before .before .before .before .before .before .before .before .before .before .before .before .before .args .at) (c .before .before .before .before .before .before .before .before .before .before .before .before .before .before .before .before .before .before .before .before .args .pos) (c .before .before .before .before .before .before .before .before .before .before .before .before .before .before .before .before .before .before .before .before .pre .1) (stood _ _ _ _ ((was-opened _ _ _ (sym (c .before .before .before .before .before .before .before .before .before .before .before .before .before .before .before .before .opens .ensures) ∙ not-false _ (c .before .before .before .before .before .before .before .before .before .before .before .before .before .before .before .if2 .left))) .0) .0) (k .what) (c .before .before .before .first .given .0 .0) (c .before .row-under .result) (k .reads) (c .before .row-under .ensures)))
 
--- src/records.rt:123:32
 put-record-enum-known-n-2 : (t : ℕ) → put-record-lts.Need-enum-known-n-2 (put-record-calls t) (put-record-at t) put-record.Post
 put-record-enum-known-n-2 t c = search needs
 
--- src/records.rt:124:31
 put-record-enum-known-end : (t : ℕ) → put-record-lts.Need-enum-known-end (put-record-calls t) (put-record-at t) put-record.Post
 put-record-enum-known-end t c = search needs
 
--- src/records.rt:125:37
 put-record-sub-put32 : (t : ℕ) → put-record-lts.Need-sub-put32 (put-record-calls t) (put-record-at t) put-record.Post
 put-record-sub-put32 t c = let k = was-held (λ (x : List ℕ). x) (c .before .before .before .before .before .before .before .before .before .before .before .before .before .before .before .before .before .before .before .before .before .before .before .before .before .before .before .args .pos + 13) (c .before .before .before .before .before .before .before .before .before .before .before .before .before .before .before .before .before .before .copy .last .1 .1 .1 .0) (payloadFrom (c .before .before .before .before .before .before .before .before .before .before .before .before .before .before .before .before .before .before .before .before .before .before .before .before .before .before .before .args .l .now) (c .before .before .before .before .before .before .before .before .before .before .before .before .before .before .before .before .before .before .before .before .before .before .before .before .before .before .before .args .p) (c .before .before .before .before .before .before .before .before .before .before .before .before .before .before .before .before .before .before .before .before .wide .result) (c .before .before .before .before .before .before .before .before .before .before .before .before .before .before .before .before .before .before .before .before .before .before .before .before .before .before .before .args .at + 10)) (c .before .before .before .before .before .before .before .before .before .before .first .given .0 .0) (c .before .before .before .before .before .before .before .before .before .before .first .given .0 .1 .0) (c .before .before .before .before .before .before .before .before .before .before .before .before .before .before .put-payload .last .1 .1 .1 .1 .0) (ap (λ (r : Reached). putOf r (c .before .before .before .before .before .before .before .before .before .before .before .before .before .before .put-payload .last .1 .1 .1 .1 .0)) (sym (c .before .before .before .before .before .before .before .before .before .before .first .given .1)) ∙ c .before .before .before .before .before .before .before .before .before .before .before .before .before .before .put-payload .ensures) in let m = was-held writtens (c .before .before .before .before .before .before .before .before .before .before .first .given .0 .1 .0) (c .before .before .before .before .before .before .before .before .before .before .before .before .before .before .put-payload .last .1 .1 .1 .1 .0) (childrenFrom (recordFrom (c .before .before .before .before .before .before .before .before .before .before .before .before .before .before .before .before .before .before .before .before .before .before .before .before .before .before .before .args .l .now) (c .before .before .before .before .before .before .before .before .before .before .before .before .before .before .before .before .before .before .before .before .before .before .before .before .before .before .before .args .left - 1)) (c .before .before .before .before .before .before .before .before .before .before .before .before .before .before .before .before .before .before .before .before .before .before .before .before .before .before .before .args .l .now) (suc (length (c .before .before .before .before .before .before .before .before .before .before .before .before .before .before .before .before .before .before .before .before .before .before .before .before .before .before .before .args .l .now))) (c .before .before .before .before .before .before .before .before .row-under .result) (c .before .before .before .before .before .before .before .before .before .before .first .given .0 .0)) (c .before .before .end .given .0 .0) (c .before .before .end .given .0 .1 .0) (c .before .before .before .before .before .before .put-children .last .1 .1 .1 .1 .0) (ap (λ (r : Reached). putOf r (c .before .before .before .before .before .before .put-children .last .1 .1 .1 .1 .0)) (sym (c .before .before .end .given .1)) ∙ c .before .before .before .before .before .before .put-children .ensures) in omega (arith, k .place, m .place)
 
--- src/records.rt:125:37
 put-record-sub-put32-2 : (t : ℕ) → put-record-lts.Need-sub-put32-2 (put-record-calls t) (put-record-at t) put-record.Post
 put-record-sub-put32-2 t c = let k = was-held (λ (x : List ℕ). x) (c .before .before .before .before .before .before .before .before .before .before .before .before .before .before .before .before .before .before .before .before .before .before .before .before .before .before .before .args .pos + 13) (c .before .before .before .before .before .before .before .before .before .before .before .before .before .before .before .before .before .before .copy .last .1 .1 .1 .0) (payloadFrom (c .before .before .before .before .before .before .before .before .before .before .before .before .before .before .before .before .before .before .before .before .before .before .before .before .before .before .before .args .l .now) (c .before .before .before .before .before .before .before .before .before .before .before .before .before .before .before .before .before .before .before .before .before .before .before .before .before .before .before .args .p) (c .before .before .before .before .before .before .before .before .before .before .before .before .before .before .before .before .before .before .before .before .wide .result) (c .before .before .before .before .before .before .before .before .before .before .before .before .before .before .before .before .before .before .before .before .before .before .before .before .before .before .before .args .at + 10)) (c .before .before .before .before .before .before .before .before .before .before .first .given .0 .0) (c .before .before .before .before .before .before .before .before .before .before .first .given .0 .1 .0) (c .before .before .before .before .before .before .before .before .before .before .before .before .before .before .put-payload .last .1 .1 .1 .1 .0) (ap (λ (r : Reached). putOf r (c .before .before .before .before .before .before .before .before .before .before .before .before .before .before .put-payload .last .1 .1 .1 .1 .0)) (sym (c .before .before .before .before .before .before .before .before .before .before .first .given .1)) ∙ c .before .before .before .before .before .before .before .before .before .before .before .before .before .before .put-payload .ensures) in let m = was-held writtens (c .before .before .before .before .before .before .before .before .before .before .first .given .0 .1 .0) (c .before .before .before .before .before .before .before .before .before .before .before .before .before .before .put-payload .last .1 .1 .1 .1 .0) (childrenFrom (recordFrom (c .before .before .before .before .before .before .before .before .before .before .before .before .before .before .before .before .before .before .before .before .before .before .before .before .before .before .before .args .l .now) (c .before .before .before .before .before .before .before .before .before .before .before .before .before .before .before .before .before .before .before .before .before .before .before .before .before .before .before .args .left - 1)) (c .before .before .before .before .before .before .before .before .before .before .before .before .before .before .before .before .before .before .before .before .before .before .before .before .before .before .before .args .l .now) (suc (length (c .before .before .before .before .before .before .before .before .before .before .before .before .before .before .before .before .before .before .before .before .before .before .before .before .before .before .before .args .l .now))) (c .before .before .before .before .before .before .before .before .row-under .result) (c .before .before .before .before .before .before .before .before .before .before .first .given .0 .0)) (c .before .before .end .given .0 .0) (c .before .before .end .given .0 .1 .0) (c .before .before .before .before .before .before .put-children .last .1 .1 .1 .1 .0) (ap (λ (r : Reached). putOf r (c .before .before .before .before .before .before .put-children .last .1 .1 .1 .1 .0)) (sym (c .before .before .end .given .1)) ∙ c .before .before .before .before .before .before .put-children .ensures) in omega (arith, k .place, m .place)
 
--- src/records.rt:125:21
 put-record-put32-requires : (t : ℕ) → put-record-lts.Need-put32-requires (put-record-calls t) (put-record-at t) put-record.Post
 put-record-put32-requires t c κs = omega (arith, stood _ _ _ _ ((was-opened _ _ _ (sym (c .before .before .before .before .before .before .before .before .before .before .before .before .before .before .before .before .before .before .before .before .before .before .before .opens .ensures) ∙ not-false _ (c .before .before .before .before .before .before .before .before .before .before .before .before .before .before .before .before .before .before .before .before .before .before .if2 .left))) .0) .0, c .before .before .before .before .before .before .before .before .before .before .before .before .before .before .before .before .before .before .before .before .before .before .before .before .before .before .before .pre .1 .below, c .before .before .before .before .before .before .before .before .before .before .before .before .before .before .before .before .before .before .before .before .before .before .before .before .before .before .before .good .0 .1)
 
--- src/records.rt:100:1
 put-record-same-length : (t : ℕ) → put-record-lts.Need-same-length (put-record-calls t) (put-record-at t) put-record.Post
 put-record-same-length t c = search needs
 
--- src/records.rt:100:1
 put-record-returns-3 : (t : ℕ) → put-record-lts.Need-returns-3 (put-record-calls t) (put-record-at t) put-record.Post
 put-record-returns-3 t c = sym (ap (putBy written _ _) (record-payload (c .before .before .before .before .before .before .before .before .before .before .before .before .before .before .before .before .before .before .args .l .now) (c .before .before .before .before .before .before .before .before .before .before .before .before .before .before .before .before .before .before .args .left) (c .before .before .before .before .before .before .before .before .before .before .before .before .before .before .before .before .before .before .args .p) (c .before .before .before .before .before .before .before .before .before .before .before .before .before .before .before .before .before .before .args .at) (c .before .before .before .before .before .before .before .before .before .before .before .wide .result) (c .before .before .before .before .before .before .before .before .before .before .before .before .before .before .before .if1 .left) (c .before .before .before .before .before .before .before .before .before .before .before .wide .ensures .0) ((was-opened _ _ _ (sym (c .before .before .before .before .before .before .before .before .before .before .before .before .before .before .opens .ensures) ∙ not-false _ (c .before .before .before .before .before .before .before .before .before .before .before .before .before .if2 .left))) .1) _ _ (was-fault (λ (x : List ℕ). x) (c .before .before .before .before .before .before .before .before .before .before .before .before .before .before .before .before .before .before .args .pos + 13) (c .before .before .before .before .before .before .before .before .before .copy .last .1 .1 .1 .0) (payloadFrom (c .before .before .before .before .before .before .before .before .before .before .before .before .before .before .before .before .before .before .args .l .now) (c .before .before .before .before .before .before .before .before .before .before .before .before .before .before .before .before .before .before .args .p) (c .before .before .before .before .before .before .before .before .before .before .before .wide .result) (c .before .before .before .before .before .before .before .before .before .before .before .before .before .before .before .before .before .before .args .at + 10)) (c .before .n .given .0 .0) (c .before .n .given .0 .1 .0) (ap (λ (r : Reached). putOf r (c .before .before .before .before .before .put-payload .last .1 .1 .1 .1 .0)) (sym (c .before .n .given .1)) ∙ c .before .before .before .before .before .put-payload .ensures))))
 
--- src/records.rt:100:1
 put-record-same-length-2 : (t : ℕ) → put-record-lts.Need-same-length-2 (put-record-calls t) (put-record-at t) put-record.Post
 put-record-same-length-2 t c = search needs
 
--- src/records.rt:100:1
 put-record-returns-4 : (t : ℕ) → put-record-lts.Need-returns-4 (put-record-calls t) (put-record-at t) put-record.Post
 put-record-returns-4 t c = let k = was-held (λ (x : List ℕ). x) (c .before .before .before .before .before .before .before .before .before .before .before .before .before .before .before .before .before .before .before .before .before .before .before .before .before .before .args .pos + 13) (c .before .before .before .before .before .before .before .before .before .before .before .before .before .before .before .before .before .copy .last .1 .1 .1 .0) (payloadFrom (c .before .before .before .before .before .before .before .before .before .before .before .before .before .before .before .before .before .before .before .before .before .before .before .before .before .before .args .l .now) (c .before .before .before .before .before .before .before .before .before .before .before .before .before .before .before .before .before .before .before .before .before .before .before .before .before .before .args .p) (c .before .before .before .before .before .before .before .before .before .before .before .before .before .before .before .before .before .before .before .wide .result) (c .before .before .before .before .before .before .before .before .before .before .before .before .before .before .before .before .before .before .before .before .before .before .before .before .before .before .args .at + 10)) (c .before .before .before .before .before .before .before .before .before .first .given .0 .0) (c .before .before .before .before .before .before .before .before .before .first .given .0 .1 .0) (c .before .before .before .before .before .before .before .before .before .before .before .before .before .put-payload .last .1 .1 .1 .1 .0) (ap (λ (r : Reached). putOf r (c .before .before .before .before .before .before .before .before .before .before .before .before .before .put-payload .last .1 .1 .1 .1 .0)) (sym (c .before .before .before .before .before .before .before .before .before .first .given .1)) ∙ c .before .before .before .before .before .before .before .before .before .before .before .before .before .put-payload .ensures) in sym (ap (putBy written _ _) (record-children (c .before .before .before .before .before .before .before .before .before .before .before .before .before .before .before .before .before .before .before .before .before .before .before .before .before .before .args .l .now) (c .before .before .before .before .before .before .before .before .before .before .before .before .before .before .before .before .before .before .before .before .before .before .before .before .before .before .args .left) (c .before .before .before .before .before .before .before .before .before .before .before .before .before .before .before .before .before .before .before .before .before .before .before .before .before .before .args .p) (c .before .before .before .before .before .before .before .before .before .before .before .before .before .before .before .before .before .before .before .before .before .before .before .before .before .before .args .at) (c .before .before .before .before .before .before .before .before .before .before .before .before .before .before .before .before .before .before .before .wide .result) (c .before .before .before .before .before .before .before .before .before .before .before .before .before .before .before .before .before .before .before .before .before .before .before .if1 .left) (c .before .before .before .before .before .before .before .before .before .before .before .before .before .before .before .before .before .before .before .wide .ensures .0) ((was-opened _ _ _ (sym (c .before .before .before .before .before .before .before .before .before .before .before .before .before .before .before .before .before .before .before .before .before .before .opens .ensures) ∙ not-false _ (c .before .before .before .before .before .before .before .before .before .before .before .before .before .before .before .before .before .before .before .before .before .if2 .left))) .1) (k .what) (c .before .before .before .before .before .before .before .before .before .first .given .0 .0) (c .before .before .before .before .before .before .before .row-under .result) _ _ (k .reads) (c .before .before .before .before .before .before .before .row-under .ensures) (was-fault writtens (c .before .before .before .before .before .before .before .before .before .first .given .0 .1 .0) (c .before .before .before .before .before .before .before .before .before .before .before .before .before .put-payload .last .1 .1 .1 .1 .0) (childrenFrom (recordFrom (c .before .before .before .before .before .before .before .before .before .before .before .before .before .before .before .before .before .before .before .before .before .before .before .before .before .before .args .l .now) (c .before .before .before .before .before .before .before .before .before .before .before .before .before .before .before .before .before .before .before .before .before .before .before .before .before .before .args .left - 1)) (c .before .before .before .before .before .before .before .before .before .before .before .before .before .before .before .before .before .before .before .before .before .before .before .before .before .before .args .l .now) (suc (length (c .before .before .before .before .before .before .before .before .before .before .before .before .before .before .before .before .before .before .before .before .before .before .before .before .before .before .args .l .now))) (c .before .before .before .before .before .before .before .row-under .result) (c .before .before .before .before .before .before .before .before .before .first .given .0 .0)) (c .before .n2 .given .0 .0) (c .before .n2 .given .0 .1 .0) (ap (λ (r : Reached). putOf r (c .before .before .before .before .before .put-children .last .1 .1 .1 .1 .0)) (sym (c .before .n2 .given .1)) ∙ c .before .before .before .before .before .put-children .ensures))))
 
--- src/records.rt:100:1
 put-record-same-length-3 : (t : ℕ) → put-record-lts.Need-same-length-3 (put-record-calls t) (put-record-at t) put-record.Post
 put-record-same-length-3 t c = search needs
 
--- src/records.rt:100:1
 put-record-returns-5 : (t : ℕ) → put-record-lts.Need-returns-5 (put-record-calls t) (put-record-at t) put-record.Post
 put-record-returns-5 t c = let k = was-held (λ (x : List ℕ). x) (c .before .before .before .before .before .before .before .before .before .before .before .before .before .before .before .before .before .before .before .before .before .before .before .before .before .before .before .before .before .before .args .pos + 13) (c .before .before .before .before .before .before .before .before .before .before .before .before .before .before .before .before .before .before .before .before .before .copy .last .1 .1 .1 .0) (payloadFrom (c .before .before .before .before .before .before .before .before .before .before .before .before .before .before .before .before .before .before .before .before .before .before .before .before .before .before .before .before .before .before .args .l .now) (c .before .before .before .before .before .before .before .before .before .before .before .before .before .before .before .before .before .before .before .before .before .before .before .before .before .before .before .before .before .before .args .p) (c .before .before .before .before .before .before .before .before .before .before .before .before .before .before .before .before .before .before .before .before .before .before .before .wide .result) (c .before .before .before .before .before .before .before .before .before .before .before .before .before .before .before .before .before .before .before .before .before .before .before .before .before .before .before .before .before .before .args .at + 10)) (c .before .before .before .before .before .before .before .before .before .before .before .before .before .first .given .0 .0) (c .before .before .before .before .before .before .before .before .before .before .before .before .before .first .given .0 .1 .0) (c .before .before .before .before .before .before .before .before .before .before .before .before .before .before .before .before .before .put-payload .last .1 .1 .1 .1 .0) (ap (λ (r : Reached). putOf r (c .before .before .before .before .before .before .before .before .before .before .before .before .before .before .before .before .before .put-payload .last .1 .1 .1 .1 .0)) (sym (c .before .before .before .before .before .before .before .before .before .before .before .before .before .first .given .1)) ∙ c .before .before .before .before .before .before .before .before .before .before .before .before .before .before .before .before .before .put-payload .ensures) in let m = was-held writtens (c .before .before .before .before .before .before .before .before .before .before .before .before .before .first .given .0 .1 .0) (c .before .before .before .before .before .before .before .before .before .before .before .before .before .before .before .before .before .put-payload .last .1 .1 .1 .1 .0) (childrenFrom (recordFrom (c .before .before .before .before .before .before .before .before .before .before .before .before .before .before .before .before .before .before .before .before .before .before .before .before .before .before .before .before .before .before .args .l .now) (c .before .before .before .before .before .before .before .before .before .before .before .before .before .before .before .before .before .before .before .before .before .before .before .before .before .before .before .before .before .before .args .left - 1)) (c .before .before .before .before .before .before .before .before .before .before .before .before .before .before .before .before .before .before .before .before .before .before .before .before .before .before .before .before .before .before .args .l .now) (suc (length (c .before .before .before .before .before .before .before .before .before .before .before .before .before .before .before .before .before .before .before .before .before .before .before .before .before .before .before .before .before .before .args .l .now))) (c .before .before .before .before .before .before .before .before .before .before .before .row-under .result) (c .before .before .before .before .before .before .before .before .before .before .before .before .before .first .given .0 .0)) (c .before .before .before .before .before .end .given .0 .0) (c .before .before .before .before .before .end .given .0 .1 .0) (c .before .before .before .before .before .before .before .before .before .put-children .last .1 .1 .1 .1 .0) (ap (λ (r : Reached). putOf r (c .before .before .before .before .before .before .before .before .before .put-children .last .1 .1 .1 .1 .0)) (sym (c .before .before .before .before .before .end .given .1)) ∙ c .before .before .before .before .before .before .before .before .before .put-children .ensures) in is-held written _ _ _ _ _ _ (record-held (c .before .before .before .before .before .before .before .before .before .before .before .before .before .before .before .before .before .before .before .before .before .before .before .before .before .before .before .before .before .before .args .l .now) (c .before .before .before .before .before .before .before .before .before .before .before .before .before .before .before .before .before .before .before .before .before .before .before .before .before .before .before .before .before .before .args .left) (c .before .before .before .before .before .before .before .before .before .before .before .before .before .before .before .before .before .before .before .before .before .before .before .before .before .before .before .before .before .before .args .p) (c .before .before .before .before .before .before .before .before .before .before .before .before .before .before .before .before .before .before .before .before .before .before .before .before .before .before .before .before .before .before .args .at) (c .before .before .before .before .before .before .before .before .before .before .before .before .before .before .before .before .before .before .before .before .before .before .before .wide .result) (c .before .before .before .before .before .before .before .before .before .before .before .before .before .before .before .before .before .before .before .before .before .before .before .before .before .before .before .if1 .left) (c .before .before .before .before .before .before .before .before .before .before .before .before .before .before .before .before .before .before .before .before .before .before .before .wide .ensures .0) ((was-opened _ _ _ (sym (c .before .before .before .before .before .before .before .before .before .before .before .before .before .before .before .before .before .before .before .before .before .before .before .before .before .before .opens .ensures) ∙ not-false _ (c .before .before .before .before .before .before .before .before .before .before .before .before .before .before .before .before .before .before .before .before .before .before .before .before .before .if2 .left))) .1) (c .before .before .before .before .before .before .before .before .before .before .before .before .before .before .before .before .before .before .before .before .before .before .before .before .before .before .before .before .before .before .args .pos) (c .before .before .before .before .before .before .before .before .before .before .before .before .before .before .before .before .before .before .before .before .before .before .before .before .before .before .before .before .before .before .args .out .now) (λ i. omega (arith, c .before .before .before .before .before .before .before .before .before .before .before .before .before .before .before .before .before .before .before .before .before .before .before .before .shared-slice-known2 .given i)) (stood _ _ _ _ ((was-opened _ _ _ (sym (c .before .before .before .before .before .before .before .before .before .before .before .before .before .before .before .before .before .before .before .before .before .before .before .before .before .before .opens .ensures) ∙ not-false _ (c .before .before .before .before .before .before .before .before .before .before .before .before .before .before .before .before .before .before .before .before .before .before .before .before .before .if2 .left))) .0) .0) _ _ _ _ _ _ _ _ _ (c .before .before .before .before .before .before .before .before .before .before .before .before .before .before .before .before .before .before .before .before .before .copy .ensures) k (c .before .before .before .before .before .before .before .before .before .before .before .row-under .ensures) m (c .before .before .put32 .ensures))
 

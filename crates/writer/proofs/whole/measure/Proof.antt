@@ -1,6 +1,5 @@
 -- The comments, then the tree, over an output of one byte.
 use mathlib.Core.Path.{sym, ap, _∙_}
-use mathlib.Core.List.{List}
 use native.Mathlib.Omega.{arith}
 use Rattle.image.specs.Write.{written}
 use Rattle.image.specs.Kinds.{TREE}

@@ -1,5 +1,4 @@
 -- The parts of the image, one after the other; the tree goes to the rest of the output, which is lent.
-use mathlib.Core.Path.{sym, ap, _∙_}
 use Prim.Native.Nat.{_+_, _*_, _/_}
 use native.Mathlib.Omega.{arith}
 use Rattle.image.specs.Kinds.{TREE}
