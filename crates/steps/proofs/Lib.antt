@@ -11,5 +11,6 @@ pub mod ReadFits
 pub mod ReadsAgain
 pub mod WholeFits
 pub mod WholeAgain
+pub mod Numbers
 pub mod Claims
 pub mod Examples
