@@ -23,6 +23,7 @@ use crate::step::OPEN_STEP;
 use crate::step::PAYLOAD_STEP;
 use crate::step::TEXT_BYTES;
 use crate::step::TEXT_STEP;
+use crate::step::WIDTH;
 use crate::whole::PAIRS;
 use image::bytes::num32;
 use image::bytes::wide;
@@ -37,7 +38,7 @@ fn list_payload(b: &[u8], at: usize, out: &mut [u8], pos: usize) -> usize
 {
     let kind = wide(b[at + LENGTH]);
     if kind == TEXT {
-        let text = at + HEAD + 2;
+        let text = at + HEAD + WIDTH;
         let stop = at + LENGTH + num32(b, at);
         put(out, pos, TEXT_STEP as u8);
         copy(b, at + HEAD, text, out, pos + 1);

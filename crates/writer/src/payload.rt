@@ -10,6 +10,7 @@ use crate::output::put;
 use crate::step::PAYLOAD_STEP;
 use crate::step::TEXT_BYTES;
 use crate::step::TEXT_STEP;
+use crate::step::WIDTH;
 use crate::step::stands;
 use image::bytes::num32;
 use image::bytes::wide;
@@ -35,8 +36,8 @@ fn put_text(l: &[u8], at: usize, out: &mut [u8], pos: usize) -> Reached
         return Reached::Fault(16, at);
     }
     copy(l, at + 1, at + 3, out, pos);
-    copy(l, at + TEXT_BYTES, end, out, pos + 2);
-    Reached::Next(end, pos + 2 + n)
+    copy(l, at + TEXT_BYTES, end, out, pos + WIDTH);
+    Reached::Next(end, pos + WIDTH + n)
 }
 
 // Puts the payload byte of the step at `at`, which is `top` at most.

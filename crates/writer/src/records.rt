@@ -26,6 +26,11 @@ pub(crate) const LENGTH: usize = 4;
 
 pub(crate) const HEAD: usize = 13;
 
+// The places of a row are so far apart; one that may be empty has this mark.
+const APART: usize = 65536;
+
+const MAY: usize = 16384;
+
 // What stands where a child may: the step that closes the record, with what is behind it; a child, with what is behind it and the place
 // behind what was put; or a refusal's number and place.
 pub enum Child {
@@ -46,7 +51,7 @@ fn put_child(l: &[u8], left: u32, row: usize, at: usize, out: &mut [u8], pos: us
         return Child::Wrong(16, at);
     }
     if stands(l, at, ABSENT_STEP, 1) {
-        if row / 16384 % 2 == 1 {
+        if row / MAY % 2 == 1 {
             put32(out, pos, 0);
             return Child::Laid(at + 1, pos + LENGTH);
         }
@@ -58,7 +63,7 @@ fn put_child(l: &[u8], left: u32, row: usize, at: usize, out: &mut [u8], pos: us
     if row == 0 {
         return Child::Wrong(16, at);
     }
-    match put_record(l, left, row % 65536 % 16384, at, out, pos) {
+    match put_record(l, left, row % APART % MAY, at, out, pos) {
         Reached::Fault(n, q) => Child::Wrong(n, q),
         Reached::Next(next, behind) => Child::Laid(next, behind),
     }

@@ -25,7 +25,10 @@ pub(crate) const COMMENT_BYTES: usize = 9;
 
 pub(crate) const OPEN_BYTES: usize = 10;
 
-// And a text's step, before the text.
+// How many bytes a text's width has.
+pub(crate) const WIDTH: usize = 2;
+
+// How many bytes a text's step has before the text.
 pub(crate) const TEXT_BYTES: usize = 7;
 
 // Whether n bytes are left at `at`, and the first of them is k.

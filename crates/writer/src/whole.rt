@@ -15,6 +15,8 @@ use crate::step::COMMENT_BYTES;
 use image::kinds::TREE;
 use image::limits::MAX_RECORDS_DEEP;
 
+const VERSION: u8 = 1;
+
 // How many bytes an image has before its body, and before its comments.
 pub(crate) const HEADER: usize = 5;
 
@@ -53,7 +55,7 @@ pub(crate) fn put_image(l: &[u8], at: usize, bytes: usize, out: &mut [u8])
     ensures { λ r. ⌜ now (out .exit) ≡ sets (now (out .entry)) 0 (imageDue (now (l .entry))) ⌝ }
 {
     let comments = at / COMMENT_BYTES;
-    put(out, 0, 1);
+    put(out, 0, VERSION);
     put32(out, 1, bytes - HEADER);
     put16(out, HEADER, comments);
     put_comments(l, out, PAIRS);
