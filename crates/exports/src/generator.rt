@@ -36,12 +36,7 @@ pub extern "C" fn rrufthim_write(steps: &[u8], output: &mut [u8], out: &mut [u64
 
 // Writes the steps of an image to the start of the output. `out` gets the refusal's number and place, or 0 and the bytes of the steps.
 #[no_mangle]
-pub extern "C" fn rrufthim_steps(
-    source: &[u8],
-    image: &[u8],
-    output: &mut [u8],
-    out: &mut [u64; 2],
-)
+pub extern "C" fn rrufthim_steps(source: &[u8], image: &[u8], output: &mut [u8], out: &mut [u64; 2])
     ensures { λ r. ⌜ (now (output .exit) ≡ stepsOfOutput (now (source .entry)) (now (image .entry)) (now (output .entry))) × (now (out .exit) ≡ toldWriter (stepsOfAnswer (now (source .entry)) (now (image .entry)) (length (now (output .entry)))) (now (out .entry))) ⌝ }
 {
     let answer = steps_of(source, image, output);
