@@ -9,7 +9,10 @@ use rrufthim::{
 
 const HEADER: &str = include_str!("../include/rrufthim.h");
 const LINKED: &str = include_str!("../src/linked.rs");
-const EXPORTS: &str = include_str!("../../crates/exports/src/lib.rt");
+const EXPORTS: &str = concat!(
+    include_str!("../../crates/exports/src/lib.rt"),
+    include_str!("../../crates/exports/src/generator.rt"),
+);
 
 /// A function's name with its parameters, written as in src/linked.rs.
 type Function = (String, Vec<String>);
