@@ -1,7 +1,7 @@
 /*
  * The proved formatter for Roto scripts, as C calls it. The functions are those of librrufthim.a: target/staticlib/libexports.a, which
  * `rt staticlib exports` writes (x86-64 Linux), under a name that no other library has. docs/01-scope.md has the rules: the tree image,
- * rows, marks, states and refusals; docs/02-change-requests.md those of tallies, widths and modes.
+ * rows, marks, states and refusals; docs/02-change-requests.md those of tallies, widths, modes and steps.
  *
  * Buffers. A pointer to bytes or rows goes with the number of its elements; state, args, choice, tallies and out have a fixed number
  * of places. No pointer may be NULL, even where the number is 0. store must be aligned for uint32_t, those of a fixed number of places for
@@ -46,6 +46,8 @@ typedef char rrufthim_lengths_have_64_bits[sizeof(size_t) == 8 ? 1 : -1];
 #define RRUFTHIM_BAD_STATE 12       /* the state, the marks in use, the stop or the mode don't fit: 0 */
 #define RRUFTHIM_BAD_TALLIES 14     /* the tallies count 4,096 files, one is over 4,294,967,296, or more is wrapped than given: 0 */
 #define RRUFTHIM_BAD_WIDTH 15       /* the width is under 40 or over 200, or not the one that the state carries: 0 */
+#define RRUFTHIM_BAD_STEP 16        /* a step is unknown, cut off or wrong there: its offset; something is missing at the end: steps_len */
+#define RRUFTHIM_MORE_ROOM 17       /* the output is too short for image or steps, or an image's body over 1,048,576: bytes needed */
 
 /* Limits: past them a file is refused. A text may be longer than a source: such a text can't be formatted again. */
 #define RRUFTHIM_MAX_SOURCE 65536    /* bytes of a source */
@@ -77,6 +79,8 @@ typedef char rrufthim_lengths_have_64_bits[sizeof(size_t) == 8 ? 1 : -1];
 #define RRUFTHIM_FORMAT_OUT 5
 #define RRUFTHIM_NEWLINES_OUT 2
 #define RRUFTHIM_COUNT_OUT 18
+#define RRUFTHIM_WRITE_OUT 2
+#define RRUFTHIM_STEPS_OUT 2
 
 /*
  * Whether a source and its tree image are accepted. Refusals 1 to 7.
@@ -175,6 +179,37 @@ void rrufthim_count(
     const uint8_t *image, size_t image_len,
     const uint64_t tallies[RRUFTHIM_TALLIES],
     uint64_t out[RRUFTHIM_COUNT_OUT]);
+
+/*
+ * Writes an image from steps, for who has no source: a generator. A step is a byte, then its numbers, the highest byte first:
+ *   1 comment: start, end, four bytes each; before all other steps
+ *   2 open a record: kind, one byte; start and end of its span, four bytes each
+ *   3 text, of the text record just opened: width, two bytes; length, four bytes; the text, which is UTF-8
+ *   4 payload byte, of the record just opened: one byte
+ *   5 a child that is absent
+ *   6 close the record opened last
+ * Refusals 16, then 17; both leave the output as it was.
+ *
+ * output: is written from its start on.
+ * out:    [0] 0, [1] bytes of the image.
+ */
+void rrufthim_write(
+    const uint8_t *steps, size_t steps_len,
+    uint8_t *output, size_t output_len,
+    uint64_t out[RRUFTHIM_WRITE_OUT]);
+
+/*
+ * The steps of an image, read with its source: those that rrufthim_write turns into it, and no others do. Refusals 1 to 7, then 17. Six
+ * bytes of output for each five of image are enough.
+ *
+ * output: is written from its start on.
+ * out:    [0] 0, [1] bytes of the steps.
+ */
+void rrufthim_steps(
+    const uint8_t *source, size_t source_len,
+    const uint8_t *image, size_t image_len,
+    uint8_t *output, size_t output_len,
+    uint64_t out[RRUFTHIM_STEPS_OUT]);
 
 #ifdef __cplusplus
 }

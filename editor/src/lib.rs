@@ -13,6 +13,8 @@
 //! a [`Refusal`]. What a caller may choose is [`Options`]; by default every
 //! comment is kept. [`newlines`] finds the gap that made a blank line.
 //! [`count`] and [`report`] give the figures of files and their totals.
+//! [`generator`] has images from steps, for who has no source and no tree of
+//! ours.
 //!
 //! docs/01-scope.md and docs/02-change-requests.md of the repository have the
 //! rules.
@@ -30,6 +32,7 @@ mod error;
 mod figures;
 mod fmt;
 mod formatter;
+pub mod generator;
 mod image;
 mod linked;
 mod options;

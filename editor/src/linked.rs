@@ -70,4 +70,22 @@ unsafe extern "C" {
         tallies: *const [u64; 8],
         out: *mut [u64; 18],
     );
+
+    pub fn rrufthim_write(
+        steps: *const u8,
+        steps_len: usize,
+        output: *mut u8,
+        output_len: usize,
+        out: *mut [u64; 2],
+    );
+
+    pub fn rrufthim_steps(
+        source: *const u8,
+        source_len: usize,
+        image: *const u8,
+        image_len: usize,
+        output: *mut u8,
+        output_len: usize,
+        out: *mut [u64; 2],
+    );
 }

@@ -1,4 +1,4 @@
-//! Why a call is turned down: the table of docs/01-scope.md, and 14 and 15 of
+//! Why a call is turned down: the table of docs/01-scope.md, and 14 to 17 of
 //! docs/02-change-requests.md.
 
 use std::{error::Error, fmt};
@@ -74,6 +74,18 @@ pub enum Refusal {
     /// 15: the width is under 40 or over 200, or not the one that the calls
     /// before chose.
     BadWidth,
+    /// 16: a step is unknown, cut off or wrong there, or the list of steps
+    /// ends while something is missing.
+    BadStep {
+        /// The step's offset in the list, or the list's length.
+        at: u64,
+    },
+    /// 17: an image or a list of steps is longer than the output, or the
+    /// body of an image from steps over 1,048,576 bytes.
+    MoreRoom {
+        /// Bytes needed.
+        needed: u64,
+    },
     /// A number that the table doesn't have: the static library isn't the
     /// one this crate was written for.
     Unknown {
@@ -105,6 +117,8 @@ impl Refusal {
             13 => BadFrame,
             14 => BadTallies,
             15 => BadWidth,
+            16 => BadStep { at: place },
+            17 => MoreRoom { needed: place },
             _ => Unknown { number, place },
         }
     }
@@ -127,6 +141,8 @@ impl Refusal {
             BadFrame => 13,
             BadTallies => 14,
             BadWidth => 15,
+            BadStep { .. } => 16,
+            MoreRoom { .. } => 17,
             Unknown { number, .. } => number,
         }
     }
@@ -140,10 +156,12 @@ impl Refusal {
             | BadRecord { at }
             | TooDeep { at }
             | BadSpan { at }
-            | BadComment { at } => at,
+            | BadComment { at }
+            | BadStep { at } => at,
             MoreRows { needed }
             | MoreMarks { needed }
-            | MoreOutput { needed } => needed,
+            | MoreOutput { needed }
+            | MoreRoom { needed } => needed,
             BadRow { row } => row,
             Unknown { place, .. } => place,
         }
@@ -203,6 +221,14 @@ impl Refusal {
             BadWidth => {
                 "lines may have 40 to 200 columns, and no other width once \
                  a part is rendered"
+            }
+            BadStep { .. } => {
+                "the step at byte # of the list is unknown, cut off or \
+                 wrong there, or something is missing at the list's end"
+            }
+            MoreRoom { .. } => {
+                "# bytes are needed: more than the output has, or than an \
+                 image may have"
             }
             Unknown { .. } => {
                 "the static library refuses for a cause that this crate \

@@ -39,7 +39,7 @@ never r e = let z : _≡_ {A = ℕ} 0 1 = cc in absurd (omega arith)
 same : (n p : ℕ) (r : Refusal) → some (record { number = n; place = p }) ≡ some r → n ≡ r .number
 same n p r e = let f : _≡_ {A = Refusal} (record { number = n; place = p }) r = cc in ap (λ (x : Refusal). x .number) f
 
-under-if : (ns : List ℕ) (t : Bool) (n p : ℕ) → isOneOf n ns ≡ true → Under ns (refuseIf t n p)
+pub under-if : (ns : List ℕ) (t : Bool) (n p : ℕ) → isOneOf n ns ≡ true → Under ns (refuseIf t n p)
 under-if ns true n p h = record { of = λ r e. sym (ap (λ (k : ℕ). isOneOf k ns) (same n p r e)) ∙ h }
 under-if ns false n p h = record { of = λ r e. never r e }
 
@@ -47,15 +47,15 @@ under-at : (ns : List ℕ) (o : Option ℕ) (n : ℕ) → isOneOf n ns ≡ true 
 under-at ns (some p) n h = under-if ns true n p h
 under-at ns none n h = record { of = λ r e. never r e }
 
-under-none : (ns : List ℕ) → Under ns none
+pub under-none : (ns : List ℕ) → Under ns none
 under-none ns = record { of = λ r e. never r e }
 
 -- each line of a table
-abbrev AllUnder : List ℕ → List (Option Refusal) → Type 0
+abbrev pub AllUnder : List ℕ → List (Option Refusal) → Type 0
 AllUnder ns [] = Unit {0}
 AllUnder ns (o ∷ os) = Under ns o × AllUnder ns os
 
-under-first : (ns : List ℕ) (os : List (Option Refusal)) → AllUnder ns os → Under ns (first os)
+pub under-first : (ns : List ℕ) (os : List (Option Refusal)) → AllUnder ns os → Under ns (first os)
 under-first ns [] h = under-none ns
 under-first ns (some q ∷ os) h = h .0
 under-first ns (none ∷ os) h = under-first ns os (h .1)
@@ -73,7 +73,7 @@ more n (k ∷ ns) ms e = go (eqb n k) (more n ns ms) e
     go true later f = refl
     go false later f = later f
 
-under-more : (ns ms : List ℕ) (o : Option Refusal) → Under ns o → Under (ns ++ ms) o
+pub under-more : (ns ms : List ℕ) (o : Option Refusal) → Under ns o → Under (ns ++ ms) o
 under-more ns ms o u = record { of = λ r e. more (r .number) ns ms (u .of r e) }
 
 under-before : (k : ℕ) (ns : List ℕ) (o : Option Refusal) → Under ns o → Under (k ∷ ns) o
@@ -171,7 +171,7 @@ frame-under frame room =
     )
 
 -- ---- answers by a table
-answered : {ns : List ℕ} {table told : Option Refusal} {Kept : Type 0} → told ≡ table → Under ns table → ((r : Refusal) → table ≡ some r → Kept)
+pub answered : {ns : List ℕ} {table told : Option Refusal} {Kept : Type 0} → told ≡ table → Under ns table → ((r : Refusal) → table ≡ some r → Kept)
     → Answered ns table told Kept
 answered e u k = record { as-table = e; listed = λ r f. u .of r (sym e ∙ f); kept = λ r f. k r (sym e ∙ f) }
 

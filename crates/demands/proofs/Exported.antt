@@ -39,13 +39,13 @@ use Rattle.demands.proofs.Demand1.{Under, read-under, layout-under, ren
 use Rattle.demands.proofs.Demand3.{held-as-due}
 
 -- numbers stored from the start of an array that has room for them stand at its start
-stored : (vs out : List ℕ) → length vs ≤ length out → sets out 0 vs ≡ vs ++ drop (length vs) out
+pub stored : (vs out : List ℕ) → length vs ≤ length out → sets out 0 vs ≡ vs ++ drop (length vs) out
 stored vs out h =
     let from : 0 + length vs ≡ length vs = omega arith in
     sets-eq vs out 0 (omega arith) ∙ ap (λ (k : ℕ). vs ++ drop k out) from
 
 -- ---- demand 1
-two : (ns : List ℕ) (table : Option Refusal) (out out2 : List ℕ) (Kept : Type 0) → 2 ≤ length out → Under ns table
+pub two : (ns : List ℕ) (table : Option Refusal) (out out2 : List ℕ) (Kept : Type 0) → 2 ≤ length out → Under ns table
     → (table ≡ none → getD out2 0 0 ≡ 0) → ((r : Refusal) → table ≡ some r → out2 ≡ sets out 0 (r .number ∷ r .place ∷ []))
     → ((r : Refusal) → table ≡ some r → Kept)
     → Told ns table out2 Kept

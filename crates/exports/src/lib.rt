@@ -1,5 +1,6 @@
 // The functions that other languages call: numbers and slices in, numbers out.
 mod count;
+mod generator;
 mod numbers;
 
 ghost use mathlib.Core.Path.{_≡_};

@@ -228,7 +228,7 @@ fn row_of(k: usize) -> usize
 }
 
 // The row of a record of kind k at place p.
-pub(crate) fn row_under(p: usize, k: usize) -> usize
+pub fn row_under(p: usize, k: usize) -> usize
     ensures { λ r. ⌜ r ≡ rowUnder p k ⌝ }
 {
     if p / LIST_OF % 2 == 1 {
@@ -238,7 +238,7 @@ pub(crate) fn row_under(p: usize, k: usize) -> usize
 }
 
 // The row that is left when a child has been read at the first place.
-pub(crate) fn after_row(row: usize) -> usize
+pub fn after_row(row: usize) -> usize
     ensures { λ r. ⌜ r ≡ after row ⌝ }
 {
     if row / MANY % 2 == 1 {
@@ -248,7 +248,7 @@ pub(crate) fn after_row(row: usize) -> usize
 }
 
 // Whether no child is due any more.
-pub(crate) fn is_over(row: usize) -> bool
+pub fn is_over(row: usize) -> bool
     ensures { λ r. ⌜ r ≡ complete row ⌝ }
 {
     if row == 0 {
@@ -258,7 +258,7 @@ pub(crate) fn is_over(row: usize) -> bool
 }
 
 // Whether kind k is right at place p.
-pub(crate) fn kind_fits(p: usize, k: usize) -> bool
+pub fn kind_fits(p: usize, k: usize) -> bool
     ensures { λ r. ⌜ r ≡ kindFits p k ⌝ }
 {
     if p / LIST_OF % 2 == 1 {
@@ -271,7 +271,7 @@ pub(crate) fn kind_fits(p: usize, k: usize) -> bool
 }
 
 // Whether a kind has a payload byte: return, operator, literal.
-fn has_byte(k: usize) -> bool
+pub fn has_byte(k: usize) -> bool
     ensures { λ r. ⌜ r ≡ hasByte k ⌝ }
 {
     if k == RETURN {
@@ -284,7 +284,7 @@ fn has_byte(k: usize) -> bool
 }
 
 // The largest payload byte of such a kind at place p.
-fn top_byte(p: usize, k: usize) -> usize
+pub fn top_byte(p: usize, k: usize) -> usize
     ensures { λ r. ⌜ r ≡ topByte p k ⌝ }
 {
     if k == RETURN {
@@ -300,7 +300,7 @@ fn top_byte(p: usize, k: usize) -> usize
 }
 
 // Whether the bytes from `from` to `to` are well-formed UTF-8.
-pub(crate) fn is_text(b: &[u8], from: usize, to: usize) -> bool
+pub fn is_text(b: &[u8], from: usize, to: usize) -> bool
     requires { ⌜ (from ≤ to) × (to ≤ length (now b)) ⌝ }
     ensures { λ r. ⌜ r ≡ wellFormed (part from to (now (b .entry))) ⌝ }
 {
@@ -331,7 +331,7 @@ pub(crate) fn payload_fits(b: &[u8], v: usize, p: usize, k: usize, from: usize, 
 }
 
 // Where the payload ends and the children start.
-pub(crate) fn first_child(k: usize, from: usize, stop: usize) -> usize
+pub fn first_child(k: usize, from: usize, stop: usize) -> usize
     requires { ⌜ from + 1 < 2 ^ 64 ⌝ }
     ensures { λ r. ⌜ r ≡ firstChild k from stop ⌝ }
 {

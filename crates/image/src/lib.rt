@@ -1,7 +1,7 @@
 // Module 2: the reader of tree images. It accepts a source and an image, or refuses them with a number and a place.
 pub mod bytes;
 mod comments;
-mod grammar;
+pub mod grammar;
 pub mod kinds;
 pub mod limits;
 mod records;

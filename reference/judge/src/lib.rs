@@ -38,6 +38,7 @@ pub mod reader;
 pub mod refusal;
 pub mod rows;
 pub mod script;
+pub mod steps;
 pub mod table;
 pub mod tree;
 pub mod width;

@@ -32,6 +32,8 @@ usage: judge run [--true-widths] < frame      what the program must write
        judge replay-calls-counts              what it must write
        judge replay-frames                    what replay_frames is run on
        judge replay-frames-counts             what it must write
+       judge replay-steps                     what replay_steps is run on
+       judge replay-steps-counts              what it must write
        judge text-answers                     answers of Rust's text functions
        judge report < files                   what the program report must write
        judge report-sample                    what report is run on
@@ -106,6 +108,8 @@ fn command(words: &[&str]) -> Result<Pieces, String> {
         ["replay-calls-counts"] => one(answers::replay::calls_output()),
         ["replay-frames"] => one(answers::replay::frames_input()),
         ["replay-frames-counts"] => one(answers::replay::frames_output()),
+        ["replay-steps"] => one(answers::replay::steps_input()),
+        ["replay-steps-counts"] => one(answers::replay::steps_output()),
         ["text-answers"] => one(answers::text::answers()),
         ["report"] => one(figures::report::output(&input())),
         ["report-sample"] => one(answers::report::input()),

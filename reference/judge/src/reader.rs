@@ -12,7 +12,8 @@ pub const MOST_BODY: usize = 1_048_576;
 pub const MOST_COMMENTS: usize = 8_192;
 pub const MOST_DEPTH: usize = 64;
 
-const HEADER: usize = 5;
+/// Version and length of the body.
+pub const HEADER: usize = 5;
 const COUNT: usize = 2;
 const PAIR: usize = 8;
 const LENGTH: usize = 4;

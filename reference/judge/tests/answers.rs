@@ -5,6 +5,7 @@ use judge::{
     examples, explain,
     generate::{self, Class},
     program::{self, Widths},
+    steps,
 };
 
 /// Reads big-endian numbers and runs of bytes off the front.
@@ -178,4 +179,30 @@ fn call_answers_are_laid_out_as_described() {
         assert_eq!(input.number(4), written);
         assert_eq!(input.0.len(), written);
     }
+}
+
+#[test]
+fn step_answers_are_laid_out_as_described() {
+    let file = answers::replay::steps_input();
+    let mut input = Input(&file);
+    let [mut written, mut refused] = [0, 0];
+    while !input.0.is_empty() {
+        let length = input.number(4);
+        let list = input.bytes(length);
+        let number = input.number(2);
+        let place = input.number(4);
+        match steps::write(list, place) {
+            Ok(image) => {
+                written += 1;
+                assert_eq!((number, place), (0, image.len()));
+                assert_eq!(input.bytes(place), image);
+            }
+            Err(refusal) => {
+                refused += 1;
+                let due = (refusal.number.into(), refusal.place as usize);
+                assert_eq!((number, place), due);
+            }
+        }
+    }
+    assert!(written >= 20 && refused >= 90, "{written} and {refused}");
 }

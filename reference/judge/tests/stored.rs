@@ -184,6 +184,16 @@ fn the_worked_frames_come_first() {
     assert_eq!(texts, ["#!/x\n\n", "refused 3 at 0\n"]);
 }
 
+#[test]
+fn lists_of_steps_take_less_than_sixty_kilobytes() {
+    assert!(replay::steps_input().len() <= 60_000);
+    let lists = stored::step_lists();
+    assert_eq!(lists[0], b"");
+    // Each is there once.
+    let distinct: BTreeSet<&Vec<u8>> = lists.iter().collect();
+    assert_eq!(distinct.len(), lists.len());
+}
+
 /// `reference/replay-answers` was run after the last change.
 #[test]
 fn the_replay_has_these_answers() {
@@ -197,6 +207,16 @@ fn the_replay_has_these_answers() {
     assert!(
         read("replay_frames/stdout") == replay::frames_output().into_bytes()
     );
+}
+
+/// The same of the lists of steps.
+#[test]
+fn the_replay_of_steps_has_these_answers() {
+    let at =
+        concat!(env!("CARGO_MANIFEST_DIR"), "/../../crates/replay_steps");
+    let read = |name| std::fs::read(format!("{at}/{name}")).expect("there");
+    assert!(read("stdin") == replay::steps_input());
+    assert!(read("stdout") == replay::steps_output().into_bytes());
 }
 
 /// The same of the program `report`.

@@ -7,10 +7,14 @@ pub mod measure;
 pub mod port;
 #[cfg(feature = "stand-in")]
 pub mod stand_in;
+#[cfg(feature = "calls")]
+mod steps;
 
 #[cfg(feature = "calls")]
 pub use figures::count;
 use judge::refusal::Refusal;
+#[cfg(feature = "calls")]
+pub use steps::{steps, write};
 #[cfg(feature = "calls")]
 pub use typed::{Formatted, format, layout, render};
 
@@ -94,7 +98,7 @@ impl<const N: usize> Out<N> {
         }
         match out {
             [0, rest @ ..] => Ok(*rest.first_chunk().expect("long enough")),
-            [number @ 1..=15, place, ..] => Err(Refusal {
+            [number @ 1..=17, place, ..] => Err(Refusal {
                 number: *number as u8,
                 place: *place,
             }),

@@ -2,7 +2,9 @@
 //! in, numbers out. With the feature `stand-in` the judge answers in their place.
 
 #[cfg(feature = "stand-in")]
-pub use crate::stand_in::{check, count, format, layout, newlines, render};
+pub use crate::stand_in::{
+    check, count, format, layout, newlines, render, steps, write,
+};
 
 #[cfg(not(feature = "stand-in"))]
 pub use linked::*;
@@ -71,6 +73,22 @@ mod linked {
             image_len: usize,
             tallies: *const [u64; 8],
             out: *mut [u64; 18],
+        );
+        fn rrufthim_write(
+            steps: *const u8,
+            steps_len: usize,
+            output: *mut u8,
+            output_len: usize,
+            out: *mut [u64; 2],
+        );
+        fn rrufthim_steps(
+            source: *const u8,
+            source_len: usize,
+            image: *const u8,
+            image_len: usize,
+            output: *mut u8,
+            output_len: usize,
+            out: *mut [u64; 2],
         );
     }
 
@@ -205,6 +223,43 @@ mod linked {
                 image.as_ptr(),
                 image.len(),
                 tallies,
+                out,
+            );
+        }
+    }
+
+    /// `out`: 0, the image's bytes; or number, place.
+    #[cfg(feature = "calls")]
+    pub fn write(steps: &[u8], output: &mut [u8], out: &mut [u64; 2]) {
+        // Safety: as in `check`.
+        unsafe {
+            rrufthim_write(
+                steps.as_ptr(),
+                steps.len(),
+                output.as_mut_ptr(),
+                output.len(),
+                out,
+            );
+        }
+    }
+
+    /// `out`: 0, the bytes of the steps; or number, place.
+    #[cfg(feature = "calls")]
+    pub fn steps(
+        source: &[u8],
+        image: &[u8],
+        output: &mut [u8],
+        out: &mut [u64; 2],
+    ) {
+        // Safety: as in `check`.
+        unsafe {
+            rrufthim_steps(
+                source.as_ptr(),
+                source.len(),
+                image.as_ptr(),
+                image.len(),
+                output.as_mut_ptr(),
+                output.len(),
                 out,
             );
         }

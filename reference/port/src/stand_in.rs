@@ -1,6 +1,8 @@
 //! The judge in the port's place, with faults to plant: shows that the
 //! comparison runs and finds them.
 
+mod steps;
+
 use std::sync::atomic::{AtomicU8, Ordering};
 
 use judge::{
@@ -20,6 +22,7 @@ use judge::{
     rows::Row,
     width,
 };
+pub use steps::{steps, write};
 
 /// What goes wrong.
 #[derive(Clone, Copy, Debug, PartialEq, Eq)]
@@ -106,10 +109,40 @@ pub enum Fault {
     ModeBeforeBegun,
     /// A whole file's 15 comes before 12.
     WidthBeforeMode,
+    /// 16 names the byte after.
+    StepPlace,
+    /// 17 comes before 16.
+    RoomFirst,
+    /// The 65th level is found a step late.
+    LateDepth,
+    /// A text that isn't UTF-8 is found a step late.
+    LateText,
+    /// An empty comment is found a step late.
+    LateEmptyComment,
+    /// The list's end is one byte before.
+    ListEnd,
+    /// A byte of the image.
+    ImageByte,
+    /// A byte past the image is written.
+    PastImage,
+    /// The image is begun before 17.
+    ImageBeforeRefusal,
+    /// The place of 17.
+    ImageNeeded,
+    /// A body of any size is written.
+    AnyBody,
+    /// A byte of the steps of an image.
+    StepByte,
+    /// The place of 17 for steps.
+    StepsNeeded,
+    /// 17 comes before the reader's refusals.
+    StepsRoomFirst,
+    /// The steps are begun before 17.
+    StepsBeforeRefusal,
 }
 
 impl Fault {
-    pub const ALL: [Fault; 40] = [
+    pub const ALL: [Fault; 55] = [
         Fault::CheckPlace,
         Fault::Declarations,
         Fault::CommentsLeft,
@@ -150,6 +183,21 @@ impl Fault {
         Fault::ModeNotCarried,
         Fault::ModeBeforeBegun,
         Fault::WidthBeforeMode,
+        Fault::StepPlace,
+        Fault::RoomFirst,
+        Fault::LateDepth,
+        Fault::LateText,
+        Fault::LateEmptyComment,
+        Fault::ListEnd,
+        Fault::ImageByte,
+        Fault::PastImage,
+        Fault::ImageBeforeRefusal,
+        Fault::ImageNeeded,
+        Fault::AnyBody,
+        Fault::StepByte,
+        Fault::StepsNeeded,
+        Fault::StepsRoomFirst,
+        Fault::StepsBeforeRefusal,
     ];
 }
 

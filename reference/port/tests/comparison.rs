@@ -14,6 +14,7 @@ const PLAN: Plan = Plan {
     frames: 150,
     lists: 300,
     files: 100,
+    steps: 300,
 };
 
 const SHORT: Plan = Plan {
@@ -21,6 +22,7 @@ const SHORT: Plan = Plan {
     frames: 1,
     lists: 0,
     files: 0,
+    steps: 0,
 };
 
 /// One test, since a planted fault holds for all threads.
@@ -66,6 +68,9 @@ fn items_are_repeated_by_their_names() {
     assert_eq!(Item::from_words("foot-list", 8), Some(Item::FootList(8)));
     assert_eq!(Item::from_words("ranges", 5), Some(Item::Ranges(5)));
     assert_eq!(Item::from_words("files", 90), Some(Item::Files(90)));
+    assert_eq!(Item::from_words("image", 6), Some(Item::Image(6)));
+    assert_eq!(Item::from_words("steps", 7), Some(Item::Steps(7)));
+    assert_eq!(Item::from_words("step-size", 1), Some(Item::StepSize(1)));
     assert_eq!(Item::from_words("other", 4), None);
 }
 

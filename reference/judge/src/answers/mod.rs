@@ -5,6 +5,7 @@ pub mod calls;
 pub mod frames;
 pub mod replay;
 pub mod report;
+pub mod steps;
 pub mod stored;
 pub mod text;
 

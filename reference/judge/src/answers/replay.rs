@@ -1,12 +1,14 @@
-//! What the port's programs `replay_calls` and `replay_frames` are run on, and what they must write.
+//! What the port's programs that replay answers are run on, and what they
+//! must write.
 
 use std::{collections::BTreeMap, fmt::Write};
 
-use super::{calls, frames, stored};
+use super::{calls, frames, steps, stored};
 use crate::{
     calls::{self as layout_and_rendering, Call, Given},
     generate::{self, CallCase},
     program::{self, Widths},
+    steps as writer,
 };
 
 /// How often each refusal number was given, 0 for an accepted one.
@@ -27,6 +29,26 @@ pub fn frames_input() -> Vec<u8> {
     stored::frames()
         .flat_map(|f| frames::answered(&f))
         .collect()
+}
+
+/// The lists of steps with their answers.
+pub fn steps_input() -> Vec<u8> {
+    let lists = stored::step_lists().into_iter();
+    lists.flat_map(|list| steps::answered(&list)).collect()
+}
+
+/// How often each answer to a list of steps is given, and that none differs.
+pub fn steps_output() -> String {
+    let mut out = String::new();
+    let mut numbers = Numbers::new();
+    for list in stored::step_lists() {
+        let answer = writer::write(&list, usize::MAX);
+        let number = answer.err().map_or(0, |refusal| refusal.number);
+        *numbers.entry(number).or_default() += 1;
+    }
+    put_numbers(&mut out, "lists of steps", &numbers);
+    put_end(&mut out, "lists of steps", numbers.values().sum());
+    out
 }
 
 /// How often each answer to a call is given, and that no list differs.

@@ -1,9 +1,13 @@
-//! The fixed sets of frames and lists that a port's own tests keep.
+//! The fixed sets of frames, lists of calls and lists of steps that a port's
+//! own tests keep.
+
+use std::collections::{BTreeMap, BTreeSet};
 
 use super::calls;
 use crate::{
     examples, frame,
     generate::{self, CallCase, Class},
+    steps::{self, Cause},
 };
 
 /// Document 01's worked frames, by their names in `examples`.
@@ -37,6 +41,13 @@ pub const LISTS: [Lists; 5] = [
 /// A seed under which the first source is one byte too long.
 const LONG: u64 = 121;
 
+/// The seed of the lists of steps, how many are tried, and the most bytes of
+/// one that is kept.
+pub const STEP_LISTS: (u64, u64, usize) = (1, 3_000, 900);
+
+/// The most lists of steps that are kept for one cause of 16, and accepted.
+pub const STEP_LISTS_EACH: [usize; 2] = [5, 20];
+
 pub fn frames() -> impl Iterator<Item = Vec<u8>> {
     let worked = WORKED.map(|name| examples::frame(name).expect("known"));
     let made = FRAMES.into_iter().flat_map(|(class, seed, count, most)| {
@@ -51,4 +62,23 @@ pub fn lists() -> impl Iterator<Item = CallCase> {
         let all = (0..count).map(move |index| case(seed, index));
         all.filter(move |case| calls::answered(case).len() <= most)
     })
+}
+
+/// A few lists for each cause of 16, and some that are accepted.
+pub fn step_lists() -> Vec<Vec<u8>> {
+    let (seed, count, most) = STEP_LISTS;
+    let mut kept: BTreeMap<Option<Cause>, usize> = BTreeMap::new();
+    let made = (0..count).map(|index| generate::step_list(seed, index));
+    let all = [vec![]].into_iter().chain(made);
+    let mut seen = BTreeSet::new();
+    all.filter(|list| seen.insert(list.clone()))
+        .filter(|list| {
+            let cause = steps::follow(list).err().map(|fault| fault.cause);
+            let each = STEP_LISTS_EACH[usize::from(cause.is_none())];
+            let known = kept.entry(cause).or_default();
+            let keep = list.len() <= most && *known < each;
+            *known += usize::from(keep);
+            keep
+        })
+        .collect()
 }

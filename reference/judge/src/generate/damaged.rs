@@ -31,7 +31,7 @@ pub fn frame(random: &mut Random) -> Vec<u8> {
     draft.frame()
 }
 
-const BAD_UTF8: [&[u8]; 10] = [
+pub(super) const BAD_UTF8: [&[u8]; 10] = [
     b"\x80",
     b"\xC0\xAF",
     b"\xC3",
@@ -133,7 +133,7 @@ fn frame_of_bad_length(
 }
 
 /// One comment goes bad, or comes in bad.
-fn damage_comments(random: &mut Random, draft: &mut Draft) {
+pub(super) fn damage_comments(random: &mut Random, draft: &mut Draft) {
     let length = draft.source.len();
     let inside = random.between(0, length);
     #[allow(clippy::reversed_empty_ranges)]
@@ -168,7 +168,7 @@ fn off_boundary(random: &mut Random, source: &str) -> std::ops::Range<usize> {
 }
 
 /// One record goes bad.
-fn damage_tree(random: &mut Random, draft: &mut Draft) {
+pub(super) fn damage_tree(random: &mut Random, draft: &mut Draft) {
     let count = count(&draft.tree);
     let chosen = random.below(count);
     let source = draft.source.clone();

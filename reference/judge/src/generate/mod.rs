@@ -11,6 +11,8 @@ mod realistic;
 mod rendering;
 mod shape;
 mod sizes;
+mod step_lists;
+mod step_sizes;
 mod widths;
 mod wild;
 
@@ -31,6 +33,8 @@ pub use rendering::cases as rendering_cases;
 pub use sizes::{
     Case as SizeCase, call_cases as size_call_cases, cases as size_cases,
 };
+pub use step_lists::list as step_list;
+pub use step_sizes::{Case as StepSizeCase, cases as step_size_cases};
 pub use widths::wide_frame;
 
 /// What a generator aims at.

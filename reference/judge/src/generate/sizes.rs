@@ -70,13 +70,16 @@ impl Case {
     }
 }
 
+/// Kinds whose records lie in each other.
+pub(super) const DEEP: [u8; 10] = [70, 64, 65, 63, 55, 54, 59, 52, 40, 16];
+
 fn make_cases() -> Vec<Case> {
     let mut cases = Vec::new();
     for more in [0, 1] {
         let past = |number| if more == 1 { number } else { 0 };
         cases.push(source(reader::MOST_SOURCE + more, past(1)));
         cases.push(comments(reader::MOST_COMMENTS + more, past(7)));
-        for shape in [70, 64, 65, 63, 55, 54, 59, 52, 40, 16] {
+        for shape in DEEP {
             cases.push(depth(shape, reader::MOST_DEPTH + more, past(5)));
         }
         cases.push(frame_of(frame::MOST_BYTES + more, 0));
@@ -98,7 +101,7 @@ fn case(name: String, source: &str, tree: &Tree, refusal: u8) -> Case {
     }
 }
 
-fn tree(declarations: Vec<Tree>) -> Tree {
+pub(super) fn tree(declarations: Vec<Tree>) -> Tree {
     let shebang = std::iter::once(None);
     node(1, 0..0, shebang.chain(declarations.into_iter().map(Some)))
 }
@@ -118,8 +121,12 @@ fn source(size: usize, refusal: u8) -> Case {
 
 fn body(size: usize, refusal: u8) -> Case {
     let name = format!("body of {size} bytes");
-    let shebang = with_shebang(size + 5 - SHEBANG_IMAGE);
-    case(name, "", &shebang, refusal)
+    case(name, "", &body_tree(size), refusal)
+}
+
+/// A tree whose image has a body of so many bytes.
+pub(super) fn body_tree(size: usize) -> Tree {
+    with_shebang(size + reader::HEADER - SHEBANG_IMAGE)
 }
 
 fn comments(count: usize, refusal: u8) -> Case {
@@ -140,15 +147,18 @@ fn frame_of(size: usize, refusal: u8) -> Case {
 /// Records of one kind in each other, so many deep.
 fn depth(kind: u8, depth: usize, refusal: u8) -> Case {
     let name = format!("records {depth} deep, by kind {kind}");
-    let tree = match kind {
+    case(name, "", &deep_tree(kind, depth), refusal)
+}
+
+pub(super) fn deep_tree(kind: u8, depth: usize) -> Tree {
+    match kind {
         16 => tree(vec![imports(depth - 1)]),
         40 => tree(vec![constant(options(depth - 2), unit())]),
         _ => {
             let value = value_around(kind, depth - 2);
             tree(vec![constant(node(43, 0..0, []), value)])
         }
-    };
-    case(name, "", &tree, refusal)
+    }
 }
 
 fn constant(ty: Tree, value: Tree) -> Tree {

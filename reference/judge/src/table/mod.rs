@@ -1,6 +1,7 @@
 //! How often generated frames reach each case of document 01.
 
 mod report;
+mod step_lists;
 
 use std::{collections::BTreeMap, fmt::Write};
 
@@ -14,6 +15,8 @@ use crate::{
     reader::{self, Payload, Record},
     rows::{self, Row},
 };
+
+use step_lists::StepCounts;
 
 #[derive(Default)]
 struct Counts {
@@ -50,7 +53,16 @@ pub fn table(seed: u64, count: u64) -> String {
         all.add_calls(&generate::call_case(seed, index));
     }
     writeln!(out, "- lists of calls: {count}").unwrap();
-    out + &all.report()
+    let mut lists = StepCounts::default();
+    for case in generate::step_size_cases() {
+        lists.add(&case.list);
+    }
+    for index in 0..count {
+        lists.add(&generate::step_list(seed, index));
+    }
+    let sizes = generate::step_size_cases().len();
+    writeln!(out, "- lists of steps: {count}, and {sizes} sizes").unwrap();
+    out + &all.report() + &lists.report(false)
 }
 
 /// The same table over the stored frames and lists.
@@ -72,7 +84,15 @@ pub fn stored() -> String {
         bytes += answers::calls::answered(&case).len();
     }
     writeln!(out, "- lists of calls: {count}, {bytes} bytes").unwrap();
-    out + &all.report()
+    let mut lists = StepCounts::default();
+    [count, bytes] = [0, 0];
+    for list in stored::step_lists() {
+        lists.add(&list);
+        count += 1;
+        bytes += answers::steps::answered(&list).len();
+    }
+    writeln!(out, "- lists of steps: {count}, {bytes} bytes").unwrap();
+    out + &all.report() + &lists.report(true)
 }
 
 impl Counts {

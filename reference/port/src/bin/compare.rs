@@ -5,8 +5,10 @@ use std::{env, process::ExitCode, time::Instant};
 use port::compare::{Item, Plan, Tally, one};
 
 const USAGE: &str = "\
-usage: compare SEED FRAMES [LISTS [FILES]]    FRAMES frames of each class, with widths and with comments at the foot, LISTS lists of calls of each sort, FILES files counted
-       compare KIND SEED INDEX                one of them again; KIND as a difference names it
+usage: compare SEED FRAMES [LISTS [FILES [STEPS]]]    FRAMES frames of each class, with widths and with comments at the foot,
+                                                       LISTS lists of calls of each sort, FILES files counted,
+                                                       STEPS images to steps and back, and as many lists of steps
+       compare KIND SEED INDEX                        one of them again; KIND as a difference names it
 ";
 
 fn main() -> ExitCode {
@@ -41,10 +43,13 @@ fn compare(words: &[&str]) -> Option<Tally> {
             frames: *frames,
             lists: more(0),
             files: more(1),
+            steps: more(2),
         };
         println!(
-            "{} frames of each class, with widths and with comments at the foot, {} lists of each sort, {} files counted",
-            plan.frames, plan.lists, plan.files
+            "{} frames of each class, with widths and with comments at the \
+             foot, {} lists of each sort, {} files counted, {} images to \
+             steps and back, {} lists of steps",
+            plan.frames, plan.lists, plan.files, plan.steps, plan.steps
         );
         return Some(plan.run());
     }

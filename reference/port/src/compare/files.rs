@@ -13,13 +13,13 @@ use judge::{
 use super::{Tally, work::class_name};
 
 /// One of the generated frames, and what repeats it.
-struct File {
-    name: String,
+pub(super) struct File {
+    pub(super) name: String,
     bytes: Vec<u8>,
 }
 
 impl File {
-    fn frame(&self) -> Frame<'_> {
+    pub(super) fn frame(&self) -> Frame<'_> {
         frame::split_any_size(&self.bytes).expect("chosen so")
     }
 }
@@ -79,7 +79,7 @@ fn count_one(
 
 /// A frame of any class; of the sizes, which are large, few. 13 isn't for
 /// files.
-fn file(random: &mut Random, seed: u64) -> File {
+pub(super) fn file(random: &mut Random, seed: u64) -> File {
     loop {
         let class = match random.below(100) {
             0 => Class::Sizes,

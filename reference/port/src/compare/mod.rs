@@ -8,11 +8,17 @@ mod cuts;
 mod files;
 mod frames;
 #[cfg(feature = "calls")]
+mod images;
+#[cfg(feature = "calls")]
 mod large;
 #[cfg(feature = "calls")]
 mod lists;
 #[cfg(feature = "calls")]
 mod ranges;
+#[cfg(feature = "calls")]
+mod rooms;
+#[cfg(feature = "calls")]
+mod step_lists;
 mod tally;
 mod work;
 

@@ -50,19 +50,30 @@ pub enum Item {
     /// So many files counted one after another.
     #[cfg(feature = "calls")]
     Files(u64),
+    /// An image to steps and back.
+    #[cfg(feature = "calls")]
+    Image(u64),
+    /// A list of steps, damaged or not.
+    #[cfg(feature = "calls")]
+    Steps(u64),
+    /// A size of document 01 as a list of steps.
+    #[cfg(feature = "calls")]
+    StepSize(usize),
 }
 
 /// All items of a run: so many frames of each class but `sizes`, as many
 /// with widths of their own, with comments after the last declaration, and
 /// as many texts with ranges, all sizes and rendering answers once, and so
 /// many lists, as many of them on files with such comments. With lists come
-/// the largest stores. Last, so many files to count.
+/// the largest stores. Last, so many files to count, and so many images to
+/// steps and back with as many lists of steps.
 #[derive(Clone, Copy, Debug)]
 pub struct Plan {
     pub seed: u64,
     pub frames: u64,
     pub lists: u64,
     pub files: u64,
+    pub steps: u64,
 }
 
 const CLASSES: [Class; 4] =
@@ -104,7 +115,20 @@ impl Plan {
             let list = [Item::List, Item::Stretched, Item::FootList];
             items.extend(list.map(|item| item(index)));
         }
+        #[cfg(feature = "calls")]
+        items.extend(self.step_items());
         items
+    }
+
+    #[cfg(feature = "calls")]
+    fn step_items(&self) -> impl Iterator<Item = Item> {
+        let sizes = match self.steps {
+            0 => 0,
+            _ => generate::step_size_cases().len(),
+        };
+        let sizes = (0..sizes).map(Item::StepSize);
+        let images = (0..self.steps).map(Item::Image);
+        sizes.chain(images).chain((0..self.steps).map(Item::Steps))
     }
 
     /// Compares all items, on as many threads as the machine has cores.
@@ -211,6 +235,14 @@ fn compare(tally: &mut Tally, item: Item, seed: u64) {
         }
         #[cfg(feature = "calls")]
         Item::Files(count) => super::files::compare(tally, seed, count),
+        #[cfg(feature = "calls")]
+        Item::Image(index) => super::images::compare(tally, seed, index),
+        #[cfg(feature = "calls")]
+        Item::Steps(index) => super::step_lists::compare(tally, seed, index),
+        #[cfg(feature = "calls")]
+        Item::StepSize(place) => {
+            super::step_lists::compare_size(tally, place);
+        }
     }
 }
 
@@ -249,6 +281,12 @@ fn name(item: Item, seed: u64) -> String {
         Item::Ranges(index) => ("ranges", index),
         #[cfg(feature = "calls")]
         Item::Files(count) => ("files", count),
+        #[cfg(feature = "calls")]
+        Item::Image(index) => ("image", index),
+        #[cfg(feature = "calls")]
+        Item::Steps(index) => ("steps", index),
+        #[cfg(feature = "calls")]
+        Item::StepSize(place) => ("step-size", place as u64),
     };
     format!("{kind} {seed} {index}")
 }
@@ -276,6 +314,12 @@ impl Item {
             "ranges" => Some(Item::Ranges(index)),
             #[cfg(feature = "calls")]
             "files" => Some(Item::Files(index)),
+            #[cfg(feature = "calls")]
+            "image" => Some(Item::Image(index)),
+            #[cfg(feature = "calls")]
+            "steps" => Some(Item::Steps(index)),
+            #[cfg(feature = "calls")]
+            "step-size" => Some(Item::StepSize(index as usize)),
             _ => Class::from_name(kind).map(|c| Item::Frame(c, index)),
         }
     }

@@ -1,0 +1,5 @@
+pub mod Steps
+pub mod Writer
+pub mod OfImage
+pub mod Exact
+pub mod Rows

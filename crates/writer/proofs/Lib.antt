@@ -1,0 +1,9 @@
+pub mod Stores
+pub mod Seen
+pub mod Runs
+pub mod Bounds
+pub mod Loops
+pub mod Commented
+pub mod Imaged
+pub mod Standing
+pub mod Listed

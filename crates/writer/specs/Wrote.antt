@@ -1,0 +1,29 @@
+-- What the writer's answers stand for.
+use mathlib.Core.Path.{_≡_}
+use mathlib.Core.List.{List}
+use Prim.Native.Nat.{ℕ, _+_, _*_, _≤_}
+use lib.ListN.{length}
+use Rattle.image.specs.Limits.{MAX-BODY}
+use Rattle.image.specs.Read.{Read, got, bad}
+use Rattle.steps.specs.Steps.{Contents, imageOf}
+use Rattle.steps.specs.Writer.{contentsFrom, WriterAnswer, refused, wrote}
+use Rattle.writer.specs.declared.Wrote.{Wrote}
+use Rattle.writer.specs.declared.Wrote.the-variants.{Bytes, Refused}
+use Rattle.writer.specs.declared.whole.Measured.{Measured}
+use Rattle.writer.specs.declared.whole.Measured.the-variants.{Image, Fault}
+
+-- case by case
+abbrev pub wroteAnswer : Wrote → WriterAnswer
+wroteAnswer (Bytes n) = wrote n
+wroteAnswer (Refused n p) = refused (record { number = n; place = p })
+
+-- where the tree's steps start, behind nine bytes for each comment, and how many bytes the image has
+abbrev pub measured : Read Contents → Measured
+measured (got c end) = Image (9 * length (c .comments)) (length (imageOf c))
+measured (bad n p) = Fault n p
+
+-- a list was measured, and its image has no more bytes than it may and than the output has
+pub record Room (l : List ℕ) (at bytes room : ℕ) : Type 0 where
+  pub is : Image at bytes ≡ measured (contentsFrom l)
+  pub small : bytes ≤ 5 + MAX-BODY
+  pub fits : bytes ≤ room

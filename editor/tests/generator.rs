@@ -1,0 +1,430 @@
+//! Images from steps: the builder, the calls, and images to steps and back.
+
+mod support;
+
+use rrufthim::{
+    ImageWriter, MAX_BODY, MAX_COMMENTS, MAX_DEPTH, Refusal, check, encode,
+    generator::{
+        Builder, Step, kind_name, read, steps, write_image, write_list,
+    },
+};
+use support::{JUNK, Random, SOURCE, constants, tariff_image};
+
+type Built<'b> = Result<&'b mut Builder, Refusal>;
+
+/// `const A: ! = true;` and a comment.
+fn constant(builder: &mut Builder) -> Built<'_> {
+    builder.comment(0, 5)?;
+    builder.open(1, 0..0)?.absent()?;
+    builder.open(11, 0..18)?;
+    builder.open(2, 6..7)?.text(1, "A")?.close()?;
+    builder.open(42, 9..10)?.close()?;
+    builder.open(51, 13..17)?;
+    builder.open(87, 13..17)?.payload(1)?.close()?;
+    builder.close()?.close()?.close()
+}
+
+const CONSTANT: &[u8] = b"const A: ! = true;";
+
+fn built() -> Builder {
+    let mut builder = Builder::new();
+    constant(&mut builder).expect("steps in order");
+    builder
+}
+
+/// The same by the other writer.
+fn encoded() -> Vec<u8> {
+    let mut image = Vec::new();
+    let mut out = ImageWriter::new(&mut image);
+    out.comments([0..5].into_iter()).unwrap();
+    let tree = out.open(1, 0..0).unwrap();
+    out.absent();
+    let constant = out.open(11, 0..18).unwrap();
+    out.text(6..7, "A", 1).unwrap();
+    out.leaf(42, 9..10).unwrap();
+    let value = out.open(51, 13..17).unwrap();
+    out.choice(87, 13..17, 1).unwrap();
+    for record in [value, constant, tree] {
+        out.close(record).unwrap();
+    }
+    out.finish().unwrap();
+    image
+}
+
+#[test]
+fn an_image_from_steps() {
+    let image = built().finish().expect("an image");
+    assert_eq!(image, encoded());
+    let accepted = check(CONSTANT, &image).expect("accepted");
+    assert_eq!((accepted.comments, accepted.declarations), (1, 1));
+}
+
+#[test]
+fn steps_in_words() {
+    let image = built().finish().expect("an image");
+    let steps = steps(CONSTANT, &image).expect("steps");
+    let lines: Vec<String> = steps.iter().map(Step::to_string).collect();
+    let due = [
+        "comment at 0..5",
+        "open 1 (tree) at 0..0",
+        "absent",
+        "open 11 (const) at 0..18",
+        "open 2 (text) at 6..7",
+        "text \"A\", 1 wide",
+        "close",
+        "open 42 (never type) at 9..10",
+        "close",
+        "open 51 (literal) at 13..17",
+        "open 87 (literal value) at 13..17",
+        "payload 1",
+        "close",
+        "close",
+        "close",
+        "close",
+    ];
+    assert_eq!(lines, due);
+    let newline = Step::Text {
+        width: 0,
+        text: "\n".into(),
+    };
+    assert_eq!(newline.to_string(), "text \"\\n\", 0 wide");
+}
+
+#[test]
+fn steps_have_their_bytes() {
+    let text = Step::Text {
+        width: 258,
+        text: "é".into(),
+    };
+    let all = [
+        (
+            Step::Comment { span: 1..0x0203 },
+            &[1, 0, 0, 0, 1, 0, 0, 2, 3][..],
+        ),
+        (
+            Step::Open {
+                kind: 87,
+                span: 0..u32::MAX,
+            },
+            &[2, 87, 0, 0, 0, 0, 255, 255, 255, 255],
+        ),
+        (text, &[3, 1, 2, 0, 0, 0, 2, 0xC3, 0xA9]),
+        (Step::Payload(9), &[4, 9]),
+        (Step::Absent, &[5]),
+        (Step::Close, &[6]),
+    ];
+    for (step, due) in all {
+        let mut list = vec![7];
+        step.append(&mut list);
+        assert_eq!((&list[1..], step.bytes()), (due, due.len()));
+        assert_eq!(Step::at(&list, 1), Some(step));
+        assert_eq!(Step::at(&list[..list.len() - 1], 1), None);
+    }
+}
+
+/// Each kind of docs/01-scope.md has a name of its own, and no other has.
+#[test]
+fn kinds_have_names() {
+    let known: Vec<u8> = (0..=255)
+        .filter(|kind| kind_name(*kind) != "no kind")
+        .collect();
+    let ranges = [1..=4, 10..=16, 20..=23, 30..=32, 40..=44, 50..=70];
+    let due = ranges.into_iter().chain([80..=87]).flatten();
+    assert_eq!(known, due.collect::<Vec<u8>>());
+    let mut names: Vec<&str> = known.into_iter().map(kind_name).collect();
+    names.sort();
+    names.dedup();
+    assert_eq!(names.len(), 52);
+}
+
+/// An image's steps, given to a builder, are the same list and give the same
+/// image.
+fn there_and_back(source: &[u8], image: &[u8]) {
+    let steps = steps(source, image).expect("steps");
+    let mut builder = Builder::new();
+    for step in &steps {
+        builder.step(step).expect("a step in order");
+    }
+    assert_eq!(builder.finish().as_deref(), Ok(image));
+    assert_eq!(builder.check(), Ok(()));
+    assert_eq!(read(builder.list()), Ok(steps));
+    let mut list = vec![JUNK; builder.list().len()];
+    let bytes = write_list(source, image, &mut list);
+    assert_eq!((bytes, &list[..]), (Ok(list.len()), builder.list()));
+}
+
+/// What the encoder writes, to steps and back, byte for byte.
+#[test]
+fn encoded_images_there_and_back() {
+    there_and_back(SOURCE.as_bytes(), &tariff_image());
+    there_and_back(CONSTANT, &encoded());
+    for count in [0, 1, 40, 1_500] {
+        let source = "const A: u32 = 1; # ok\n".repeat(count);
+        let comments = (0..count).map(|place| {
+            let end = 23 * (place + 1);
+            end - 5..end - 1
+        });
+        let comments: Vec<_> = comments.collect();
+        let image = encode(&constants(&source), &comments);
+        there_and_back(source.as_bytes(), &image.expect("an image"));
+    }
+}
+
+/// Empty names take the most steps for their bytes.
+#[test]
+fn steps_of_empty_texts() {
+    let mut builder = Builder::new();
+    builder.open(1, 0..0).unwrap().absent().unwrap();
+    builder.open(12, 0..0).unwrap();
+    builder.open(2, 0..0).unwrap().text(0, "").unwrap();
+    builder.close().unwrap().open(3, 0..0).unwrap();
+    for _ in 0..1_000 {
+        builder.open(2, 0..0).unwrap().text(0, "").unwrap();
+        builder.close().unwrap();
+    }
+    builder.close().unwrap().open(3, 0..0).unwrap();
+    for _ in 0..3 {
+        builder.close().unwrap();
+    }
+    let image = builder.finish().expect("an image");
+    there_and_back(b"", &image);
+}
+
+/// The next step is turned down where it stands, and isn't added.
+fn turned_down(builder: &Builder, step: &Step) {
+    let mut other = builder.clone();
+    let at = builder.list().len() as u64;
+    let bad = Refusal::BadStep { at };
+    assert_eq!(other.step(step).map(|_| ()), Err(bad), "{step}");
+    assert_eq!(other.list(), builder.list());
+    // The proved writer says the same.
+    let mut list = builder.list().to_vec();
+    step.append(&mut list);
+    assert_eq!(write_image(&list, &mut []), Err(bad), "{step}");
+}
+
+fn open(kind: u8) -> Step {
+    Step::Open { kind, span: 0..0 }
+}
+
+fn text() -> Step {
+    Step::Text {
+        width: 1,
+        text: "a".into(),
+    }
+}
+
+const COMMENT: Step = Step::Comment { span: 0..1 };
+
+#[test]
+fn nothing_stands_outside_the_tree() {
+    let fresh = Builder::new();
+    for step in [text(), Step::Payload(0), Step::Absent, Step::Close] {
+        turned_down(&fresh, &step);
+    }
+    let whole = built();
+    let rest = [text(), Step::Payload(0), Step::Absent, Step::Close];
+    for step in [COMMENT, open(1)].into_iter().chain(rest) {
+        turned_down(&whole, &step);
+    }
+}
+
+#[test]
+#[allow(clippy::reversed_empty_ranges)]
+fn comments_and_spans() {
+    let mut builder = Builder::new();
+    for span in [0..0, 5..5, 1..0, u32::MAX..0] {
+        turned_down(&builder, &Step::Comment { span });
+    }
+    for span in [1..0, u32::MAX..0] {
+        turned_down(&builder, &Step::Open { kind: 1, span });
+    }
+    for _ in 0..MAX_COMMENTS {
+        builder.comment(0, 1).expect("a comment");
+    }
+    turned_down(&builder, &COMMENT);
+    builder.open(1, 7..7).expect("the tree");
+    turned_down(&builder, &COMMENT);
+}
+
+/// A text or a payload byte comes directly after its record is opened.
+#[test]
+fn payloads() {
+    let mut front = Builder::new();
+    front.open(1, 0..0).unwrap();
+    turned_down(&front, &text());
+    turned_down(&front, &Step::Payload(0));
+    let mut shebang = front.clone();
+    shebang.open(2, 0..0).unwrap();
+    for step in [Step::Absent, Step::Close, open(2), Step::Payload(0)] {
+        turned_down(&shebang, &step);
+    }
+    shebang.text(1, "#!/x").unwrap();
+    turned_down(&shebang, &text());
+    let mut value = front;
+    value.absent().unwrap().open(11, 0..0).unwrap();
+    value.open(2, 0..0).unwrap().text(1, "A").unwrap();
+    value.close().unwrap().open(42, 0..0).unwrap();
+    value.close().unwrap().open(50, 0..0).unwrap();
+    for step in [Step::Absent, Step::Close, open(51), text(), COMMENT] {
+        turned_down(&value, &step);
+    }
+    value.payload(2).unwrap();
+    turned_down(&value, &Step::Payload(2));
+}
+
+#[test]
+fn depth() {
+    let mut builder = Builder::new();
+    builder.open(1, 0..0).unwrap().absent().unwrap();
+    builder.open(11, 0..0).unwrap();
+    builder.open(2, 0..0).unwrap().text(1, "A").unwrap();
+    builder.close().unwrap().open(42, 0..0).unwrap();
+    builder.close().unwrap();
+    for _ in 2..MAX_DEPTH {
+        builder.open(70, 0..0).expect("not too deep");
+    }
+    turned_down(&builder, &open(70));
+}
+
+/// What only the proved writer knows: kinds, places, payload bytes, children.
+#[test]
+fn the_writer_has_the_last_word() {
+    let mut builder = Builder::new();
+    builder.open(1, 0..0).unwrap().absent().unwrap();
+    assert_eq!(builder.check(), Ok(()));
+    let at = builder.list().len() as u64;
+    builder.open(63, 0..0).expect("a record");
+    let bad = Refusal::BadStep { at };
+    assert_eq!(builder.check(), Err(bad));
+    assert_eq!(builder.finish(), Err(bad));
+    let step = Step::at(builder.list(), at as usize).expect("there");
+    let line = "open 63 (binary operation) at 0..0";
+    assert_eq!(step.to_string(), line);
+    // A later step that is turned down isn't the first that is wrong.
+    let later = builder.comment(0, 1).map(|_| ());
+    assert_eq!(later, Err(bad));
+}
+
+/// The list's end while something is missing.
+#[test]
+fn an_unfinished_list() {
+    let whole = built();
+    let steps = read(whole.list()).expect("steps");
+    let mut builder = Builder::new();
+    for step in &steps {
+        let at = builder.list().len() as u64;
+        assert_eq!(builder.finish(), Err(Refusal::BadStep { at }));
+        assert_eq!(builder.check(), Ok(()));
+        builder.step(step).expect("in order");
+    }
+    assert!(builder.finish().is_ok());
+}
+
+/// A body of 1,048,576 bytes, and one more.
+#[test]
+fn the_largest_image() {
+    let with_text = |bytes: usize| {
+        let mut builder = Builder::new();
+        let text = "a".repeat(bytes);
+        builder.open(1, 0..0)?.open(2, 0..0)?.text(0, &text)?;
+        builder.close()?.close()?;
+        Ok::<Builder, Refusal>(builder)
+    };
+    // Comment count, two records, the text's width.
+    let room = MAX_BODY - 2 - 26 - 2;
+    let image = with_text(room).and_then(|builder| builder.finish());
+    let image = image.expect("an image");
+    assert_eq!(image.len(), MAX_BODY + 5);
+    assert!(check(b"", &image).is_ok());
+    let more = with_text(room + 1).expect("steps in order");
+    let needed = MAX_BODY as u64 + 6;
+    assert_eq!(more.finish(), Err(Refusal::MoreRoom { needed }));
+    assert_eq!(more.check(), Ok(()));
+}
+
+/// Exact room, one byte short, room to spare.
+#[test]
+fn lent_outputs() {
+    let (builder, image) = (built(), encoded());
+    let needed = image.len() as u64;
+    let short = Refusal::MoreRoom { needed };
+    for room in [0, image.len() - 1] {
+        let mut output = vec![JUNK; room];
+        assert_eq!(write_image(builder.list(), &mut output), Err(short));
+        assert_eq!(output, vec![JUNK; room]);
+    }
+    for spare in [0, 9] {
+        let mut output = vec![JUNK; image.len() + spare];
+        let bytes = write_image(builder.list(), &mut output);
+        assert_eq!(bytes, Ok(image.len()));
+        assert_eq!(output[..image.len()], image);
+        assert_eq!(output[image.len()..], vec![JUNK; spare]);
+    }
+    let list = builder.list();
+    let needed = list.len() as u64;
+    let short = Refusal::MoreRoom { needed };
+    let mut output = vec![JUNK; list.len() - 1];
+    assert_eq!(write_list(CONSTANT, &image, &mut output), Err(short));
+    assert_eq!(output, vec![JUNK; list.len() - 1]);
+    let bad = Refusal::SourceNotUtf8 { at: 0 };
+    assert_eq!(write_list(b"\xFF", &image, &mut output), Err(bad));
+    assert_eq!(steps(CONSTANT, &[1]), Err(Refusal::NoImage));
+}
+
+#[test]
+fn lists_that_cannot_be_read() {
+    assert_eq!(read(b""), Ok(vec![]));
+    let whole = built();
+    for length in 0..whole.list().len() {
+        match read(&whole.list()[..length]) {
+            Ok(steps) => {
+                let bytes: usize = steps.iter().map(Step::bytes).sum();
+                assert_eq!(bytes, length);
+            }
+            Err(refusal) => assert!(refusal.place() < length as u64),
+        }
+    }
+    for number in [0, 7, 255] {
+        let at = 1;
+        let list = [6, number, 6];
+        assert_eq!(read(&list), Err(Refusal::BadStep { at }));
+    }
+    let text = [3, 0, 1, 0, 0, 0, 1, 0xFF];
+    assert_eq!(read(&text), Err(Refusal::BadStep { at: 0 }));
+}
+
+/// Any bytes end in an image or a refusal; what is written, the reader takes
+/// apart again.
+#[test]
+fn foreign_lists() {
+    let mut random = Random(9);
+    let whole = built();
+    let [mut written, mut refused] = [0, 0];
+    let source = [b' '; 100];
+    for _ in 0..3_000 {
+        let mut list = whole.list().to_vec();
+        let at = random.below(list.len());
+        match random.below(3) {
+            0 => list[at] = random.next() as u8,
+            1 => list.truncate(at),
+            _ => list.insert(at, random.next() as u8 % 8),
+        }
+        let mut output = [JUNK; 200];
+        match write_image(&list, &mut output) {
+            Ok(bytes) => {
+                written += 1;
+                if let Ok(steps) = steps(&source, &output[..bytes]) {
+                    assert_eq!(read(&list), Ok(steps));
+                }
+            }
+            Err(refusal) => {
+                refused += 1;
+                assert_eq!(refusal.number(), 16);
+                assert!(refusal.place() <= list.len() as u64);
+                assert_eq!(output, [JUNK; 200]);
+            }
+        }
+    }
+    assert!(written > 200 && refused > 1_000, "{written}, {refused}");
+}
