@@ -8,23 +8,26 @@ use Prim.Native.Nat.{ℕ, _*_, _≤_, _<_, _^_}
 use native.Mathlib.Omega.{arith}
 use lib.Dec.{ltb}
 use lib.ListN.{length, length-append}
+use Rattle.laws.proofs.Options.{never}
 use Rattle.refusals.specs.Refusals.{Refusal, refuseIf, orElse, any, isOneOf}
 use Rattle.refusals.proofs.Groups.{passes-line}
 use Rattle.image.specs.Read.{Read, got, bad, Image, readAll, readNumbers}
 use Rattle.image.proofs.Numbers.{read-numbers}
-use Rattle.layout_facts.proofs.Limits.{whole-within}
-use Rattle.cut_rule.specs.States.{renderFresh}
-use Rattle.cut_rule.specs.Tests.{widthTests}
+use Rattle.rows.specs.Limits.{MAX-ROWS}
+use Rattle.layout_facts.proofs.Limits.{closed-within}
+use Rattle.cut_rule.specs.States.{layoutFresh, renderFresh}
+use Rattle.cut_rule.specs.Tests.{modeTests, widthTests}
 use Rattle.cut_rule.specs.Parts.{widthLine}
-use Rattle.plain_run.specs.Parts.{readRefusal}
-use Rattle.plain_run.specs.File.{FileChoice, renderChoice, fileRows, fileMarks, rowsDue, marksDue, laidRefusal}
+use Rattle.plain_run.specs.Parts.{readRefusal, keepsWaiting}
+use Rattle.plain_run.specs.File.{FileChoice, layoutChoice, renderChoice, modeLine, fileRows, fileMarks, rowsDue, marksDue, laidRefusal}
+use Rattle.plain_run.specs.FileLimits.{FILE-TEXT}
+use Rattle.plain_run.proofs.Limits.{stood}
+use Rattle.plain_run.proofs.FileLimits.{laid-read, file-text-limited}
 use Rattle.batch.specs.Batch.{Save, rowOf, single, textsOf}
 use Rattle.batch.specs.Whole.{textOf, Small, cells}
 use Rattle.batch.specs.declared.writing.Row.{Row}
-use Rattle.batch.proofs.Taken.{taken}
 use Rattle.batch.proofs.Places.{read-places}
 use Rattle.batch.proofs.Marks.{marks-few}
-use Rattle.batch.proofs.TextLimit.{FILE-TEXT, file-text-limited}
 use Rattle.batch.proofs.Rooms.{early, needed, no-text, all-text, single-refused, single-accepted}
 
 -- ---- refusals that don't depend on the output: none of them is 10, and their places are small
@@ -35,8 +38,8 @@ pub record Fine (r : Refusal) : Type 0 where
 abbrev Fines : Option Refusal → Type 0
 Fines o = (r : Refusal) → o ≡ some r → Fine r
 
-never : {A : Type 0} (r : Refusal) → _≡_ {A = Option Refusal} none (some r) → A
-never r e = let z : _≡_ {A = ℕ} 0 1 = cc in absurd (omega arith)
+fine-none : Fines none
+fine-none r e = absurd (never r (sym e))
 
 fine-at : (n p : ℕ) → (n ≡ 10 → ⊥) → p < 2 ^ 32 → Fines (some (record { number = n; place = p }))
 fine-at n p h k r e =
@@ -47,7 +50,7 @@ fine-at n p h k r e =
 
 fine-if : (t : Bool) (n p : ℕ) → (n ≡ 10 → ⊥) → p < 2 ^ 32 → Fines (refuseIf t n p)
 fine-if true n p h k = fine-at n p h k
-fine-if false n p h k = λ r e. never r e
+fine-if false n p h k = fine-none
 
 -- one line, and the others where it lets pass
 fine-or : (o p : Option Refusal) → Fines o → (o ≡ none → Fines p) → Fines (orElse o p)
@@ -65,35 +68,40 @@ module _ (s b : List ℕ) where
   read-fine = go (readAll s b) refl
     where
       go : (x : Read Image) → readAll s b ≡ x → Fines (readRefusal x)
-      go (got i end) e = λ r f. never r f
+      go (got i end) e = fine-none
       go (bad n p) e = fine-at n p (none-ten n (read-numbers s b n p e)) (let h = read-places s b n p e in omega arith)
 
-  module _ (h : readRefusal (readAll s b) ≡ none) where
-    rows-few : rowsDue s b ≤ 1048576
-    rows-few = whole-within (taken s b h .stands) .rows
+  module _ (c : FileChoice) where
+    abbrev mode : Option Refusal
+    mode = modeLine c
 
-  laid-fine : (c : FileChoice) → Fines (laidRefusal s b c fileRows)
-  laid-fine c =
-      fine-or (readRefusal (readAll s b)) _ read-fine
-      (λ h.
-      fine-or (widthLine (renderChoice c) renderFresh) _ (fine-if (any (widthTests (c .width) 0)) 15 0 (λ e. omega arith) (omega arith))
-      (λ g.
-      fine-or (refuseIf (ltb fileRows (rowsDue s b)) 8 (rowsDue s b)) none
-      (fine-if (ltb fileRows (rowsDue s b)) 8 (rowsDue s b) (λ e. omega arith) (let k = rows-few h in omega arith))
-      (λ k r e. never r e)))
+    abbrev width : Option Refusal
+    width = widthLine (renderChoice c) renderFresh
+
+    abbrev eight : Option Refusal
+    eight = refuseIf (ltb fileRows (rowsDue s b c)) 8 (rowsDue s b c)
+
+    rows-few : readRefusal (readAll s b) ≡ none → rowsDue s b c ≤ MAX-ROWS
+    rows-few h = omega (arith, closed-within (stood s b h .stood) (keepsWaiting (c .mode)) .rows)
+
+    laid-fine : Fines (laidRefusal s b c fileRows)
+    laid-fine =
+        fine-or (readRefusal (readAll s b)) _ read-fine
+        (λ h.
+        fine-or mode _ (fine-if (any (modeTests (layoutChoice c) layoutFresh)) 12 0 (λ e. omega arith) (omega arith))
+        (λ f.
+        fine-or width _ (fine-if (any (widthTests (c .width) 0)) 15 0 (λ e. omega arith) (omega arith))
+        (λ g.
+        fine-or eight none (fine-if (ltb fileRows (rowsDue s b c)) 8 (rowsDue s b c) (λ e. omega arith) (let k = rows-few h in omega arith)) (λ k. fine-none))))
+
+    nine-fine : laidRefusal s b c fileRows ≡ none → Fines (refuseIf (ltb fileMarks (marksDue s b c)) 9 (marksDue s b c))
+    nine-fine h = let k = marks-few s b c (laid-read s b c h) in fine-if (ltb fileMarks (marksDue s b c)) 9 (marksDue s b c) (λ e. omega arith) (omega arith)
 
 pub early-fine : (c : FileChoice) (x : Save) → Fines (early c x)
 early-fine c x =
     let s = x .source in
     let b = x .image in
-    let width = widthLine (renderChoice c) renderFresh in
-    let eight = refuseIf (ltb fileRows (rowsDue s b)) 8 (rowsDue s b) in
-    fine-or (laidRefusal s b c fileRows) _ (laid-fine s b c)
-    (λ h.
-    let k = marks-few s b (passes-line (readRefusal (readAll s b)) (width ∷ eight ∷ []) h) in
-    fine-or (refuseIf (ltb fileMarks (marksDue s b)) 9 (marksDue s b)) none
-    (fine-if (ltb fileMarks (marksDue s b)) 9 (marksDue s b) (λ e. omega arith) (omega arith))
-    (λ g r e. never r e))
+    fine-or (laidRefusal s b c fileRows) _ (laid-fine s b c) (λ h. fine-or (refuseIf (ltb fileMarks (marksDue s b c)) 9 (marksDue s b c)) none (nine-fine s b c h) (λ g. fine-none))
 
 -- ---- texts
 abbrev pub MOST : ℕ
@@ -106,9 +114,10 @@ module _ (c : FileChoice) where
       go : (o : Option Refusal) → early c x ≡ o → length (textOf c x) ≤ MOST
       go (some r) e = omega (arith, ap length (no-text c x r e))
       go none e =
-          let h = file-text-limited (x .source) (x .image) c
-          (passes-line (laidRefusal (x .source) (x .image) c fileRows) (refuseIf (ltb fileMarks (marksDue (x .source) (x .image))) 9 (marksDue (x .source) (x .image)) ∷ []) e)
-          in
+          let s = x .source in
+          let b = x .image in
+          let nine = refuseIf (ltb fileMarks (marksDue s b c)) 9 (marksDue s b c) in
+          let h = file-text-limited s b c (passes-line (laidRefusal s b c fileRows) (nine ∷ []) e) in
           omega (arith, ap length (all-text c x e))
 
   pub texts-limited : (xs : List Save) → length (textsOf c xs) ≤ length xs * MOST

@@ -1,9 +1,7 @@
 pub mod Buffer
 pub mod Rooms
-pub mod Taken
 pub mod Places
 pub mod Marks
-pub mod TextLimit
 pub mod Bounds
 pub mod Texts
 pub mod Steps

@@ -25,12 +25,12 @@ use Rattle.marks.specs.Marks.{rowMarks, marksNeeded}
 use Rattle.marks.proofs.Needed.{row-call, row-group, row-if}
 use Rattle.renderer_rules.proofs.Names.{names, namesIn, neither}
 use Rattle.comments.specs.Listed.{given}
-use Rattle.layout_facts.proofs.Limits.{whole-within}
-use Rattle.layout_facts.proofs.Numbers.{numbers-below}
-use Rattle.plain_run.specs.Parts.{readRefusal, acceptedTree}
-use Rattle.plain_run.specs.File.{built, marksDue}
+use Rattle.layout_facts.proofs.Limits.{closed-within}
+use Rattle.layout_facts.proofs.Numbers.{whole-below}
+use Rattle.plain_run.specs.Parts.{readRefusal, acceptedTree, keepsWaiting}
+use Rattle.plain_run.specs.File.{FileChoice, built, marksDue}
+use Rattle.plain_run.proofs.Limits.{stood}
 use Rattle.plain_run.proofs.Marks.{marks-add}
-use Rattle.batch.proofs.Taken.{taken}
 
 -- no number from k on is this one, so it is below k
 below : (k n : ℕ) → ((x : ℕ) → k ≤ x → eqb x n ≡ false) → n < k
@@ -143,13 +143,14 @@ module _ (s : List ℕ) where
           (node-few n i r (first-part i (rowsOf n r) (rows ns (r + size n)) h) (λ x g. neither (names x n) (namesIn x ns) (u x g) .0))
           (nodes-few ns (i + size n) (r + size n) (second-part i (size n) (rowsOf n r) (rows ns (r + size n)) (length-rowsOf n r) h) (λ x g. neither (names x n) (namesIn x ns) (u x g) .1))
 
-pub marks-few : (s b : List ℕ) → readRefusal (readAll s b) ≡ none → marksDue s b ≤ MAX-NUMBER
-marks-few s b h =
-    let l = rows (built s b .nodes) 0 in
+pub marks-few : (s b : List ℕ) (c : FileChoice) → readRefusal (readAll s b) ≡ none → marksDue s b c ≤ MAX-NUMBER
+marks-few s b c h =
+    let l = rows (built s b c .nodes) 0 in
+    let keeps = keepsWaiting (c .mode) in
     let few =
-    nodes-few l (built s b .taken) (built s b .nodes) 0 0 (held l) (λ x g. numbers-below (given s b) (acceptedTree b (readAll s b)) x g)
+    nodes-few l (built s b c .taken) (built s b c .nodes) 0 0 (held l) (λ x g. whole-below (given s b) (acceptedTree b (readAll s b)) keeps x g)
     in
-    omega (arith, whole-within (taken s b h .stands) .numbers)
+    omega (arith, closed-within (stood s b h .stood) keeps .numbers)
   where
     held : (l : List ℕ) → Holds l 0 l
     held l = record { at = λ k h. let e : 0 * PLACES + k ≡ k = omega arith in ap (λ (j : ℕ). getD l j 0) e }
