@@ -12,9 +12,9 @@ use lib.Seq.{sets}
 use Rattle.laws.proofs.Options as options
 use Rattle.refusals.specs.Refusals.{Refusal, refuseIf, isOneOf}
 use Rattle.image.specs.Read.{Read, got, bad}
-use Rattle.plain_run.specs.File.{FileChoice, FileAnswer, refused, formatted, fileRows, fileMarks, laidRefusal, marksDue, fileAnswerBy}
+use Rattle.plain_run.specs.File.{FileChoice, refused, formatted, fileRows, fileMarks, laidRefusal, marksDue, fileAnswerBy}
 use Rattle.file.specs.Whole.{toChoice}
-use Rattle.batch.specs.Batch.{MAX-SAVES, Save, allSaves, savesRefusal, single, tableDue, textsDue, batchRefusal, batchAnswerBy}
+use Rattle.batch.specs.Batch.{MAX-SAVES, Save, allSaves, savesRefusal, tableDue, textsDue, batchRefusal, batchAnswerBy}
 use Rattle.batch.proofs.Buffer.{cut-number}
 use Rattle.batch.proofs.Rooms.{early, single-by}
 use Rattle.batch.proofs.Singles.{as-singles}

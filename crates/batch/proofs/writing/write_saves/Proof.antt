@@ -19,10 +19,10 @@ loop-holds : tie.Need-loop-holds Inv-loop μ-loop
 loop-holds c = putting-none _ _ _ _ (c .before .before .before .pre)
 
 sub-write-text : tie.Need-sub-write-text Inv-loop μ-loop
-sub-write-text c = putting-start _ _ _ _ _ _ _ _ _ (c .before .loop .inv)
+sub-write-text c = omega (arith, putting-start _ _ _ _ _ _ _ _ _ (c .before .loop .inv))
 
 part-write-text-start : tie.Need-part-write-text-start Inv-loop μ-loop
-part-write-text-start c = putting-start _ _ _ _ _ _ _ _ _ (c .before .loop .inv)
+part-write-text-start c = omega (arith, putting-start _ _ _ _ _ _ _ _ _ (c .before .loop .inv))
 
 part-write-text-end : tie.Need-part-write-text-end Inv-loop μ-loop
 part-write-text-end c = omega arith
