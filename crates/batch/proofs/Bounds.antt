@@ -28,7 +28,7 @@ use Rattle.batch.specs.Whole.{textOf, Small, cells}
 use Rattle.batch.specs.declared.writing.Row.{Row}
 use Rattle.batch.proofs.Places.{read-places}
 use Rattle.batch.proofs.Marks.{marks-few}
-use Rattle.batch.proofs.Rooms.{early, needed, no-text, all-text, single-refused, single-accepted}
+use Rattle.batch.proofs.Rooms.{nine, early, needed, no-text, all-text, single-refused, single-accepted}
 
 -- ---- refusals that don't depend on the output: none of them is 10, and their places are small
 pub record Fine (r : Refusal) : Type 0 where
@@ -72,15 +72,6 @@ module _ (s b : List ℕ) where
       go (bad n p) e = fine-at n p (none-ten n (read-numbers s b n p e)) (let h = read-places s b n p e in omega arith)
 
   module _ (c : FileChoice) where
-    abbrev mode : Option Refusal
-    mode = modeLine c
-
-    abbrev width : Option Refusal
-    width = widthLine (renderChoice c) renderFresh
-
-    abbrev eight : Option Refusal
-    eight = refuseIf (ltb fileRows (rowsDue s b c)) 8 (rowsDue s b c)
-
     rows-few : readRefusal (readAll s b) ≡ none → rowsDue s b c ≤ MAX-ROWS
     rows-few h = omega (arith, closed-within (stood s b h .stood) (keepsWaiting (c .mode)) .rows)
 
@@ -88,39 +79,37 @@ module _ (s b : List ℕ) where
     laid-fine =
         fine-or (readRefusal (readAll s b)) _ read-fine
         (λ h.
-        fine-or mode _ (fine-if (any (modeTests (layoutChoice c) layoutFresh)) 12 0 (λ e. omega arith) (omega arith))
+        fine-or (modeLine c) _ (fine-if (any (modeTests (layoutChoice c) layoutFresh)) 12 0 (λ e. omega arith) (omega arith))
         (λ f.
-        fine-or width _ (fine-if (any (widthTests (c .width) 0)) 15 0 (λ e. omega arith) (omega arith))
+        fine-or (widthLine (renderChoice c) renderFresh) _ (fine-if (any (widthTests (c .width) 0)) 15 0 (λ e. omega arith) (omega arith))
         (λ g.
-        fine-or eight none (fine-if (ltb fileRows (rowsDue s b c)) 8 (rowsDue s b c) (λ e. omega arith) (let k = rows-few h in omega arith)) (λ k. fine-none))))
-
-    nine-fine : laidRefusal s b c fileRows ≡ none → Fines (refuseIf (ltb fileMarks (marksDue s b c)) 9 (marksDue s b c))
-    nine-fine h = let k = marks-few s b c (laid-read s b c h) in fine-if (ltb fileMarks (marksDue s b c)) 9 (marksDue s b c) (λ e. omega arith) (omega arith)
+        fine-or (refuseIf (ltb fileRows (rowsDue s b c)) 8 (rowsDue s b c)) none
+        (fine-if (ltb fileRows (rowsDue s b c)) 8 (rowsDue s b c) (λ e. omega arith) (let k = rows-few h in omega arith))
+        (λ k. fine-none))))
 
 pub early-fine : (c : FileChoice) (x : Save) → Fines (early c x)
 early-fine c x =
     let s = x .source in
     let b = x .image in
-    fine-or (laidRefusal s b c fileRows) _ (laid-fine s b c) (λ h. fine-or (refuseIf (ltb fileMarks (marksDue s b c)) 9 (marksDue s b c)) none (nine-fine s b c h) (λ g. fine-none))
+    fine-or (laidRefusal s b c fileRows) _ (laid-fine s b c)
+    (λ h.
+    let k = marks-few s b c (laid-read s b c h) in
+    fine-or (nine c x) none (fine-if (ltb fileMarks (marksDue s b c)) 9 (marksDue s b c) (λ e. omega arith) (omega arith)) (λ g. fine-none))
 
 -- ---- texts
-abbrev pub MOST : ℕ
-MOST = FILE-TEXT
-
 module _ (c : FileChoice) where
-  pub text-limited : (x : Save) → length (textOf c x) ≤ MOST
+  pub text-limited : (x : Save) → length (textOf c x) ≤ FILE-TEXT
   text-limited x = go (early c x) refl
     where
-      go : (o : Option Refusal) → early c x ≡ o → length (textOf c x) ≤ MOST
+      go : (o : Option Refusal) → early c x ≡ o → length (textOf c x) ≤ FILE-TEXT
       go (some r) e = omega (arith, ap length (no-text c x r e))
       go none e =
           let s = x .source in
           let b = x .image in
-          let nine = refuseIf (ltb fileMarks (marksDue s b c)) 9 (marksDue s b c) in
-          let h = file-text-limited s b c (passes-line (laidRefusal s b c fileRows) (nine ∷ []) e) in
+          let h = file-text-limited s b c (passes-line (laidRefusal s b c fileRows) (nine c x ∷ []) e) in
           omega (arith, ap length (all-text c x e))
 
-  pub texts-limited : (xs : List Save) → length (textsOf c xs) ≤ length xs * MOST
+  pub texts-limited : (xs : List Save) → length (textsOf c xs) ≤ length xs * FILE-TEXT
   unfolding textsOf
   texts-limited [] = omega arith
   texts-limited (x ∷ xs) =

@@ -9,7 +9,7 @@ use native.Mathlib.Decide.{decLt}
 use native.Mathlib.Omega.{arith}
 use lib.Dec.{eqb}
 use lib.ListN.{length, getD, length-append, List·getD-append}
-use lib.Seq.{getD-append-add}
+use lib.Seq.{getD-append-add, take-all}
 use borrow.Author.Tests.{eqb-false}
 use Rattle.image.specs.Read.{readAll}
 use Rattle.rows.specs.Kinds.{GROUP, INDENT, INDENT-NEXT, WRAP-PARENT, COMMENT, STR, ASCII, LINE, EMPTY-LINE, LINE-OR-SPACE, IF-WRAP, CALL}
@@ -19,10 +19,10 @@ use Rattle.rows.specs.Node as node
 use Rattle.rows.specs.Places.{PLACES}
 use Rattle.rows.specs.Rows.{size, sizes, row, rowsOf, rows, noText}
 use Rattle.rows.specs.View.{cell, viewOf}
-use Rattle.rows.proofs.Flatten.{Holds, row-held, parts-held}
+use Rattle.rows.proofs.Flatten.{Holds, holds-part, row-held, parts-held}
 use Rattle.rows.proofs.Sizes.{length-rowsOf, length-rows}
 use Rattle.marks.specs.Marks.{rowMarks, marksNeeded}
-use Rattle.marks.proofs.Needed.{row-call, row-group, row-if}
+use Rattle.marks.proofs.Needed.{row-call, row-group, row-if, row-none}
 use Rattle.renderer_rules.proofs.Names.{names, namesIn, neither}
 use Rattle.comments.specs.Listed.{given}
 use Rattle.layout_facts.proofs.Limits.{closed-within}
@@ -65,7 +65,7 @@ module _ (s : List ℕ) where
   joined : (n m i k : ℕ) → marksNeeded n s i ≤ k → marksNeeded m s (i + n) ≤ k → marksNeeded (n + m) s i ≤ k
   joined n m i k h g = omega (arith, marks-add n m s i)
 
-  last-row : (i k : ℕ) → rowMarks s i ≡ 0 → marksNeeded 1 s i ≤ k
+  last-row : (i k : ℕ) → 0 ≡ rowMarks s i → marksNeeded 1 s i ≤ k
   unfolding marksNeeded
   last-row i k e = omega arith
 
@@ -73,9 +73,9 @@ module _ (s : List ℕ) where
   unfolding viewOf
   plain kind i r t w h = row-held s i kind 0 0 0 (r + 1) t w [] h .isKind
 
-  -- a row without a number, by its kind
-  unmarked : (i kind : ℕ) → cell s i 0 ≡ kind → eqb kind CALL ≡ false → eqb kind GROUP ≡ false → eqb kind IF-WRAP ≡ false → rowMarks s i ≡ 0
-  unmarked i kind e a b c = rw (e, a, b, c)
+  -- the kinds without a number stand between `Group` and `IfWrap`
+  unmarked : (i kind : ℕ) → cell s i 0 ≡ kind → GROUP < kind → kind < IF-WRAP → 0 ≡ rowMarks s i
+  unmarked i kind e a b = row-none s i kind (sym e) (λ z. omega arith) (λ z. omega arith) (λ z. omega arith)
 
   no-row : (i k : ℕ) → marksNeeded 0 s i ≤ k
   unfolding marksNeeded
@@ -99,19 +99,19 @@ module _ (s : List ℕ) where
           (nodes-few ns (i + 1) (r + 1) (parts-held s i GROUP n 0 0 (r + (1 + sizes ns)) noText 0 (rows ns (r + 1)) h) (λ x g. neither (eqb x n) (namesIn x ns) (u x g) .1))
       node-few (indent ns) i r h u =
           let w = row-held s i INDENT 0 0 0 (r + (1 + sizes ns)) noText 0 (rows ns (r + 1)) h in
-          with-row i (sizes ns) k (omega (arith, unmarked i INDENT (w .isKind) refl refl refl))
+          with-row i (sizes ns) k (omega (arith, unmarked i INDENT (w .isKind) (omega arith) (omega arith)))
           (nodes-few ns (i + 1) (r + 1) (parts-held s i INDENT 0 0 0 (r + (1 + sizes ns)) noText 0 (rows ns (r + 1)) h) u)
       node-few (indentNext ns) i r h u =
           let w = row-held s i INDENT-NEXT 0 0 0 (r + (1 + sizes ns)) noText 0 (rows ns (r + 1)) h in
-          with-row i (sizes ns) k (omega (arith, unmarked i INDENT-NEXT (w .isKind) refl refl refl))
+          with-row i (sizes ns) k (omega (arith, unmarked i INDENT-NEXT (w .isKind) (omega arith) (omega arith)))
           (nodes-few ns (i + 1) (r + 1) (parts-held s i INDENT-NEXT 0 0 0 (r + (1 + sizes ns)) noText 0 (rows ns (r + 1)) h) u)
-      node-few wrapParent i r h u = last-row i k (unmarked i WRAP-PARENT (plain WRAP-PARENT i r noText 0 h) refl refl refl)
-      node-few (comment t) i r h u = last-row i k (unmarked i COMMENT (plain COMMENT i r t 0 h) refl refl refl)
-      node-few (str w t) i r h u = last-row i k (unmarked i STR (plain STR i r t w h) refl refl refl)
-      node-few (ascii t) i r h u = last-row i k (unmarked i ASCII (plain ASCII i r t 0 h) refl refl refl)
-      node-few line i r h u = last-row i k (unmarked i LINE (plain LINE i r noText 0 h) refl refl refl)
-      node-few emptyLine i r h u = last-row i k (unmarked i EMPTY-LINE (plain EMPTY-LINE i r noText 0 h) refl refl refl)
-      node-few lineOrSpace i r h u = last-row i k (unmarked i LINE-OR-SPACE (plain LINE-OR-SPACE i r noText 0 h) refl refl refl)
+      node-few wrapParent i r h u = last-row i k (unmarked i WRAP-PARENT (plain WRAP-PARENT i r noText 0 h) (omega arith) (omega arith))
+      node-few (comment t) i r h u = last-row i k (unmarked i COMMENT (plain COMMENT i r t 0 h) (omega arith) (omega arith))
+      node-few (str w t) i r h u = last-row i k (unmarked i STR (plain STR i r t w h) (omega arith) (omega arith))
+      node-few (ascii t) i r h u = last-row i k (unmarked i ASCII (plain ASCII i r t 0 h) (omega arith) (omega arith))
+      node-few line i r h u = last-row i k (unmarked i LINE (plain LINE i r noText 0 h) (omega arith) (omega arith))
+      node-few emptyLine i r h u = last-row i k (unmarked i EMPTY-LINE (plain EMPTY-LINE i r noText 0 h) (omega arith) (omega arith))
+      node-few lineOrSpace i r h u = last-row i k (unmarked i LINE-OR-SPACE (plain LINE-OR-SPACE i r noText 0 h) (omega arith) (omega arith))
       node-few (ifWrap n a b) i r h u =
           let parts = rowsOf a (r + 1) ++ rowsOf b (r + (1 + size a)) in
           let w = row-held s i IF-WRAP n 0 (r + (1 + size a)) (r + (1 + (size a + size b))) noText 0 parts h in
@@ -148,9 +148,6 @@ marks-few s b c h =
     let l = rows (built s b c .nodes) 0 in
     let keeps = keepsWaiting (c .mode) in
     let few =
-    nodes-few l (built s b c .taken) (built s b c .nodes) 0 0 (held l) (λ x g. whole-below (given s b) (acceptedTree b (readAll s b)) keeps x g)
+    nodes-few l (built s b c .taken) (built s b c .nodes) 0 0 (holds-part l 0 l (take-all (length l) l (omega arith))) (λ x g. whole-below (given s b) (acceptedTree b (readAll s b)) keeps x g)
     in
     omega (arith, closed-within (stood s b h .stood) keeps .numbers)
-  where
-    held : (l : List ℕ) → Holds l 0 l
-    held l = record { at = λ k h. let e : 0 * PLACES + k ≡ k = omega arith in ap (λ (j : ℕ). getD l j 0) e }

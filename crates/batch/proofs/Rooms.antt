@@ -20,21 +20,24 @@ module _ (c : FileChoice) (x : Save) where
   abbrev pub needed : ℕ
   needed = length (rendered c x)
 
+  abbrev pub nine : Option Refusal
+  nine = refuseIf (ltb fileMarks (marksDue (x .source) (x .image) c)) 9 (marksDue (x .source) (x .image) c)
+
   -- what refuses whatever the output has, and 10
   abbrev pub early : Option Refusal
-  early =
-      first (laidRefusal (x .source) (x .image) c fileRows ∷ refuseIf (ltb fileMarks (marksDue (x .source) (x .image) c)) 9 (marksDue (x .source) (x .image) c) ∷ [])
+  early = first (laidRefusal (x .source) (x .image) c fileRows ∷ nine ∷ [])
 
   abbrev ten : ℕ → Option Refusal
   ten room = refuseIf (ltb room needed) 10 needed
 
   -- the answer where nothing refuses
   abbrev pub accepted : FileAnswer
-  accepted = formatted needed (length (commentsOf (x .image)) - built (x .source) (x .image) c .placed) (rowsDue (x .source) (x .image) c) (built (x .source) (x .image) c .taken)
+  accepted =
+      let b = built (x .source) (x .image) c in
+      formatted needed (length (commentsOf (x .image)) - b .placed) (rowsDue (x .source) (x .image) c) (b .taken)
 
   table : (room : ℕ) → fileRefusal (x .source) (x .image) c room ≡ orElse early (ten room)
-  table room =
-      go (laidRefusal (x .source) (x .image) c fileRows) (refuseIf (ltb fileMarks (marksDue (x .source) (x .image) c)) 9 (marksDue (x .source) (x .image) c)) (ten room)
+  table room = go (laidRefusal (x .source) (x .image) c fileRows) nine (ten room)
     where
       go : (l m t : Option Refusal) → first (l ∷ m ∷ t ∷ []) ≡ orElse (first (l ∷ m ∷ [])) t
       go (some r) m t = refl

@@ -12,11 +12,12 @@ use Rattle.laws.proofs.Stores.{sets-append}
 use Rattle.cut_rule.specs.Run.{writeFront}
 use Rattle.cut_rule.proofs.Memory.{write-sets}
 use Rattle.plain_run.specs.File.{FileChoice, FileAnswer, refused, formatted}
+use Rattle.plain_run.specs.FileLimits.{FILE-TEXT}
 use Rattle.batch.specs.Batch.{MAX-SAVES, Save, frameEnd, saveAt, allSaves, savesBy, savesRefusal, rowOf, single, tableOf, textsOf, tableDue, textsDue}
 use Rattle.batch.specs.Whole.{textOf, cells, Saved, Room, Written}
 use Rattle.batch.specs.declared.writing.Row.{Row}
 use Rattle.batch.proofs.Buffer.{Files, next, last, listed}
-use Rattle.batch.proofs.Bounds.{MOST, texts-limited, row-text}
+use Rattle.batch.proofs.Bounds.{texts-limited, row-text}
 
 row-size : (a : FileAnswer) → length (rowOf a) ≡ 3
 row-size (refused r) = refl
@@ -59,7 +60,7 @@ module _ (c : FileChoice) where
       pub adding-none : Adding 0 0
       adding-none = record { rest = savesBy (allSaves f); files = listed f MAX-SAVES 0 passes .files; same = omega arith }
 
-      pub all-limited : length (textsDue c f) ≤ MAX-SAVES * MOST
+      pub all-limited : length (textsDue c f) ≤ MAX-SAVES * FILE-TEXT
       all-limited = let h = listed f MAX-SAVES 0 passes .few in let l = texts-limited c (savesBy (allSaves f)) in omega arith
 
     module _ (at bytes : ℕ) (p : Adding at bytes) where

@@ -16,7 +16,7 @@ use Rattle.plain_run.specs.File.{FileChoice, refused, formatted, fileRows, file
 use Rattle.file.specs.Whole.{toChoice}
 use Rattle.batch.specs.Batch.{MAX-SAVES, Save, allSaves, savesRefusal, tableDue, textsDue, batchRefusal, batchAnswerBy}
 use Rattle.batch.proofs.Buffer.{cut-number}
-use Rattle.batch.proofs.Rooms.{early, single-by}
+use Rattle.batch.proofs.Rooms.{nine, early, single-by}
 use Rattle.batch.proofs.Singles.{as-singles}
 use Rattle.exports.specs.Numbers.{fileChoice}
 use Rattle.exports.specs.Saves.{toldBatch}
@@ -64,7 +64,7 @@ early-under : (c : FileChoice) (x : Save) → Under rowNumbers (early c x)
 early-under c x =
     let s = x .source in
     let b = x .image in
-    under-first rowNumbers (laidRefusal s b c fileRows ∷ refuseIf (ltb fileMarks (marksDue s b c)) 9 (marksDue s b c) ∷ [])
+    under-first rowNumbers (laidRefusal s b c fileRows ∷ nine c x ∷ [])
     (laid-under s b (9 ∷ []) c, (under-if rowNumbers (ltb fileMarks (marksDue s b c)) 9 (marksDue s b c) refl, tt))
 
 refused-by : (o : Option Refusal) (n l k m : ℕ) (r : Refusal) → fileAnswerBy o (formatted n l k m) ≡ refused r → o ≡ some r
