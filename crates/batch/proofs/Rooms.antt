@@ -10,7 +10,7 @@ use lib.Dec.{ltb}
 use lib.ListN.{length}
 use borrow.Author.Tests.{le-ltb}
 use Rattle.refusals.specs.Refusals.{Refusal, first, refuseIf, orElse, unless}
-use Rattle.comments.specs.Listed.{commentsOf}
+use Rattle.tree.specs.CommentList.{commentsOf}
 use Rattle.cut_rule.specs.Run.{writeFront}
 use Rattle.plain_run.specs.File.{FileChoice, FileAnswer, refused, formatted, fileRows, fileMarks, built, rowsDue, marksDue, laidRefusal, fileRefusal, fileAnswerBy, fileAnswer, fileOutput}
 use Rattle.batch.specs.Batch.{Save, textBy, rendered, single}
