@@ -11,7 +11,7 @@ use lib.ListN.{length, getD}
 use lib.Seq.{sets}
 use Rattle.laws.proofs.Options as options
 use Rattle.refusals.specs.Refusals.{Refusal, refuseIf, isOneOf}
-use Rattle.image.specs.Read.{Read, got, bad}
+use Rattle.image.specs.Read.{Read, got, bad, readNumbers}
 use Rattle.plain_run.specs.File.{FileChoice, refused, formatted, fileRows, fileMarks, laidRefusal, marksDue, fileAnswerBy}
 use Rattle.file.specs.Whole.{toChoice}
 use Rattle.batch.specs.Batch.{MAX-SAVES, Save, allSaves, savesRefusal, tableDue, textsDue, batchRefusal, batchAnswerBy}
@@ -21,7 +21,7 @@ use Rattle.batch.proofs.Singles.{as-singles}
 use Rattle.exports.specs.Numbers.{fileChoice}
 use Rattle.exports.specs.Saves.{toldBatch}
 use Rattle.demands.specs.Saves.{batchNumbers, rowNumbers, batchTold, Saves1}
-use Rattle.demands.proofs.Demand1.{Under, under-if, under-none, under-first, laid-under, answered, left-same}
+use Rattle.demands.proofs.Demand1.{Under, under-if, under-none, under-first, under-more, read-under, laid-under, answered, left-same}
 use Rattle.demands.proofs.Exported.{stored, two}
 
 -- ---- the batch's table
@@ -65,7 +65,7 @@ early-under c x =
     let s = x .source in
     let b = x .image in
     under-first rowNumbers (laidRefusal s b c fileRows ∷ nine c x ∷ [])
-    (laid-under s b (9 ∷ []) c, (under-if rowNumbers (ltb fileMarks (marksDue s b c)) 9 (marksDue s b c) refl, tt))
+    (laid-under s b rowNumbers refl refl refl (under-more readNumbers _ _ (read-under s b)) c, (under-if rowNumbers (ltb fileMarks (marksDue s b c)) 9 (marksDue s b c) refl, tt))
 
 refused-by : (o : Option Refusal) (n l k m : ℕ) (r : Refusal) → fileAnswerBy o (formatted n l k m) ≡ refused r → o ≡ some r
 refused-by (some q) n l k m r e = let f : q ≡ r = cc in ap some f
