@@ -1,25 +1,24 @@
 -- The marks that a file needs are no more than the numbers that its layout gives.
 -- Assumes nothing.
-use mathlib.Core.Path.{_≡_, refl, sym, ap, _∙_}
+use mathlib.Core.Path.{_≡_, refl, sym}
 use mathlib.Core.Bool.{false, _||_}
 use mathlib.Core.Option.{none}
 use mathlib.Core.List.{List, [], _++_}
-use Prim.Native.Nat.{ℕ, _+_, _*_, _≤_, _<_, max}
+use Prim.Native.Nat.{ℕ, _+_, _≤_, _<_, max}
 use native.Mathlib.Decide.{decLt}
 use native.Mathlib.Omega.{arith}
 use lib.Dec.{eqb}
-use lib.ListN.{length, getD, length-append, List·getD-append}
-use lib.Seq.{getD-append-add, take-all}
+use lib.ListN.{length}
+use lib.Seq.{take-all}
 use borrow.Author.Tests.{eqb-false}
 use Rattle.image.specs.Read.{readAll}
 use Rattle.rows.specs.Kinds.{GROUP, INDENT, INDENT-NEXT, WRAP-PARENT, COMMENT, STR, ASCII, LINE, EMPTY-LINE, LINE-OR-SPACE, IF-WRAP, CALL}
 use Rattle.rows.specs.Limits.{MAX-NUMBER}
 use Rattle.rows.specs.Node.{Text, Node, Nodes, group, indent, indentNext, wrapParent, comment, str, ascii, line, emptyLine, lineOrSpace, ifWrap, call, _then_}
 use Rattle.rows.specs.Node as node
-use Rattle.rows.specs.Places.{PLACES}
 use Rattle.rows.specs.Rows.{size, sizes, row, rowsOf, rows, noText}
 use Rattle.rows.specs.View.{cell, viewOf}
-use Rattle.rows.proofs.Flatten.{Holds, holds-part, row-held, parts-held}
+use Rattle.rows.proofs.Flatten.{Holds, holds-part, holds-left, holds-right, row-held, parts-held}
 use Rattle.rows.proofs.Sizes.{length-rowsOf, length-rows}
 use Rattle.marks.specs.Marks.{rowMarks, marksNeeded}
 use Rattle.marks.proofs.Needed.{row-call, row-group, row-if, row-none}
@@ -41,19 +40,6 @@ below k n u = go (decLt n k)
     go (no h) = absurd (eqb-false n n (u n (omega arith)) refl)
 
 module _ (s : List ℕ) where
-  -- ---- numbers that the store holds one after the other
-  first-part : (i : ℕ) (a b : List ℕ) → Holds s i (a ++ b) → Holds s i a
-  first-part i a b h = record { at = λ k l. h .at k (omega (arith, length-append a b)) ∙ List·getD-append a b 0 k l }
-
-  second-part : (i n : ℕ) (a b : List ℕ) → length a ≡ n * PLACES → Holds s i (a ++ b) → Holds s (i + n) b
-  second-part i n a b e h =
-      record {
-        at =
-            λ k l.
-            let along : (i + n) * PLACES + k ≡ i * PLACES + (length a + k) = omega arith in
-            ap (λ (x : ℕ). getD s x 0) along ∙ h .at (length a + k) (omega (arith, length-append a b)) ∙ getD-append-add a b k 0;
-      }
-
   -- ---- one row, and those behind it
   alone : (i : ℕ) → marksNeeded 1 s i ≡ max (rowMarks s i) 0
   unfolding marksNeeded
@@ -119,9 +105,9 @@ module _ (s : List ℕ) where
           let l = below k n (λ x g. neither (eqb x n) (names x a || names x b) (u x g) .0) in
           with-row i (size a + size b) k (omega (arith, row-if s i IF-WRAP n (sym (w .isKind)) (sym (w .isNumber)) refl))
           (joined (size a) (size b) (i + 1) k
-          (node-few a (i + 1) (r + 1) (first-part (i + 1) (rowsOf a (r + 1)) (rowsOf b (r + (1 + size a))) p) (λ x g. neither (names x a) (names x b) (neither (eqb x n) (names x a || names x b) (u x g) .1) .0))
+          (node-few a (i + 1) (r + 1) (holds-left s (i + 1) (rowsOf a (r + 1)) (rowsOf b (r + (1 + size a))) p) (λ x g. neither (names x a) (names x b) (neither (eqb x n) (names x a || names x b) (u x g) .1) .0))
           (node-few b (i + 1 + size a) (r + (1 + size a))
-          (second-part (i + 1) (size a) (rowsOf a (r + 1)) (rowsOf b (r + (1 + size a))) (length-rowsOf a (r + 1)) p)
+          (holds-right s (i + 1) (size a) (rowsOf a (r + 1)) (rowsOf b (r + (1 + size a))) (length-rowsOf a (r + 1)) p)
           (λ x g. neither (names x a) (names x b) (neither (eqb x n) (names x a || names x b) (u x g) .1) .1)))
       node-few (call n e m a) i r h u =
           let parts = rows e (r + 1) ++ rows a (r + (1 + sizes e)) in
@@ -131,17 +117,17 @@ module _ (s : List ℕ) where
           let o = below k m (λ x g. neither (eqb x n) (eqb x m) (neither (eqb x n || eqb x m) (namesIn x e || namesIn x a) (u x g) .0) .1) in
           with-row i (sizes e + sizes a) k (omega (arith, row-call s i CALL n m (max n m) (sym (w .isKind)) (sym (w .isNumber)) (sym (w .isNumber2)) refl refl))
           (joined (sizes e) (sizes a) (i + 1) k
-          (nodes-few e (i + 1) (r + 1) (first-part (i + 1) (rows e (r + 1)) (rows a (r + (1 + sizes e))) p) (λ x g. neither (namesIn x e) (namesIn x a) (neither (eqb x n || eqb x m) (namesIn x e || namesIn x a) (u x g) .1) .0))
+          (nodes-few e (i + 1) (r + 1) (holds-left s (i + 1) (rows e (r + 1)) (rows a (r + (1 + sizes e))) p) (λ x g. neither (namesIn x e) (namesIn x a) (neither (eqb x n || eqb x m) (namesIn x e || namesIn x a) (u x g) .1) .0))
           (nodes-few a (i + 1 + sizes e) (r + (1 + sizes e))
-          (second-part (i + 1) (sizes e) (rows e (r + 1)) (rows a (r + (1 + sizes e))) (length-rows e (r + 1)) p)
+          (holds-right s (i + 1) (sizes e) (rows e (r + 1)) (rows a (r + (1 + sizes e))) (length-rows e (r + 1)) p)
           (λ x g. neither (namesIn x e) (namesIn x a) (neither (eqb x n || eqb x m) (namesIn x e || namesIn x a) (u x g) .1) .1)))
 
       nodes-few : (ns : Nodes) → Fews ns
       nodes-few node.none i r h u = no-row i k
       nodes-few (n then ns) i r h u =
           joined (size n) (sizes ns) i k
-          (node-few n i r (first-part i (rowsOf n r) (rows ns (r + size n)) h) (λ x g. neither (names x n) (namesIn x ns) (u x g) .0))
-          (nodes-few ns (i + size n) (r + size n) (second-part i (size n) (rowsOf n r) (rows ns (r + size n)) (length-rowsOf n r) h) (λ x g. neither (names x n) (namesIn x ns) (u x g) .1))
+          (node-few n i r (holds-left s i (rowsOf n r) (rows ns (r + size n)) h) (λ x g. neither (names x n) (namesIn x ns) (u x g) .0))
+          (nodes-few ns (i + size n) (r + size n) (holds-right s i (size n) (rowsOf n r) (rows ns (r + size n)) (length-rowsOf n r) h) (λ x g. neither (names x n) (namesIn x ns) (u x g) .1))
 
 pub marks-few : (s b : List ℕ) (c : FileChoice) → readRefusal (readAll s b) ≡ none → marksDue s b c ≤ MAX-NUMBER
 marks-few s b c h =

@@ -3,8 +3,7 @@
 use mathlib.Core.Path.{_≡_, refl, sym, ap, ap₂, _∙_}
 use mathlib.Core.Option.{Option, none, some}
 use mathlib.Core.List.{List, [], _∷_, _++_, map}
-use Prim.Native.Nat.{ℕ, _≤_}
-use native.Mathlib.Omega.{arith}
+use Prim.Native.Nat.{ℕ}
 use lib.Dec.{ltb}
 use lib.ListN.{length, length-map}
 use Rattle.refusals.specs.Refusals.{Refusal, first, refuseIf, unless}
@@ -20,18 +19,11 @@ use Rattle.batch.proofs.Rooms.{early, needed, no-text, all-text, single
 module _ (c : FileChoice) where
   -- ---- one call
   module _ (m : Made) (h : Single c m) where
-    text-fits : length (textOf c (m .file)) ≤ length (m .out)
-    text-fits = go (early c (m .file)) refl
-      where
-        go : (o : Option Refusal) → early c (m .file) ≡ o → length (textOf c (m .file)) ≤ length (m .out)
-        go (some r) e = omega (arith, ap length (no-text c (m .file) r e))
-        go none e = omega (arith, ap length (all-text c (m .file) e), h .enough)
-
     answered : formattedAnswer (m .answer) ≡ single c (m .file)
-    answered = h .promised .answer ∙ answer-roomy c (m .file) (length (m .out)) text-fits
+    answered = h .promised .answer ∙ answer-roomy c (m .file) (length (m .out)) (h .enough)
 
     left : m .out2 ≡ writeFront (textOf c (m .file)) (m .out)
-    left = h .promised .output-left ∙ output-roomy c (m .file) (m .out) text-fits
+    left = h .promised .output-left ∙ output-roomy c (m .file) (m .out) (h .enough)
 
     wrote : wroteBy (formattedAnswer (m .answer)) (m .out2) ≡ textOf c (m .file)
     wrote = ap₂ wroteBy answered left ∙ go (early c (m .file)) refl

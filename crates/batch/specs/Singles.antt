@@ -11,8 +11,8 @@ use Rattle.cut_rule.specs.Run.{writeFront}
 use Rattle.plain_run.specs.File.{FileChoice, FileAnswer, refused, formatted}
 use Rattle.file.specs.Whole.{formattedAnswer, Formats}
 use Rattle.file.specs.declared.Formatted.{Formatted}
-use Rattle.batch.specs.Batch.{Save, allSaves, savesBy, savesRefusal, rendered, rowOf, batchAnswerBy}
-use Rattle.batch.specs.Whole.{batchedAnswer, Batches}
+use Rattle.batch.specs.Batch.{Save, allSaves, savesBy, savesRefusal, rowOf, batchAnswerBy}
+use Rattle.batch.specs.Whole.{batchedAnswer, Batches, textOf}
 use Rattle.batch.specs.declared.Batch.{Batch}
 
 -- a single call that was made: the file, the output that was lent, whatever it held, the answer, and the output at exit
@@ -22,10 +22,10 @@ pub record Made : Type 0 where
   pub answer : Formatted
   pub out2 : List ℕ
 
--- what `format_file` promises, with output enough
+-- what `format_file` promises, with output enough: room for the text that the file gives, which a refused one has none of
 pub record Single (c : FileChoice) (m : Made) : Type 0 where
   pub promised : Formats (m .file .source) (m .file .image) c (m .out) (m .answer) (m .out2)
-  pub enough : length (rendered c (m .file)) ≤ length (m .out)
+  pub enough : length (textOf c (m .file)) ≤ length (m .out)
 
 unfoldable pub AllSingle : FileChoice → List Made → Type 0
 AllSingle c [] = Unit {0}
