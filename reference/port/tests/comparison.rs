@@ -97,4 +97,10 @@ fn files_to_time_have_their_sizes() {
     assert!((1_900..2_200).contains(&sizes[0]), "{sizes:?}");
     assert!((63_000..=65_536).contains(&sizes[1]), "{sizes:?}");
     assert_eq!(all[3].files.len(), 100);
+    let saves = inputs::saves().files;
+    assert_eq!(saves.len(), 256);
+    for save in &saves {
+        let size = save.source.len();
+        assert!((1_900..2_200).contains(&size), "{size}");
+    }
 }
