@@ -112,7 +112,7 @@ test limits_hold {
     while limits.most > 1 { limits.most /= 2; }
 }
 "#;
-    repeated(PIECE, first, 1_600) + LAST
+    repeated(PIECE, first, 1_700) + LAST
 }
 
 /// Nearly 64 KB of constants, records and lists.
