@@ -10,7 +10,7 @@ use Rattle.text.specs.Space.{trimEnd, something}
 use Rattle.text.specs.Newlines.{countNewlines}
 use Rattle.text.specs.declared.space.Found.{Found}
 use Rattle.text.specs.declared.space.Found.the-variants.{At, Nowhere}
-use Rattle.tree.specs.Syntax.{Span}
+use Rattle.ast.specs.Syntax.{Span}
 use Rattle.rows.specs.Node.{comment, line, emptyLine}
 use Rattle.rows.specs.Rows.{size}
 use Rattle.state.specs.Act.{Given, St, _⨟_, skip, push, moveTo, pop, told}

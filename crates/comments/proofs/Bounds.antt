@@ -13,12 +13,13 @@ use Rattle.text.specs.Newlines.{countNewlines}
 use Rattle.text.specs.declared.space.Found.{Found}
 use Rattle.text.specs.declared.space.Found.the-variants.{At, Nowhere}
 use Rattle.text.proofs.Counts.{range-inside}
-use Rattle.tree.specs.Syntax.{Span}
+use Rattle.ast.specs.Syntax.{Span}
 use Rattle.rows.specs.Node.{comment, line, emptyLine}
 use Rattle.state.specs.Act.{St, Out, Act, next, _⨟_, skip, push, moveTo, pop, told}
 use Rattle.state.proofs.Keeps.{Keeps, KeepsAt, keeps-at, keeps-of, keeps-skip, keeps-push, keeps-moveTo, keeps-then, keeps-after, keeps-cond, keeps-answers}
 use Rattle.comments.specs.Comments.{nth, front, pushComment, newlines, ignoreNewlines, popComment, waits, popComments, popWhitespace, popTrailingComment}
-use Rattle.comments.specs.Listed.{commentsOf, given, Listed}
+use Rattle.tree.specs.CommentList.{commentsOf}
+use Rattle.comments.specs.Listed.{given, Listed}
 use Rattle.comments.proofs.Pops.{ending}
 use Rattle.comments.proofs.Fronts.{count-of, inside, good}
 

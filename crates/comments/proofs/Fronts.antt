@@ -10,9 +10,10 @@ use native.Mathlib.Nat.{not-suc-le-zero}
 use lib.ListN.{length}
 use Rattle.text.specs.Newlines.{isRange}
 use Rattle.image.specs.Bytes.{be16}
-use Rattle.tree.specs.Syntax.{Span}
+use Rattle.ast.specs.Syntax.{Span}
 use Rattle.comments.specs.Comments.{nth}
-use Rattle.comments.specs.Listed.{span, pairAt, pairsAt, commentsOf, Listed, pendingOf}
+use Rattle.tree.specs.CommentList.{span, pairAt, pairsAt, commentsOf}
+use Rattle.comments.specs.Listed.{Listed, pendingOf}
 use Rattle.comments.specs.declared.Pending.{Pending}
 use Rattle.comments.specs.declared.Pending.the-variants.{Comment, Nothing}
 

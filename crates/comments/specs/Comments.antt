@@ -8,7 +8,7 @@ use lib.Dec.{ltb, eqb}
 use Rattle.text.specs.Space.{trimEnd, something}
 use Rattle.text.specs.Newlines.{countNewlines}
 use Rattle.text.specs.declared.space.Found.the-variants.{At, Nowhere}
-use Rattle.tree.specs.Syntax.{Span}
+use Rattle.ast.specs.Syntax.{Span}
 use Rattle.rows.specs.Node.{comment, line, emptyLine}
 use Rattle.state.specs.Act.{Given, St, Act, Asking, _⨟_, _⨟!_, skip, push, moveTo, pop, told, answering}
 

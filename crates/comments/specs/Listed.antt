@@ -1,33 +1,18 @@
--- What layout reads of a source and an image: the comments of the image, and `Given`.
-use Prim.Native.Nat.{ℕ, zero, suc, _+_, _*_, _≤_, _<_}
+-- What layout is given by a source and an image, and what it may rely on of the comments of an accepted image.
+use Prim.Native.Nat.{ℕ, _+_, _*_, _≤_, _<_}
 use mathlib.Core.Path.{_≡_}
 use mathlib.Core.Bool.{true}
-use mathlib.Core.List.{List, [], _∷_}
+use mathlib.Core.List.{List}
 use mathlib.Core.Option.{Option, none, some}
 use lib.ListN.{length}
 use Rattle.text.specs.Newlines.{isRange}
 use Rattle.image.specs.Limits.{MAX-COMMENTS}
 use Rattle.image.specs.Bytes.{be16, be32}
-use Rattle.tree.specs.Syntax.{Span}
+use Rattle.ast.specs.Syntax.{Span}
+use Rattle.tree.specs.CommentList.{commentsOf}
 use Rattle.state.specs.Act.{Given}
 use Rattle.comments.specs.declared.Pending.{Pending}
 use Rattle.comments.specs.declared.Pending.the-variants.{Comment, Nothing}
-
-abbrev pub span : ℕ → ℕ → Span
-span from to = record { start = from; end = to }
-
--- start and end of a comment, four bytes each, at `at`
-abbrev pub pairAt : List ℕ → ℕ → Span
-pairAt b at = span (be32 b at) (be32 b (at + 4))
-
--- n of them, one after the other
-unfoldable pub pairsAt : List ℕ → ℕ → ℕ → List Span
-pairsAt b zero at = []
-pairsAt b (suc n) at = pairAt b at ∷ pairsAt b n (at + 8)
-
--- the comments of an image: their number in two bytes after the version and the body's length, then the pairs
-unfoldable pub commentsOf : List ℕ → List Span
-commentsOf b = pairsAt b (be16 b 5) 7
 
 -- what layout is given by a source and an image: an identifier measures the width that the image supplies
 abbrev pub given : List ℕ → List ℕ → Given

@@ -12,7 +12,8 @@ ghost use Rattle.state.specs.Act.{skip, push, told};
 ghost use Rattle.state.specs.Laid.{cursor, st, Room, Laid, LaidAsking};
 ghost use Rattle.comments.specs.Comments.{nth, pushComment, newlines, ignoreNewlines, popComment, waits, popComments, popWhitespace};
 ghost use Rattle.comments.specs.Comments.{popTrailingComment};
-ghost use Rattle.comments.specs.Listed.{span, commentsOf, given, ListFits, Listed, pendingOf};
+ghost use Rattle.tree.specs.CommentList.{span, commentsOf};
+ghost use Rattle.comments.specs.Listed.{given, ListFits, Listed, pendingOf};
 
 mod reading;
 

@@ -13,7 +13,8 @@ use lib.ListN.{length, take}
 use Rattle.rows.specs.Rows.{sizes, rows}
 use Rattle.rows.specs.declared.units.Bytes.{Bytes}
 use Rattle.state.specs.Act.{Out}
-use Rattle.comments.specs.Listed.{commentsOf, given}
+use Rattle.tree.specs.CommentList.{commentsOf}
+use Rattle.comments.specs.Listed.{given}
 use Rattle.layout.specs.Layout.{fmtParsed}
 use Rattle.layout_facts.specs.Accepted.{fresh, upTo, wholeRule}
 use Rattle.cut_rule.specs.Run.{writeFront}

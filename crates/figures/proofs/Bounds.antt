@@ -10,7 +10,8 @@ use borrow.Author.Tests.{ltb-false}
 use lib.Dec.{ltb}
 use lib.ListN.{length, getD, replicate, length-replicate}
 use Rattle.image.specs.Read.{readAll}
-use Rattle.comments.specs.Listed.{commentsOf, given}
+use Rattle.tree.specs.CommentList.{commentsOf}
+use Rattle.comments.specs.Listed.{given}
 use Rattle.refusals.specs.Refusals.{Refusal, first, refuseIf}
 use Rattle.refusals.proofs.Groups.{passes-line, passes-others, not-if}
 use Rattle.renderer_rules.proofs.Names.{renders-same}

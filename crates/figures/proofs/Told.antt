@@ -15,7 +15,7 @@ use Rattle.image.specs.declared.Answer.the-variants as checked
 use Rattle.rows.specs.Places.{PLACES}
 use Rattle.rows.specs.declared.units.Bytes.{Bytes}
 use Rattle.rows.specs.declared.units.Columns.{Columns}
-use Rattle.comments.specs.Listed.{commentsOf}
+use Rattle.tree.specs.CommentList.{commentsOf}
 use Rattle.refusals.specs.Refusals.{Refusal, any, unless, orElse, first, refuseIf}
 use Rattle.cut_rule.specs.Run.{writeFront}
 use Rattle.plain_run.specs.File.{referenceChoice, fileRows, fileMarks, built, rowsDue, drawnDue, columnDue, refusalIn, fileRefusal, refused, formatted, fileAnswerBy, fileAnswer}

@@ -5,7 +5,7 @@ use mathlib.Core.List.{List, [], _∷_}
 use Prim.Native.Nat.{ℕ, suc, _-_}
 use lib.Dec.{eqb}
 use lib.ListN.{length}
-use Rattle.comments.specs.Listed.{commentsOf}
+use Rattle.tree.specs.CommentList.{commentsOf}
 use Rattle.refusals.specs.Refusals.{Refusal, first}
 use Rattle.plain_run.specs.File.{referenceChoice, built, drawnDue, columnDue, fileRefusal}
 use Rattle.tallies.specs.declared.Figures.{Figures}

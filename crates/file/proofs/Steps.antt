@@ -14,7 +14,7 @@ use Rattle.image.specs.declared.Answer.the-variants as checked
 use Rattle.rows.specs.Rows.{rows}
 use Rattle.rows.specs.declared.units.Bytes.{Bytes}
 use Rattle.rows.specs.declared.units.Columns.{Columns}
-use Rattle.comments.specs.Listed.{commentsOf}
+use Rattle.tree.specs.CommentList.{commentsOf}
 use Rattle.refusals.specs.Refusals.{Refusal, unless, first, refuseIf, any}
 use Rattle.cut_rule.specs.Run.{Answer, refused, laidOut, written, answerBy, writeFront}
 use Rattle.cut_rule.specs.Entries.{layoutAnswer, layoutStore, renderAnswer, renderMarks, renderOutput}

@@ -11,7 +11,7 @@ use lib.Dec.{eqb, leb}
 use borrow.Author.Tests.{eq-eqb, ne-eqb}
 use Rattle.image.specs.Bytes.{be32}
 use Rattle.image.specs.Read.{stopAt, kindAt}
-use Rattle.tree.specs.Syntax.{Span, Ident, TypeExpr, Import, Expr, expr, MaybeExpr, noExpr, someExpr, Block, braces, Stmts, noStmts, _∷ˢ_, Stmt, stmt, StmtForm, let′, importStmt, does, Parts, noParts, string, value}
+use Rattle.ast.specs.Syntax.{Span, Ident, TypeExpr, Import, Expr, expr, MaybeExpr, noExpr, someExpr, Block, braces, Stmts, noStmts, _∷ˢ_, Stmt, stmt, StmtForm, let′, importStmt, does, Parts, noParts, string, value}
 use Rattle.tree.specs.At.{Head, Record, Done, Before, Ends, ImportAt, ExprAt, MaybeExprAt, BlockAt, StmtsAt, StmtAt, PartsAt, formKind}
 use Rattle.rows.specs.Node.{line}
 use Rattle.state.specs.Act.{Act, _⨟_, push, says, grouped, indented, when, Given}

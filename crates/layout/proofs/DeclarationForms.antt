@@ -11,7 +11,7 @@ use lib.Dec.{eqb}
 use Rattle.text.specs.Space.{trimEnd}
 use Rattle.image.specs.Bytes.{be16, be32}
 use Rattle.image.specs.Read.{stopAt, kindAt}
-use Rattle.tree.specs.Syntax.{Ident, Idents, TypeExpr, Import, import, Declaration, filterMap, const, recordDecl, enumDecl, function, test, importDecl}
+use Rattle.ast.specs.Syntax.{Ident, Idents, TypeExpr, Import, import, Declaration, filterMap, const, recordDecl, enumDecl, function, test, importDecl}
 use Rattle.tree.specs.At.{Done, Before, IdentAt, IdentsAt, ListAt, Maybe, TypeAt, ImportAt, DeclarationAt, DeclarationsAt}
 use Rattle.rows.specs.Node.{str, emptyLine}
 use Rattle.state.specs.Act.{Given, Act, _⨟_, push, says}

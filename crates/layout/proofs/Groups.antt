@@ -12,7 +12,7 @@ use borrow.Author.Tests.{eq-eqb, ne-eqb, eqb-true, eqb-false}
 use Rattle.laws.proofs.Booleans.{true-false, false-true}
 use Rattle.image.specs.Bytes.{be32}
 use Rattle.image.specs.Read.{stopAt}
-use Rattle.tree.specs.Syntax.{Span, Path, Import, import, ImportGroup, noGroup, group, Imports, noImports, _∷ⁱ_}
+use Rattle.ast.specs.Syntax.{Span, Path, Import, import, ImportGroup, noGroup, group, Imports, noImports, _∷ⁱ_}
 use Rattle.tree.specs.At.{Head, Absent, Ends, PathAt, Maybe, ImportAt, ImportGroupAt, ImportsAt}
 use Rattle.state.specs.Act.{Given, Act, _⨟_, when, says}
 use Rattle.state.specs.Laid.{Room}

@@ -8,7 +8,7 @@ use native.Mathlib.Omega.{arith}
 use lib.ListN.{length}
 use Rattle.image.specs.Bytes.{be16, be32}
 use Rattle.image.specs.Read.{stopAt}
-use Rattle.tree.specs.Syntax.{Ident}
+use Rattle.ast.specs.Syntax.{Ident}
 use Rattle.tree.specs.At.{Done, Before, IdentAt, IdentsAt}
 use Rattle.rows.specs.Node.{str}
 use Rattle.state.specs.Act.{Act, push, _⨟_}

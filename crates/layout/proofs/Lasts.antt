@@ -7,7 +7,7 @@ use native.Mathlib.Omega.{arith}
 use lib.ListN.{length}
 use Rattle.image.specs.Bytes.{be32}
 use Rattle.image.specs.Read.{stopAt}
-use Rattle.tree.specs.Syntax.{TypeExpr, type, Types, noTypes, _∷ᵗ_}
+use Rattle.ast.specs.Syntax.{TypeExpr, type, Types, noTypes, _∷ᵗ_}
 use Rattle.tree.specs.At.{Done, Before, TypeAt, TypesAt}
 use Rattle.layout.specs.Layout.{lastSpan}
 use Rattle.layout.specs.Contracts.{Whole}

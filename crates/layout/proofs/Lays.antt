@@ -5,7 +5,7 @@ use mathlib.Core.Path.{_≡_}
 use mathlib.Core.List.{List, []}
 use Prim.Native.Nat.{ℕ, _≤_}
 use lib.ListN.{length}
-use Rattle.tree.specs.Syntax.{Span, Expr}
+use Rattle.ast.specs.Syntax.{Span, Expr}
 use Rattle.tree.specs.At.{ExprAt}
 use Rattle.state.specs.Act.{Given, Act}
 use Rattle.state.specs.Laid.{Room}

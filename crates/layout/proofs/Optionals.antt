@@ -8,7 +8,7 @@ use Prim.Native.Nat.{ℕ, _+_, _≤_, _<_}
 use native.Mathlib.Omega.{arith}
 use Rattle.image.specs.Bytes.{be32}
 use Rattle.image.specs.Read.{stopAt, kindAt}
-use Rattle.tree.specs.Syntax.{Idents, TypeExpr, Expr, expr, Pattern, underscore, enumVariant, MaybeExpr, noExpr, someExpr, Block, MaybeBlock, noBlock, someBlock, Ident}
+use Rattle.ast.specs.Syntax.{Idents, TypeExpr, Expr, expr, Pattern, underscore, enumVariant, MaybeExpr, noExpr, someExpr, Block, MaybeBlock, noBlock, someBlock, Ident}
 use Rattle.tree.specs.At.{Head, Ends, IdentAt, ListAt, Maybe, TypeAt, PatternAt, ExprAt, MaybeExprAt, BlockAt, MaybeBlockAt}
 use Rattle.state.specs.Act.{Act, _⨟_, says}
 use Rattle.state.specs.Laid.{Room}

@@ -8,7 +8,7 @@ use native.Mathlib.Omega.{arith}
 use lib.ListN.{length, getD, set}
 use Rattle.image.specs.Bytes.{be32}
 use Rattle.image.specs.Read.{stopAt}
-use Rattle.tree.specs.Syntax.{Span, Ident, TypeExpr, type, Types, noTypes, _∷ᵗ_, Fields, noFields, field, Import, import, Imports, noImports, _∷ⁱ_, Variants, noVariants, variant, Expr, expr, Exprs, noExprs, _∷ᵉ_, Entries, noEntries, entry, Arms, noArms, arm}
+use Rattle.ast.specs.Syntax.{Span, Ident, TypeExpr, type, Types, noTypes, _∷ᵗ_, Fields, noFields, field, Import, import, Imports, noImports, _∷ⁱ_, Variants, noVariants, variant, Expr, expr, Exprs, noExprs, _∷ᵉ_, Entries, noEntries, entry, Arms, noArms, arm}
 use Rattle.tree.specs.At.{Head, Done, Before, IdentsAt, TypeAt, TypesAt, FieldsAt, ImportAt, ImportsAt, VariantsAt, ExprAt, ExprsAt, EntriesAt, ArmsAt}
 use Rattle.rows.specs.Words.{table}
 use Rattle.state.specs.Act.{Given, Act, _⨟_, says, grouped, indented}
@@ -17,7 +17,8 @@ use Rattle.state.specs.declared.Cursor.{Cursor}
 use Rattle.state.proofs.Laws.{Lays, lays, lays-then, lays-skip, room-first, room-next}
 use Rattle.state.proofs.Nested.{room-group, laid-group, room-indent, lays-indent}
 use Rattle.comments.specs.Comments.{popTrailingComment}
-use Rattle.comments.specs.Listed.{given, span}
+use Rattle.tree.specs.CommentList.{span}
+use Rattle.comments.specs.Listed.{given}
 use Rattle.layout.specs.declared.forms.ListForm.{ListForm}
 use Rattle.layout.specs.declared.forms.WrapStyle.the-variants.{Tight}
 use Rattle.layout.specs.declared.forms.TypeElement.the-variants as types

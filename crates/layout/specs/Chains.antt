@@ -3,7 +3,7 @@ use mathlib.Core.Path.{_≡_}
 use mathlib.Core.List.{List}
 use Prim.Native.Nat.{ℕ, _+_, _*_, _≤_, _<_}
 use lib.ListN.{getD, length}
-use Rattle.tree.specs.Syntax.{Span, Expr, expr, Form, binOp}
+use Rattle.ast.specs.Syntax.{Span, Expr, expr, Form, binOp}
 use Rattle.tree.specs.At.{ExprAt}
 use Rattle.state.specs.Act.{Act}
 use Rattle.state.specs.Laid.{Room, Laid}

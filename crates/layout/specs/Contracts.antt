@@ -6,7 +6,7 @@ use mathlib.Core.List.{List}
 use lib.ListN.{length, getD}
 use Rattle.image.specs.Bytes.{be32}
 use Rattle.image.specs.Read.{stopAt}
-use Rattle.tree.specs.Syntax.{Span}
+use Rattle.ast.specs.Syntax.{Span}
 use Rattle.rows.specs.Words.{table}
 use Rattle.state.specs.Act.{Given, Act}
 use Rattle.state.specs.Laid.{Room, Laid}

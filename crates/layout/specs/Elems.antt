@@ -8,7 +8,7 @@ use lib.ListN.{length, getD}
 use Rattle.image.specs.Bytes.{be32}
 use Rattle.image.specs.Kinds.{LIST, NAME-AND-TYPE, VARIANT, FIELD, ARM}
 use Rattle.image.specs.Read.{stopAt}
-use Rattle.tree.specs.Syntax.{Span, Ident, Idents, TypeExpr, Types, Fields, Pattern, MaybeExpr, Expr, Exprs, Entries}
+use Rattle.ast.specs.Syntax.{Span, Ident, Idents, TypeExpr, Types, Fields, Pattern, MaybeExpr, Expr, Exprs, Entries}
 use Rattle.tree.specs.At.{Head, Record, firstAt, secondAt, thirdAt, Ends, Done, Before, IdentAt, TypeAt, TypesAt, FieldsAt, ImportAt, PatternAt, MaybeExprAt, ExprAt, ExprsAt, EntriesAt}
 use Rattle.rows.specs.Kinds.{GROUP, INDENT}
 use Rattle.rows.specs.Words.{table}

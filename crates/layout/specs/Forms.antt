@@ -7,7 +7,7 @@ use mathlib.Core.Option.{Option}
 use lib.ListN.{length, getD}
 use Rattle.image.specs.Kinds.{TEXT-PART, EXPR-PART, OPERATOR, LITERAL}
 use Rattle.image.specs.Read.{stopAt}
-use Rattle.tree.specs.Syntax.{Span, Ident, Path, TypeExpr, type, TypeForm, Types, _∷ᵗ_, Expr, expr, Form, MaybeExpr, Block, Stmts, stmt, let′, Idents, Declaration}
+use Rattle.ast.specs.Syntax.{Span, Ident, Path, TypeExpr, type, TypeForm, Types, _∷ᵗ_, Expr, expr, Form, MaybeExpr, Block, Stmts, stmt, let′, Idents, Declaration}
 use Rattle.tree.specs.At.{Head, Record, Done, Ends, ByteAt, PathAt, Maybe, TypeAt, TypesAt, ExprAt, BlockAt, StmtAt, IdentAt, ListAt, DeclarationAt}
 use Rattle.rows.specs.Node.{ascii, line}
 use Rattle.rows.specs.Words.{table}

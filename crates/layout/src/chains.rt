@@ -6,7 +6,7 @@ ghost use lib.ListN.{getD, length};
 ghost use Rattle.image.specs.Read.{stopAt};
 ghost use Rattle.rows.specs.Node.{lineOrSpace};
 ghost use Rattle.rows.specs.Words.{table};
-ghost use Rattle.tree.specs.Syntax.{binOp};
+ghost use Rattle.ast.specs.Syntax.{binOp};
 ghost use Rattle.state.specs.Act.{when, push};
 ghost use Rattle.state.specs.Laid.{Room, Laid};
 ghost use Rattle.layout.specs.Layout.{symbol, binopPrecedence};

@@ -2,7 +2,7 @@
 ghost use mathlib.Core.Path.{_≡_};
 ghost use mathlib.Core.Bool.{true, not, _&&_};
 ghost use Rattle.rows.specs.Node.{line};
-ghost use Rattle.tree.specs.Syntax.{filterMap, const, recordDecl, enumDecl, function, test, importDecl};
+ghost use Rattle.ast.specs.Syntax.{filterMap, const, recordDecl, enumDecl, function, test, importDecl};
 ghost use Rattle.tree.specs.At.{IdentAt, DeclarationsAt};
 ghost use Rattle.state.specs.Act.{when, push};
 ghost use Rattle.state.specs.Laid.{Room, Laid};

@@ -18,7 +18,7 @@ ghost use mathlib.Core.Path.{_≡_};
 ghost use mathlib.Core.Bool.{true};
 ghost use Prim.Native.Nat.{_+_};
 ghost use Rattle.image.specs.Kinds.{LIST, RECORD-FIELDS};
-ghost use Rattle.tree.specs.Syntax.{return′, match′, functionCall, access, binOp, ifElse, for, fString, parentheses};
+ghost use Rattle.ast.specs.Syntax.{return′, match′, functionCall, access, binOp, ifElse, for, fString, parentheses};
 ghost use Rattle.tree.specs.At.{ExprAt, ExprsAt, EntriesAt, MaybeExprAt, PartsAt, BlockAt, StmtsAt, StmtAt};
 ghost use Rattle.layout.specs.Layout.{exprRule, partsRule, blockRule, stmtRule};
 ghost use Rattle.layout.specs.Contracts.{Has, LaidAs, HasAll, LaidAll};

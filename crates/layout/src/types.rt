@@ -2,7 +2,7 @@
 ghost use mathlib.Core.Path.{_≡_};
 ghost use mathlib.Core.Bool.{true};
 ghost use Rattle.image.specs.Kinds.{LIST};
-ghost use Rattle.tree.specs.Syntax.{typePath};
+ghost use Rattle.ast.specs.Syntax.{typePath};
 ghost use Rattle.tree.specs.At.{TypeAt, FieldsAt};
 ghost use Rattle.layout.specs.Layout.{typeExpr};
 ghost use Rattle.layout.specs.Contracts.{Has, LaidAs};

@@ -19,7 +19,8 @@ use Rattle.rows.proofs.Sizes.{length-rows}
 use Rattle.state.specs.Act.{Act}
 use Rattle.state.specs.Laid.{cursor, st, Room, Laid}
 use Rattle.state.specs.declared.Cursor.{Cursor}
-use Rattle.comments.specs.Listed.{commentsOf, given}
+use Rattle.tree.specs.CommentList.{commentsOf}
+use Rattle.comments.specs.Listed.{given}
 use Rattle.layout_facts.proofs.InOrder.{places-call}
 use Rattle.cut_rule.specs.Rules as cut
 use Rattle.refusals.specs.Refusals.{Refusal, unless, any, first, refuseIf}

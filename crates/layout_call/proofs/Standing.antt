@@ -10,13 +10,14 @@ use lib.Dec.{ltb, eqb}
 use borrow.Author.Tests.{lt-ltb, le-ltb, ltb-true, ltb-false}
 use Rattle.image.specs.Read.{stopAt}
 use Rattle.image.proofs.Accepted.{accepted}
-use Rattle.tree.specs.Syntax.{Declaration}
+use Rattle.ast.specs.Syntax.{Declaration}
 use Rattle.tree.specs.At.{DeclarationsAt}
 use Rattle.tree.specs.Walk.{walked}
 use Rattle.tree.proofs.Walk.{declarations-from, walked-within, walked-on, declarations-between}
 use Rattle.state.specs.Laid.{st, Room, Laid}
 use Rattle.state.specs.declared.Cursor.{Cursor}
-use Rattle.comments.specs.Listed.{given, commentsOf, Listed}
+use Rattle.tree.specs.CommentList.{commentsOf}
+use Rattle.comments.specs.Listed.{given, Listed}
 use Rattle.comments.proofs.Accepted.{accepted-listed}
 use Rattle.comments.proofs.Fronts.{count-of}
 use Rattle.layout.specs.Contracts.{Readable, Has, LaidAs, HasAll, LaidAll, InImage}

@@ -8,7 +8,7 @@ use lib.ListN.{take, drop}
 use Rattle.image.specs.Read.{readAll, answerOf, stopAt}
 use Rattle.image.specs.declared.Answer.the-variants.{Accepted}
 use Rattle.rows.specs.Limits.{MAX-ROWS, MAX-NUMBER}
-use Rattle.tree.specs.Syntax.{Declaration, SyntaxTree}
+use Rattle.ast.specs.Syntax.{Declaration, SyntaxTree}
 use Rattle.tree.specs.Walk.{walked}
 use Rattle.state.specs.Act.{Act}
 use Rattle.comments.specs.Listed.{given}

@@ -9,8 +9,8 @@ use native.Mathlib.Omega.{arith}
 use lib.ListN.{length}
 use Rattle.image.specs.Bytes.{be32}
 use Rattle.text.proofs.Trims.{trim-before}
-use Rattle.tree.specs.Syntax.{Span, Ident, Idents, noTypes, _∷ᵗ_, Fields, Variants, noVariants, variant, Declaration, filterMap, const, recordDecl}
-use Rattle.tree.specs.Syntax.{enumDecl, function, test, importDecl, SyntaxTree}
+use Rattle.ast.specs.Syntax.{Span, Ident, Idents, noTypes, _∷ᵗ_, Fields, Variants, noVariants, variant, Declaration, filterMap, const, recordDecl}
+use Rattle.ast.specs.Syntax.{enumDecl, function, test, importDecl, SyntaxTree}
 use Rattle.tree.specs.At.{Head, past, IdentAt, ListAt, Maybe, TypesAt, FieldsAt, VariantsAt, DeclarationAt, DeclarationsAt, TreeAt}
 use Rattle.rows.specs.Words.{among}
 use Rattle.state.specs.Act.{Given, Act}

@@ -12,10 +12,10 @@ use lib.ListN.{length, getD}
 use lib.Dec.{ltb, eqb}
 use Rattle.laws.proofs.Booleans.{and-left, and-right}
 use Rattle.image.specs.Bytes.{be32}
-use Rattle.tree.specs.Syntax.{Span, Expr, expr, Form, return′, literal, block, match′, functionCall, access, path, record′, typedRecord, list, not′}
-use Rattle.tree.specs.Syntax.{assign, compoundAssign, binOp, negate, ifElse, while, for, questionMark, fString, parentheses, Exprs, noExprs, _∷ᵉ_}
-use Rattle.tree.specs.Syntax.{MaybeExpr, noExpr, someExpr, Entries, noEntries, entry, Arms, noArms, arm, Parts, noParts, string, value, Block, braces}
-use Rattle.tree.specs.Syntax.{MaybeBlock, noBlock, someBlock, Stmts, noStmts, _∷ˢ_, Stmt, stmt, StmtForm, let′, importStmt, does}
+use Rattle.ast.specs.Syntax.{Span, Expr, expr, Form, return′, literal, block, match′, functionCall, access, path, record′, typedRecord, list, not′}
+use Rattle.ast.specs.Syntax.{assign, compoundAssign, binOp, negate, ifElse, while, for, questionMark, fString, parentheses, Exprs, noExprs, _∷ᵉ_}
+use Rattle.ast.specs.Syntax.{MaybeExpr, noExpr, someExpr, Entries, noEntries, entry, Arms, noArms, arm, Parts, noParts, string, value, Block, braces}
+use Rattle.ast.specs.Syntax.{MaybeBlock, noBlock, someBlock, Stmts, noStmts, _∷ˢ_, Stmt, stmt, StmtForm, let′, importStmt, does}
 use Rattle.tree.specs.At.{past, Maybe, ExprAt, FormAt, ExprsAt, MaybeExprAt, EntriesAt, ArmsAt, PartsAt, BlockAt, MaybeBlockAt, StmtsAt, StmtAt}
 use Rattle.tree.specs.At.{StmtFormAt}
 use Rattle.rows.specs.Node.{ascii}

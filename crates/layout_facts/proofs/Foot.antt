@@ -10,13 +10,14 @@ use lib.Dec.{ltb}
 use lib.ListN.{length}
 use borrow.Author.Tests.{lt-ltb}
 use Rattle.text.proofs.Counts.{range-inside}
-use Rattle.tree.specs.Syntax.{Span, Ident, Declaration, SyntaxTree}
+use Rattle.ast.specs.Syntax.{Span, Ident, Declaration, SyntaxTree}
 use Rattle.text.specs.Newlines.{countNewlines, newlinePlaces, isRange}
 use Rattle.text.specs.Utf8.{within, boundary}
 use Rattle.rows.specs.Node.{Node, comment, line, emptyLine, none, _then_, join}
 use Rattle.state.specs.Act.{Given, St, Out, Act, next, _⨟_, _⨟!_, when, skip, moveTo, pop, told, answering}
 use Rattle.comments.specs.Comments.{nth, front, newlines, ignoreNewlines, popComment, waits, popComments, popWhitespace}
-use Rattle.comments.specs.Listed.{span, commentsOf, given, Listed}
+use Rattle.tree.specs.CommentList.{span, commentsOf}
+use Rattle.comments.specs.Listed.{given, Listed}
 use Rattle.comments.proofs.Fronts.{count-of, none-left, inside, good}
 use Rattle.layout.specs.Layout.{shebangRule, declarationsRule}
 use Rattle.layout_facts.specs.Accepted.{fresh, closing, callRule}

@@ -7,7 +7,7 @@ use mathlib.Core.List.{List, [], map}
 use mathlib.Core.Option.{Option}
 use native.Mathlib.Omega.{arith}
 use lib.ListN.{take}
-use Rattle.tree.specs.Syntax.{Ident, Declaration, SyntaxTree}
+use Rattle.ast.specs.Syntax.{Ident, Declaration, SyntaxTree}
 use Rattle.rows.specs.Node.{Node}
 use Rattle.state.specs.Act.{Given}
 use Rattle.layout.specs.Layout.{declaration, declarationsRule, shebangRule}

@@ -13,7 +13,7 @@ use Rattle.image.specs.Grammar.{bare, place, after, complete}
 use Rattle.image.specs.Read.{Read, got, bad, bind, Head, Tree, Trees, absent, node, nil, _▸_, skips, childBy, recordAt, childrenAt, treeAt}
 use Rattle.image.proofs.Shapes.{isGot}
 use Rattle.image.proofs.Inside.{inside, none-deep}
-use Rattle.tree.specs.Syntax.{Span, TypeExpr, Types, Fields, Imports, Expr, Entries, Arms, Parts, Block, Variants}
+use Rattle.ast.specs.Syntax.{Span, TypeExpr, Types, Fields, Imports, Expr, Entries, Arms, Parts, Block, Variants}
 use Rattle.tree.specs.Records as records
 use Rattle.tree.specs.Records.{Views, Forms, else, _⇒_∣_, form, nothing, viewsOf, views, each, syntaxTree}
 use Rattle.layout_facts.specs.Height.{levels, levelsIn, typeHeight, typeFormHeight, argsHeight, typesHeight, fieldsHeight, importHeight, groupHeight}

@@ -11,7 +11,7 @@ use lib.ListN.{length}
 use Rattle.text.proofs.Counts.{range-inside}
 use Rattle.image.specs.Bytes.{be32}
 use Rattle.image.proofs.Accepted.{Root}
-use Rattle.tree.specs.Syntax.{Declaration, SyntaxTree}
+use Rattle.ast.specs.Syntax.{Declaration, SyntaxTree}
 use Rattle.tree.specs.At.{past, DeclarationsAt}
 use Rattle.tree.specs.Records.{syntaxTree}
 use Rattle.tree.proofs.Walk.{declarations-order}

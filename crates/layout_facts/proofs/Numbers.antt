@@ -12,7 +12,7 @@ use Rattle.text.specs.Newlines.{countNewlines}
 use Rattle.text.specs.Space.{something}
 use Rattle.text.specs.declared.space.Found.{Found}
 use Rattle.text.specs.declared.space.Found.the-variants.{At, Nowhere}
-use Rattle.tree.specs.Syntax.{Span, SyntaxTree}
+use Rattle.ast.specs.Syntax.{Span, SyntaxTree}
 use Rattle.rows.specs.Node.{Node, Nodes, line, emptyLine, none, _then_, join}
 use Rattle.renderer_rules.proofs.Names.{names, namesIn}
 use Rattle.state.specs.Act.{Given, St, Out, Act, next, _⨟_, _⨟?_, _⨟!_, skip, push, moveTo, pop, told, answering, grouped, indented}

@@ -11,9 +11,9 @@ use lib.ListN.{length}
 use lib.Text.{eqt}
 use Rattle.text.proofs.Counts.{range-inside}
 use Rattle.image.specs.Bytes.{be32}
-use Rattle.tree.specs.Syntax.{Span, Ident, Path, Idents, TypeExpr, type, TypeForm, option, typePath, never, unit, recordType, TypeArgs, noArgs, args}
-use Rattle.tree.specs.Syntax.{Types, noTypes, _∷ᵗ_, Fields, noFields, field, Import, import, ImportGroup, noGroup, group, Imports, noImports, _∷ⁱ_}
-use Rattle.tree.specs.Syntax.{Pattern, underscore, enumVariant}
+use Rattle.ast.specs.Syntax.{Span, Ident, Path, Idents, TypeExpr, type, TypeForm, option, typePath, never, unit, recordType, TypeArgs, noArgs, args}
+use Rattle.ast.specs.Syntax.{Types, noTypes, _∷ᵗ_, Fields, noFields, field, Import, import, ImportGroup, noGroup, group, Imports, noImports, _∷ⁱ_}
+use Rattle.ast.specs.Syntax.{Pattern, underscore, enumVariant}
 use Rattle.tree.specs.At.{Head, past, IdentAt, IdentsAt, PathAt, ListAt, Maybe, TypeAt, TypeFormAt, TypeArgsAt, TypesAt, FieldsAt, ImportAt}
 use Rattle.tree.specs.At.{ImportGroupAt, ImportsAt, PatternAt}
 use Rattle.rows.specs.Node.{Text, wrapParent}

@@ -6,7 +6,7 @@ use mathlib.Core.List.{List, _++_}
 use lib.Dec.{ltb}
 use lib.ListN.{length}
 use Rattle.image.specs.Limits.{MAX-BODY, MAX-COMMENTS}
-use Rattle.tree.specs.Syntax.{Declaration, SyntaxTree}
+use Rattle.ast.specs.Syntax.{Declaration, SyntaxTree}
 use Rattle.tree.specs.At.{TreeAt}
 use Rattle.rows.specs.Limits.{MAX-NUMBER}
 use Rattle.rows.specs.Node.{line}

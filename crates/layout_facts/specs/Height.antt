@@ -4,13 +4,13 @@ use Prim.Native.Nat.{ℕ, _+_, max}
 use mathlib.Core.List.{List, [], _∷_}
 use mathlib.Core.Option.{Option, none, some}
 use Rattle.image.specs.Read.{Tree, Trees, absent, node, nil, _▸_}
-use Rattle.tree.specs.Syntax.{TypeExpr, type, TypeForm, option, typePath, never, unit, recordType, TypeArgs, noArgs, args, Types, noTypes, _∷ᵗ_}
-use Rattle.tree.specs.Syntax.{Fields, noFields, field, Import, import, ImportGroup, noGroup, group, Imports, noImports, _∷ⁱ_, Expr, expr, Form}
-use Rattle.tree.specs.Syntax.{return′, literal, block, match′, functionCall, access, path, record′, typedRecord, list, not′, assign, compoundAssign}
-use Rattle.tree.specs.Syntax.{binOp, negate, ifElse, while, for, questionMark, fString, parentheses, Exprs, noExprs, _∷ᵉ_, MaybeExpr, noExpr, someExpr}
-use Rattle.tree.specs.Syntax.{Entries, noEntries, entry, Arms, noArms, arm, Parts, noParts, string, value, Block, braces, MaybeBlock, noBlock}
-use Rattle.tree.specs.Syntax.{someBlock, Stmts, noStmts, _∷ˢ_, Stmt, stmt, StmtForm, let′, importStmt, does, Variants, noVariants, variant}
-use Rattle.tree.specs.Syntax.{Declaration, filterMap, const, recordDecl, enumDecl, function, test, importDecl, SyntaxTree}
+use Rattle.ast.specs.Syntax.{TypeExpr, type, TypeForm, option, typePath, never, unit, recordType, TypeArgs, noArgs, args, Types, noTypes, _∷ᵗ_}
+use Rattle.ast.specs.Syntax.{Fields, noFields, field, Import, import, ImportGroup, noGroup, group, Imports, noImports, _∷ⁱ_, Expr, expr, Form}
+use Rattle.ast.specs.Syntax.{return′, literal, block, match′, functionCall, access, path, record′, typedRecord, list, not′, assign, compoundAssign}
+use Rattle.ast.specs.Syntax.{binOp, negate, ifElse, while, for, questionMark, fString, parentheses, Exprs, noExprs, _∷ᵉ_, MaybeExpr, noExpr, someExpr}
+use Rattle.ast.specs.Syntax.{Entries, noEntries, entry, Arms, noArms, arm, Parts, noParts, string, value, Block, braces, MaybeBlock, noBlock}
+use Rattle.ast.specs.Syntax.{someBlock, Stmts, noStmts, _∷ˢ_, Stmt, stmt, StmtForm, let′, importStmt, does, Variants, noVariants, variant}
+use Rattle.ast.specs.Syntax.{Declaration, filterMap, const, recordDecl, enumDecl, function, test, importDecl, SyntaxTree}
 
 unfoldable mutual
   pub levels : Tree → ℕ

@@ -4,7 +4,7 @@ use mathlib.Core.Path.{_≡_}
 use mathlib.Core.List.{List, [], _∷_, _++_, map}
 use lib.ListN.{length, take, drop}
 use Rattle.text.specs.Space.{trimEnd}
-use Rattle.tree.specs.Syntax.{Span}
+use Rattle.ast.specs.Syntax.{Span}
 use Rattle.rows.specs.Node.{Text, Node, Nodes, group, indent, indentNext, wrapParent, comment, str, ascii, line, emptyLine, lineOrSpace, ifWrap, call}
 use Rattle.rows.specs.Node.{none, _then_}
 use Rattle.state.specs.Act.{Given, St, Out, Act}

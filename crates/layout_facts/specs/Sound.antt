@@ -7,7 +7,7 @@ use mathlib.Core.List.{List, [], _∷_}
 use mathlib.Core.Option.{some}
 use lib.ListN.{length, getD}
 use Rattle.image.specs.Bytes.{be16}
-use Rattle.tree.specs.Syntax.{Span}
+use Rattle.ast.specs.Syntax.{Span}
 use Rattle.rows.specs.Node.{Text, Node, Nodes, group, indent, indentNext, wrapParent, comment, str, ascii, line, emptyLine, lineOrSpace, ifWrap, call}
 use Rattle.rows.specs.Node.{none, _then_}
 use Rattle.rows.specs.Rows.{sizes, depths}

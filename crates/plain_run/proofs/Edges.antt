@@ -13,7 +13,7 @@ use Rattle.rows.specs.Ascii.{bytes}
 use Rattle.rows.specs.Node.{mustWrap, mustWraps, width, widths, join}
 use Rattle.rows.specs.Rows.{size, sizes, rowsOf, rows}
 use Rattle.rows.specs.View.{viewOf, nodeOf, decode, nodesAt}
-use Rattle.comments.specs.Listed.{commentsOf, pairsAt}
+use Rattle.tree.specs.CommentList.{commentsOf, pairsAt}
 use Rattle.rows.specs.Words.{placeIn, word, joined, words}
 use Rattle.state.specs.Act.{_⨟_, _⨟?_, _⨟!_, grouped, indented as indents}
 use Rattle.text.specs.Newlines.{countNewlines, newlinePlaces}

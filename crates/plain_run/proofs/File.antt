@@ -22,7 +22,8 @@ use Rattle.rows.specs.View.{viewOf, nodesAt}
 use Rattle.rows.proofs.Sizes.{length-rows}
 use Rattle.rows.proofs.Flatten.{holds-part, read-back}
 use Rattle.marks.specs.Marks.{marksNeeded}
-use Rattle.comments.specs.Listed.{commentsOf, given}
+use Rattle.tree.specs.CommentList.{commentsOf}
+use Rattle.comments.specs.Listed.{given}
 use Rattle.layout.specs.Layout.{fmtParsed}
 use Rattle.layout_facts.specs.Accepted.{fresh, wholeRule}
 use Rattle.renderer_rules.specs.Check.{wrongPlace}

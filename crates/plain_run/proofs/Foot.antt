@@ -11,9 +11,10 @@ use lib.ListN.{length, take, drop, length-map, length-drop}
 use lib.Seq.{take-all}
 use Rattle.laws.proofs.Booleans.{false-true}
 use Rattle.image.specs.Read.{Read, got, bad, Image, readAll, answerOf}
-use Rattle.tree.specs.Syntax.{Declaration}
+use Rattle.ast.specs.Syntax.{Declaration}
 use Rattle.state.specs.Act.{St, Act}
-use Rattle.comments.specs.Listed.{commentsOf, given, Listed}
+use Rattle.tree.specs.CommentList.{commentsOf}
+use Rattle.comments.specs.Listed.{given, Listed}
 use Rattle.comments.proofs.Accepted.{accepted-listed}
 use Rattle.layout_facts.specs.Accepted.{callRule}
 use Rattle.layout_facts.proofs.Foot.{AtFoot, call-places}

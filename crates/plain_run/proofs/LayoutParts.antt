@@ -10,7 +10,7 @@ use native.Mathlib.Omega.{arith}
 use lib.Dec.{eqb}
 use lib.ListN.{length, length-map}
 use Rattle.image.specs.Read.{Read, Image}
-use Rattle.tree.specs.Syntax.{Declaration}
+use Rattle.ast.specs.Syntax.{Declaration}
 use Rattle.rows.specs.Kinds.{GROUP, INDENT, INDENT-NEXT, COMMENT, IF-WRAP, CALL}
 use Rattle.rows.specs.Places.{PLACES}
 use Rattle.rows.specs.Node.{Text, Node, Nodes, group, indent, indentNext, wrapParent, comment, str, ascii, line, emptyLine, lineOrSpace}
@@ -19,7 +19,8 @@ use Rattle.rows.specs.Rows.{row, noText, size, sizes, rowsOf, rows}
 use Rattle.rows.proofs.Sizes.{length-rowsOf, length-rows}
 use Rattle.state.specs.Act.{Given, St, Act}
 use Rattle.comments.specs.Comments.{nth}
-use Rattle.comments.specs.Listed.{commentsOf, given}
+use Rattle.tree.specs.CommentList.{commentsOf}
+use Rattle.comments.specs.Listed.{given}
 use Rattle.layout.specs.Layout.{shebangRule}
 use Rattle.layout_facts.specs.Accepted.{closing}
 use Rattle.layout_facts.specs.Placing.{commentsOfNode, commentsInNodes, Places as StepPlaces}

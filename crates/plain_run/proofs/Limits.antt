@@ -14,7 +14,7 @@ use Rattle.text.specs.Utf8.{wellFormed}
 use Rattle.image.specs.Read.{Read, got, bad, Image, sourceFits, readImage, readAll, answerOf}
 use Rattle.image.specs.declared.Answer.the-variants.{Accepted}
 use Rattle.image.proofs.Accepted.{accepted}
-use Rattle.tree.specs.Syntax.{SyntaxTree}
+use Rattle.ast.specs.Syntax.{SyntaxTree}
 use Rattle.rows.specs.Places.{PLACES}
 use Rattle.rows.specs.Rows.{sizes, rows}
 use Rattle.rows.proofs.Sizes.{length-rows}

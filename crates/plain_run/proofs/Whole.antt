@@ -13,7 +13,7 @@ use lib.Dec.{eqb}
 use lib.ListN.{length, take, drop, length-drop}
 use lib.Seq.{take-length}
 use Rattle.image.specs.Read.{Read, Image}
-use Rattle.tree.specs.Syntax.{Declaration, SyntaxTree}
+use Rattle.ast.specs.Syntax.{Declaration, SyntaxTree}
 use Rattle.rows.specs.Node.{Nodes, join}
 use Rattle.rows.specs.Rows.{sizes, rows}
 use Rattle.rows.specs.View.{viewOf, nodesAt}
@@ -21,7 +21,8 @@ use Rattle.rows.proofs.Flatten.{flattened}
 use Rattle.state.specs.Act.{Given, St, Act, _⨟_, when, skip, next}
 use Rattle.state.proofs.Joins.{sizes-join, rows-join}
 use Rattle.comments.specs.Comments.{nth}
-use Rattle.comments.specs.Listed.{commentsOf, given}
+use Rattle.tree.specs.CommentList.{commentsOf}
+use Rattle.comments.specs.Listed.{given}
 use Rattle.layout.specs.Layout.{shebangRule, declaration, declarationsRule, fmtParsed}
 use Rattle.layout_facts.specs.Accepted.{fresh, upTo, closing, wholeRule, callRule}
 use Rattle.renderer_rules.specs.Renderer.{renderNodes}

@@ -7,11 +7,12 @@ use mathlib.Core.Option.{none}
 use Prim.Native.Nat.{ℕ, _-_, _≤_}
 use lib.ListN.{length, take}
 use Rattle.image.specs.Read.{Read, Image, readAll}
-use Rattle.tree.specs.Syntax.{SyntaxTree}
+use Rattle.ast.specs.Syntax.{SyntaxTree}
 use Rattle.rows.specs.Limits.{MAX-ROWS, MAX-NUMBER}
 use Rattle.rows.specs.Rows.{sizes, rows}
 use Rattle.state.specs.Act.{Out}
-use Rattle.comments.specs.Listed.{commentsOf, given}
+use Rattle.tree.specs.CommentList.{commentsOf}
+use Rattle.comments.specs.Listed.{given}
 use Rattle.layout.specs.Layout.{fmtParsed}
 use Rattle.layout_facts.specs.Accepted.{fresh, upTo, wholeRule}
 use Rattle.renderer_rules.specs.Renderer.{renderNodes}

@@ -6,13 +6,13 @@ use mathlib.Core.List.{List, [], _∷_, _++_, map}
 use Prim.Native.Nat.{ℕ, zero, suc, _+_}
 use lib.ListN.{length, replicate}
 use Rattle.image.specs.Write.{Plain, Plains, without, plainly, done, _next_, bytes4, framed, written}
-use Rattle.tree.specs.Syntax.{Span}
+use Rattle.ast.specs.Syntax.{Span}
 use Rattle.rows.specs.Ascii.{bytes}
 use Rattle.rows.specs.Node.{Text, Node, Nodes, group, indent, indentNext, comment, ascii, line, emptyLine, lineOrSpace, call, none as nothing, _then_}
 use Rattle.rows.specs.Places.{KIND}
 use Rattle.rows.specs.Rows.{sizes, rows}
 use Rattle.rows.specs.View.{cell}
-use Rattle.comments.specs.Listed.{span}
+use Rattle.tree.specs.CommentList.{span}
 use Rattle.cut_rule.specs.Run.{layoutCall, renderCall, Carried, start, run}
 use Rattle.cut_rule.specs.Limits.{REFERENCE-WIDTH}
 use Rattle.cut_rule.specs.States.{layoutFresh, OLD-MODE, NEW-MODE}

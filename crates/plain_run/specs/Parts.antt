@@ -8,14 +8,15 @@ use lib.Dec.{eqb}
 use lib.ListN.{length}
 use Rattle.text.specs.Space.{trimEnd}
 use Rattle.image.specs.Read.{Read, got, bad, Image, header, sourceFits, readAll}
-use Rattle.tree.specs.Syntax.{Declaration, SyntaxTree}
+use Rattle.ast.specs.Syntax.{Declaration, SyntaxTree}
 use Rattle.tree.specs.Records.{syntaxTree}
 use Rattle.rows.specs.Rows.{sizes, rows}
 use Rattle.rows.specs.View.{viewOf, nodesAt}
 use Rattle.marks.specs.Marks.{marksNeeded}
 use Rattle.state.specs.Act.{Act, skip}
 use Rattle.comments.specs.Comments.{nth}
-use Rattle.comments.specs.Listed.{commentsOf, given}
+use Rattle.tree.specs.CommentList.{commentsOf}
+use Rattle.comments.specs.Listed.{given}
 use Rattle.layout.specs.Layout.{shebangRule, declaration}
 use Rattle.layout_facts.specs.Accepted.{closing}
 use Rattle.renderer_rules.specs.Renderer.{Page, Renderer, freshRenderer, renderNodes}

@@ -7,7 +7,6 @@ use Prim.Native.Nat.{ℕ, _+_, _≤_}
 use native.Mathlib.Omega.{arith}
 use lib.ListN.{length, drop, length-append}
 use lib.Seq.{sets, sets-eq}
-use Rattle.rows.specs.Ascii.{bytes}
 use Rattle.rows.specs.declared.units.Bytes.{Bytes}
 use Rattle.refusals.specs.Refusals.{Refusal, first, unless}
 use Rattle.cut_rule.specs.Run.{writeFront}
@@ -15,8 +14,9 @@ use Rattle.plain_run.specs.File.{refused, formatted, referenceChoice, fileAnswe
 use Rattle.file.specs.Whole.{formattedAnswer, sourceOf, imageOf, frameRefusal, FormatsFrame}
 use Rattle.file.specs.declared.Formatted.{Formatted}
 use Rattle.file.specs.declared.Formatted.the-variants as answer
-use Rattle.reply.specs.Reply.{decimal, refusedLine, programRefusal, replyBy, reply, Replies}
-use Rattle.reply.proofs.Lines.{decimal-short}
+use Rattle.lines.specs.Lines.{refusedLine}
+use Rattle.lines.proofs.Lines.{line-short}
+use Rattle.reply.specs.Reply.{programRefusal, replyBy, reply, Replies}
 
 -- what an answer tells of the two refusals that could have been
 refused-by : (x y : Option Refusal) (r : Refusal) (n l k m : ℕ) → refused r ≡ fileAnswerBy x (fileAnswerBy y (formatted n l k m)) → first (x ∷ y ∷ []) ≡ some r
@@ -34,19 +34,6 @@ told-by : (x y : Option Refusal) (n l k m l′ k′ m′ n′ : ℕ) → formatt
 told-by none none n l k m l′ k′ m′ n′ e = record { passes = refl; size = (cc); front = refl; back = refl }
 told-by none (some q) n l k m l′ k′ m′ n′ e = let z : _≡_ {A = ℕ} 0 1 = cc in absurd (omega arith)
 told-by (some q) y n l k m l′ k′ m′ n′ e = let z : _≡_ {A = ℕ} 0 1 = cc in absurd (omega arith)
-
-five-short : (v w x y z : List ℕ) → length v ≤ 8 → length w ≤ 20 → length x ≤ 4 → length y ≤ 20 → length z ≤ 1 → length (v ++ w ++ x ++ y ++ z) ≤ 64
-five-short v w x y z a b c d e =
-    omega
-    (arith, length-append v w, length-append (v ++ w) x, length-append (v ++ w ++ x) y, length-append (v ++ w ++ x ++ y) z)
-
-pub line-short : (r : Refusal) → length (refusedLine r) ≤ 64
-unfolding bytes
-line-short r =
-    five-short (bytes "refused ") (decimal (r .number)) (bytes " at ") (decimal (r .place)) (bytes "\n") (omega arith) (decimal-short 20 (r .number))
-    (omega arith)
-    (decimal-short 20 (r .place))
-    (omega arith)
 
 module _ (frame out : List ℕ) (full : length out ≡ 65536) where
   abbrev s : List ℕ

@@ -1,33 +1,14 @@
 -- What the program writes for the frame that it reads: "It writes the text alone, or one line `refused N at P`, both decimal."
 use mathlib.Core.Path.{_≡_}
-use mathlib.Core.Bool.{cond}
 use mathlib.Core.Option.{Option, none, some}
-use mathlib.Core.List.{List, [], _∷_, _++_}
-use Prim.Native.Nat.{ℕ, zero, suc, _+_, _/_, _%_}
-use lib.Dec.{ltb}
+use mathlib.Core.List.{List, [], _∷_}
+use Prim.Native.Nat.{ℕ}
 use lib.ListN.{length}
 use Rattle.refusals.specs.Refusals.{Refusal, first}
-use Rattle.rows.specs.Ascii.{bytes}
+use Rattle.lines.specs.Lines.{refusedLine}
 use Rattle.cut_rule.specs.Run.{writeFront}
 use Rattle.plain_run.specs.File.{referenceChoice, drawnDue, fileRefusal}
 use Rattle.file.specs.Whole.{sourceOf, imageOf, frameRefusal}
-
--- a digit as a byte
-abbrev pub digit : ℕ → ℕ
-digit d = 0x30 + d
-
--- a number in decimal, where it has k digits at most
-unfoldable pub decimalIn : ℕ → ℕ → List ℕ
-decimalIn zero n = []
-decimalIn (suc k) n = cond (ltb n 10) (digit n ∷ []) (decimalIn k (n / 10) ++ (digit (n % 10) ∷ []))
-
--- a number of 64 bits has 20 digits at most
-abbrev pub decimal : ℕ → List ℕ
-decimal n = decimalIn 20 n
-
--- "one line `refused N at P`, both decimal"
-abbrev pub refusedLine : Refusal → List ℕ
-refusedLine r = bytes "refused " ++ decimal (r .number) ++ bytes " at " ++ decimal (r .place) ++ bytes "\n"
 
 -- "65,536 output bytes"
 abbrev pub programRoom : ℕ

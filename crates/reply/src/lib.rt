@@ -1,10 +1,8 @@
 // What the program writes for a frame.
-pub mod line;
-
 ghost use Rattle.reply.specs.Reply.{Replies};
-use crate::line::refused_line;
 use file::Formatted;
 use file::format_frame;
+use lines::refused_line;
 
 // Puts the text of the frame's file, or the line that refuses it, at the start of the output; how many bytes that is.
 pub fn reply(frame: &[u8], out: &mut [u8; 65536]) -> usize

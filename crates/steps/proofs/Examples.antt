@@ -11,7 +11,7 @@ use Rattle.image.specs.Grammar.{rowOf, rowUnder, kindFits, payloadFits, firstCh
 use Rattle.image.specs.Read.{bad, header, commentFits, comments, shape, opens, childrenAt, skips, recordAt, treeAt, readTree, readImage, sourceFits, readAll}
 use Rattle.image.specs.Read as Reader
 use Rattle.image.specs.Write.{written, plain}
-use Rattle.comments.specs.Listed.{pairsAt, commentsOf}
+use Rattle.tree.specs.CommentList.{pairsAt, commentsOf}
 use Rattle.steps.specs.Steps.{Step, commentStep, openStep, textStep, payloadStep, absentStep, closeStep, listBytes, treeSteps}
 use Rattle.steps.specs.Writer.{stepFrom, commentsFrom, openedFrom, payloadFrom, childrenFrom, recordFrom, contentsFrom, WriterAnswer, refused, wrote, writerAnswer, writerOutput}
 use Rattle.steps.specs.OfImage.{stepsDue}

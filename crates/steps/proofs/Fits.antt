@@ -12,7 +12,7 @@ use Rattle.image.specs.Kinds.{TREE, TEXT}
 use Rattle.image.specs.Limits.{MAX-COMMENTS, MAX-RECORDS-DEEP}
 use Rattle.image.specs.Grammar.{isOptional, bare, place, after, complete, rowUnder, kindFits, hasByte, topByte}
 use Rattle.image.specs.Write.{Plain, Plains, without, plainly, done, _next_}
-use Rattle.tree.specs.Syntax.{Span}
+use Rattle.ast.specs.Syntax.{Span}
 use Rattle.steps.specs.Steps.{textStep, payloadStep, bytes2, payloadSteps, Contents}
 
 -- the payload x of a record of this kind at place p

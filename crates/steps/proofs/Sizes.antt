@@ -12,7 +12,7 @@ use Rattle.laws.proofs.Booleans.{and-left, and-right, and-false}
 use Rattle.image.specs.Grammar.{Grammar, others, _⇒_∣_, grammar, isList, isOptional, isMany, element, place, after, many, rowIn, rowOf, rowUnder}
 use Rattle.image.specs.Read.{Read, got, bad}
 use Rattle.image.specs.Write.{Plain, Plains, written, writtens}
-use Rattle.tree.specs.Syntax.{Span}
+use Rattle.ast.specs.Syntax.{Span}
 use Rattle.steps.specs.Steps.{Step, listBytes, payloadSteps, treeSteps, childSteps, pairBytes, closeStep, Contents, steps, imageOf}
 use Rattle.steps.specs.Rows.{short}
 use Rattle.steps.specs.Writer.{childrenFrom, recordFrom, contentsFrom, imageBy, imageDue}

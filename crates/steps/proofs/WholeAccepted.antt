@@ -10,7 +10,7 @@ use lib.Dec.{eqb}
 use borrow.Author.Tests.{lt-ltb, le-ltb}
 use Rattle.image.specs.Read.{got}
 use Rattle.image.specs.Write.{Plain}
-use Rattle.tree.specs.Syntax.{Span}
+use Rattle.ast.specs.Syntax.{Span}
 use Rattle.steps.specs.Steps.{commentStep, stepBytes, listBytes, treeSteps, Contents, steps}
 use Rattle.steps.specs.Steps.{COMMENT-STEP, OPEN-STEP}
 use Rattle.steps.specs.Writer.{commentsFrom, contentsFrom}

@@ -16,8 +16,8 @@ use Rattle.image.specs.Read.{Read, got, bad, bind, Image, Tree, header, comment
 use Rattle.image.specs.Write.{Plain, bytes4, written}
 use Rattle.image.proofs.CommentList.{listed}
 use Rattle.image.proofs.Whole.{image-next}
-use Rattle.tree.specs.Syntax.{Span}
-use Rattle.comments.specs.Listed.{pairsAt, commentsOf}
+use Rattle.ast.specs.Syntax.{Span}
+use Rattle.tree.specs.CommentList.{pairsAt, commentsOf}
 use Rattle.steps.specs.Steps.{bytes2, pairBytes, Contents, bodyOf, imageOf, contentsOf}
 use Rattle.steps.proofs.Sizes.{pairs-size}
 use Rattle.steps.proofs.Stands.{Stands, stands-whole, stands-left, stands-right, stands-byte, stands-be32, stands-be16}

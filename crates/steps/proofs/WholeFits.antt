@@ -13,7 +13,7 @@ use Rattle.image.specs.Read.{got, Image, sourceFits, readAll, treeAt, answerOf}
 use Rattle.image.specs.Write.{bytes4, written, plain}
 use Rattle.image.proofs.Accepted.{Root, rooted}
 use Rattle.image.proofs.Exact.{tree-exact}
-use Rattle.comments.specs.Listed.{pairsAt, commentsOf}
+use Rattle.tree.specs.CommentList.{pairsAt, commentsOf}
 use Rattle.steps.specs.Steps.{pairBytes, bodyOf, imageOf, contentsOf}
 use Rattle.steps.specs.Exact.{Bytes}
 use Rattle.steps.proofs.Took.{took-all, Took, took-none, took-join, took-part, took-byte, took-four, took-two}

@@ -11,8 +11,8 @@ use borrow.Author.Tests.{ltb-true, ltb-false}
 use Rattle.image.specs.Kinds.{TREE}
 use Rattle.image.specs.Limits.{MAX-COMMENTS, MAX-RECORDS-DEEP}
 use Rattle.image.specs.Read.{got, bind}
-use Rattle.tree.specs.Syntax.{Span}
-use Rattle.comments.specs.Listed.{span}
+use Rattle.ast.specs.Syntax.{Span}
+use Rattle.tree.specs.CommentList.{span}
 use Rattle.steps.specs.Steps.{Step, commentStep, openStep, textStep, payloadStep, absentStep, closeStep, stepBytes, listBytes, treeSteps, Contents, steps}
 use Rattle.steps.specs.Steps.{COMMENT-STEP}
 use Rattle.steps.specs.Writer.{stepFrom, pairBy, commentsFrom, recordFrom, contentsFrom}

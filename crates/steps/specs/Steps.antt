@@ -9,8 +9,8 @@ use Rattle.image.specs.Kinds.{TEXT}
 use Rattle.image.specs.Grammar.{hasByte}
 use Rattle.image.specs.Read.{Image}
 use Rattle.image.specs.Write.{Plain, Plains, without, plainly, done, _next_, bytes4, framed, written, plain}
-use Rattle.tree.specs.Syntax.{Span}
-use Rattle.comments.specs.Listed.{commentsOf}
+use Rattle.ast.specs.Syntax.{Span}
+use Rattle.tree.specs.CommentList.{commentsOf}
 
 -- ---- steps
 -- "comments with start and end, first; then open a kind with its span, give a text and its width, give a payload byte, say absent, close"

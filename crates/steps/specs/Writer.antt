@@ -15,8 +15,8 @@ use Rattle.image.specs.Limits.{MAX-BODY, MAX-COMMENTS, MAX-RECORDS-DEEP}
 use Rattle.image.specs.Grammar.{isOptional, bare, place, after, complete, rowUnder, kindFits, hasByte, topByte}
 use Rattle.image.specs.Read.{Read, got, bad, bind}
 use Rattle.image.specs.Write.{Plain, Plains, without, plainly, done, _next_}
-use Rattle.tree.specs.Syntax.{Span}
-use Rattle.comments.specs.Listed.{span}
+use Rattle.ast.specs.Syntax.{Span}
+use Rattle.tree.specs.CommentList.{span}
 use Rattle.steps.specs.Steps.{Step, commentStep, openStep, textStep, payloadStep, absentStep, closeStep, bytes2, Contents, bodyOf, imageOf}
 use Rattle.steps.specs.Steps.{COMMENT-STEP, OPEN-STEP, TEXT-STEP, PAYLOAD-STEP, ABSENT-STEP, CLOSE-STEP}
 

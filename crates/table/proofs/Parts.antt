@@ -10,7 +10,7 @@ use lib.Seq.{sets, sets-eq, take-at, take-all, drop-drop}
 use Rattle.laws.proofs.Stores.{sets-append}
 use Rattle.cut_rule.specs.Run.{writeFront}
 use Rattle.tallies.specs.declared.Figures.{Figures}
-use Rattle.reply.specs.Reply.{decimal}
+use Rattle.lines.specs.Lines.{decimal}
 use Rattle.table.specs.Put.{Puts, CELL-ROOM, FIGURES-ROOM}
 use Rattle.table.specs.Table.{COLUMNS, BLANK, LINE-ROOM, cell, cells, inOrder, Writes}
 

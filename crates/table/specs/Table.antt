@@ -9,7 +9,7 @@ use Rattle.rows.specs.Ascii.{bytes}
 use Rattle.cut_rule.specs.Run.{writeFront}
 use Rattle.tallies.specs.declared.Figures.{Figures}
 use Rattle.tallies.specs.declared.Fraction.{Fraction}
-use Rattle.reply.specs.Reply.{decimal, refusedLine}
+use Rattle.lines.specs.Lines.{decimal, refusedLine}
 
 -- "ten columns"
 abbrev pub COLUMNS : ℕ

@@ -3,12 +3,12 @@ ghost use mathlib.Core.Path.{_≡_};
 ghost use mathlib.Core.List.{_∷_};
 ghost use Prim.Native.Nat.{_+_, _-_, _≤_};
 ghost use lib.ListN.{length};
-ghost use Rattle.reply.specs.Reply.{decimal};
+ghost use Rattle.lines.specs.Lines.{decimal};
 ghost use Rattle.table.specs.Table.{BLANK, COLUMNS as Table·COLUMNS, cell, cells, inOrder};
 ghost use Rattle.table.specs.Put.{Puts, CELL-ROOM, FIGURES-ROOM};
-use reply::line::DIGITS;
-use reply::line::put_decimal;
-use reply::line::put_text;
+use lines::DIGITS;
+use lines::put_decimal;
+use lines::put_text;
 use tallies::Figures;
 
 const COLUMNS: usize = 10;

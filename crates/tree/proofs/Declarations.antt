@@ -4,7 +4,7 @@ use mathlib.Core.List.{List}
 use Prim.Native.Nat.{ℕ, suc, _+_, _≤_}
 use Rattle.image.specs.Grammar.{list, anyType, anyDeclaration, rowOf, rowUnder, firstChild}
 use Rattle.image.specs.Read.{Tree, stopAt}
-use Rattle.tree.specs.Syntax.{Variants}
+use Rattle.ast.specs.Syntax.{Variants}
 use Rattle.tree.specs.At.{Before, Head, Maybe, IdentAt, PathAt, ListAt, TypeAt, ImportAt, BlockAt, VariantsAt, DeclarationAt}
 use Rattle.tree.specs.Records.{views, each, maybe, listOf, variants}
 use Rattle.tree.proofs.Children.{_∣_, Kid, Perhaps, All, all, always, head, before, run}

@@ -10,7 +10,7 @@ use Rattle.image.specs.Bytes.{be16, be32}
 use Rattle.image.specs.Grammar.{rowOf, rowUnder, kindFits, payloadFits, firstChild}
 use Rattle.image.specs.Read.{Read, got, bad, Image, header, commentFits, commentsFrom, comments, shape, opens, childrenAt, skips, recordAt, treeAt}
 use Rattle.image.specs.Read.{readTree, readImage, sourceFits, readAll}
-use Rattle.tree.specs.Syntax.{Span, Ident, TypeExpr, type, typePath, noArgs, Expr, expr, literal, const, SyntaxTree}
+use Rattle.ast.specs.Syntax.{Span, Ident, TypeExpr, type, typePath, noArgs, Expr, expr, literal, const, SyntaxTree}
 use Rattle.tree.specs.Records.{views, syntaxTree}
 
 -- what is read of a source and an image: the number of comments, the tree's offset, the tree

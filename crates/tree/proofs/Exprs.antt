@@ -7,7 +7,7 @@ use Prim.Native.Nat.{ℕ, zero, suc, _+_, _≤_}
 use native.Mathlib.Omega.{arith}
 use Rattle.image.specs.Grammar.{list, upTo, anyType, anyExpr, anyStatement, rowOf, rowUnder, firstChild, payloadFits}
 use Rattle.image.specs.Read.{Tree, node, stopAt}
-use Rattle.tree.specs.Syntax.{Entries, Arms, Parts}
+use Rattle.ast.specs.Syntax.{Entries, Arms, Parts}
 use Rattle.tree.specs.At.{Before, Head, TypeAt, leftDepth, ExprAt, ExprsAt, MaybeExprAt, EntriesAt, ArmsAt, PartsAt, BlockAt, MaybeBlockAt, StmtsAt, StmtAt}
 use Rattle.tree.specs.Records.{views, each, exprs, entries, arms, parts, stmts, maybeExpr, maybeBlock}
 use Rattle.tree.proofs.Children.{_∣_, Kid, Perhaps, All, all, none, head, before, perhaps, run}

@@ -5,7 +5,7 @@ use mathlib.Core.List.{List}
 use Prim.Native.Nat.{ℕ, zero, suc, _+_}
 use Rattle.image.specs.Grammar.{list, anyType, rowOf, rowUnder, firstChild}
 use Rattle.image.specs.Read.{Tree, node, stopAt}
-use Rattle.tree.specs.Syntax.{Fields}
+use Rattle.ast.specs.Syntax.{Fields}
 use Rattle.tree.specs.At.{Before, Head, PathAt, TypeAt, TypeArgsAt, TypesAt, FieldsAt, ImportAt, ImportGroupAt, ImportsAt}
 use Rattle.tree.specs.Records.{views, each, types, fields, imports, maybeArgs, maybeGroup}
 use Rattle.tree.proofs.Children.{_∣_, Perhaps, All, all, none, head, before, perhaps, run}

@@ -7,7 +7,7 @@ use native.Mathlib.Omega.{arith}
 use native.Mathlib.Nat.{zero-add, suc-add}
 use lib.ListN.{take, drop}
 use Rattle.image.specs.Read.{stopAt}
-use Rattle.tree.specs.Syntax.{Declaration}
+use Rattle.ast.specs.Syntax.{Declaration}
 use Rattle.tree.specs.At.{DeclarationsAt}
 use Rattle.tree.specs.Walk.{walked}
 

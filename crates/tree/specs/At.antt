@@ -15,14 +15,14 @@ use Rattle.image.specs.Kinds.{F-STRING, FIELD, FILTER-MAP, FOR, FUNCTION, FUNCT
 use Rattle.image.specs.Kinds.{LITERAL, LITERAL-EXPR, MATCH, NAME-AND-TYPE, NEGATE, NEVER, NOT, OPERATOR, OPTION, PARENTHESES, PATH, PATH-EXPR}
 use Rattle.image.specs.Kinds.{QUESTION-MARK, RECORD, RECORD-EXPR, RECORD-FIELDS, RECORD-TYPE, RETURN, TEST, TEXT, TEXT-PART, TREE, TYPE-PATH}
 use Rattle.image.specs.Kinds.{TYPED-RECORD, UNDERSCORE, UNIT, VARIANT, WHILE}
-use Rattle.tree.specs.Syntax.{Span, Ident, Path, Idents, TypeExpr, type, TypeForm, option, typePath, never, unit, recordType, TypeArgs, noArgs}
-use Rattle.tree.specs.Syntax.{args, Types, noTypes, _∷ᵗ_, Fields, noFields, field, Import, import, ImportGroup, noGroup, group, Imports}
-use Rattle.tree.specs.Syntax.{noImports, _∷ⁱ_, Pattern, underscore, enumVariant, Expr, expr, Form, return′, literal, block, match′, functionCall}
-use Rattle.tree.specs.Syntax.{access, path, record′, typedRecord, list, not′, assign, compoundAssign, binOp, negate, ifElse, while, for}
-use Rattle.tree.specs.Syntax.{questionMark, fString, parentheses, Exprs, noExprs, _∷ᵉ_, MaybeExpr, noExpr, someExpr, Entries, noEntries, entry}
-use Rattle.tree.specs.Syntax.{Arms, noArms, arm, Parts, noParts, string, value, Block, braces, MaybeBlock, noBlock, someBlock, Stmts, noStmts}
-use Rattle.tree.specs.Syntax.{_∷ˢ_, Stmt, stmt, StmtForm, let′, importStmt, does, Variants, noVariants, variant, Declaration, filterMap, const}
-use Rattle.tree.specs.Syntax.{recordDecl, enumDecl, function, test, importDecl, SyntaxTree}
+use Rattle.ast.specs.Syntax.{Span, Ident, Path, Idents, TypeExpr, type, TypeForm, option, typePath, never, unit, recordType, TypeArgs, noArgs}
+use Rattle.ast.specs.Syntax.{args, Types, noTypes, _∷ᵗ_, Fields, noFields, field, Import, import, ImportGroup, noGroup, group, Imports}
+use Rattle.ast.specs.Syntax.{noImports, _∷ⁱ_, Pattern, underscore, enumVariant, Expr, expr, Form, return′, literal, block, match′, functionCall}
+use Rattle.ast.specs.Syntax.{access, path, record′, typedRecord, list, not′, assign, compoundAssign, binOp, negate, ifElse, while, for}
+use Rattle.ast.specs.Syntax.{questionMark, fString, parentheses, Exprs, noExprs, _∷ᵉ_, MaybeExpr, noExpr, someExpr, Entries, noEntries, entry}
+use Rattle.ast.specs.Syntax.{Arms, noArms, arm, Parts, noParts, string, value, Block, braces, MaybeBlock, noBlock, someBlock, Stmts, noStmts}
+use Rattle.ast.specs.Syntax.{_∷ˢ_, Stmt, stmt, StmtForm, let′, importStmt, does, Variants, noVariants, variant, Declaration, filterMap, const}
+use Rattle.ast.specs.Syntax.{recordDecl, enumDecl, function, test, importDecl, SyntaxTree}
 
 -- A record of a kind at an offset, whole within the image, with its span, which is a range of the source.
 pub record Head (s b : List ℕ) (kind : ℕ) (p : Span) (at : ℕ) : Type 0 where

@@ -1,4 +1,4 @@
 pub mod At
 pub mod Records
-pub mod Syntax
 pub mod Walk
+pub mod CommentList

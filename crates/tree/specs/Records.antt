@@ -11,14 +11,14 @@ use Rattle.image.specs.Read.{Head, Tree, Trees, absent, node, nil, _▸_}
 use Rattle.image.specs.Kinds.{ACCESS, ASSIGN, BIN-OP, BLOCK-EXPR, COMPOUND-ASSIGN, CONST, ENUM, F-STRING, FILTER-MAP, FOR, FUNCTION}
 use Rattle.image.specs.Kinds.{FUNCTION-CALL, IF-ELSE, IMPORT-STMT, LET, LIST-EXPR, LITERAL-EXPR, MATCH, NEGATE, NEVER, NOT, OPTION, PATH-EXPR}
 use Rattle.image.specs.Kinds.{QUESTION-MARK, RECORD, RECORD-EXPR, RETURN, TEST, TEXT-PART, TYPE-PATH, TYPED-RECORD, UNDERSCORE, UNIT, WHILE}
-use Rattle.tree.specs.Syntax.{Span, Ident, Path, Idents, TypeExpr, type, TypeForm, option, typePath, never, unit, recordType, TypeArgs, noArgs}
-use Rattle.tree.specs.Syntax.{args, Types, noTypes, _∷ᵗ_, Fields, noFields, field, Import, import, ImportGroup, noGroup, group, Imports}
-use Rattle.tree.specs.Syntax.{noImports, _∷ⁱ_, Pattern, underscore, enumVariant, Expr, expr, Form, return′, literal, block, match′, functionCall}
-use Rattle.tree.specs.Syntax.{access, path, record′, typedRecord, list, not′, assign, compoundAssign, binOp, negate, ifElse, while, for}
-use Rattle.tree.specs.Syntax.{questionMark, fString, parentheses, Exprs, noExprs, _∷ᵉ_, MaybeExpr, noExpr, someExpr, Entries, noEntries, entry}
-use Rattle.tree.specs.Syntax.{Arms, noArms, arm, Parts, noParts, string, value, Block, braces, MaybeBlock, noBlock, someBlock, Stmts, noStmts}
-use Rattle.tree.specs.Syntax.{_∷ˢ_, Stmt, stmt, StmtForm, let′, importStmt, does, Variants, noVariants, variant, Declaration, filterMap, const}
-use Rattle.tree.specs.Syntax.{recordDecl, enumDecl, function, test, importDecl, SyntaxTree}
+use Rattle.ast.specs.Syntax.{Span, Ident, Path, Idents, TypeExpr, type, TypeForm, option, typePath, never, unit, recordType, TypeArgs, noArgs}
+use Rattle.ast.specs.Syntax.{args, Types, noTypes, _∷ᵗ_, Fields, noFields, field, Import, import, ImportGroup, noGroup, group, Imports}
+use Rattle.ast.specs.Syntax.{noImports, _∷ⁱ_, Pattern, underscore, enumVariant, Expr, expr, Form, return′, literal, block, match′, functionCall}
+use Rattle.ast.specs.Syntax.{access, path, record′, typedRecord, list, not′, assign, compoundAssign, binOp, negate, ifElse, while, for}
+use Rattle.ast.specs.Syntax.{questionMark, fString, parentheses, Exprs, noExprs, _∷ᵉ_, MaybeExpr, noExpr, someExpr, Entries, noEntries, entry}
+use Rattle.ast.specs.Syntax.{Arms, noArms, arm, Parts, noParts, string, value, Block, braces, MaybeBlock, noBlock, someBlock, Stmts, noStmts}
+use Rattle.ast.specs.Syntax.{_∷ˢ_, Stmt, stmt, StmtForm, let′, importStmt, does, Variants, noVariants, variant, Declaration, filterMap, const}
+use Rattle.ast.specs.Syntax.{recordDecl, enumDecl, function, test, importDecl, SyntaxTree}
 
 -- A record, taken as each part of the syntax tree; its place says which of them it is. An element that has no type of its own is a
 -- function of the elements after it.

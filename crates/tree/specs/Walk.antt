@@ -2,7 +2,7 @@
 use Prim.Native.Nat.{ℕ, zero, suc}
 use mathlib.Core.List.{List, [], _∷_}
 use Rattle.image.specs.Read.{stopAt}
-use Rattle.tree.specs.Syntax.{Declaration}
+use Rattle.ast.specs.Syntax.{Declaration}
 
 -- where declaration k of those from `at` on starts; past the last, where they end
 unfoldable pub walked : List ℕ → List Declaration → ℕ → ℕ → ℕ

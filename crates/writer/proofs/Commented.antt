@@ -15,8 +15,8 @@ use Rattle.image.specs.Bytes.{be32, part}
 use Rattle.image.specs.Read.{Read, got, bad, bind}
 use Rattle.image.specs.Write.{bytes4}
 use Rattle.image.proofs.Exact.{Small}
-use Rattle.tree.specs.Syntax.{Span}
-use Rattle.comments.specs.Listed.{span}
+use Rattle.ast.specs.Syntax.{Span}
+use Rattle.tree.specs.CommentList.{span}
 use Rattle.steps.specs.Steps.{Step, commentStep, pairBytes}
 use Rattle.steps.specs.Writer.{stepFrom, pairBy, commentsFrom}
 use Rattle.steps.proofs.Took.{took-four, took-join, took-is}

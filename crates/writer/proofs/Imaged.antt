@@ -17,7 +17,7 @@ use Rattle.image.specs.Grammar.{isOptional, place, after, rowOf, rowUnder}
 use Rattle.image.specs.Read.{Read, got, bad}
 use Rattle.image.specs.Write.{Plain, Plains, bytes4, written, writtens}
 use Rattle.image.proofs.Shapes.{kind-range}
-use Rattle.tree.specs.Syntax.{Span}
+use Rattle.ast.specs.Syntax.{Span}
 use Rattle.steps.specs.Steps.{listBytes, payloadSteps, treeSteps, childSteps, closeStep, bytes2, pairBytes, Contents, imageOf}
 use Rattle.steps.specs.Writer.{commentsFrom, recordFrom, contentsFrom, imageBy, imageDue, refused, wrote, writerAnswer, writerOutput}
 use Rattle.steps.proofs.Fits.{Fits, fits, FitsRow, ends, gone, here}

@@ -18,8 +18,8 @@ use Rattle.image.proofs.Exact.{Small}
 use Rattle.image.proofs.Shapes.{opened-order, skips-within, text-payload}
 use Rattle.image.proofs.Inside.{inside, none-deep}
 use Rattle.image.proofs.Accepted.{accepted as input}
-use Rattle.tree.specs.Syntax.{Span}
-use Rattle.comments.specs.Listed.{pairsAt, commentsOf}
+use Rattle.ast.specs.Syntax.{Span}
+use Rattle.tree.specs.CommentList.{pairsAt, commentsOf}
 use Rattle.steps.specs.Steps.{commentStep, listBytes, payloadSteps, treeSteps, childSteps}
 use Rattle.steps.specs.OfImage.{stepsOf, stepsOfAnswer, stepsOfOutput}
 use Rattle.steps.specs.Writer.{refused as turned-down, wrote as written-out}

@@ -3,7 +3,7 @@ ghost use mathlib.Core.Path.{_≡_};
 ghost use mathlib.Core.List.{map};
 ghost use Prim.Native.Nat.{_+_, _*_, _≤_};
 ghost use lib.ListN.{length};
-ghost use Rattle.comments.specs.Listed.{pairsAt};
+ghost use Rattle.tree.specs.CommentList.{pairsAt};
 ghost use Rattle.image.specs.Bytes.{part};
 ghost use Rattle.image.specs.Read.{headAt, kindAt};
 ghost use Rattle.steps.specs.Steps.{commentStep, payloadSteps, listBytes};

@@ -4,7 +4,8 @@ use borrow.Author.Needs.{needs}
 use native.Mathlib.Omega.{arith}
 use Rattle.comments.proofs.Fronts.{inside, good}
 use Rattle.comments.proofs.Pops.{laid-comment, room-gap, room-remark}
-use Rattle.comments.specs.Listed.{span, given}
+use Rattle.tree.specs.CommentList.{span}
+use Rattle.comments.specs.Listed.{given}
 use Rattle.comments.proofs.pop_comment.Statement.{statement}
 use Rattle.comments.proofs.pop_comment.Tie as tie
 

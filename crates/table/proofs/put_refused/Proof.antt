@@ -1,7 +1,7 @@
 -- The line is put into what is left of the output.
 -- Assumes nothing.
 use Rattle.table.proofs.Parts.{puts-part}
-use Rattle.reply.proofs.Replied.{line-short}
+use Rattle.lines.proofs.Lines.{line-short}
 use mathlib.Core.Path.{refl}
 use native.Mathlib.Omega.{arith}
 use borrow.Author.Needs.{needs}

@@ -3,8 +3,8 @@ use Prim.Native.Nat.{ℕ}
 use native.Mathlib.Omega.{arith}
 use Rattle.state.proofs.Laws.{lays, room-first, room-next}
 use Rattle.layout.proofs.Lays.{lays-as, laid-as, lays-tail}
-use Rattle.tree.specs.Syntax.{binOp}
-use Rattle.tree.specs.Syntax as syntax
+use Rattle.ast.specs.Syntax.{binOp}
+use Rattle.ast.specs.Syntax as syntax
 use Rattle.tree.specs.At.{ExprAt}
 use Rattle.state.proofs.Nested.{opens-group, room-group, opens-indent, room-indent}
 use Rattle.comments.specs.Listed.{given}

@@ -6,7 +6,7 @@ use Rattle.state.proofs.Laws.{lays, room-first, room-next, lays-then}
 use Rattle.layout.proofs.Lays.{lays-as, laid-as, has-at, lays-list}
 use Rattle.layout.proofs.Runs.{list-of, grouped-elems}
 use Rattle.tree.specs.At.{ExprAt}
-use Rattle.comments.specs.Listed.{span}
+use Rattle.tree.specs.CommentList.{span}
 use Rattle.layout.specs.Layout as rules
 use Rattle.layout.proofs.Places.{within, expr-whole, head-whole, path-whole}
 use Rattle.rows.specs.Words.{table}

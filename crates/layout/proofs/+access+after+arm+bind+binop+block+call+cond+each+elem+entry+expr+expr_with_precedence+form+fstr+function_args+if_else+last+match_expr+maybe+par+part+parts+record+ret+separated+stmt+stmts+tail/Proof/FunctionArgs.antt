@@ -3,7 +3,7 @@ use Prim.Native.Nat.{ℕ}
 use native.Mathlib.Omega.{arith}
 use Rattle.layout.proofs.Lays.{laid-as, lays-list}
 use Rattle.layout.proofs.Runs.{list-of, expr-elems}
-use Rattle.comments.specs.Listed.{span}
+use Rattle.tree.specs.CommentList.{span}
 use Rattle.layout.specs.Layout as rules
 use Rattle.layout.proofs.Places.{head-whole}
 use Rattle.layout.proofs.function_args.Reads as function-args

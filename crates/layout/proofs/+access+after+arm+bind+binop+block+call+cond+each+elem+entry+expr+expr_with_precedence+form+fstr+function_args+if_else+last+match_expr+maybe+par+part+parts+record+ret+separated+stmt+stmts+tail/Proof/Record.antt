@@ -4,7 +4,7 @@ use Prim.Native.Nat.{ℕ}
 use native.Mathlib.Omega.{arith}
 use Rattle.layout.proofs.Lays.{laid-as, lays-list}
 use Rattle.layout.proofs.Runs.{list-of, entry-elems}
-use Rattle.comments.specs.Listed.{span}
+use Rattle.tree.specs.CommentList.{span}
 use Rattle.layout.specs.Layout as rules
 use Rattle.layout.proofs.Places.{head-whole}
 use Rattle.layout.proofs.+access+after+arm+bind+binop+block+call+cond+each+elem+entry+expr+expr_with_precedence+form+fstr+function_args+if_else+last+match_expr+maybe+par+part+parts+record+ret+separated+stmt+stmts+tail.Lts-record as record-lts

@@ -4,8 +4,8 @@ use native.Mathlib.Omega.{arith}
 use lib.ListN.{length, getD}
 use Rattle.state.proofs.Laws.{lays-skip}
 use Rattle.layout.proofs.Lays.{lays-as, laid-tail}
-use Rattle.tree.specs.Syntax.{binOp, Expr}
-use Rattle.tree.specs.Syntax as syntax
+use Rattle.ast.specs.Syntax.{binOp, Expr}
+use Rattle.ast.specs.Syntax as syntax
 use Rattle.tree.specs.At.{ExprAt}
 use Rattle.layout.specs.Layout as rules
 use Rattle.layout.specs.Forms.{four}

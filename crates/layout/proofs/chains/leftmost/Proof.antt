@@ -6,7 +6,7 @@ use Prim.Native.Nat.{ℕ, _+_, _-_, _*_, _≤_, _<_}
 use mathlib.Core.Path.{_≡_, refl, sym, _∙_}
 use mathlib.Core.List.{List}
 use lib.ListN.{length, getD, length-set}
-use Rattle.tree.specs.Syntax.{Span, Expr, expr, binOp}
+use Rattle.ast.specs.Syntax.{Span, Expr, expr, binOp}
 use Rattle.tree.specs.At.{ExprAt}
 use Rattle.layout.specs.Layout.{binopPrecedence}
 use Rattle.layout.specs.Forms.{four, Of}

@@ -11,7 +11,7 @@ use Rattle.layout.specs.Elems.{TypeElem, ElemsAt, elementsRule}
 use Rattle.layout.proofs.Lays.{LaysAll, lays-as, laid-list, lays-empty, laid-as, lays-list}
 use Rattle.layout.proofs.Runs.{elems-first, before-room, elem-has, elems-rest, elems-none, elems-more, elem-of, elem-laid, list-of, field-elems, empty-has, empty-laid, begins, elems-all, elems-done, list-laid}
 use Rattle.tree.specs.At.{TypeAt}
-use Rattle.comments.specs.Listed.{span}
+use Rattle.tree.specs.CommentList.{span}
 use Rattle.layout.specs.Layout as rules
 use Rattle.layout.proofs.Places.{type-whole, absent, present, within, path-whole, args-within, ident-whole, head-whole}
 use Rattle.layout.proofs.TypeForms.{neverOf, unitOf, type-is, type-kind, type-has, type-laid, args-list, no-args, some-args, args-whole}

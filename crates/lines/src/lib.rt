@@ -1,9 +1,9 @@
-// The line `refused N at P`.
+// Texts and numbers put into an output, and the line `refused N at P`.
 ghost use mathlib.Core.Path.{_≡_};
 ghost use Prim.Native.Nat.{_+_, _≤_};
 ghost use lib.ListN.{length};
 ghost use lib.Seq.{sets};
-ghost use Rattle.reply.specs.Reply.{decimalIn, refusedLine};
+ghost use Rattle.lines.specs.Lines.{decimalIn, refusedLine};
 
 // A number of 64 bits has 20 digits at most.
 pub const DIGITS: usize = 20;

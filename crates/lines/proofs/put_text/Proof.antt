@@ -2,9 +2,9 @@
 use Prim.Native.Nat.{_-_}
 use native.Mathlib.Omega.{arith}
 use lib.ListN.{length}
-use Rattle.reply.proofs.Lines.{Putting, putting-none, putting-one, putting-all}
-use Rattle.reply.proofs.line.put_text.Statement.{statement}
-use Rattle.reply.proofs.line.put_text.Tie as tie
+use Rattle.lines.proofs.Lines.{Putting, putting-none, putting-one, putting-all}
+use Rattle.lines.proofs.put_text.Statement.{statement}
+use Rattle.lines.proofs.put_text.Tie as tie
 
 abbrev Inv-loop : tie.InvT-loop
 Inv-loop out₀ at text j₀ out j = Putting out₀ at text out j

@@ -1,15 +1,15 @@
 -- The digits but the last are those of a tenth of the number.
 use borrow.Author.Needs.{needs}
 use native.Mathlib.Omega.{arith}
-use Rattle.reply.proofs.Lines.{spelt-none, spelt-one, spelt-more}
+use Rattle.lines.proofs.Lines.{spelt-none, spelt-one, spelt-more}
 use Prim.Native.Nat.{ℕ, _<_}
 use borrow.Fn.Kinds.{In}
 use borrow.Fn.PlainCycle.{Measures, is, falls, and}
-use Rattle.reply.proofs.line.put_decimal.Reads as put-decimal
-use Rattle.reply.proofs.line.put_decimal.Kinds as put-decimal-kinds
-use Rattle.reply.proofs.line.+put_decimal.Lts-put_decimal as put-decimal-lts
-use Rattle.reply.proofs.line.+put_decimal.{statement}
-use Rattle.reply.proofs.line.+put_decimal.Tie.{close}
+use Rattle.lines.proofs.put_decimal.Reads as put-decimal
+use Rattle.lines.proofs.put_decimal.Kinds as put-decimal-kinds
+use Rattle.lines.proofs.+put_decimal.Lts-put_decimal as put-decimal-lts
+use Rattle.lines.proofs.+put_decimal.{statement}
+use Rattle.lines.proofs.+put_decimal.Tie.{close}
 
 abbrev μ-put-decimal : Measures 1 put-decimal-kinds.ps ℕ
 μ-put-decimal κs a = a .1 .1 .1 .0

@@ -11,7 +11,9 @@ use lib.Seq.{sets, drop-cons, length-sets}
 use lib.Dec.{ltb}
 use borrow.Author.Tests.{lt-ltb, le-ltb}
 use Rattle.laws.proofs.Stores.{sets-append}
-use Rattle.reply.specs.Reply.{digit, decimalIn}
+use Rattle.rows.specs.Ascii.{bytes}
+use Rattle.refusals.specs.Refusals.{Refusal}
+use Rattle.lines.specs.Lines.{digit, decimalIn, decimal, refusedLine}
 
 -- j bytes of a text are put, and the rest is ahead
 pub record Putting (out₀ : List ℕ) (at : ℕ) (text out : List ℕ) (j : ℕ) : Type 0 where
@@ -137,3 +139,16 @@ decimal-short (suc k) n = go (ltb n 10) (decimal-short k (n / 10))
     go : (t : Bool) → length (decimalIn k (n / 10)) ≤ k → length (cond t (digit n ∷ []) (decimalIn k (n / 10) ++ (digit (n % 10) ∷ []))) ≤ suc k
     go true h = omega arith
     go false h = omega (arith, length-append (decimalIn k (n / 10)) (digit (n % 10) ∷ []))
+
+five-short : (v w x y z : List ℕ) → length v ≤ 8 → length w ≤ 20 → length x ≤ 4 → length y ≤ 20 → length z ≤ 1 → length (v ++ w ++ x ++ y ++ z) ≤ 64
+five-short v w x y z a b c d e =
+    omega
+    (arith, length-append v w, length-append (v ++ w) x, length-append (v ++ w ++ x) y, length-append (v ++ w ++ x ++ y) z)
+
+pub line-short : (r : Refusal) → length (refusedLine r) ≤ 64
+unfolding bytes
+line-short r =
+    five-short (bytes "refused ") (decimal (r .number)) (bytes " at ") (decimal (r .place)) (bytes "\n") (omega arith) (decimal-short 20 (r .number))
+    (omega arith)
+    (decimal-short 20 (r .place))
+    (omega arith)

@@ -1,10 +1,10 @@
 -- The five parts of the line are put one after the other.
 use Rattle.rows.specs.Ascii.{bytes}
-use Rattle.reply.specs.Reply.{decimal}
-use Rattle.reply.proofs.Lines.{all-texts}
+use Rattle.lines.specs.Lines.{decimal}
+use Rattle.lines.proofs.Lines.{all-texts}
 use borrow.Author.Needs.{needs}
-use Rattle.reply.proofs.line.refused_line.Statement.{statement}
-use Rattle.reply.proofs.line.refused_line.Tie as tie
+use Rattle.lines.proofs.refused_line.Statement.{statement}
+use Rattle.lines.proofs.refused_line.Tie as tie
 
 returns : tie.Need-returns
 unfolding bytes

@@ -1,0 +1,1 @@
+// Theory only: the syntax tree of src/ast.rs.
