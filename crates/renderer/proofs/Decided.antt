@@ -7,7 +7,7 @@ use mathlib.Core.Bool.{Bool, true, false, cond, not, _&&_, _||_}
 use mathlib.Core.List.{List, [], _∷_}
 use lib.ListN.{length, set}
 use lib.Dec.{ltb}
-use borrow.Author.Tests.{lt-ltb, le-ltb, ltb-true, not-true}
+use borrow.Author.Tests.{lt-ltb, le-ltb, ltb-true, ltb-false, not-true}
 use Rattle.laws.proofs.Booleans.{and-false, and-left, and-right, or-first}
 use Rattle.renderer.specs.Limits.{BEFORE-ROW, IN-ROW, MAX-MARGIN, MEASURED-LIMIT}
 use Rattle.rows.specs.View.{viewOf, nodesAt}
@@ -18,7 +18,6 @@ use Rattle.rows.specs.Node.{Nodes, widths, mustWraps, byteColumns}
 use Rattle.renderer_rules.specs.Page.{pageOf}
 use Rattle.renderer_rules.specs.Renderer.{freshRenderer, withMargin, virtualColumn, wraps, groupWraps, trailingCall, calleeWraps, indentMore, indentLess, nextIndentMore, nextIndentLess}
 use Rattle.renderer_rules.specs.declared.Pen.{Pen}
-use Rattle.renderer.proofs.Capped.{ltb-same}
 
 pub virtual-on : (p : Pen) → 0 < p .column .0 → p .column .0 ≡ virtualColumn p
 unfolding virtualColumn
@@ -36,6 +35,16 @@ virtual-low p a b = go (ltb 0 (p .column .0))
     go : (t : Bool) → cond t (p .column .0) (4 * p .indent) < BEFORE-ROW
     go true = b
     go false = omega arith
+
+-- two comparisons that agree
+ltb-same : (a b c d : ℕ) → (a < b → c < d) → (c < d → a < b) → ltb a b ≡ ltb c d
+ltb-same a b c d f g = go (ltb a b) (ltb c d) refl refl
+  where
+    go : (x y : Bool) → ltb a b ≡ x → ltb c d ≡ y → x ≡ y
+    go true true p q = refl
+    go false false p q = refl
+    go true false p q = absurd (let u = f (ltb-true a b p) in let w = ltb-false c d q in omega arith)
+    go false true p q = absurd (let u = g (ltb-true c d q) in let w = ltb-false a b p in omega arith)
 
 -- rows that follow each other
 pub nested-both : {store : List ℕ} {from mid to : ℕ} → Nested store from mid → Nested store mid to → Nested store from to

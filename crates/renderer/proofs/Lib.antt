@@ -1,4 +1,3 @@
-pub mod Capped
 pub mod Decided
 pub mod Writes
 pub mod Followed
@@ -10,4 +9,5 @@ pub mod Outcome
 pub mod Packed
 pub mod Running
 pub mod Stepped
+pub mod Sums
 pub mod Written

@@ -1,4 +1,5 @@
 pub mod Limits
+pub mod Measure
 pub mod Output
 pub mod Writing
 pub mod Run

@@ -30,10 +30,10 @@ pub holds-part : (s : List ℕ) (i : ℕ) (l : List ℕ) → take (length l) (dr
 holds-part s i l e =
     record { at = λ k h. sym (getD-drop (i * PLACES) s k 0) ∙ sym (getD-take (length l) (drop (i * PLACES) s) k 0 h) ∙ ap (λ (x : List ℕ). getD x k 0) e }
 
-holds-left : (s : List ℕ) (i : ℕ) (a b : List ℕ) → Holds s i (a ++ b) → Holds s i a
+pub holds-left : (s : List ℕ) (i : ℕ) (a b : List ℕ) → Holds s i (a ++ b) → Holds s i a
 holds-left s i a b h = record { at = λ k l. h .at k (simp length-append (omega arith)) ∙ List·getD-append a b 0 k l }
 
-holds-right : (s : List ℕ) (i n : ℕ) (a b : List ℕ) → length a ≡ n * PLACES → Holds s i (a ++ b) → Holds s (i + n) b
+pub holds-right : (s : List ℕ) (i n : ℕ) (a b : List ℕ) → length a ≡ n * PLACES → Holds s i (a ++ b) → Holds s (i + n) b
 holds-right s i n a b e h =
     record {
       at =

@@ -3,7 +3,7 @@ pub mod Flatten
 pub mod MustWrap
 pub mod Nested
 pub mod OriginText
+pub mod OwnWidth
 pub mod Sizes
-pub mod Sums
 pub mod Table
 pub mod Widths

@@ -15,7 +15,3 @@ MAX-NUMBER = 1048576
 -- 2 ^ 32: what each place of a row is below
 abbrev pub CELL-LIMIT : ℕ
 CELL-LIMIT = 4294967296
-
--- 2 ^ 54: what the width of rows is below, being a sum of `MAX-ROWS` places at most
-abbrev pub WIDTH-LIMIT : ℕ
-WIDTH-LIMIT = 18014398509481984

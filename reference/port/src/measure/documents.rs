@@ -70,17 +70,34 @@ pub fn growing() -> Vec<Document> {
     documents
 }
 
-/// Rows 256 deep, of every kind that holds others.
-pub fn deepest() -> Document {
-    let mut rows = Vec::new();
-    open(&mut rows, 255);
-    Document {
-        name: "256 deep".into(),
-        rows,
-    }
+/// How deep rows may be.
+pub const DEPTH: usize = 256;
+
+/// Which part of an `IfWrap` is chosen and goes on.
+#[derive(Clone, Copy, PartialEq)]
+enum Chosen {
+    First,
+    Second,
 }
 
-fn open(rows: &mut Vec<Row>, levels: usize) {
+/// Rows of a depth, of every kind that holds others, with the first part of
+/// each `IfWrap` chosen, and with the second.
+pub fn of_depth(depth: usize) -> [Document; 2] {
+    [Chosen::First, Chosen::Second].map(|chosen| {
+        let mut rows = Vec::new();
+        if depth > 1 {
+            // group 0 wraps, and with it each `IfWrap` of its number
+            group(&mut rows, 0, |rows| leaf(rows, rows::WRAP_PARENT));
+        }
+        open(&mut rows, depth - 1, chosen);
+        Document {
+            name: format!("{depth} deep"),
+            rows,
+        }
+    })
+}
+
+fn open(rows: &mut Vec<Row>, levels: usize, chosen: Chosen) {
     if levels == 0 {
         return leaf(rows, rows::ASCII);
     }
@@ -96,13 +113,19 @@ fn open(rows: &mut Vec<Row>, levels: usize) {
         kind,
         ..Row::default()
     });
-    if kind == rows::IF_WRAP {
+    if kind == rows::IF_WRAP && chosen == Chosen::Second {
+        // no group has this number
+        rows[place].number = 1;
         leaf(rows, rows::ASCII);
         rows[place].second_part = rows.len() as u32;
     }
-    open(rows, levels - 1);
+    open(rows, levels - 1, chosen);
     if kind == rows::CALL {
         rows[place].second_part = rows.len() as u32;
+    }
+    if kind == rows::IF_WRAP && chosen == Chosen::First {
+        rows[place].second_part = rows.len() as u32;
+        leaf(rows, rows::ASCII);
     }
     rows[place].after = rows.len() as u32;
 }

@@ -326,18 +326,43 @@ pub struct StackLine {
 /// What any call may take.
 pub const MOST_STACK: usize = 256 << 10;
 
-/// The stack that rendering takes on large and on deep documents, and the
-/// whole run on trees as deep as trees get.
+/// The stack that rendering takes on large documents and at every depth, and
+/// the whole run on trees as deep as trees get.
 pub fn stack() -> Vec<StackLine> {
     let largest = documents::growing().into_iter().rev().take(3);
-    let documents = largest.chain([documents::deepest()]);
     let sizes = generate::size_cases().iter();
     let deep =
         sizes.filter(|case| case.refusal == 0 && case.name.contains("deep"));
-    documents
+    largest
         .map(stack_of_rendering)
+        .chain(stack_by_depth())
         .chain(deep.map(stack_of_run))
         .collect()
+}
+
+/// The stack that rendering takes on rows of each depth that rows may have:
+/// one line for depths next to each other that take the same.
+fn stack_by_depth() -> Vec<StackLine> {
+    let mut lines: Vec<StackLine> = Vec::new();
+    let mut first = 1;
+    for depth in 1..=documents::DEPTH {
+        let line = documents::of_depth(depth)
+            .map(stack_of_rendering)
+            .into_iter()
+            .max_by_key(|line| line.bytes)
+            .expect("two documents");
+        match lines.last_mut() {
+            Some(last) if last.bytes == line.bytes => {
+                last.input = format!("{first} to {depth} deep");
+                last.rows = line.rows;
+            }
+            _ => {
+                first = depth;
+                lines.push(line);
+            }
+        }
+    }
+    lines
 }
 
 fn stack_of_rendering(document: Document) -> StackLine {

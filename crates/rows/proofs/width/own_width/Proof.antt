@@ -1,5 +1,5 @@
 use mathlib.Core.Path.{_∙_}
-use Rattle.rows.proofs.Sums.{own-none}
+use Rattle.rows.proofs.OwnWidth.{own-none}
 use borrow.Author.Needs.{needs}
 use Rattle.rows.proofs.width.own_width.Statement.{statement}
 use Rattle.rows.proofs.width.own_width.Tie as tie
