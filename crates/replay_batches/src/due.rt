@@ -12,12 +12,12 @@ const PLACE: usize = 2;
 
 const TABLE: usize = 6;
 
-// Numbers of the table for each file, and the bytes that they are stored in.
+// How many numbers the table has for a file, and the bytes that they are stored in.
 pub(crate) const CELLS: usize = 3;
 
 const ROW: usize = 12;
 
-// Of the length before the texts.
+// Bytes of the length that stands before the texts.
 const LENGTH: usize = 4;
 
 pub(crate) struct Due {
@@ -69,7 +69,7 @@ pub(crate) fn due_end(due: Due) -> usize {
     past(due.texts, due.bytes)
 }
 
-// The number of an answer, 0 if it is none.
+// The number of a refusal, or 0.
 pub(crate) fn number_of(answer: Batch) -> usize {
     match answer {
         Batch::Refused(n, p) => n as usize,
