@@ -1,17 +1,17 @@
 /*
  * The proved formatter for Roto scripts, as C calls it. The functions are those of librrufthim.a: target/staticlib/libexports.a, which
  * `rt staticlib exports` writes (x86-64 Linux), under a name that no other library has. docs/01-scope.md has the rules: the tree image,
- * rows, marks, states and refusals; docs/02-change-requests.md those of tallies, widths, modes and steps.
+ * rows, marks, states and refusals; docs/02-change-requests.md those of tallies, widths, modes, steps and batches.
  *
- * Buffers. A pointer to bytes or rows goes with the number of its elements; state, args, choice, tallies and out have a fixed number
- * of places. No pointer may be NULL, even where the number is 0. store must be aligned for uint32_t, those of a fixed number of places for
- * uint64_t. What a call may change (store, marks, output, out) must overlap nothing else that it is given; all else is only read. Nothing is
- * kept after a call, and no call shares anything with another: threads need nothing but buffers of their own. A call takes less than 256 KB
- * of stack and no heap.
+ * Buffers. A pointer to bytes, rows or a table goes with the number of its elements; state, args, choice, tallies and out have a fixed
+ * number of places. No pointer may be NULL, even where the number is 0. store and table must be aligned for uint32_t, those of a fixed
+ * number of places for uint64_t. What a call may change (store, marks, table, output, out) must overlap nothing else that it is given; all
+ * else is only read. Nothing is kept after a call, and no call shares anything with another: threads need nothing but buffers of their
+ * own. A call takes less than 256 KB of stack and no heap.
  *
  * Answers. out[0] is 0 if the call is accepted; the other numbers are then those named at each function. Else out[0] is the refusal's
  * number and out[1] its place, and the rest of out is left as it was. A refused call changes no other buffer. An accepted one leaves what
- * lies behind the rows, marks and bytes that it writes as it was. (rrufthim_newlines refuses nothing, and its out has other numbers.)
+ * lies behind the rows, marks, table and bytes that it writes as it was. (rrufthim_newlines refuses nothing, and its out has other numbers.)
  *
  * Flags. In state and args every number but 0 means yes; in out a flag is 0 or 1.
  *
@@ -48,6 +48,8 @@ typedef char rrufthim_lengths_have_64_bits[sizeof(size_t) == 8 ? 1 : -1];
 #define RRUFTHIM_BAD_WIDTH 15       /* the width is under 40 or over 200, or not the one that the state carries: 0 */
 #define RRUFTHIM_BAD_STEP 16        /* a step is unknown, cut off or wrong there: its offset; something is missing at the end: steps_len */
 #define RRUFTHIM_MORE_ROOM 17       /* the output is too short for image or steps, or an image's body over 1,048,576: bytes needed */
+#define RRUFTHIM_BAD_BATCH 18       /* a frame of a batch runs past the buffer, or is the 257th: its offset in the buffer */
+#define RRUFTHIM_MORE_FOR_BATCH 19  /* the table is too short for a batch, or the output: places of the table, or bytes needed */
 
 /* Limits: past them a file is refused. A text may be longer than a source: such a text can't be formatted again. */
 #define RRUFTHIM_MAX_SOURCE 65536    /* bytes of a source */
@@ -62,16 +64,18 @@ typedef char rrufthim_lengths_have_64_bits[sizeof(size_t) == 8 ? 1 : -1];
 #define RRUFTHIM_ALL_COMMENTS 1      /* they are kept, at the foot of the text */
 #define RRUFTHIM_MAX_FILES 4096      /* files that tallies count */
 #define RRUFTHIM_MAX_TALLY 4294967296 /* each of the tallies handed in */
+#define RRUFTHIM_MAX_BATCH 256       /* files of a batch */
 
 /* Sizes. */
 #define RRUFTHIM_ROW 9               /* numbers of the store that a row takes; store_len / 9 rows, rounded down */
-#define RRUFTHIM_MAX_FILE_ROWS 1800  /* the rows, and the marks, that rrufthim_format and rrufthim_count have of their own */
+#define RRUFTHIM_MAX_FILE_ROWS 1800  /* the rows, and the marks, of rrufthim_format, rrufthim_count and each file of a batch */
 #define RRUFTHIM_COUNT_OUTPUT 65536  /* bytes of output that rrufthim_count has of its own */
 #define RRUFTHIM_LAYOUT_STATE 8      /* places of a layout state */
 #define RRUFTHIM_RENDER_STATE 6      /* places of a rendering state */
 #define RRUFTHIM_LAYOUT_ARGS 3       /* places of a layout call's arguments */
 #define RRUFTHIM_RENDER_ARGS 2       /* places of a rendering call's arguments */
 #define RRUFTHIM_FORMAT_CHOICE 2     /* places of a whole file's choice */
+#define RRUFTHIM_TABLE_ROW 3         /* numbers of a batch's table that a file takes */
 #define RRUFTHIM_TALLIES 8           /* places of tallies */
 #define RRUFTHIM_CHECK_OUT 4         /* places of each function's out */
 #define RRUFTHIM_LAYOUT_OUT 10
@@ -81,6 +85,7 @@ typedef char rrufthim_lengths_have_64_bits[sizeof(size_t) == 8 ? 1 : -1];
 #define RRUFTHIM_COUNT_OUT 18
 #define RRUFTHIM_WRITE_OUT 2
 #define RRUFTHIM_STEPS_OUT 2
+#define RRUFTHIM_BATCH_OUT 3
 
 /*
  * Whether a source and its tree image are accepted. Refusals 1 to 7.
@@ -210,6 +215,26 @@ void rrufthim_steps(
     const uint8_t *image, size_t image_len,
     uint8_t *output, size_t output_len,
     uint64_t out[RRUFTHIM_STEPS_OUT]);
+
+/*
+ * Formats a night's saves: up to 256 files, each as by rrufthim_format with output enough. A file that is refused adds no text and changes
+ * nothing for the others. Refusals 18, then 19, for the table and then for the output; both before anything is written.
+ *
+ * frames: for each file its source's length and its image's, four bytes each, the highest first; the source; the image. Nothing stands
+ *         between two files or behind the last. No byte at all is a batch of no file.
+ * choice: as for rrufthim_format, for all files. A width or a mode that can't be chosen refuses each file, in its row of the table.
+ * table:  three numbers a file, in their order: 0 or what refuses the file (1 to 9, 12, 15), 0 or the place of that, and the bytes of its
+ *         text. 19 is about the table if table_len is under three for each file; it is then out[1] places, else out[1] bytes of output.
+ * output: gets the texts one after another, from its start on.
+ * out:    [0] 0, [1] number of files, [2] bytes of all texts. In mode 0 the table doesn't say which texts lack comments: rrufthim_format
+ *         does, file by file.
+ */
+void rrufthim_batch(
+    const uint8_t *frames, size_t frames_len,
+    const uint64_t choice[RRUFTHIM_FORMAT_CHOICE],
+    uint32_t *table, size_t table_len,
+    uint8_t *output, size_t output_len,
+    uint64_t out[RRUFTHIM_BATCH_OUT]);
 
 #ifdef __cplusplus
 }

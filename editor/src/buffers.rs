@@ -146,7 +146,12 @@ impl Buffers {
 /// there is memory, so that a file that grows with each save doesn't ask each
 /// time. False if it is long enough, so that no loop goes on for ever; if too
 /// much is asked; or if there is no memory.
-fn lengthen<T>(buffer: &mut Vec<T>, kept: u64, length: u64, most: u64) -> bool
+pub fn lengthen<T>(
+    buffer: &mut Vec<T>,
+    kept: u64,
+    length: u64,
+    most: u64,
+) -> bool
 where
     T: Copy + Default,
 {

@@ -3,8 +3,8 @@
 use crate::{
     ast::Span,
     linked::{
-        rrufthim_check, rrufthim_format, rrufthim_layout, rrufthim_newlines,
-        rrufthim_render,
+        rrufthim_batch, rrufthim_check, rrufthim_format, rrufthim_layout,
+        rrufthim_newlines, rrufthim_render,
     },
     options::Options,
     refusal::Refusal,
@@ -15,8 +15,15 @@ use crate::{
 /// rows, rounded down.
 pub const ROW: usize = 9;
 
-/// The rows, and the marks, that [`format_file`] has.
+/// The rows, and the marks, that [`format_file`] has, and each file of
+/// [`format_batch`].
 pub const MAX_FILE_ROWS: u64 = 1_800;
+
+/// The most files that [`format_batch`] takes.
+pub const MAX_BATCH: usize = 256;
+
+/// How many numbers of the table of [`format_batch`] a file takes.
+pub const TABLE_ROW: usize = 3;
 
 /// What [`check`] says of an image that it accepts.
 #[derive(Clone, Copy, Debug, PartialEq, Eq)]
@@ -60,6 +67,15 @@ pub struct FileWritten {
     pub rows: u64,
     /// Marks that it took.
     pub numbers: u64,
+}
+
+/// What [`format_batch`] answers.
+#[derive(Clone, Copy, Debug, PartialEq, Eq)]
+pub struct BatchWritten {
+    /// How many files there are: three numbers of the table each.
+    pub files: usize,
+    /// How many bytes of the output were written, from its start on.
+    pub bytes: usize,
 }
 
 /// What [`newlines`] finds in a range of a source.
@@ -222,6 +238,50 @@ pub fn format_file(
         comments_left,
         rows,
         numbers,
+    })
+}
+
+/// Formats the files of a buffer of frames, at most [`MAX_BATCH`], each as
+/// [`format_file`] does with output enough. [`Batch`](crate::Batch) makes the
+/// frames and reads the table.
+///
+/// A frame is two lengths, of source and image, as four bytes each, the
+/// highest first; then the source, then the image. The table gets three
+/// numbers a file ([`TABLE_ROW`]): what refuses it, or 0; the refusal's place,
+/// or 0; and the bytes of its text. The texts stand in the output one after
+/// another; a refused file has none.
+///
+/// # Errors
+///
+/// Refusals 18, 19, each of which leaves table and output as they were. 19 is
+/// about the table, if that has fewer than three numbers for each file, else
+/// about the output.
+pub fn format_batch(
+    frames: &[u8],
+    options: &Options,
+    table: &mut [u32],
+    output: &mut [u8],
+) -> Result<BatchWritten, Refusal> {
+    let choice = [options.width, options.comments.mode()];
+    let mut out = [0; 3];
+    // Safety: as in `check`.
+    unsafe {
+        rrufthim_batch(
+            frames.as_ptr(),
+            frames.len(),
+            &choice,
+            table.as_mut_ptr(),
+            table.len(),
+            output.as_mut_ptr(),
+            output.len(),
+            &mut out,
+        );
+    }
+    let [number, files, bytes] = out;
+    refused(number, files)?;
+    Ok(BatchWritten {
+        files: files as usize,
+        bytes: bytes as usize,
     })
 }
 

@@ -3,7 +3,7 @@
 use crate::ast::Span;
 
 /// Version and length of the body.
-const HEADER: usize = 5;
+pub(crate) const HEADER: usize = 5;
 const COUNT: usize = 2;
 const PAIR: usize = 8;
 const LENGTH: usize = 4;

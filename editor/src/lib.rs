@@ -5,16 +5,17 @@
 //! of other types, Roto's own among them, which a plug writes by an
 //! [`ImageWriter`] (README.md, "Plugging in"). Below both stands
 //! [`Formatter`], which owns the buffers and keeps them, and beside it
-//! [`Steps`], which formats a file a part at a time.
+//! [`Steps`], which formats a file a part at a time, and [`Batch`], which
+//! formats many files by few calls.
 //!
-//! Below that are the calls themselves, [`check`], [`layout`], [`render`] and
-//! [`format_file`], over slices that the caller lends; what they promise is
-//! proved, and any arguments that safe Rust can give them end in an answer or
-//! a [`Refusal`]. What a caller may choose is [`Options`]; by default every
-//! comment is kept. [`newlines`] finds the gap that made a blank line.
-//! [`count`] and [`report`] give the figures of files and their totals.
-//! [`generator`] has images from steps, for who has no source and no tree of
-//! ours.
+//! Below that are the calls themselves, [`check`], [`layout`], [`render`],
+//! [`format_file`] and [`format_batch`], over slices that the caller lends;
+//! what they promise is proved, and any arguments that safe Rust can give
+//! them end in an answer or a [`Refusal`]. What a caller may choose is
+//! [`Options`]; by default every comment is kept. [`newlines`] finds the gap
+//! that made a blank line. [`count`] and [`report`] give the figures of files
+//! and their totals. [`generator`] has images from steps, for who has no
+//! source and no tree of ours.
 //!
 //! docs/01-scope.md and docs/02-change-requests.md of the repository have the
 //! rules.
@@ -25,6 +26,7 @@
 extern crate self as rrufthim;
 
 pub mod ast;
+mod batch;
 mod buffers;
 mod calls;
 mod encode;
@@ -43,9 +45,11 @@ mod steps;
 mod writer;
 
 pub use ast::Span;
+pub use batch::{Batch, format_files};
 pub use calls::{
-    Accepted, FileWritten, Laid, MAX_FILE_ROWS, Newlines, ROW, Written,
-    check, format_file, layout, newlines, render,
+    Accepted, BatchWritten, FileWritten, Laid, MAX_BATCH, MAX_FILE_ROWS,
+    Newlines, ROW, TABLE_ROW, Written, check, format_batch, format_file,
+    layout, newlines, render,
 };
 pub use encode::{
     EncodeError, MAX_BODY, MAX_COMMENTS, MAX_DEPTH, MAX_SOURCE, MAX_WIDTH,

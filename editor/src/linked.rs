@@ -1,5 +1,4 @@
-//! The functions of the static library, as crates/exports/src/lib.rt has
-//! them: a slice is a pointer and a length, an array a pointer. Answers are
+//! The functions of the static library, as crates/exports/src has them: a slice is a pointer and a length, an array a pointer. Answers are
 //! numbers in `out`. include/rrufthim.h says the same to C.
 
 // The library's numbers are u64, and its lengths too.
@@ -87,5 +86,16 @@ unsafe extern "C" {
         output: *mut u8,
         output_len: usize,
         out: *mut [u64; 2],
+    );
+
+    pub fn rrufthim_batch(
+        frames: *const u8,
+        frames_len: usize,
+        choice: *const [u64; 2],
+        table: *mut u32,
+        table_len: usize,
+        output: *mut u8,
+        output_len: usize,
+        out: *mut [u64; 3],
     );
 }

@@ -1,4 +1,4 @@
-//! Why a call is turned down: the table of docs/01-scope.md, and 14 to 17 of
+//! Why a call is turned down: the table of docs/01-scope.md, and 14 to 19 of
 //! docs/02-change-requests.md.
 
 use std::{error::Error, fmt};
@@ -86,6 +86,17 @@ pub enum Refusal {
         /// Bytes needed.
         needed: u64,
     },
+    /// 18: a frame of a batch runs past the buffer, or is the 257th.
+    BadBatch {
+        /// The frame's offset in the buffer.
+        at: u64,
+    },
+    /// 19: the table of a batch is too small for its files, or the output for
+    /// their texts.
+    MoreForBatch {
+        /// Numbers of the table, or bytes of the output, needed.
+        needed: u64,
+    },
     /// A number that the table doesn't have: the static library isn't the
     /// one this crate was written for.
     Unknown {
@@ -119,6 +130,8 @@ impl Refusal {
             15 => BadWidth,
             16 => BadStep { at: place },
             17 => MoreRoom { needed: place },
+            18 => BadBatch { at: place },
+            19 => MoreForBatch { needed: place },
             _ => Unknown { number, place },
         }
     }
@@ -143,6 +156,8 @@ impl Refusal {
             BadWidth => 15,
             BadStep { .. } => 16,
             MoreRoom { .. } => 17,
+            BadBatch { .. } => 18,
+            MoreForBatch { .. } => 19,
             Unknown { number, .. } => number,
         }
     }
@@ -157,11 +172,13 @@ impl Refusal {
             | TooDeep { at }
             | BadSpan { at }
             | BadComment { at }
-            | BadStep { at } => at,
+            | BadStep { at }
+            | BadBatch { at } => at,
             MoreRows { needed }
             | MoreMarks { needed }
             | MoreOutput { needed }
-            | MoreRoom { needed } => needed,
+            | MoreRoom { needed }
+            | MoreForBatch { needed } => needed,
             BadRow { row } => row,
             Unknown { place, .. } => place,
         }
@@ -229,6 +246,13 @@ impl Refusal {
             MoreRoom { .. } => {
                 "# bytes are needed: more than the output has, or than an \
                  image may have"
+            }
+            BadBatch { .. } => {
+                "the frame at byte # of the batch runs past its end, or is \
+                 the 257th"
+            }
+            MoreForBatch { .. } => {
+                "the batch needs # numbers of table or bytes of output"
             }
             Unknown { .. } => {
                 "the static library refuses for a cause that this crate \

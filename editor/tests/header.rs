@@ -2,9 +2,9 @@
 //! same functions, parameters in the same order, kinds and sizes.
 
 use rrufthim::{
-    MAX_BODY, MAX_COMMENTS, MAX_DEPTH, MAX_FILE_ROWS, MAX_FILES,
+    MAX_BATCH, MAX_BODY, MAX_COMMENTS, MAX_DEPTH, MAX_FILE_ROWS, MAX_FILES,
     MAX_LINE_WIDTH, MAX_SOURCE, MAX_TALLY, MAX_WIDTH, MIN_LINE_WIDTH,
-    Options, ROW, Refusal,
+    Options, ROW, Refusal, TABLE_ROW,
 };
 
 const HEADER: &str = include_str!("../include/rrufthim.h");
@@ -12,6 +12,7 @@ const LINKED: &str = include_str!("../src/linked.rs");
 const EXPORTS: &str = concat!(
     include_str!("../../crates/exports/src/lib.rt"),
     include_str!("../../crates/exports/src/generator.rt"),
+    include_str!("../../crates/exports/src/saves.rt"),
 );
 
 /// A function's name with its parameters, written as in src/linked.rs.
@@ -121,7 +122,7 @@ fn constants(header: &str) -> Vec<(String, u64)> {
 #[test]
 fn all_say_the_same() {
     let exported = exported();
-    assert_eq!(exported.len(), 8);
+    assert_eq!(exported.len(), 9);
     assert_eq!(linked(), exported);
     assert_eq!(declared(HEADER), exported);
 }
@@ -147,6 +148,9 @@ fn a_difference_is_found() {
         ("_FORMAT_CHOICE 2", "_FORMAT_CHOICE 1"),
         ("_WRITE_OUT 2", "_WRITE_OUT 3"),
         ("const uint8_t *steps", "uint8_t *steps"),
+        ("_BATCH_OUT 3", "_BATCH_OUT 5"),
+        ("uint32_t *table", "const uint32_t *table"),
+        ("const uint8_t *frames", "uint8_t *frames"),
     ];
     for (from, to) in changes {
         let changed = HEADER.replacen(from, to, 1);
@@ -173,7 +177,7 @@ fn as_constant(refusal: Refusal) -> String {
 fn refusals_and_sizes_have_their_names() {
     let constants = constants(HEADER);
     // 13 is the program's.
-    for (place, number) in (1..=12).chain(14..=17).enumerate() {
+    for (place, number) in (1..=12).chain(14..=19).enumerate() {
         let name = as_constant(Refusal::from_numbers(number, 0));
         assert_eq!(constants[place], (format!("RRUFTHIM_{name}"), number));
     }
@@ -198,4 +202,6 @@ fn refusals_and_sizes_have_their_names() {
     assert_eq!(value("RRUFTHIM_ALL_COMMENTS"), 1);
     assert_eq!(value("RRUFTHIM_MAX_FILES"), MAX_FILES);
     assert_eq!(value("RRUFTHIM_MAX_TALLY"), MAX_TALLY);
+    assert_eq!(value("RRUFTHIM_MAX_BATCH"), MAX_BATCH as u64);
+    assert_eq!(value("RRUFTHIM_TABLE_ROW"), TABLE_ROW as u64);
 }

@@ -8,7 +8,10 @@ use std::{
     cell::Cell,
 };
 
-use rrufthim::{Formatter, Options, ast::Extras, encode, fmt_parsed};
+use rrufthim::{
+    Batch, FormatError, Formatted, Formatter, Options, ast::Extras, encode,
+    fmt_parsed,
+};
 use support::{SOURCE, constants, tariff, tariff_image};
 
 thread_local! {
@@ -120,6 +123,25 @@ fn one_call_takes_its_text() {
         taken = asked(|| fmt_parsed(&tree, SOURCE, &extras));
     }
     assert!(taken.0 < 2 * SOURCE.len() && taken.1 == 0, "{taken:?}");
+}
+
+/// A batch keeps its buffers: what it asks for are the answers.
+#[test]
+fn the_next_batch_takes_its_answers() {
+    let files = vec![(SOURCE, tariff_image()); 100];
+    let mut batch = Batch::default();
+    let mut taken = [(0, 0); 3];
+    for taken in &mut taken {
+        *taken = asked(|| batch.format_files(&files));
+    }
+    let texts = 100 * 2 * SOURCE.len();
+    let answers = 100 * 2 * size_of::<Result<Formatted, FormatError>>();
+    let files = 100 * 2 * size_of::<usize>() * 4;
+    assert!(taken[0].1 >= 100 * tariff_image().len(), "{taken:?}");
+    for (filled, cleared) in &taken[1..] {
+        assert!(*filled < texts + answers + files, "{taken:?}");
+        assert_eq!(*cleared, 0);
+    }
 }
 
 /// A file that grows by a line with each save seldom asks for more.

@@ -18,7 +18,7 @@ fn image() -> Vec<u8> {
 #[test]
 fn numbers_and_places_come_back() {
     const NO_PLACE: [u64; 6] = [1, 3, 12, 13, 14, 15];
-    for number in 1..=17 {
+    for number in 1..=19 {
         let place = if NO_PLACE.contains(&number) { 0 } else { 77 };
         let refusal = Refusal::from_numbers(number, place);
         assert!(!matches!(refusal, Refusal::Unknown { .. }));
@@ -30,10 +30,10 @@ fn numbers_and_places_come_back() {
 
 #[test]
 fn each_has_a_sentence_of_its_own() {
-    let sentences: HashSet<String> = (1..=17)
+    let sentences: HashSet<String> = (1..=19)
         .map(|number| Refusal::from_numbers(number, 77).to_string())
         .collect();
-    assert_eq!(sentences.len(), 17);
+    assert_eq!(sentences.len(), 19);
 }
 
 /// An image with one byte set.

@@ -138,21 +138,30 @@ module _ (s b : List ℕ) where
       (laidRefusal s b c fileRows ∷ refuseIf (ltb fileMarks (marksDue s b c)) 9 (marksDue s b c) ∷ refuseIf (ltb room text) 10 text ∷ [])
       (laid, (under-if numbers (ltb fileMarks (marksDue s b c)) 9 (marksDue s b c) nine, (under-if numbers (ltb room text) 10 text ten, tt)))
 
-  pub file-under : (c : FileChoice) (room : ℕ) → Under fileNumbers (fileRefusal s b c room)
-  file-under c room =
-      let read : Under fileNumbers (readRefusal (readAll s b)) = under-more readNumbers (12 ∷ 15 ∷ 8 ∷ 9 ∷ 10 ∷ []) (readRefusal (readAll s b)) (read-under s b) in
-      let eight = refuseIf (ltb fileRows (rowsDue s b c)) 8 (rowsDue s b c) in
-      later-under fileNumbers refl refl c room
-      (under-first fileNumbers (readRefusal (readAll s b) ∷ modeLine c ∷ cut.widthLine (renderChoice c) states.renderFresh ∷ eight ∷ []) (
+  -- 1 to 7, 12, 15 and 8
+  pub laid-under : (numbers : List ℕ) → isOneOf 12 numbers ≡ true → isOneOf 15 numbers ≡ true → isOneOf 8 numbers ≡ true
+      → Under numbers (readRefusal (readAll s b))
+      → (c : FileChoice)
+      → Under numbers (laidRefusal s b c fileRows)
+  laid-under numbers twelve fifteen eight read c =
+      under-first numbers
+      (readRefusal (readAll s b)
+      ∷ modeLine c
+      ∷ cut.widthLine (renderChoice c) states.renderFresh
+      ∷ refuseIf (ltb fileRows (rowsDue s b c)) 8 (rowsDue s b c)
+      ∷ []) (
         read,
         (
-          under-if fileNumbers (any (tests.modeTests (layoutChoice c) states.layoutFresh)) 12 0 refl,
+          under-if numbers (any (tests.modeTests (layoutChoice c) states.layoutFresh)) 12 0 twelve,
           (
-            under-if fileNumbers (any (tests.widthTests (c .width) 0)) 15 0 refl,
-            (under-if fileNumbers (ltb fileRows (rowsDue s b c)) 8 (rowsDue s b c) refl, tt),
+            under-if numbers (any (tests.widthTests (c .width) 0)) 15 0 fifteen,
+            (under-if numbers (ltb fileRows (rowsDue s b c)) 8 (rowsDue s b c) eight, tt),
           ),
         ),
-      ))
+      )
+
+  pub file-under : (c : FileChoice) (room : ℕ) → Under fileNumbers (fileRefusal s b c room)
+  file-under c room = later-under fileNumbers refl refl c room (laid-under fileNumbers refl refl refl (under-more readNumbers _ _ (read-under s b)) c)
 
   -- in the old mode at 80 the lines of 12 and 15 compute to none
   pub reference-under : (room : ℕ) → Under referenceNumbers (fileRefusal s b referenceChoice room)

@@ -24,8 +24,12 @@ use Rattle.file.specs.Whole as file
 use Rattle.tallies.specs.declared.Tallies.{Tallies}
 use Rattle.figures.specs.declared.Counted.{Counted}
 use Rattle.figures.specs.Figures.{CountAnswer, countAnswer, countedAnswer}
+use Rattle.batch.specs.declared.Batch.{Batch}
+use Rattle.batch.specs.Batch.{BatchAnswer}
+use Rattle.batch.specs.Whole as batch
 use Rattle.exports.specs.Numbers.{layoutState, layoutArgs, renderState, renderArgs, fileChoice, toldCall, toldFile, toldRead, talliesFrom, toldCount}
 use Rattle.exports.specs.Calls.{Lays, Renders, FormatsFile}
+use Rattle.exports.specs.Saves.{toldBatch, FormatsBatch}
 
 pub lays : (s b store state args out store2 out2 : List ℕ) (z : LayoutState) (a : LayoutArgs) (r q : Laying)
     → z ≡ layoutState state → a ≡ layoutArgs args → layout.LayoutCalled s b z a store r store2 → r ≡ q
@@ -55,6 +59,18 @@ pub formats : (s b choice output out output2 out2 : List ℕ) (a : FileChoice) (
 formats s b choice output out output2 out2 a r q e p g h =
     let c = rw (e, g) at p in
     record { output-left = c .output-left; told-as = h ∙ ap (λ (a : FileAnswer). toldFile a out) (c .answer) }
+
+pub batches : (f choice table output out table2 output2 out2 : List ℕ) (a : FileChoice) (r q : Batch) → a ≡ fileChoice choice
+    → batch.Batches f (file.toChoice a) table output r table2 output2 → r ≡ q
+    → out2 ≡ toldBatch (batch.batchedAnswer q) out
+    → FormatsBatch f choice table output out table2 output2 out2
+batches f choice table output out table2 output2 out2 a r q e p g h =
+    let c = rw (e, g) at p in
+    record {
+      table-left = c .table-left;
+      texts-left = c .texts-left;
+      told-as = h ∙ ap (λ (a : BatchAnswer). toldBatch a out) (c .answer);
+    }
 
 pub reads : (s b out out2 : List ℕ) (d : ℕ) (r q : Answer) → outcomeOf r ≡ outcome (readAll s b) → r ≡ q → out2 ≡ toldRead (outcomeOf q) d out
     → out2 ≡ toldRead (outcome (readAll s b)) d out

@@ -2,6 +2,7 @@
 mod count;
 mod generator;
 mod numbers;
+mod saves;
 
 ghost use mathlib.Core.Path.{_≡_};
 ghost use lib.ListN.{length};

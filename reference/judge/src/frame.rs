@@ -34,6 +34,18 @@ pub fn join(source: &[u8], image: &[u8]) -> Vec<u8> {
     [&led(source), image].concat()
 }
 
+/// A file as the report and the batch read it: two lengths, then source and
+/// image.
+pub fn framed(frame: Frame) -> Vec<u8> {
+    let Frame { source, image } = frame;
+    let [source_length, image_length] = [source, image].map(|bytes| {
+        u32::try_from(bytes.len())
+            .expect("four bytes")
+            .to_be_bytes()
+    });
+    [&source_length, &image_length, source, image].concat()
+}
+
 /// Bytes led by their number, as a source is in its frame and frames are in
 /// a stream.
 pub fn led(bytes: &[u8]) -> Vec<u8> {

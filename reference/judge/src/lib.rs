@@ -21,6 +21,7 @@ include!(concat!(env!("OUT_DIR"), "/declare_fmt.rs"));
 pub use fmt::driver;
 
 pub mod answers;
+pub mod batch;
 pub mod calls;
 pub mod choice;
 pub mod examples;

@@ -34,6 +34,8 @@ usage: judge run [--true-widths] < frame      what the program must write
        judge replay-frames-counts             what it must write
        judge replay-steps                     what replay_steps is run on
        judge replay-steps-counts              what it must write
+       judge replay-batches                   what replay_batches is run on
+       judge replay-batches-counts            what it must write
        judge text-answers                     answers of Rust's text functions
        judge report < files                   what the program report must write
        judge report-sample                    what report is run on
@@ -110,6 +112,8 @@ fn command(words: &[&str]) -> Result<Pieces, String> {
         ["replay-frames-counts"] => one(answers::replay::frames_output()),
         ["replay-steps"] => one(answers::replay::steps_input()),
         ["replay-steps-counts"] => one(answers::replay::steps_output()),
+        ["replay-batches"] => one(answers::replay::batches_input()),
+        ["replay-batches-counts"] => one(answers::replay::batches_output()),
         ["text-answers"] => one(answers::text::answers()),
         ["report"] => one(figures::report::output(&input())),
         ["report-sample"] => one(answers::report::input()),

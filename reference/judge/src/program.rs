@@ -55,6 +55,15 @@ pub fn within_limits(frame: Frame, widths: Widths) -> Result<Run, Refusal> {
 
 /// Whether the program's rows, marks and output are enough: 8, 9, 10.
 pub fn fits(run: &Run) -> Result<(), Refusal> {
+    has_rows(run)?;
+    if run.text.len() > OUTPUT {
+        return Err(refusal(10, run.text.len()));
+    }
+    Ok(())
+}
+
+/// Whether its rows and marks are: 8, 9.
+pub fn has_rows(run: &Run) -> Result<(), Refusal> {
     if run.rows.len() > ROWS {
         return Err(refusal(8, run.rows.len()));
     }
@@ -64,9 +73,6 @@ pub fn fits(run: &Run) -> Result<(), Refusal> {
             number: 9,
             place: marks,
         });
-    }
-    if run.text.len() > OUTPUT {
-        return Err(refusal(10, run.text.len()));
     }
     Ok(())
 }

@@ -2,6 +2,8 @@
 
 use judge::{
     answers::{self, frames, text},
+    batch::{Batched, batch},
+    choice::Choice,
     examples, explain,
     generate::{self, Class},
     program::{self, Widths},
@@ -205,4 +207,46 @@ fn step_answers_are_laid_out_as_described() {
         }
     }
     assert!(written >= 20 && refused >= 90, "{written} and {refused}");
+}
+
+#[test]
+fn batch_answers_are_laid_out_as_described() {
+    let file = answers::replay::batches_input();
+    let mut input = Input(&file);
+    let [mut written, mut refused] = [0, 0];
+    while !input.0.is_empty() {
+        let length = input.number(4);
+        let buffer = input.bytes(length);
+        let [width, mode] = [(); 2].map(|()| input.number(8));
+        let choice = Choice { width, mode };
+        let number = input.number(2);
+        let place = input.number(4);
+        if number != 0 {
+            refused += 1;
+            let refusal = judge::refusal::refusal(number as u8, place);
+            assert_eq!(batch(buffer, choice, 0, 0), Err(refusal));
+            continue;
+        }
+        written += 1;
+        let cells = 3 * place;
+        let table = (0..cells).map(|_| input.number(4) as u32).collect();
+        let length = input.number(4);
+        let texts = input.bytes(length).to_vec();
+        let due = Ok(Batched { table, texts });
+        assert_eq!(batch(buffer, choice, cells, length), due);
+        check_rooms(buffer, choice, [cells, length]);
+        assert!(cells <= 768 && length <= 1_000 && buffer.len() <= 9_000);
+    }
+    assert!(written >= 40 && refused >= 30, "{written} and {refused}");
+}
+
+/// What the answers leave to be tried: 19 with one number or byte less.
+fn check_rooms(buffer: &[u8], choice: Choice, [cells, room]: [usize; 2]) {
+    let refused = |needed| Err(judge::refusal::refusal(19, needed));
+    if cells > 0 {
+        assert_eq!(batch(buffer, choice, cells - 1, 0), refused(cells));
+    }
+    if room > 0 {
+        assert_eq!(batch(buffer, choice, cells, room - 1), refused(room));
+    }
 }

@@ -6,10 +6,9 @@ use judge::{
     answers, examples,
     figures::{
         Counted, Figures, Fraction, MOST_FILES, MOST_TALLY, Tallies, count,
-        reduced,
-        report::{framed, output},
+        reduced, report::output,
     },
-    frame::{Frame, split_any_size},
+    frame::{Frame, framed, split_any_size},
     generate::{self, Class},
     refusal::{Refusal, refusal},
 };

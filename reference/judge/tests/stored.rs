@@ -194,6 +194,13 @@ fn lists_of_steps_take_less_than_sixty_kilobytes() {
     assert_eq!(distinct.len(), lists.len());
 }
 
+#[test]
+fn batches_take_about_sixty_kilobytes() {
+    let bytes = replay::batches_input().len();
+    assert!((30_000..65_000).contains(&bytes), "{bytes}");
+    assert!(stored::batches().count() >= 60);
+}
+
 /// `reference/replay-answers` was run after the last change.
 #[test]
 fn the_replay_has_these_answers() {
@@ -217,6 +224,16 @@ fn the_replay_of_steps_has_these_answers() {
     let read = |name| std::fs::read(format!("{at}/{name}")).expect("there");
     assert!(read("stdin") == replay::steps_input());
     assert!(read("stdout") == replay::steps_output().into_bytes());
+}
+
+/// The same of the batches.
+#[test]
+fn the_replay_of_batches_has_these_answers() {
+    let at =
+        concat!(env!("CARGO_MANIFEST_DIR"), "/../../crates/replay_batches");
+    let read = |name| std::fs::read(format!("{at}/{name}")).expect("there");
+    assert!(read("stdin") == replay::batches_input());
+    assert!(read("stdout") == replay::batches_output().into_bytes());
 }
 
 /// The same of the program `report`.

@@ -1,5 +1,7 @@
 //! The port beside the judge: the same calls, answered in the same types.
 
+#[cfg(feature = "calls")]
+mod batch;
 pub mod compare;
 #[cfg(feature = "calls")]
 mod figures;
@@ -10,6 +12,8 @@ pub mod stand_in;
 #[cfg(feature = "calls")]
 mod steps;
 
+#[cfg(feature = "calls")]
+pub use batch::{Batched, batch};
 #[cfg(feature = "calls")]
 pub use figures::count;
 use judge::refusal::Refusal;
@@ -98,7 +102,7 @@ impl<const N: usize> Out<N> {
         }
         match out {
             [0, rest @ ..] => Ok(*rest.first_chunk().expect("long enough")),
-            [number @ 1..=17, place, ..] => Err(Refusal {
+            [number @ 1..=19, place, ..] => Err(Refusal {
                 number: *number as u8,
                 place: *place,
             }),

@@ -3,7 +3,7 @@
 
 #[cfg(feature = "stand-in")]
 pub use crate::stand_in::{
-    check, count, format, layout, newlines, render, steps, write,
+    batch, check, count, format, layout, newlines, render, steps, write,
 };
 
 #[cfg(not(feature = "stand-in"))]
@@ -89,6 +89,16 @@ mod linked {
             output: *mut u8,
             output_len: usize,
             out: *mut [u64; 2],
+        );
+        fn rrufthim_batch(
+            frames: *const u8,
+            frames_len: usize,
+            choice: *const [u64; 2],
+            table: *mut u32,
+            table_len: usize,
+            output: *mut u8,
+            output_len: usize,
+            out: *mut [u64; 3],
         );
     }
 
@@ -258,6 +268,31 @@ mod linked {
                 source.len(),
                 image.as_ptr(),
                 image.len(),
+                output.as_mut_ptr(),
+                output.len(),
+                out,
+            );
+        }
+    }
+
+    /// `choice`: the width, the mode. `table`: three numbers a file. `out`: 0,
+    /// files, the bytes of their texts; or number, place.
+    #[cfg(feature = "calls")]
+    pub fn batch(
+        frames: &[u8],
+        choice: &[u64; 2],
+        table: &mut [u32],
+        output: &mut [u8],
+        out: &mut [u64; 3],
+    ) {
+        // Safety: as in `check`.
+        unsafe {
+            rrufthim_batch(
+                frames.as_ptr(),
+                frames.len(),
+                choice,
+                table.as_mut_ptr(),
+                table.len(),
                 output.as_mut_ptr(),
                 output.len(),
                 out,

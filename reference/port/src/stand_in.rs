@@ -1,10 +1,12 @@
 //! The judge in the port's place, with faults to plant: shows that the
 //! comparison runs and finds them.
 
+mod batch;
 mod steps;
 
 use std::sync::atomic::{AtomicU8, Ordering};
 
+pub use batch::batch;
 use judge::{
     calls::{
         Answer, Given, LayoutState, RenderState, World, layout_call,
@@ -139,10 +141,44 @@ pub enum Fault {
     StepsRoomFirst,
     /// The steps are begun before 17.
     StepsBeforeRefusal,
+    /// 18 names the byte after.
+    FramePlace,
+    /// A 257th file is taken.
+    OneMoreSave,
+    /// The lengths of a frame are added in four bytes.
+    LengthsWrap,
+    /// A bad choice refuses the batch, not its files.
+    ChoiceFirst,
+    /// 19 for the output comes before that for the table.
+    OutputFirst,
+    /// A table that is just large enough is refused.
+    ExactTable,
+    /// The place of 19 for the table: files, not numbers.
+    TableNeeded,
+    /// The place of 19 for the output.
+    TextsNeeded,
+    /// The table is written before 19.
+    TableBeforeRefusal,
+    /// The first text is written before 19.
+    TextsBeforeRefusal,
+    /// A refused file adds text.
+    RefusedText,
+    /// A text overwrites the last byte of the one before.
+    NeighbourText,
+    /// A row's place is one too high.
+    RowPlace,
+    /// A text over 65,536 bytes is refused by 10, in its row.
+    TenInARow,
+    /// A number behind the table is written.
+    PastTable,
+    /// A byte behind the texts is written.
+    PastTexts,
+    /// Refused files aren't counted.
+    RefusedUncounted,
 }
 
 impl Fault {
-    pub const ALL: [Fault; 55] = [
+    pub const ALL: [Fault; 72] = [
         Fault::CheckPlace,
         Fault::Declarations,
         Fault::CommentsLeft,
@@ -198,6 +234,23 @@ impl Fault {
         Fault::StepsNeeded,
         Fault::StepsRoomFirst,
         Fault::StepsBeforeRefusal,
+        Fault::FramePlace,
+        Fault::OneMoreSave,
+        Fault::LengthsWrap,
+        Fault::ChoiceFirst,
+        Fault::OutputFirst,
+        Fault::ExactTable,
+        Fault::TableNeeded,
+        Fault::TextsNeeded,
+        Fault::TableBeforeRefusal,
+        Fault::TextsBeforeRefusal,
+        Fault::RefusedText,
+        Fault::NeighbourText,
+        Fault::RowPlace,
+        Fault::TenInARow,
+        Fault::PastTable,
+        Fault::PastTexts,
+        Fault::RefusedUncounted,
     ];
 }
 

@@ -15,6 +15,7 @@ const PLAN: Plan = Plan {
     lists: 300,
     files: 100,
     steps: 300,
+    batches: 60,
 };
 
 const SHORT: Plan = Plan {
@@ -23,6 +24,7 @@ const SHORT: Plan = Plan {
     lists: 0,
     files: 0,
     steps: 0,
+    batches: 0,
 };
 
 /// One test, since a planted fault holds for all threads.
@@ -33,7 +35,12 @@ fn each_planted_fault_is_found() {
     for fault in Fault::ALL {
         plant(fault);
         let mut tally = Tally::default();
-        for item in PLAN.items() {
+        let mut items = PLAN.items();
+        // Batches come last.
+        if fault as u8 >= Fault::FramePlace as u8 {
+            items.reverse();
+        }
+        for item in items {
             if !matches!(item, Item::Large(_)) && tally.differences == 0 {
                 one(&mut tally, item, PLAN.seed);
             }
@@ -71,6 +78,11 @@ fn items_are_repeated_by_their_names() {
     assert_eq!(Item::from_words("image", 6), Some(Item::Image(6)));
     assert_eq!(Item::from_words("steps", 7), Some(Item::Steps(7)));
     assert_eq!(Item::from_words("step-size", 1), Some(Item::StepSize(1)));
+    assert_eq!(Item::from_words("batch", 9), Some(Item::Batch(9)));
+    assert_eq!(
+        Item::from_words("fixed-batch", 2),
+        Some(Item::FixedBatch(2))
+    );
     assert_eq!(Item::from_words("other", 4), None);
 }
 
@@ -85,4 +97,10 @@ fn files_to_time_have_their_sizes() {
     assert!((1_900..2_200).contains(&sizes[0]), "{sizes:?}");
     assert!((63_000..=65_536).contains(&sizes[1]), "{sizes:?}");
     assert_eq!(all[3].files.len(), 100);
+    let saves = inputs::saves().files;
+    assert_eq!(saves.len(), 256);
+    for save in &saves {
+        let size = save.source.len();
+        assert!((1_900..2_200).contains(&size), "{size}");
+    }
 }

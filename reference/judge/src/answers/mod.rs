@@ -1,6 +1,7 @@
 //! Stored answers, by which a port is tried without Rust at hand. ANSWERS.md
 //! gives their formats.
 
+pub mod batches;
 pub mod calls;
 pub mod frames;
 pub mod replay;

@@ -3,8 +3,9 @@
 
 use std::{collections::BTreeMap, fmt::Write};
 
-use super::{calls, frames, steps, stored};
+use super::{batches, calls, frames, steps, stored};
 use crate::{
+    batch::{self, ROW},
     calls::{self as layout_and_rendering, Call, Given},
     generate::{self, CallCase},
     program::{self, Widths},
@@ -48,6 +49,32 @@ pub fn steps_output() -> String {
     }
     put_numbers(&mut out, "lists of steps", &numbers);
     put_end(&mut out, "lists of steps", numbers.values().sum());
+    out
+}
+
+/// The batches with their answers.
+pub fn batches_input() -> Vec<u8> {
+    stored::batches().flat_map(batches::answered).collect()
+}
+
+/// How often each answer to a file of a batch is given, and to a batch, and
+/// that none differs.
+pub fn batches_output() -> String {
+    let mut out = String::new();
+    let [mut files, mut whole] = [const { Numbers::new() }; 2];
+    for case in stored::batches() {
+        let (room, choice) = (usize::MAX, case.choice);
+        let answer = batch::batch(&case.buffer, choice, room, room);
+        let number = answer.as_ref().err().map_or(0, |r| r.number);
+        *whole.entry(number).or_default() += 1;
+        let table = answer.map_or(Vec::new(), |batched| batched.table);
+        for row in table.chunks(ROW) {
+            *files.entry(row[0] as u8).or_default() += 1;
+        }
+    }
+    put_numbers(&mut out, "files", &files);
+    put_numbers(&mut out, "batches", &whole);
+    put_end(&mut out, "batches", whole.values().sum());
     out
 }
 

@@ -2,8 +2,8 @@
 
 use crate::{
     examples,
-    figures::report::{framed, output as table},
-    frame::{Frame, split_any_size},
+    figures::report::output as table,
+    frame::{Frame, framed, split_any_size},
     generate::{self, Class},
     image::node,
     script,

@@ -1,12 +1,12 @@
-//! The fixed sets of frames, lists of calls and lists of steps that a port's
-//! own tests keep.
+//! The fixed sets of frames, lists of calls, lists of steps and batches that a
+//! port's own tests keep.
 
 use std::collections::{BTreeMap, BTreeSet};
 
-use super::calls;
+use super::{batches, calls};
 use crate::{
     examples, frame,
-    generate::{self, CallCase, Class},
+    generate::{self, BatchCase, CallCase, Class},
     steps::{self, Cause},
 };
 
@@ -48,6 +48,9 @@ pub const STEP_LISTS: (u64, u64, usize) = (1, 3_000, 900);
 /// The most lists of steps that are kept for one cause of 16, and accepted.
 pub const STEP_LISTS_EACH: [usize; 2] = [5, 20];
 
+/// The most bytes of a batch with its answer that is kept.
+pub const BATCH: usize = 12_000;
+
 pub fn frames() -> impl Iterator<Item = Vec<u8>> {
     let worked = WORKED.map(|name| examples::frame(name).expect("known"));
     let made = FRAMES.into_iter().flat_map(|(class, seed, count, most)| {
@@ -81,4 +84,10 @@ pub fn step_lists() -> Vec<Vec<u8>> {
             keep
         })
         .collect()
+}
+
+/// The fixed list of batches, without the long ones.
+pub fn batches() -> impl Iterator<Item = &'static BatchCase> {
+    let all = generate::fixed_batches().iter().map(|case| &case.batch);
+    all.filter(|batch| batches::answered(batch).len() <= BATCH)
 }

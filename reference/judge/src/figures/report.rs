@@ -11,17 +11,6 @@ const HEADS: [&str; 8] = [
     "left",
 ];
 
-/// A file as the report reads it: two lengths, then source and image.
-pub fn framed(frame: Frame) -> Vec<u8> {
-    let Frame { source, image } = frame;
-    let [source_length, image_length] = [source, image].map(|bytes| {
-        u32::try_from(bytes.len())
-            .expect("four bytes")
-            .to_be_bytes()
-    });
-    [&source_length, &image_length, source, image].concat()
-}
-
 /// The file that these bytes start with, and the rest; `None` if they end
 /// inside it.
 fn split_first(bytes: &[u8]) -> Option<(Frame<'_>, &[u8])> {

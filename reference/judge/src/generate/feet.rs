@@ -42,12 +42,22 @@ pub fn frame(seed: u64, index: u64) -> Vec<u8> {
 }
 
 pub fn draft(random: &mut Random) -> Draft {
-    let mut draft = match random.below(8) {
+    let draft = match random.below(8) {
         0 | 1 => bare(random),
         2 => wild::draft(random),
         3 => realistic::draft(random),
         _ => realistic::short_draft(random),
     };
+    with_foot(random, draft)
+}
+
+/// One without declarations.
+pub fn bare_draft(random: &mut Random) -> Draft {
+    let draft = bare(random);
+    with_foot(random, draft)
+}
+
+fn with_foot(random: &mut Random, mut draft: Draft) -> Draft {
     let listed = draft.comments.len();
     // A draft whose last comment has no newline goes on in its line.
     for _ in 0..*random.pick(&[0, 1, 1, 1, 2, 3, 5, 30]) {

@@ -1,5 +1,7 @@
 //! Frames to try, each determined by its class, a seed and an index.
 
+mod batch_cases;
+mod batches;
 mod damaged;
 mod edges;
 mod feet;
@@ -24,6 +26,8 @@ use crate::{
     random::Random,
 };
 
+pub use batch_cases::{Case as FixedBatch, cases as fixed_batches};
+pub use batches::{Case as BatchCase, case as batch_case};
 pub use feet::frame as foot_frame;
 pub use lists::{
     CallCase, case as call_case, cut_case, foot_case, unreadable_case,

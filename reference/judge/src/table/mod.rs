@@ -1,5 +1,6 @@
 //! How often generated frames reach each case of document 01.
 
+mod batches;
 mod report;
 mod step_lists;
 
@@ -16,6 +17,7 @@ use crate::{
     rows::{self, Row},
 };
 
+use batches::BatchCounts;
 use step_lists::StepCounts;
 
 #[derive(Default)]
@@ -62,7 +64,9 @@ pub fn table(seed: u64, count: u64) -> String {
     }
     let sizes = generate::step_size_cases().len();
     writeln!(out, "- lists of steps: {count}, and {sizes} sizes").unwrap();
-    out + &all.report() + &lists.report(false)
+    let (batches, fixed) = BatchCounts::generated(seed, count);
+    writeln!(out, "- batches: {count}, and {fixed} fixed ones").unwrap();
+    out + &all.report() + &lists.report(false) + &batches.report(false)
 }
 
 /// The same table over the stored frames and lists.
@@ -92,7 +96,9 @@ pub fn stored() -> String {
         bytes += answers::steps::answered(&list).len();
     }
     writeln!(out, "- lists of steps: {count}, {bytes} bytes").unwrap();
-    out + &all.report() + &lists.report(true)
+    let (batches, count, bytes) = BatchCounts::stored();
+    writeln!(out, "- batches: {count}, {bytes} bytes").unwrap();
+    out + &all.report() + &lists.report(true) + &batches.report(true)
 }
 
 impl Counts {

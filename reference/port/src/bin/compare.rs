@@ -5,10 +5,11 @@ use std::{env, process::ExitCode, time::Instant};
 use port::compare::{Item, Plan, Tally, one};
 
 const USAGE: &str = "\
-usage: compare SEED FRAMES [LISTS [FILES [STEPS]]]    FRAMES frames of each class, with widths and with comments at the foot,
-                                                       LISTS lists of calls of each sort, FILES files counted,
-                                                       STEPS images to steps and back, and as many lists of steps
-       compare KIND SEED INDEX                        one of them again; KIND as a difference names it
+usage: compare SEED FRAMES [LISTS [FILES [STEPS [BATCHES]]]]
+           FRAMES frames of each class, with widths and with comments at the foot, LISTS lists of calls of each sort,
+           FILES files counted, STEPS images to steps and back, and as many lists of steps, BATCHES batches
+       compare KIND SEED INDEX
+           one of them again; KIND as a difference names it
 ";
 
 fn main() -> ExitCode {
@@ -44,12 +45,18 @@ fn compare(words: &[&str]) -> Option<Tally> {
             lists: more(0),
             files: more(1),
             steps: more(2),
+            batches: more(3),
         };
         println!(
             "{} frames of each class, with widths and with comments at the \
              foot, {} lists of each sort, {} files counted, {} images to \
-             steps and back, {} lists of steps",
-            plan.frames, plan.lists, plan.files, plan.steps, plan.steps
+             steps and back, {} lists of steps, {} batches",
+            plan.frames,
+            plan.lists,
+            plan.files,
+            plan.steps,
+            plan.steps,
+            plan.batches
         );
         return Some(plan.run());
     }

@@ -6,7 +6,7 @@ use std::{env, fs, process::ExitCode};
 use judge::reader;
 use port::measure::{self, Line, both, inputs};
 #[cfg(feature = "calls")]
-use port::measure::{documents, steps};
+use port::measure::{batches, documents, steps};
 
 fn main() -> ExitCode {
     let paths: Vec<String> = env::args().skip(1).collect();
@@ -20,6 +20,7 @@ fn main() -> ExitCode {
     #[cfg(feature = "calls")]
     {
         lines.extend(inputs::all().iter().flat_map(steps::of_files));
+        lines.extend(batches::of_files(&inputs::saves()));
         let documents = documents::growing();
         lines.extend(documents.into_iter().map(steps::rendering));
     }

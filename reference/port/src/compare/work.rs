@@ -59,14 +59,21 @@ pub enum Item {
     /// A size of document 01 as a list of steps.
     #[cfg(feature = "calls")]
     StepSize(usize),
+    /// A batch, damaged or not.
+    #[cfg(feature = "calls")]
+    Batch(u64),
+    /// A batch of the fixed list.
+    #[cfg(feature = "calls")]
+    FixedBatch(usize),
 }
 
 /// All items of a run: so many frames of each class but `sizes`, as many
 /// with widths of their own, with comments after the last declaration, and
 /// as many texts with ranges, all sizes and rendering answers once, and so
 /// many lists, as many of them on files with such comments. With lists come
-/// the largest stores. Last, so many files to count, and so many images to
-/// steps and back with as many lists of steps.
+/// the largest stores. Last, so many files to count, so many images to steps
+/// and back with as many lists of steps, and so many batches, with which comes
+/// their fixed list.
 #[derive(Clone, Copy, Debug)]
 pub struct Plan {
     pub seed: u64,
@@ -74,6 +81,7 @@ pub struct Plan {
     pub lists: u64,
     pub files: u64,
     pub steps: u64,
+    pub batches: u64,
 }
 
 const CLASSES: [Class; 4] =
@@ -117,6 +125,8 @@ impl Plan {
         }
         #[cfg(feature = "calls")]
         items.extend(self.step_items());
+        #[cfg(feature = "calls")]
+        items.extend(self.batch_items());
         items
     }
 
@@ -129,6 +139,16 @@ impl Plan {
         let sizes = (0..sizes).map(Item::StepSize);
         let images = (0..self.steps).map(Item::Image);
         sizes.chain(images).chain((0..self.steps).map(Item::Steps))
+    }
+
+    #[cfg(feature = "calls")]
+    fn batch_items(&self) -> impl Iterator<Item = Item> {
+        let fixed = match self.batches {
+            0 => 0,
+            _ => generate::fixed_batches().len(),
+        };
+        let fixed = (0..fixed).map(Item::FixedBatch);
+        fixed.chain((0..self.batches).map(Item::Batch))
     }
 
     /// Compares all items, on as many threads as the machine has cores.
@@ -243,6 +263,12 @@ fn compare(tally: &mut Tally, item: Item, seed: u64) {
         Item::StepSize(place) => {
             super::step_lists::compare_size(tally, place);
         }
+        #[cfg(feature = "calls")]
+        Item::Batch(index) => super::batches::compare(tally, seed, index),
+        #[cfg(feature = "calls")]
+        Item::FixedBatch(place) => {
+            super::batches::compare_fixed(tally, place);
+        }
     }
 }
 
@@ -287,6 +313,10 @@ fn name(item: Item, seed: u64) -> String {
         Item::Steps(index) => ("steps", index),
         #[cfg(feature = "calls")]
         Item::StepSize(place) => ("step-size", place as u64),
+        #[cfg(feature = "calls")]
+        Item::Batch(index) => ("batch", index),
+        #[cfg(feature = "calls")]
+        Item::FixedBatch(place) => ("fixed-batch", place as u64),
     };
     format!("{kind} {seed} {index}")
 }
@@ -320,6 +350,10 @@ impl Item {
             "steps" => Some(Item::Steps(index)),
             #[cfg(feature = "calls")]
             "step-size" => Some(Item::StepSize(index as usize)),
+            #[cfg(feature = "calls")]
+            "batch" => Some(Item::Batch(index)),
+            #[cfg(feature = "calls")]
+            "fixed-batch" => Some(Item::FixedBatch(index as usize)),
             _ => Class::from_name(kind).map(|c| Item::Frame(c, index)),
         }
     }

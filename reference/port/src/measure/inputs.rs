@@ -1,6 +1,7 @@
 //! Files to time: a source and an image, or several.
 
 use judge::{
+    batch::MOST_FILES,
     frame,
     generate::{self, Class},
     image::{self, Tree, chosen, node, text},
@@ -29,11 +30,24 @@ impl Input {
 /// All inputs of the four steps.
 pub fn all() -> Vec<Input> {
     vec![
-        script("small save", small_save()),
+        script("small save", small_save(0)),
         script("large tariff", large_tariff()),
         script("deep calls and lists", deep_calls()),
         wild(),
     ]
+}
+
+/// Small saves, as many as a batch takes.
+pub fn saves() -> Input {
+    let first = |place| 1_000 + 10 * place;
+    let saves = (0..MOST_FILES).map(|place| small_save(first(place)));
+    let files = saves.flat_map(|source| script("a save", source).files);
+    let files: Vec<File> = files.collect();
+    let bytes: usize = files.iter().map(|file| file.source.len()).sum();
+    Input {
+        name: format!("{MOST_FILES} small saves ({bytes} bytes of source)"),
+        files,
+    }
 }
 
 fn script(name: &str, source: String) -> Input {
@@ -52,10 +66,11 @@ fn script(name: &str, source: String) -> Input {
     }
 }
 
-/// Text repeated up to about so many bytes; `#` is the number of the copy.
-fn repeated(piece: &str, most: usize) -> String {
+/// Text repeated up to about so many bytes; `#` is the number of the copy,
+/// which is counted from the first.
+fn repeated(piece: &str, first: usize, most: usize) -> String {
     let mut out = String::new();
-    for copy in 0.. {
+    for copy in first.. {
         let next = piece.replace('#', &copy.to_string());
         if out.len() + next.len() > most {
             return out;
@@ -65,8 +80,9 @@ fn repeated(piece: &str, most: usize) -> String {
     unreachable!("the source is full before")
 }
 
-/// About 2 KB, as an editor would send on a save.
-fn small_save() -> String {
+/// About 2 KB, as an editor would send on a save; customers are numbered from
+/// the first.
+fn small_save(first: usize) -> String {
     const PIECE: &str = r#"
 // Which routes of customer # are taken.
 filtermap customer_#(route: Route, limits: Limits[u32]) {
@@ -96,7 +112,7 @@ test limits_hold {
     while limits.most > 1 { limits.most /= 2; }
 }
 "#;
-    repeated(PIECE, 1_600) + LAST
+    repeated(PIECE, first, 1_700) + LAST
 }
 
 /// Nearly 64 KB of constants, records and lists.
@@ -115,7 +131,7 @@ fn price_#(amount: u32, zone: Zone#, discount: u32) -> u32 {
     base
 }
 "#;
-    repeated(PIECE, 65_536)
+    repeated(PIECE, 0, 65_536)
 }
 
 /// Calls in lists in calls, whose lines end near column 80.

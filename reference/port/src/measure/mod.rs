@@ -1,6 +1,8 @@
 //! Time and stack of the port beside the original's, on the same inputs.
 
 #[cfg(feature = "calls")]
+pub mod batches;
+#[cfg(feature = "calls")]
 pub mod documents;
 pub mod inputs;
 #[cfg(feature = "formatter")]

@@ -8,7 +8,7 @@ use judge::{
     reader::{self, Accepted},
     tree,
 };
-use rrufthim::{Formatter, Options, ast::SyntaxTree, fmt_parsed};
+use rrufthim::{Batch, Formatter, Options, ast::SyntaxTree, fmt_parsed};
 
 use super::{
     both,
@@ -112,6 +112,18 @@ fn plugged(sources: &[&str], trees: &[tree::Input]) -> [f64; 2] {
     timed(trees, |place, tree| {
         save(place, tree);
     })
+}
+
+/// All files by a batch that is kept, their texts as strings.
+pub fn batch(files: &[File]) -> impl FnMut() {
+    let pairs = files.iter().map(|File { source, image }| (source, image));
+    let pairs: Vec<_> = pairs.collect();
+    let mut batch = Batch::default();
+    move || {
+        let answers = batch.format_files(&pairs);
+        assert!(answers.iter().all(Result::is_ok), "room for all");
+        black_box(answers);
+    }
 }
 
 fn image(input: &Input, trees: &[tree::Input]) -> [f64; 2] {

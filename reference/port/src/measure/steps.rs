@@ -19,7 +19,7 @@ use judge::{
 #[cfg(feature = "formatter")]
 use super::saves;
 use super::{
-    Line, both,
+    Line, batches, both,
     documents::{self, Document, Empty},
     inputs::{File, Input},
     stack,
@@ -327,7 +327,7 @@ pub struct StackLine {
 pub const MOST_STACK: usize = 256 << 10;
 
 /// The stack that rendering takes on large documents and at every depth, and
-/// the whole run on trees as deep as trees get.
+/// the whole run and a batch on trees as deep as trees get.
 pub fn stack() -> Vec<StackLine> {
     let largest = documents::growing().into_iter().rev().take(3);
     let sizes = generate::size_cases().iter();
@@ -336,7 +336,7 @@ pub fn stack() -> Vec<StackLine> {
     largest
         .map(stack_of_rendering)
         .chain(stack_by_depth())
-        .chain(deep.map(stack_of_run))
+        .chain(deep.flat_map(stack_of_runs))
         .collect()
 }
 
@@ -380,7 +380,7 @@ fn stack_of_rendering(document: Document) -> StackLine {
     }
 }
 
-fn stack_of_run(case: &SizeCase) -> StackLine {
+fn stack_of_runs(case: &SizeCase) -> [StackLine; 2] {
     let file = File {
         source: case.source.clone(),
         image: case.image.clone(),
@@ -390,16 +390,17 @@ fn stack_of_run(case: &SizeCase) -> StackLine {
         image: &file.image,
     };
     let run = program::format(frame, Widths::Supplied).expect("accepted");
-    let mut ported =
-        of_file(&file, &run, run.rows.len(), roomy(run.text.len()));
-    StackLine {
+    let rows = run.rows.len();
+    let mut ported = of_file(&file, &run, rows, roomy(run.text.len()));
+    let whole = StackLine {
         step: "whole",
         input: case.name.replace(',', ""),
-        rows: run.rows.len(),
+        rows,
         bytes: stack::used(|| {
             black_box(ported.format());
         }),
-    }
+    };
+    [whole, batches::stack_of(case, rows)]
 }
 
 /// The lines as Markdown.

@@ -1,0 +1,3 @@
+pub mod Batch
+pub mod Whole
+pub mod Singles
