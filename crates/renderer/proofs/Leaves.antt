@@ -1,11 +1,12 @@
 -- A row without parts, by its kind: what `renderNode` does there, from the row's places.
 -- Assumes nothing.
-use mathlib.Core.Path.{_≡_, refl, ap₂, sym, _∙_}
-use Prim.Native.Nat.{ℕ, _+_}
+use mathlib.Core.Path.{_≡_, refl, sym, _∙_}
+use Prim.Native.Nat.{ℕ, _≤_}
 use native.Mathlib.Omega.{arith}
-use native.Mathlib.Nat.{max-zero}
 use mathlib.Core.Bool.{Bool, true, false, cond}
 use mathlib.Core.List.{List, [], _∷_}
+use lib.Dec.{eqb}
+use borrow.Author.Tests.{eqb-true, eqb-false}
 use Rattle.rows.specs.Kinds.{WRAP-PARENT, COMMENT, STR, ASCII, LINE, EMPTY-LINE, LINE-OR-SPACE}
 use Rattle.rows.specs.Places.{KIND, ORIGIN, START, SIZE, WIDTH}
 use Rattle.rows.specs.View.{viewOf, cell, nodeAt}
@@ -13,23 +14,10 @@ use Rattle.rows.proofs.Decode.{node-parent, node-comment, node-str, node-ascii,
 use Rattle.renderer_rules.specs.Page.{pageOf, textBytes, textOf}
 use Rattle.renderer_rules.specs.Renderer.{Renderer, freshRenderer, renderNode, pushStr, newLine, comment, text}
 use Rattle.renderer.specs.declared.writing.Writing.{Writing}
-use Rattle.renderer.specs.Output.{writtenOver}
-use Rattle.renderer.specs.Writing.{writing, writingAfter, Writes}
+use Rattle.renderer.specs.Writing.{Writes}
 
 pub writes-as : (limit : ℕ) (s t : Renderer) (out : List ℕ) (p : Writing) (out2 : List ℕ) (q : Writing) → t ≡ s → Writes limit s out p out2 q → Writes limit t out p out2 q
 writes-as limit s t out p out2 q e d = rw e d
-
--- nothing is written
-pub writes-none : (limit : ℕ) (out : List ℕ) (p : Writing) → Writes limit (freshRenderer (p .pen) []) out p out p
-unfolding writingAfter writtenOver
-writes-none limit out p =
-    record {
-      after = ap₂ (writing (p .pen)) (plus-none (p .at .0)) (sym (max-zero (p .widest .0)));
-      written = refl;
-    }
-  where
-    plus-none : (n : ℕ) → n ≡ n + 0
-    plus-none n = omega arith
 
 pub on-true : (w : Bool) (s t : Renderer) → w ≡ true → cond w s t ≡ s
 on-true w s t e = rw e
@@ -69,7 +57,7 @@ module _ (max : ℕ) (source image store : List ℕ) (row kind : ℕ) (w : Bool)
   unfolding renderNode viewOf
   render-space k = rw (node-space (viewOf store) row (sym e ∙ k))
 
--- a `Comment`, a `Str` and an `Ascii`, from the places that the code read
+-- a `Comment`, and a `Str` or an `Ascii`, from the places that the code read
 module _ (max limit : ℕ) (source image store : List ℕ) (row kind : ℕ) (w : Bool) (out : List ℕ) (p : Writing) (out2 : List ℕ) (q : Writing) (origin start size : ℕ)
     (e : kind ≡ cell store row KIND)
     (a : origin ≡ cell store row ORIGIN)
@@ -80,10 +68,14 @@ module _ (max limit : ℕ) (source image store : List ℕ) (row kind : ℕ) (w :
         → Writes limit (renderNode (pageOf max source image) (nodeAt (viewOf store) row) w (freshRenderer (p .pen) [])) out p out2 q
     comment-leaf k d = writes-as limit _ _ out p out2 q (render-comment max source image store row kind w (freshRenderer (p .pen) []) e k ∙ rw (a, b, c)) d
 
-    pub str-leaf : (x : ℕ) → x ≡ cell store row WIDTH → kind ≡ STR → Writes limit (text (textBytes source image (textOf origin start size)) x (freshRenderer (p .pen) [])) out p out2 q
+    pub text-leaf : (x : ℕ) → x ≡ cond (eqb kind STR) (cell store row WIDTH) size → (kind ≡ COMMENT → ⊥) → COMMENT ≤ kind → kind ≤ ASCII
+        → Writes limit (text (textBytes source image (textOf origin start size)) x (freshRenderer (p .pen) [])) out p out2 q
         → Writes limit (renderNode (pageOf max source image) (nodeAt (viewOf store) row) w (freshRenderer (p .pen) [])) out p out2 q
-    str-leaf x h k d = writes-as limit _ _ out p out2 q (render-str max source image store row kind w (freshRenderer (p .pen) []) e k ∙ rw (a, b, c, h)) d
-
-    pub ascii-leaf : (x : ℕ) → x ≡ size → kind ≡ ASCII → Writes limit (text (textBytes source image (textOf origin start size)) x (freshRenderer (p .pen) [])) out p out2 q
-        → Writes limit (renderNode (pageOf max source image) (nodeAt (viewOf store) row) w (freshRenderer (p .pen) [])) out p out2 q
-    ascii-leaf x h k d = writes-as limit _ _ out p out2 q (render-ascii max source image store row kind w (freshRenderer (p .pen) []) e k ∙ rw (h, a, b, c)) d
+    text-leaf x h other low high d = go (eqb kind STR) refl h
+      where
+        go : (t : Bool) → eqb kind STR ≡ t → x ≡ cond t (cell store row WIDTH) size
+            → Writes limit (renderNode (pageOf max source image) (nodeAt (viewOf store) row) w (freshRenderer (p .pen) [])) out p out2 q
+        go true k h = writes-as limit _ _ out p out2 q (render-str max source image store row kind w (freshRenderer (p .pen) []) e (eqb-true kind STR k) ∙ rw (a, b, c, h)) d
+        go false k h =
+            let n = eqb-false kind STR k in
+            writes-as limit _ _ out p out2 q (render-ascii max source image store row kind w (freshRenderer (p .pen) []) e (omega arith) ∙ rw (h, a, b, c)) d

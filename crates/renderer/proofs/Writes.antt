@@ -14,12 +14,24 @@ use Rattle.renderer_rules.specs.Renderer.{Renderer, freshRenderer, withBuf, wit
 use Rattle.renderer_rules.specs.declared.Pen.{Pen}
 use Rattle.renderer.specs.declared.writing.Writing.{Writing}
 use Rattle.renderer.specs.Output.{writtenOver}
-use Rattle.renderer.specs.Writing.{setPen, writing, movedTo, writingAfter, Writes, WritingRoom}
+use Rattle.renderer.specs.Writing.{setPen, writing, movedTo, writingAfter, beforeText, Writes, WritingRoom}
 use Rattle.renderer.proofs.Written.{over-length, over-join}
 
 -- from a renderer that set no column yet
 zero-max : (c : ℕ) → max 0 c ≡ c
 zero-max c = omega arith
+
+plus-none : (n : ℕ) → n ≡ n + 0
+plus-none n = omega arith
+
+-- nothing is written
+pub writes-none : (limit : ℕ) (out : List ℕ) (p : Writing) → Writes limit (freshRenderer (p .pen) []) out p out p
+unfolding writingAfter writtenOver
+writes-none limit out p =
+    record {
+      after = ap₂ (writing (p .pen)) (plus-none (p .at .0)) (sym (max-zero (p .widest .0)));
+      written = refl;
+    }
 
 -- what is written takes no column
 pub push-writes : (limit : ℕ) (t out : List ℕ) (p : Writing) (out2 : List ℕ) (n : ℕ) → n ≡ length t
@@ -60,9 +72,6 @@ unfolding newLine writingAfter writtenOver
 none-writes limit out p pen q e m h =
     rw (m, e, le-ltb 0 (p .pen .column .0) h)
     (record { after = ap₂ (writing (onNewLine (p .pen))) (plus-none (p .at .0)) (sym (max-zero (p .widest .0))); written = refl })
-  where
-    plus-none : (n : ℕ) → n ≡ n + 0
-    plus-none n = omega arith
 
 -- the same numbers, with a text behind
 pub then-put : (limit : ℕ) (s : Renderer) (t : List ℕ) (c : ℕ) (out : List ℕ) (p : Writing) (out2 : List ℕ) (q : Writing) (out3 : List ℕ) (r : Writing)
@@ -80,25 +89,6 @@ then-put limit s t c out p out2 q out3 r a b =
   where
     of-three : (a b c : ℕ) → max (max a b) (max 0 c) ≡ max a (max b c)
     of-three a b c = omega arith
-
--- `text` and `comment` where the line has begun, and where not
-pub text-on : (t : List ℕ) (w : ℕ) (p : Writing) → 0 < p .pen .column .0 → text t w (freshRenderer (p .pen) []) ≡ atColumn (p .pen .column .0 + w) (pushStr t (freshRenderer (p .pen) []))
-unfolding text
-text-on t w p h = rw (lt-ltb 0 (p .pen .column .0) h)
-
-pub text-new : (t : List ℕ) (w : ℕ) (p : Writing) → p .pen .column .0 ≤ 0
-    → text t w (freshRenderer (p .pen) []) ≡ atColumn (margin (freshRenderer (p .pen) []) .pen .column .0 + w) (pushStr t (margin (freshRenderer (p .pen) [])))
-unfolding text
-text-new t w p h = rw (le-ltb 0 (p .pen .column .0) h)
-
-pub comment-on : (t : List ℕ) (p : Writing) → 0 < p .pen .column .0
-    → comment t (freshRenderer (p .pen) []) ≡ atColumn 0 (pushStr (t ++ (0x0A ∷ [])) (pushStr (0x20 ∷ []) (freshRenderer (p .pen) [])))
-unfolding comment
-comment-on t p h = rw (lt-ltb 0 (p .pen .column .0) h)
-
-pub comment-new : (t : List ℕ) (p : Writing) → p .pen .column .0 ≤ 0 → comment t (freshRenderer (p .pen) []) ≡ atColumn 0 (pushStr (t ++ (0x0A ∷ [])) (margin (freshRenderer (p .pen) [])))
-unfolding comment
-comment-new t p h = rw (le-ltb 0 (p .pen .column .0) h)
 
 -- after something that grows by k and keeps the margin
 pub room-writes : (cap cap2 limit : ℕ) (s : Renderer) (out : List ℕ) (p : Writing) (out2 : List ℕ) (q : Writing) → WritingRoom cap limit out p → Writes limit s out p out2 q
@@ -124,7 +114,7 @@ room-push limit t out p out2 q r d h =
     let b = r .at in
     room-writes BEFORE-ROW IN-ROW limit (pushStr t (freshRenderer (p .pen) [])) out p out2 q r d (r .indent) (omega arith) (omega arith)
 
-pub room-margin : (limit : ℕ) (out : List ℕ) (p : Writing) (out2 : List ℕ) (q : Writing) → WritingRoom BEFORE-ROW limit out p
+room-margin : (limit : ℕ) (out : List ℕ) (p : Writing) (out2 : List ℕ) (q : Writing) → WritingRoom BEFORE-ROW limit out p
     → Writes limit (margin (freshRenderer (p .pen) [])) out p out2 q
     → WritingRoom IN-ROW limit out2 q
 unfolding margin atColumn pushStr
@@ -133,6 +123,21 @@ room-margin limit out p out2 q r d =
     let b = r .at in
     let l = length-replicate {A = ℕ} (4 * p .pen .indent) 0x20 in
     room-writes BEFORE-ROW IN-ROW limit (margin (freshRenderer (p .pen) [])) out p out2 q r d a (omega arith) (omega arith)
+
+pub room-before : (limit : ℕ) (b : Bool) (out : List ℕ) (p : Writing) (out2 : List ℕ) (q : Writing) → WritingRoom BEFORE-ROW limit out p
+    → Writes limit (beforeText b (freshRenderer (p .pen) [])) out p out2 q
+    → WritingRoom IN-ROW limit out2 q
+unfolding beforeText
+room-before limit b out p out2 q r = go (ltb 0 (p .pen .column .0)) b
+  where
+    go : (on b : Bool) → Writes limit (cond on (cond b (pushStr (0x20 ∷ []) (freshRenderer (p .pen) [])) (freshRenderer (p .pen) [])) (margin (freshRenderer (p .pen) []))) out p out2 q
+        → WritingRoom IN-ROW limit out2 q
+    go true true d = room-push limit (0x20 ∷ []) out p out2 q r d (omega arith)
+    go true false d =
+        let a = r .column in
+        let b = r .at in
+        room-writes BEFORE-ROW IN-ROW limit (freshRenderer (p .pen) []) out p out2 q r d (r .indent) (omega arith) (omega arith)
+    go false b d = room-margin limit out p out2 q r d
 
 -- the column of a pen that drew s
 pub writes-column : (limit : ℕ) (s : Renderer) (out : List ℕ) (p : Writing) (out2 : List ℕ) (q : Writing) → Writes limit s out p out2 q → q .pen .column .0 ≡ s .pen .column .0
@@ -153,34 +158,40 @@ ended limit t out p q n out2 out3 e m a b =
     along a n = omega arith
 
 -- `text`, `comment` and `EmptyLine` from what they are made of
-pub text-writes-on : (limit : ℕ) (t : List ℕ) (w : ℕ) (out : List ℕ) (p : Writing) (out2 : List ℕ) (q : Writing) → 0 < p .pen .column .0
-    → Writes limit (atColumn (p .pen .column .0 + w) (pushStr t (freshRenderer (p .pen) []))) out p out2 q
-    → Writes limit (text t w (freshRenderer (p .pen) [])) out p out2 q
-text-writes-on limit t w out p out2 q h d = rw (text-on t w p h) d
-
-pub text-writes-new : (limit : ℕ) (t : List ℕ) (w : ℕ) (out : List ℕ) (p : Writing) (out2 : List ℕ) (q : Writing) (out3 : List ℕ) (r : Writing) → p .pen .column .0 ≤ 0
+pub before-new : (limit : ℕ) (b : Bool) (out : List ℕ) (p : Writing) (out2 : List ℕ) (q : Writing) → p .pen .column .0 ≡ 0
     → Writes limit (margin (freshRenderer (p .pen) [])) out p out2 q
+    → Writes limit (beforeText b (freshRenderer (p .pen) [])) out p out2 q
+unfolding beforeText
+before-new limit b out p out2 q h d = rw (le-ltb 0 (p .pen .column .0) (omega arith)) d
+
+pub before-blank : (limit : ℕ) (b : Bool) (out : List ℕ) (p : Writing) (out2 : List ℕ) (q : Writing) → (p .pen .column .0 ≡ 0 → ⊥) → b ≡ true
+    → Writes limit (pushStr (0x20 ∷ []) (freshRenderer (p .pen) [])) out p out2 q
+    → Writes limit (beforeText b (freshRenderer (p .pen) [])) out p out2 q
+unfolding beforeText
+before-blank limit b out p out2 q h e d = rw (lt-ltb 0 (p .pen .column .0) (omega arith), e) d
+
+pub before-none : (limit : ℕ) (b : Bool) (out : List ℕ) (p : Writing) → (p .pen .column .0 ≡ 0 → ⊥) → b ≡ false
+    → Writes limit (beforeText b (freshRenderer (p .pen) [])) out p out p
+unfolding beforeText
+before-none limit b out p h e = rw (lt-ltb 0 (p .pen .column .0) (omega arith), e) (writes-none limit out p)
+
+pub text-writes : (limit : ℕ) (b : Bool) (t : List ℕ) (w : ℕ) (out : List ℕ) (p : Writing) (out2 : List ℕ) (q : Writing) (out3 : List ℕ) (r : Writing) → b ≡ false
+    → Writes limit (beforeText b (freshRenderer (p .pen) [])) out p out2 q
     → Writes limit (atColumn (q .pen .column .0 + w) (pushStr t (freshRenderer (q .pen) []))) out2 q out3 r
     → Writes limit (text t w (freshRenderer (p .pen) [])) out p out3 r
-text-writes-new limit t w out p out2 q out3 r h a b =
-    rw (text-new t w p h)
-    (subst (λ (c : ℕ). Writes limit (atColumn (c + w) (pushStr t (margin (freshRenderer (p .pen) [])))) out p out3 r)
-    (writes-column limit (margin (freshRenderer (p .pen) [])) out p out2 q a)
-    (then-put limit (margin (freshRenderer (p .pen) [])) t (q .pen .column .0 + w) out p out2 q out3 r a b))
+unfolding text beforeText
+text-writes limit b t w out p out2 q out3 r e a d =
+    let s = rw e at a in
+    subst (λ (c : ℕ). Writes limit (atColumn (c + w) (pushStr t (beforeText false (freshRenderer (p .pen) [])))) out p out3 r)
+    (writes-column limit (beforeText false (freshRenderer (p .pen) [])) out p out2 q s)
+    (then-put limit (beforeText false (freshRenderer (p .pen) [])) t (q .pen .column .0 + w) out p out2 q out3 r s d)
 
-pub comment-writes-on : (limit : ℕ) (t out : List ℕ) (p : Writing) (out2 : List ℕ) (q : Writing) (out3 : List ℕ) (r : Writing) → 0 < p .pen .column .0
-    → Writes limit (pushStr (0x20 ∷ []) (freshRenderer (p .pen) [])) out p out2 q
+pub comment-writes : (limit : ℕ) (b : Bool) (t out : List ℕ) (p : Writing) (out2 : List ℕ) (q : Writing) (out3 : List ℕ) (r : Writing) → b ≡ true
+    → Writes limit (beforeText b (freshRenderer (p .pen) [])) out p out2 q
     → Writes limit (atColumn 0 (pushStr (t ++ (0x0A ∷ [])) (freshRenderer (q .pen) []))) out2 q out3 r
     → Writes limit (comment t (freshRenderer (p .pen) [])) out p out3 r
-comment-writes-on limit t out p out2 q out3 r h a b =
-    rw (comment-on t p h) (then-put limit (pushStr (0x20 ∷ []) (freshRenderer (p .pen) [])) (t ++ (0x0A ∷ [])) 0 out p out2 q out3 r a b)
-
-pub comment-writes-new : (limit : ℕ) (t out : List ℕ) (p : Writing) (out2 : List ℕ) (q : Writing) (out3 : List ℕ) (r : Writing) → p .pen .column .0 ≤ 0
-    → Writes limit (margin (freshRenderer (p .pen) [])) out p out2 q
-    → Writes limit (atColumn 0 (pushStr (t ++ (0x0A ∷ [])) (freshRenderer (q .pen) []))) out2 q out3 r
-    → Writes limit (comment t (freshRenderer (p .pen) [])) out p out3 r
-comment-writes-new limit t out p out2 q out3 r h a b =
-    rw (comment-new t p h) (then-put limit (margin (freshRenderer (p .pen) [])) (t ++ (0x0A ∷ [])) 0 out p out2 q out3 r a b)
+unfolding comment beforeText
+comment-writes limit b t out p out2 q out3 r e a d = then-put limit (beforeText true (freshRenderer (p .pen) [])) (t ++ (0x0A ∷ [])) 0 out p out2 q out3 r (rw e at a) d
 
 pub empty-writes : (limit : ℕ) (out : List ℕ) (p : Writing) (out2 : List ℕ) (q : Writing) (out3 : List ℕ) (r : Writing)
     → Writes limit (pushStr (0x0A ∷ []) (freshRenderer (p .pen) [])) out p out2 q
@@ -208,9 +219,6 @@ empty-writes limit out p out2 q out3 r a b = go (ltb 0 (p .pen .column .0)) (rw 
         more a = omega arith
     go false e w =
         record {
-          after = e ∙ ap₂ (writing (onNewLine (p .pen))) (plus-none (p .at .0 + 1)) (max-zero (max (p .widest .0) 0));
+          after = e ∙ ap₂ (writing (onNewLine (p .pen))) (sym (plus-none (p .at .0 + 1))) (max-zero (max (p .widest .0) 0));
           written = w ∙ over-join limit out (p .at .0) (0x0A ∷ []) [];
         }
-      where
-        plus-none : (n : ℕ) → n + 0 ≡ n
-        plus-none n = omega arith

@@ -13,6 +13,7 @@ use borrow.Author.Tests.{lt-ltb, le-ltb}
 use Rattle.rows.specs.Ascii.{bytes}
 use Rattle.rows.specs.Words.{joined}
 use Rattle.rows.specs.Texts.{originText}
+use Rattle.rows.specs.Limits.{CELL-LIMIT}
 use Rattle.renderer_rules.specs.Page.{textBytes, textOf}
 use Rattle.renderer.specs.Output.{writtenOver}
 
@@ -165,3 +166,6 @@ text-below limit out at source image origin start size n k r e h =
 
 pub text-fits : (source image : List ℕ) (origin start size : ℕ) → length (textBytes source image (textOf origin start size)) ≤ size
 text-fits source image origin start size = let e = text-size source image origin start size in omega arith
+
+pub text-small : (source image : List ℕ) (origin start size n : ℕ) → n ≡ length (textBytes source image (textOf origin start size)) → size < CELL-LIMIT → n < CELL-LIMIT
+text-small source image origin start size n e h = let f = text-fits source image origin start size in omega arith

@@ -1,11 +1,13 @@
 -- A text on its way, and what is written of it.
 use Prim.Native.Nat.{ℕ, _+_, _≤_, _<_, max}
 use mathlib.Core.Path.{_≡_}
-use mathlib.Core.List.{List}
+use mathlib.Core.Bool.{Bool, cond}
+use mathlib.Core.List.{List, [], _∷_}
 use lib.ListN.{length}
+use lib.Dec.{ltb}
 use Rattle.renderer.specs.Limits.{MAX-MARGIN}
 use Rattle.renderer_rules.specs.declared.Pen.{Pen}
-use Rattle.renderer_rules.specs.Renderer.{Renderer, withColumn}
+use Rattle.renderer_rules.specs.Renderer.{Renderer, withColumn, pushStr, margin}
 use Rattle.renderer.specs.declared.writing.Writing.{Writing}
 use Rattle.renderer.specs.Output.{writtenOver}
 
@@ -29,6 +31,10 @@ writingAfter w s = writing (s .pen) (w .at .0 + length (s .buf)) (max (w .widest
 pub record Writes (limit : ℕ) (s : Renderer) (out : List ℕ) (w : Writing) (out2 : List ℕ) (q : Writing) : Type 0 where
   pub after : q ≡ writingAfter w s
   pub written : out2 ≡ writtenOver limit out (w .at .0) (s .buf)
+
+-- what `comment` (with true) and `text` write before the text that they are given
+unfoldable pub beforeText : Bool → Renderer → Renderer
+beforeText comment r = cond (ltb 0 (r .pen .column .0)) (cond comment (pushStr (0x20 ∷ []) r) r) (margin r)
 
 -- no sum of these numbers wraps, where `cap` leaves room
 pub record WritingRoom (cap limit : ℕ) (out : List ℕ) (w : Writing) : Type 0 where

@@ -4,20 +4,24 @@ ghost use Prim.Native.Nat.{ℕ, _+_, _*_, _≤_, _<_};
 ghost use mathlib.Core.Bool.{Bool, cond};
 ghost use mathlib.Core.List.{[], _∷_};
 ghost use lib.ListN.{length};
-ghost use Rattle.rows.specs.Kinds.{WRAP-PARENT, COMMENT, ASCII, LINE-OR-SPACE};
+ghost use lib.Dec.{eqb};
+ghost use Rattle.rows.specs.Kinds.{WRAP-PARENT, COMMENT, STR, ASCII, LINE-OR-SPACE};
 ghost use Rattle.rows.specs.Places.{KIND, WIDTH, PLACES};
+ghost use Rattle.rows.specs.Limits.{CELL-LIMIT};
 ghost use Rattle.renderer.specs.Limits.{BEFORE-ROW};
 ghost use Rattle.rows.specs.View.{cell, viewOf, nodeAt};
 ghost use Rattle.renderer_rules.specs.Page.{pageOf};
 ghost use Rattle.renderer_rules.specs.Renderer.{freshRenderer, renderNode, newLine, text};
 ghost use Rattle.renderer.specs.Writing.{Writes, WritingRoom};
+use crate::output::copy;
 use crate::row_text::row_text;
 use crate::writing::Writing;
-use crate::writing::comment;
+use crate::writing::begin_text;
 use crate::writing::empty_line;
+use crate::writing::end_comment;
+use crate::writing::end_text;
 use crate::writing::new_line;
 use crate::writing::space;
-use crate::writing::text;
 use rows::kinds::COMMENT;
 use rows::kinds::EMPTY_LINE;
 use rows::kinds::LINE;
@@ -25,6 +29,8 @@ use rows::kinds::LINE_OR_SPACE;
 use rows::kinds::STR;
 use rows::kinds::WRAP_PARENT;
 use rows::store::str_width;
+use rows::units::Bytes;
+use rows::units::Columns;
 use rows::units::ascii_columns;
 
 // A row without parts: its kind, and whether the part that it is in wraps.
@@ -84,7 +90,18 @@ pub(crate) fn leaf(
     text_leaf(p, l, store, source, image, out, limit)
 }
 
-// A `Comment`, a `Str` or an `Ascii`.
+// The width of a `Str` or an `Ascii`.
+fn text_width(store: &[u32], row: usize, kind: usize, size: Bytes) -> Columns
+    requires { ⌜ (row * PLACES + WIDTH < length (now store)) × (size .0 < CELL-LIMIT) ⌝ }
+    ensures { λ r. ⌜ (r .0 ≡ cond (eqb kind STR) (cell (now (store .entry)) row WIDTH) (size .0)) × (r .0 < CELL-LIMIT) ⌝ }
+{
+    if kind == STR {
+        return str_width(store, row);
+    }
+    ascii_columns(size)
+}
+
+// A `Comment`, a `Str` or an `Ascii`. `copy` is called here alone: so it is made part of the loop over rows, which is faster.
 fn text_leaf(
     p: Writing,
     l: LeafRow,
@@ -98,13 +115,12 @@ fn text_leaf(
     ensures { λ r. ⌜ ((max : ℕ) (wrap : Bool) → Writes limit (renderNode (pageOf max (now (source .entry)) (now (image .entry))) (nodeAt (viewOf (now (store .entry))) (l .row)) wrap (freshRenderer (p .pen) [])) (now (out .entry)) p (now (out .exit)) r) ⌝ }
 {
     let t = row_text(store, l.row);
-    if l.kind == COMMENT {
-        return comment(p, out, limit, source, image, t);
-    }
-    if l.kind == STR {
-        let w = str_width(store, l.row);
-        return text(p, out, limit, source, image, t, w);
+    let comment = l.kind == COMMENT;
+    let q = begin_text(p, out, limit, comment);
+    let n = copy(out, limit, q.at.0, source, image, t);
+    if comment {
+        return end_comment(q, out, limit, n);
     }
     let size = t.size;
-    text(p, out, limit, source, image, t, ascii_columns(size))
+    end_text(q, n, text_width(store, l.row, l.kind, size))
 }

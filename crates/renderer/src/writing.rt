@@ -1,17 +1,16 @@
-// A text on its way, and what `Renderer` of fmt.rs does to it: `new_line`, `comment` and `text`.
+// A text on its way, and what `Renderer` of fmt.rs does to it: `new_line`, and the parts of `comment` and `text`.
 ghost use mathlib.Core.Path.{_≡_};
 ghost use Prim.Native.Nat.{_+_, _*_, _≤_, _<_, max as greaterOf};
-ghost use mathlib.Core.List.{[], _∷_, _++_};
+ghost use mathlib.Core.List.{[], _∷_};
+ghost use lib.ListN.{length};
 ghost use Rattle.rows.specs.Limits.{CELL-LIMIT};
 ghost use Rattle.renderer.specs.Limits.{MAX-MARGIN, BEFORE-ROW, IN-ROW};
-ghost use Rattle.renderer_rules.specs.Renderer.{freshRenderer, pushStr, atColumn, newLine, margin, comment, text};
-ghost use Rattle.renderer.specs.Output.{bytesOf};
-ghost use Rattle.renderer.specs.Writing.{setPen, movedTo, Writes, WritingRoom};
+ghost use Rattle.renderer_rules.specs.Renderer.{freshRenderer, pushStr, atColumn, newLine, margin, text};
+ghost use Rattle.renderer.specs.Output.{writtenOver};
+ghost use Rattle.renderer.specs.Writing.{setPen, movedTo, beforeText, Writes, WritingRoom};
 use crate::lent::on_new_line;
-use crate::output::copy;
 use crate::output::emit;
 use crate::output::spaces;
-use crate::row_text::RowText;
 use renderer_rules::Pen;
 use rows::units::Bytes;
 use rows::units::Columns;
@@ -89,24 +88,6 @@ fn put_blank(p: Writing, out: &mut [u8], limit: usize) -> Writing
     moved_to(p, Columns(p.pen.column.0 + 1), Bytes(at + 1))
 }
 
-// Writes a row's text, `w` columns wide.
-fn put_text(
-    p: Writing,
-    out: &mut [u8],
-    limit: usize,
-    source: &[u8],
-    image: &[u8],
-    t: RowText,
-    w: Columns,
-) -> Writing
-    requires { ⌜ WritingRoom IN-ROW limit (now out) p × ((t .start < CELL-LIMIT) × ((t .size .0 < CELL-LIMIT) × (w .0 < CELL-LIMIT))) ⌝ }
-    ensures { λ r. ⌜ Writes limit (atColumn (p .pen .column .0 + w .0) (pushStr (bytesOf (now (source .entry)) (now (image .entry)) t) (freshRenderer (p .pen) []))) (now (out .entry)) p (now (out .exit)) r ⌝ }
-{
-    let at = p.at.0;
-    let n = copy(out, limit, at, source, image, t);
-    moved_to(p, Columns(p.pen.column.0 + w.0), Bytes(at + n.0))
-}
-
 // A line's margin, four blanks a step, in bytes.
 pub fn margin_bytes(indent: usize) -> Bytes
     requires { ⌜ indent ≤ MAX-MARGIN ⌝ }
@@ -155,71 +136,42 @@ pub(crate) fn empty_line(p: Writing, out: &mut [u8], limit: usize) -> Writing
     new_line(push(p, out, limit, 0x0A), out, limit)
 }
 
+// What `text` and `comment` write before a text: the indent of a line that starts here, else a blank before a comment.
+pub(crate) fn begin_text(p: Writing, out: &mut [u8], limit: usize, comment: bool) -> Writing
+    requires { ⌜ WritingRoom BEFORE-ROW limit (now out) p ⌝ }
+    ensures { λ r. ⌜ Writes limit (beforeText comment (freshRenderer (p .pen) [])) (now (out .entry)) p (now (out .exit)) r ⌝ }
+{
+    if p.pen.column.0 == 0 {
+        return start_line(p, out, limit);
+    }
+    if comment {
+        return push(p, out, limit, b' ');
+    }
+    p
+}
+
+// The end of a text of `n` bytes, `w` columns wide.
+pub(crate) fn end_text(p: Writing, n: Bytes, w: Columns) -> Writing
+    requires { ⌜ (p .at .0 < IN-ROW) × ((p .pen .column .0 < IN-ROW) × ((n .0 < CELL-LIMIT) × (w .0 < CELL-LIMIT))) ⌝ }
+    ensures { λ r. ⌜ r ≡ movedTo (p .pen .column .0 + w .0) (p .at .0 + n .0) p ⌝ }
+{
+    moved_to(p, Columns(p.pen.column.0 + w.0), Bytes(p.at.0 + n.0))
+}
+
+// The end of a comment of `n` bytes, and of its line.
+pub(crate) fn end_comment(p: Writing, out: &mut [u8], limit: usize, n: Bytes) -> Writing
+    requires { ⌜ (limit ≤ length (now out)) × ((p .at .0 < IN-ROW) × (n .0 < CELL-LIMIT)) ⌝ }
+    ensures { λ r. ⌜ (r ≡ movedTo 0 (p .at .0 + n .0 + 1) p) × (now (out .exit) ≡ writtenOver limit (now (out .entry)) (p .at .0 + n .0) (0x0A ∷ [])) ⌝ }
+{
+    let at = p.at.0 + n.0;
+    emit(out, limit, at, 0x0A);
+    moved_to(p, Columns(0), Bytes(at + 1))
+}
+
 // The blank of a `LineOrSpace`: `text(" ", 1)`.
 pub(crate) fn space(p: Writing, out: &mut [u8], limit: usize) -> Writing
     requires { ⌜ WritingRoom BEFORE-ROW limit (now out) p ⌝ }
     ensures { λ r. ⌜ Writes limit (text (0x20 ∷ []) 1 (freshRenderer (p .pen) [])) (now (out .entry)) p (now (out .exit)) r ⌝ }
 {
-    if 0 < p.pen.column.0 {
-        return put_blank(p, out, limit);
-    }
-    put_blank(start_line(p, out, limit), out, limit)
-}
-
-// `text`
-pub(crate) fn text(
-    p: Writing,
-    out: &mut [u8],
-    limit: usize,
-    source: &[u8],
-    image: &[u8],
-    t: RowText,
-    w: Columns,
-) -> Writing
-    requires { ⌜ WritingRoom BEFORE-ROW limit (now out) p × ((t .start < CELL-LIMIT) × ((t .size .0 < CELL-LIMIT) × (w .0 < CELL-LIMIT))) ⌝ }
-    ensures { λ r. ⌜ Writes limit (text (bytesOf (now (source .entry)) (now (image .entry)) t) (w .0) (freshRenderer (p .pen) [])) (now (out .entry)) p (now (out .exit)) r ⌝ }
-{
-    if 0 < p.pen.column.0 {
-        return put_text(p, out, limit, source, image, t, w);
-    }
-    put_text(start_line(p, out, limit), out, limit, source, image, t, w)
-}
-
-// The text of a comment and the end of its line.
-fn end_line(
-    p: Writing,
-    out: &mut [u8],
-    limit: usize,
-    source: &[u8],
-    image: &[u8],
-    t: RowText,
-) -> Writing
-    requires { ⌜ WritingRoom IN-ROW limit (now out) p × ((t .start < CELL-LIMIT) × (t .size .0 < CELL-LIMIT)) ⌝ }
-    ensures { λ r. ⌜ Writes limit (atColumn 0 (pushStr (bytesOf (now (source .entry)) (now (image .entry)) t ++ (0x0A ∷ [])) (freshRenderer (p .pen) []))) (now (out .entry)) p (now (out .exit)) r ⌝ }
-{
-    let at = p.at.0;
-    let n = copy(out, limit, at, source, image, t);
-    emit(out, limit, at + n.0, 0x0A);
-    moved_to(p, Columns(0), Bytes(at + n.0 + 1))
-}
-
-// `comment`
-pub(crate) fn comment(
-    p: Writing,
-    out: &mut [u8],
-    limit: usize,
-    source: &[u8],
-    image: &[u8],
-    t: RowText,
-) -> Writing
-    requires { ⌜ WritingRoom BEFORE-ROW limit (now out) p × ((t .start < CELL-LIMIT) × (t .size .0 < CELL-LIMIT)) ⌝ }
-    ensures { λ r. ⌜ Writes limit (comment (bytesOf (now (source .entry)) (now (image .entry)) t) (freshRenderer (p .pen) [])) (now (out .entry)) p (now (out .exit)) r ⌝ }
-{
-    let column = p.pen.column.0;
-    if 0 < column {
-        let q = push(p, out, limit, b' ');
-        return end_line(q, out, limit, source, image, t);
-    }
-    let q = start_line(p, out, limit);
-    end_line(q, out, limit, source, image, t)
+    put_blank(begin_text(p, out, limit, false), out, limit)
 }

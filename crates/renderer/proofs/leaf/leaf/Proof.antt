@@ -1,4 +1,5 @@
-use Rattle.renderer.proofs.Leaves.{writes-as, writes-none, render-parent, render-line, render-empty, render-space}
+use Rattle.renderer.proofs.Leaves.{writes-as, render-parent, render-line, render-empty, render-space}
+use Rattle.renderer.proofs.Writes.{writes-none}
 use borrow.Author.Needs.{needs}
 use Rattle.renderer.proofs.leaf.leaf.Statement.{statement}
 use Rattle.renderer.proofs.leaf.leaf.Tie as tie

@@ -1,4 +1,5 @@
-use Rattle.renderer.proofs.Leaves.{writes-as, writes-none, on-true, on-false}
+use Rattle.renderer.proofs.Leaves.{writes-as, on-true, on-false}
+use Rattle.renderer.proofs.Writes.{writes-none}
 use borrow.Author.Needs.{needs}
 use Rattle.renderer.proofs.leaf.line.Statement.{statement}
 use Rattle.renderer.proofs.leaf.line.Tie as tie

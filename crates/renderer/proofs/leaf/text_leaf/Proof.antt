@@ -1,18 +1,31 @@
-use native.Mathlib.Omega.{arith}
-use Rattle.renderer.proofs.Leaves.{comment-leaf, str-leaf, ascii-leaf}
+use borrow.Author.Tests.{eqb-true, eqb-false}
+use Rattle.renderer.proofs.Leaves.{comment-leaf, text-leaf}
+use Rattle.renderer.proofs.Written.{text-small}
+use Rattle.renderer.proofs.Writes.{comment-writes, text-writes, ended, put-writes, room-before}
 use borrow.Author.Needs.{needs}
 use Rattle.renderer.proofs.leaf.text_leaf.Statement.{statement}
 use Rattle.renderer.proofs.leaf.text_leaf.Tie as tie
 
+end-comment-requires : tie.Need-end-comment-requires
+end-comment-requires c κs =
+    let r = room-before _ _ _ _ _ _ (c .before .before .before .before .before .before .before .before .before .before .before .before .before .before .before .before .pre .0) (c .before .before .before .before .before .before .before .before .begin-text .ensures) in
+    (search needs, (r .at, text-small (c .before .before .before .before .before .before .before .before .before .before .before .before .before .before .before .before .args .source .now) (c .before .before .before .before .before .before .before .before .before .before .before .before .before .before .before .before .args .image .now) (c .before .before .before .before .before .before .before .before .before .before .before .row-text .result .origin) (c .before .before .before .before .before .before .before .before .before .before .before .row-text .result .start) (c .before .before .before .before .before .before .before .before .before .before .before .row-text .result .size .0) _ (c .before .before .before .before .copy .ensures .1) (c .before .before .before .before .before .before .before .before .before .before .before .row-text .ensures .1 .1 .1 .1)))
+
 returns : tie.Need-returns
-returns c = λ m w. comment-leaf m _ _ _ _ _ _ w _ _ _ _ _ _ _ (c .before .before .before .before .before .before .before .before .before .before .before .pre .1 .1 .0) (c .before .before .before .before .before .before .row-text .ensures .0) (c .before .before .before .before .before .before .row-text .ensures .1 .0) (c .before .before .before .before .before .before .row-text .ensures .1 .1 .0) (c .before .before .before .before .if1 .taken) (c .before .before .comment .ensures)
+returns c = λ m w. comment-leaf m _ _ _ _ _ _ w _ _ _ _ _ _ _ (c .before .before .before .before .before .before .before .before .before .before .before .before .before .before .before .before .before .before .before .pre .1 .1 .0) (c .before .before .before .before .before .before .before .before .before .before .before .before .before .before .row-text .ensures .0) (c .before .before .before .before .before .before .before .before .before .before .before .before .before .before .row-text .ensures .1 .0) (c .before .before .before .before .before .before .before .before .before .before .before .before .before .before .row-text .ensures .1 .1 .0) (eqb-true _ _ (c .before .before .before .before .if1 .taken))
+    (comment-writes _ _ _ _ _ _ _ _ _ (c .before .before .before .before .if1 .taken) (c .before .before .before .before .before .before .before .before .before .before .before .begin-text .ensures) (ended _ _ _ _ _ _ _ _ (c .before .before .before .before .before .before .before .copy .ensures .1) (c .before .before .end-comment .ensures .0) (c .before .before .before .before .before .before .before .copy .ensures .0) (c .before .before .end-comment .ensures .1)))
+
+text-width-requires : tie.Need-text-width-requires
+text-width-requires c κs = (c .before .before .before .before .before .before .before .before .before .before .before .before .before .before .before .before .pre .1 .0, c .before .before .before .before .before .before .before .before .before .before .before .row-text .ensures .1 .1 .1 .1)
+
+end-text-requires : tie.Need-end-text-requires
+end-text-requires c κs =
+    let r = room-before _ _ _ _ _ _ (c .before .before .before .before .before .before .before .before .before .before .before .before .before .before .before .before .before .pre .0) (c .before .before .before .before .before .before .before .before .before .begin-text .ensures) in
+    (r .at, (r .column, (text-small (c .before .before .before .before .before .before .before .before .before .before .before .before .before .before .before .before .before .args .source .now) (c .before .before .before .before .before .before .before .before .before .before .before .before .before .before .before .before .before .args .image .now) (c .before .before .before .before .before .before .before .before .before .before .before .before .row-text .result .origin) (c .before .before .before .before .before .before .before .before .before .before .before .before .row-text .result .start) (c .before .before .before .before .before .before .before .before .before .before .before .before .row-text .result .size .0) _ (c .before .before .before .before .before .copy .ensures .1) (c .before .before .before .before .before .before .before .before .before .before .before .before .row-text .ensures .1 .1 .1 .1), c .text-width .ensures .1)))
 
 returns-2 : tie.Need-returns-2
-returns-2 c = λ m w. str-leaf m _ _ _ _ _ _ w _ _ _ _ _ _ _ (c .before .before .before .before .before .before .before .before .before .before .before .before .before .before .pre .1 .1 .0) (c .before .before .before .before .before .before .before .before .before .row-text .ensures .0) (c .before .before .before .before .before .before .before .before .before .row-text .ensures .1 .0) (c .before .before .before .before .before .before .before .before .before .row-text .ensures .1 .1 .0) _ (c .before .before .before .before .str-width .ensures .0) (c .before .before .before .before .before .if2 .taken) (c .before .before .text .ensures)
-
-returns-3 : tie.Need-returns-3
-returns-3 c =
-    λ m w. ascii-leaf m _ _ _ _ _ _ w _ _ _ _ _ _ _ (c .before .before .before .before .before .before .before .before .before .before .before .before .before .before .before .pre .1 .1 .0) (c .before .before .before .before .before .before .before .before .before .before .row-text .ensures .0) (c .before .before .before .before .before .before .before .before .before .before .row-text .ensures .1 .0) (c .before .before .before .before .before .before .before .before .before .before .row-text .ensures .1 .1 .0) _ (c .before .before .before .ascii-columns .ensures) (omega (arith, c .before .before .before .before .before .before .before .before .before .before .before .before .before .before .before .pre .1 .1 .1 .0, c .before .before .before .before .before .before .before .before .before .before .before .before .before .before .before .pre .1 .1 .1 .1, c .before .before .before .before .before .before .before .before .if1 .left, c .before .before .before .before .before .before .if2 .left)) (c .before .before .text2 .ensures)
+returns-2 c = λ m w. text-leaf m _ _ _ _ _ _ w _ _ _ _ _ _ _ (c .before .before .before .before .before .before .before .before .before .before .before .before .before .before .before .before .before .before .pre .1 .1 .0) (c .before .before .before .before .before .before .before .before .before .before .before .before .before .row-text .ensures .0) (c .before .before .before .before .before .before .before .before .before .before .before .before .before .row-text .ensures .1 .0) (c .before .before .before .before .before .before .before .before .before .before .before .before .before .row-text .ensures .1 .1 .0) _ (c .before .text-width .ensures .0) (eqb-false _ _ (c .before .before .before .if1 .left)) (c .before .before .before .before .before .before .before .before .before .before .before .before .before .before .before .before .before .before .pre .1 .1 .1 .0) (c .before .before .before .before .before .before .before .before .before .before .before .before .before .before .before .before .before .before .pre .1 .1 .1 .1)
+    (text-writes _ _ _ _ _ _ _ _ _ _ (c .before .before .before .if1 .left) (c .before .before .before .before .before .before .before .before .before .before .begin-text .ensures) (put-writes _ _ _ _ _ _ _ _ (c .before .before .before .before .before .before .copy .ensures .1) (c .end-text .ensures) (c .before .before .before .before .before .before .copy .ensures .0)))
 
 pub text-leaf-spec : {M : Type 1} → statement M
 text-leaf-spec =
@@ -20,13 +33,11 @@ text-leaf-spec =
     (tie.spec
     (λ c κs. search needs)
     (λ c κs. search needs)
+    (λ c κs. search needs)
+    end-comment-requires
     (λ c. search needs)
     returns
-    (λ c κs. search needs)
-    (λ c κs. search needs)
+    text-width-requires
+    end-text-requires
     (λ c. search needs)
-    returns-2
-    (λ c κs. search needs)
-    (λ c κs. search needs)
-    (λ c. search needs)
-    returns-3)
+    returns-2)
