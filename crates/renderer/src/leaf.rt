@@ -101,7 +101,8 @@ fn text_width(store: &[u32], row: usize, kind: usize, size: Bytes) -> Columns
     ascii_columns(size)
 }
 
-// A `Comment`, a `Str` or an `Ascii`. `copy` is called here alone: so it is made part of the loop over rows, which is faster.
+// A `Comment`, a `Str` or an `Ascii`: `comment` and `text` of fmt.rs, whose common part is the copy. `copy` is called here alone: so it is made
+// part of the loop over rows, which is faster.
 fn text_leaf(
     p: Writing,
     l: LeafRow,
