@@ -46,7 +46,7 @@ module _ (s b : List ℕ) where
       ap (withText (held s b (afterMade w (rendered args out (rendering.Refused n q) store2 marks2 out2)))) (sym (append-nil (w .text)))
       ∙ rw (sym (p .answer), p .store-left, p .marks-left, p .output-left)
 
-  one-held : (w : Caller) (m : Made) → Promised s b w m → held s b (afterMade w m) ≡ call (rulesOf s b) (held s b w) (callMade s b m)
+  pub one-held : (w : Caller) (m : Made) → Promised s b w m → held s b (afterMade w m) ≡ call (rulesOf s b) (held s b w) (callMade s b m)
   one-held w (laid args r store2) p = layout-held w args r store2 p ∙ entries-are-calls (rulesOf s b) (held s b w) [] (layoutCall (layout.toArgs args))
   one-held w (rendered args out r store2 marks2 out2) p =
       render-held w args out r store2 marks2 out2 p ∙ entries-are-calls (rulesOf s b) (held s b w) out (renderCall (render.toArgs args (length out)))

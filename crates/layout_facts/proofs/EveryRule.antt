@@ -16,6 +16,7 @@ use Rattle.ast.specs.Syntax.{value, Block, braces, MaybeBlock, noBlock, someBlo
 use Rattle.ast.specs.Syntax.{Variants, noVariants, variant, Declaration, filterMap, const, recordDecl, enumDecl, function, test, importDecl}
 use Rattle.ast.specs.Syntax.{SyntaxTree}
 use Rattle.rows.specs.Node.{Text, Node, ascii, str, line, emptyLine, lineOrSpace, wrapParent, ifWrap}
+use Rattle.rows.specs.Words.{word}
 use Rattle.state.specs.Act.{Given, Act, Asking, _⨟_, _⨟?_, skip, when, push, told, grouped, indented, indentedNext, called, says}
 use Rattle.layout.specs.declared.forms.WrapStyle.{WrapStyle}
 use Rattle.layout.specs.declared.forms.WrapStyle.the-variants.{Tight, Spaced, Wrap}
@@ -36,7 +37,7 @@ pub data Leaf : Node → Type 0 where
 pub record Joining (g : Given) (P : ℕ → Act → Type 0) : Type 0 where
   pub skips : {k : ℕ} → P k skip
   pub pushes : {k : ℕ} {n : Node} → Leaf n → P k (push n)
-  pub chooses : {n : ℕ} {t u : Text} → P (suc n) (push (ifWrap n (ascii t) (ascii u)))
+  pub chooses : {n : ℕ} (w v : String) → P (suc n) (push (ifWrap n (ascii (word w)) (ascii (word v))))
   pub joins : {k : ℕ} {a b : Act} → P k a → P k b → P k (a ⨟ b)
   pub groups : {k : ℕ} {a : ℕ → Act} → ((n : ℕ) → P (suc n) (a n)) → P k (grouped a)
   pub indents : {k : ℕ} {a : Act} → P k a → P k (indented a)
@@ -138,7 +139,7 @@ module _ {g : Given} {P : ℕ → Act → Type 0} (J : Joining g P) where
       (J .joins
       (J .indents
       (J .joins (every-elements w true (more p ps) (suc id))
-      (J .joins (when-in (not (eqt w "")) (J .chooses)) (every-gap (s .end) true false false (suc id)))))
+      (J .joins (when-in (not (eqt w "")) (J .chooses w "")) (every-gap (s .end) true false false (suc id)))))
       (last (suc id))))
 
   every-pathMore : (t : Bool) (is : List Ident) → Every (pathMore g t is)

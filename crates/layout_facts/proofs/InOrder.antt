@@ -33,7 +33,7 @@ module _ (g : Given) where
   joining = record {
     skips = places-skip;
     pushes = λ l. places-push (leaf-none l);
-    chooses = places-push refl;
+    chooses = λ w v. places-push refl;
     joins = λ p q. p ⨾ q;
     groups = λ p. places-grouped p;
     indents = λ p. places-indented p;

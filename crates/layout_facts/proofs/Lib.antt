@@ -2,6 +2,7 @@ pub mod Placing
 pub mod EveryRule
 pub mod InOrder
 pub mod Numbers
+pub mod Chosen
 pub mod Steps
 pub mod Gaps
 pub mod Parts

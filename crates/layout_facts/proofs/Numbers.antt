@@ -35,12 +35,12 @@ names-join x (n then ns) ms e f = go (names x n) (namesIn x ns) e (λ h. names-j
     go false b e h = h e
 
 -- x is no number of what a step pushes
-abbrev Without : ℕ → Out → Type 0
+abbrev pub Without : ℕ → Out → Type 0
 Without x o = namesIn x (o .nodes) ≡ false
 
 -- ---- steps that push nodes without numbers
-record Plain (a : Act) : Type 0 where
-  none : (s : St) (x : ℕ) → Without x (a s)
+pub record Plain (a : Act) : Type 0 where
+  pub none : (s : St) (x : ℕ) → Without x (a s)
 
 plain-then : {a b : Act} → Plain a → Plain b → Plain (a ⨟ b)
 unfolding _⨟_
@@ -96,7 +96,7 @@ plain-popComments g (suc n) p leading = record { none = λ s x. turn s x (front 
     turn s x nothing more = plain-skip .none s x
     turn s x (some c) more = plain-cond (ltb (c .start) p) (plain-then (plain-popComment g leading c) more) plain-skip .none s x
 
-plain-gap : (g : Given) (p : ℕ) (a b c : Bool) → Plain (told (popWhitespace g p a b c))
+pub plain-gap : (g : Given) (p : ℕ) (a b c : Bool) → Plain (told (popWhitespace g p a b c))
 unfolding popWhitespace _⨟!_
 plain-gap g p a b c = record { none = λ s x. plain-then (plain-popComments g (length (g .comments)) p a) (last (waits g p s && b) c) .none s x }
   where
@@ -105,7 +105,7 @@ plain-gap g p a b c = record { none = λ s x. plain-then (plain-popComments g (l
     last false true = plain-newlines g p
     last false false = plain-ignore g p
 
-plain-trailing : (g : Given) → Plain (popTrailingComment g)
+pub plain-trailing : (g : Given) → Plain (popTrailingComment g)
 unfolding popTrailingComment
 plain-trailing g = record { none = λ s x. found s x (something (g .source) (s .pos)) }
   where
@@ -188,7 +188,7 @@ joining g =
     record {
       skips = numbers-plain plain-skip;
       pushes = λ l. numbers-plain (plain-leaf l);
-      chooses = λ {n}. record { below = λ s h x l. alone _ (no-either _ _ (other x n (omega arith)) refl) };
+      chooses = λ {n} w v. record { below = λ s h x l. alone _ (no-either _ _ (other x n (omega arith)) refl) };
       joins = λ p q. numbers-then p q;
       groups = λ p. numbers-grouped p;
       indents = λ p. record { below = λ s h x l. alone _ (p .below s h x l) };
