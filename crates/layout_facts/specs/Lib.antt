@@ -4,3 +4,5 @@ pub mod Height
 pub mod Accepted
 pub mod Right
 pub mod Chosen
+pub mod Texts
+pub mod Tokens

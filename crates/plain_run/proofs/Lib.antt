@@ -12,5 +12,6 @@ pub mod Edges
 pub mod File
 pub mod FileLimits
 pub mod TextHolds
+pub mod Program
 pub mod Refused
 pub mod Reference

@@ -5,4 +5,5 @@ pub mod Edges
 pub mod File
 pub mod FileLimits
 pub mod TextHolds
+pub mod Program
 pub mod Reference

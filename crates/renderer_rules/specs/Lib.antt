@@ -9,4 +9,5 @@ pub mod Most
 pub mod Page
 pub mod Renderer
 pub mod Safe
+pub mod Tokens
 pub mod Widest
