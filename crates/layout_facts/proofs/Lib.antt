@@ -1,10 +1,9 @@
 pub mod Placing
+pub mod GapRule
 pub mod EveryRule
 pub mod InOrder
 pub mod Numbers
-pub mod Chosen
 pub mod Tokens
-pub mod Texts
 pub mod Steps
 pub mod Gaps
 pub mod Parts

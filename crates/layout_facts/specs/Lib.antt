@@ -3,6 +3,4 @@ pub mod Sound
 pub mod Height
 pub mod Accepted
 pub mod Right
-pub mod Chosen
-pub mod Texts
 pub mod Tokens

@@ -11,7 +11,6 @@ pub mod Foot
 pub mod Edges
 pub mod File
 pub mod FileLimits
-pub mod TextHolds
-pub mod Program
+pub mod Text
 pub mod Refused
 pub mod Reference

@@ -4,6 +4,5 @@ pub mod Foot
 pub mod Edges
 pub mod File
 pub mod FileLimits
-pub mod TextHolds
-pub mod Program
+pub mod Text
 pub mod Reference

@@ -14,5 +14,4 @@ pub mod Names
 pub mod Opened
 pub mod OwnMarks
 pub mod Safe
-pub mod Tokens
 pub mod Widest

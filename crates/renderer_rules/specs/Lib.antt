@@ -9,5 +9,4 @@ pub mod Most
 pub mod Page
 pub mod Renderer
 pub mod Safe
-pub mod Tokens
 pub mod Widest
