@@ -502,4 +502,3 @@ module _ {g : Given} {P : ℕ → List Token → Act → Type 0} (J : Joining g 
       begun : (begins : Bool) → Every (cond begins (shebangTokens (g .image) (t .shebang)) []) (when begins (shebangRule g (t .shebang)))
       begun true = every-shebang (t .shebang)
       begun false = every-skip
-

@@ -223,7 +223,7 @@ module _ (s b : List ℕ) where
         record {
           these = front;
           made = x .made;
-          comments = sym (append-nil (commentsAmong front) ) ∙ ap (λ (ps : List Part). commentsAmong front ++ commentsAmong ps) (sym none-waits) ∙ x .comments;
+          comments = sym (append-nil (commentsAmong front)) ∙ ap (λ (ps : List Part). commentsAmong front ++ commentsAmong ps) (sym none-waits) ∙ x .comments;
           others = sym (append-nil (tokensAmong front)) ∙ ap (λ (ps : List Part). tokensAmong front ++ tokensAmong ps) (sym none-waits) ∙ x .others;
         }
 
