@@ -8,7 +8,7 @@ use Rattle.image.specs.Read.{readAll}
 use Rattle.cut_rule.specs.Run.{Call, Carried, Answer, layoutCall, renderCall, start, call, run, answer, answers}
 use Rattle.cut_rule.specs.Entries.{entryCall}
 use Rattle.cut_rule.specs.CutRule.{CommentsKept, CutRule}
-use Rattle.cut_rule.specs.Callers.{AllKept}
+use Rattle.cut_rule.specs.Callers.{afterAll, AllKept}
 use Rattle.cut_rule.proofs.Entries.{entries-are-calls}
 use Rattle.cut_rule.proofs.Answers.{all-held}
 use Rattle.plain_run.specs.Parts.{listed}
@@ -46,7 +46,7 @@ module _ (s b : List ℕ) where
       ap (withText (held s b (afterMade w (rendered args out (rendering.Refused n q) store2 marks2 out2)))) (sym (append-nil (w .text)))
       ∙ rw (sym (p .answer), p .store-left, p .marks-left, p .output-left)
 
-  pub one-held : (w : Caller) (m : Made) → Promised s b w m → held s b (afterMade w m) ≡ call (rulesOf s b) (held s b w) (callMade s b m)
+  one-held : (w : Caller) (m : Made) → Promised s b w m → held s b (afterMade w m) ≡ call (rulesOf s b) (held s b w) (callMade s b m)
   one-held w (laid args r store2) p = layout-held w args r store2 p ∙ entries-are-calls (rulesOf s b) (held s b w) [] (layoutCall (layout.toArgs args))
   one-held w (rendered args out r store2 marks2 out2) p =
       render-held w args out r store2 marks2 out2 p ∙ entries-are-calls (rulesOf s b) (held s b w) out (renderCall (render.toArgs args (length out)))
@@ -74,21 +74,25 @@ held-as-due s b store₀ marks₀ calls v e rule = record {
       (rule .comments n (ap (λ (x : Carried (rulesOf s b)). x .left) (sym e) ∙ f));
 }
 
+-- calls that keep their promises make the run of the rules
+pub made-run : (s b store₀ marks₀ : List ℕ) (made : List Made) → AllKept afterMade (Promised s b) (freshCaller store₀ marks₀) made
+    → held s b (afterAll afterMade (freshCaller store₀ marks₀) made) ≡ run (rulesOf s b) (start (rulesOf s b) store₀ marks₀) (map (callMade s b) made)
+made-run s b store₀ marks₀ made p =
+    all-held (rulesOf s b) afterMade (Promised s b) (held s b) (callMade s b) (one-held s b) (freshCaller store₀ marks₀) made p
+
 pub demand-3 : Demand3
 demand-3 s b store₀ marks₀ made p h =
     let w = freshCaller store₀ marks₀ in
     let rule = rules-cut (readAll s b) s b store₀ marks₀ (map (callMade s b) made) h in
     record {
       as-due =
-          held-as-due s b store₀ marks₀ (map (callMade s b) made) _
-          (all-held (rulesOf s b) afterMade (Promised s b) (held s b) (callMade s b) (one-held s b) w made p)
-          rule;
+          held-as-due s b store₀ marks₀ (map (callMade s b) made) _ (made-run s b store₀ marks₀ made p) rule;
       answered = all-answers s b w made p ∙ rule .answered;
     }
 
 pub calls-hold-all : CallsHoldAll
 calls-hold-all s b store₀ marks₀ made p closed new =
-    let e = all-held (rulesOf s b) afterMade (Promised s b) (held s b) (callMade s b) (one-held s b) (freshCaller store₀ marks₀) made p in
+    let e = made-run s b store₀ marks₀ made p in
     subst (HoldsAll s b) (sym e)
     (closed-holds-all s b store₀ marks₀ (map (callMade s b) made)
     (ap (λ (v : Carried (rulesOf s b)). v .layout-state .closed) (sym e) ∙ closed)

@@ -12,7 +12,8 @@ use lib.Seq.{sets, sets-eq}
 use borrow.Author.Tests.{eqb-true}
 use Rattle.refusals.specs.Refusals.{Refusal, isOneOf}
 use Rattle.image.specs.Read.{Read, got, bad, Image, readAll, readNumbers, outcome}
-use Rattle.cut_rule.specs.Run.{answerBy, laidOut, written, layoutCall, renderCall, call}
+use Rattle.cut_rule.specs.Run.{answerBy, laidOut, written, layoutCall, renderCall, call, start, run}
+use Rattle.cut_rule.specs.Callers.{afterAll, AllKept}
 use Rattle.cut_rule.specs.Entries.{renderAnswer, layoutNext, renderNext, leftNext, writtenOf, entryCall}
 use Rattle.cut_rule.specs.States as states
 use Rattle.cut_rule.proofs.Entries.{entries-are-calls}
@@ -210,7 +211,7 @@ flag-bit true = refl
 flag-bit false = refl
 
 -- an entry's number is not 0
-not-zero : (ns : List ℕ) (r : Refusal) → isOneOf 0 ns ≡ false → isOneOf (r .number) ns ≡ true → eqb (r .number) 0 ≡ false
+pub not-zero : (ns : List ℕ) (r : Refusal) → isOneOf 0 ns ≡ false → isOneOf (r .number) ns ≡ true → eqb (r .number) 0 ≡ false
 not-zero ns r f e = go (eqb (r .number) 0) refl
   where
     go : (t : Bool) → eqb (r .number) 0 ≡ t → t ≡ false
@@ -327,8 +328,14 @@ module _ (s b : List ℕ) where
       render-held w args output out store2 marks2 output2 out2 (p .0) (p .1)
       ∙ entries-are-calls (rulesOf s b) (heldLinked s b w) output (renderCall (render.toArgs (renderArgs args) (length output)))
 
+-- linked calls that keep their promises make the run of the rules
+pub linked-run : (s b store₀ marks₀ : List ℕ) (made : List LinkedCall) → AllKept afterLinked (LinkedPromised s b) (freshHolder store₀ marks₀) made
+    → heldLinked s b (afterAll afterLinked (freshHolder store₀ marks₀) made)
+    ≡ run (rulesOf s b) (start (rulesOf s b) store₀ marks₀) (map (callLinked s b) made)
+linked-run s b store₀ marks₀ made p =
+    all-held (rulesOf s b) afterLinked (LinkedPromised s b) (heldLinked s b) (callLinked s b) (one-held s b) (freshHolder store₀ marks₀) made p
+
 pub linked-3 : Linked3
 linked-3 s b store₀ marks₀ made p h =
-    held-as-due s b store₀ marks₀ (map (callLinked s b) made) _
-    (all-held (rulesOf s b) afterLinked (LinkedPromised s b) (heldLinked s b) (callLinked s b) (one-held s b) (freshHolder store₀ marks₀) made p)
+    held-as-due s b store₀ marks₀ (map (callLinked s b) made) _ (linked-run s b store₀ marks₀ made p)
     (rules-cut (readAll s b) s b store₀ marks₀ (map (callLinked s b) made) h)

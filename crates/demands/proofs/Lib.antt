@@ -1,8 +1,7 @@
 pub mod Demand1
 pub mod Demand2
 pub mod Demand3
-pub mod TextHolds
-pub mod Program
 pub mod Exported
 pub mod Generator
 pub mod Saves
+pub mod Text

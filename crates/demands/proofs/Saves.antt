@@ -32,7 +32,7 @@ frames-under f = go (allSaves f) refl
     go (got xs end) e = under-none batchNumbers
     go (bad n p) e = under-if batchNumbers true n p (ap (λ (k : ℕ). isOneOf k batchNumbers) (cut-number f MAX-SAVES 0 n p e))
 
-batch-under : (c : FileChoice) (f : List ℕ) (cells room : ℕ) → Under batchNumbers (batchRefusal c f cells room)
+pub batch-under : (c : FileChoice) (f : List ℕ) (cells room : ℕ) → Under batchNumbers (batchRefusal c f cells room)
 batch-under c f cells room =
     let rows = length (tableDue c f) in
     let bytes = length (textsDue c f) in
@@ -67,7 +67,7 @@ early-under c x =
     under-first rowNumbers (laidRefusal s b c fileRows ∷ nine c x ∷ [])
     (laid-under s b rowNumbers refl refl refl (under-more readNumbers _ _ (read-under s b)) c, (under-if rowNumbers (ltb fileMarks (marksDue s b c)) 9 (marksDue s b c) refl, tt))
 
-refused-by : (o : Option Refusal) (n l k m : ℕ) (r : Refusal) → fileAnswerBy o (formatted n l k m) ≡ refused r → o ≡ some r
+pub refused-by : (o : Option Refusal) (n l k m : ℕ) (r : Refusal) → fileAnswerBy o (formatted n l k m) ≡ refused r → o ≡ some r
 refused-by (some q) n l k m r e = let f : q ≡ r = cc in ap some f
 refused-by none n l k m r e = let z : _≡_ {A = ℕ} 0 1 = cc in absurd (omega arith)
 

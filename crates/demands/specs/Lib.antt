@@ -2,8 +2,7 @@ pub mod Fresh
 pub mod Demand1
 pub mod Demand2
 pub mod Demand3
-pub mod TextHolds
-pub mod Program
 pub mod Exported
 pub mod Generator
 pub mod Saves
+pub mod Text
