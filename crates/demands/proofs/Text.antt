@@ -7,18 +7,20 @@ use mathlib.Core.List.{List, [], _∷_, _++_, map}
 use Prim.Native.Nat.{ℕ, suc, _*_, _+_, _-_, _≤_}
 use native.Mathlib.Omega.{arith}
 use native.Mathlib.Nat.{sub-zero}
+use lib.Dec.{ltb}
 use lib.ListN.{length, getD, take, drop, length-append}
 use borrow.Author.Tests.{eqb-false}
-use Rattle.refusals.specs.Refusals.{Refusal, unless}
+use Rattle.refusals.specs.Refusals.{Refusal, unless, refuseIf}
 use Rattle.image.specs.Read.{readAll}
 use Rattle.cut_rule.specs.Run.{writeFront, Carried}
-use Rattle.cut_rule.specs.States.{NEW-MODE}
+use Rattle.cut_rule.specs.States.{renderFresh}
+use Rattle.cut_rule.specs.Parts.{widthLine}
 use Rattle.cut_rule.proofs.Memory.{take-front}
 use Rattle.tree.specs.CommentList.{commentsOf}
 use Rattle.refusals.proofs.Groups.{passes-line}
 use Rattle.plain_run.specs.Parts.{readRefusal, listed}
 use Rattle.plain_run.specs.Demands.{rulesOf}
-use Rattle.plain_run.specs.File.{FileChoice, FileAnswer, refused, formatted, referenceChoice, built, rowsDue, drawnDue, fileRows, laidRefusal, fileRefusal, fileAnswerBy, fileAnswer}
+use Rattle.plain_run.specs.File.{FileChoice, FileAnswer, refused, formatted, referenceChoice, renderChoice, modeLine, built, rowsDue, marksDue, drawnDue, fileRows, fileMarks, laidRefusal, fileRefusal, fileAnswerBy, fileAnswer}
 use Rattle.plain_run.specs.Text.{IsProgram, TextKept}
 use Rattle.plain_run.proofs.File.{new-mode-leaves-none}
 use Rattle.plain_run.proofs.Text.{kept-comments-held, text-is-the-program, new-mode-places-all, output-is-the-program, calls-keep-the-text}
@@ -30,7 +32,7 @@ use Rattle.exports.specs.Saves.{toldBatch}
 use Rattle.demands.specs.Demand3.{callMade}
 use Rattle.demands.specs.Exported.{callLinked}
 use Rattle.demands.specs.Text.{FileIsTheProgram, FileHolds, NewModeFileHoldsAll, LinkedFileIsTheProgram, ReplyIsTheProgram, CallsAreTheProgram, LinkedCallsAreTheProgram}
-use Rattle.demands.specs.Text.{CallsHold, ClosedCallsHoldAll, SaveKept, EachKept, none, refusedOne, textOfOne, BatchIsThePrograms, LinkedBatchIsThePrograms}
+use Rattle.demands.specs.Text.{CallsHold, ClosedCallsHoldAll, SaveKept, EachKept, noFile, refusedOne, textOfOne, BatchIsThePrograms, LinkedBatchIsThePrograms}
 use Rattle.demands.proofs.Demand3.{made-run}
 use Rattle.demands.specs.Demand1.{fileNumbers}
 use Rattle.demands.specs.Saves.{batchNumbers}
@@ -106,7 +108,11 @@ closed-calls-hold-all s b w k e closed new = kept-comments-held s b _ _ _ (k .al
 
 -- ---- a batch
 accepted-read : (s b : List ℕ) (c : FileChoice) (room : ℕ) → fileRefusal s b c room ≡ noRefusal → readRefusal (readAll s b) ≡ noRefusal
-accepted-read s b c room e = passes-line (readRefusal (readAll s b)) _ (passes-line (laidRefusal s b c fileRows) _ e)
+accepted-read s b c room e =
+    let text = length (drawnDue s b c .text) in
+    let later = refuseIf (ltb fileMarks (marksDue s b c)) 9 (marksDue s b c) ∷ refuseIf (ltb room text) 10 text ∷ [] in
+    let others = modeLine c ∷ widthLine (renderChoice c) renderFresh ∷ refuseIf (ltb fileRows (rowsDue s b c)) 8 (rowsDue s b c) ∷ [] in
+    passes-line (readRefusal (readAll s b)) others (passes-line (laidRefusal s b c fileRows) later e)
 
 module _ (c : FileChoice) where
   one-kept : (x : Save) {xs : List Save} {table texts : List ℕ} → EachKept c xs table texts
@@ -139,7 +145,7 @@ module _ (c : FileChoice) where
 
   each-kept : (xs : List Save) → EachKept c xs (tableOf c xs) (textsOf c xs)
   unfolding tableOf textsOf
-  each-kept [] = none
+  each-kept [] = noFile
   each-kept (x ∷ xs) = one-kept x (each-kept xs)
 
   three : (a : FileAnswer) → length (rowOf a) ≡ 3

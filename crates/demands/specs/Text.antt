@@ -98,7 +98,7 @@ pub record SaveKept (c : FileChoice) (x : Save) (text : List ℕ) : Type 0 where
 
 -- each file has its row in the table and, if it is accepted, its own text, as long as the row says; the texts stand one behind the other, with nothing between
 pub data EachKept (c : FileChoice) : List Save → List ℕ → List ℕ → Type 0 where
-  none : EachKept c [] [] []
+  noFile : EachKept c [] [] []
   refusedOne : {x : Save} {xs : List Save} {table texts : List ℕ} (r : Refusal) → single c x ≡ refused r → EachKept c xs table texts
       → EachKept c (x ∷ xs) (r .number ∷ r .place ∷ 0 ∷ table) texts
   textOfOne : {x : Save} {xs : List Save} {table texts : List ℕ} (text : List ℕ) → SaveKept c x text → EachKept c xs table texts
