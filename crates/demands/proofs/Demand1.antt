@@ -4,10 +4,11 @@ use mathlib.Core.Path.{_≡_, refl, sym, ap, _∙_}
 use mathlib.Core.Bool.{Bool, true, false, not, _||_}
 use mathlib.Core.Option.{Option, none, some}
 use mathlib.Core.List.{List, [], _∷_, _++_}
-use Prim.Native.Nat.{ℕ}
+use Prim.Native.Nat.{ℕ, _+_, _≤_}
 use native.Mathlib.Omega.{arith}
 use lib.Dec.{eqb, ltb}
-use lib.ListN.{length}
+use lib.ListN.{length, drop}
+use lib.Seq.{sets, sets-eq}
 use Rattle.refusals.specs.Refusals.{Refusal, refuseIf, refuseAt, any, first, isOneOf, unless}
 use Rattle.image.specs.Read.{Read, got, bad, Image, readAll, readNumbers, outcome, header, sourceFits}
 use Rattle.image.proofs.Numbers.{read-numbers}
@@ -28,6 +29,12 @@ use Rattle.tallies.specs.declared.Figures.{Figures}
 use Rattle.tallies.specs.declared.Tallies.{Tallies}
 use Rattle.tallies.specs.Tallies.{tallyTests, tallyRefusal}
 use Rattle.figures.specs.Figures.{FILE-OUTPUT, figuresOf, countRefusal, countAnswerBy}
+
+-- numbers stored from the start of an array that has room for them stand at its start
+pub sets-front : (vs out : List ℕ) → length vs ≤ length out → sets out 0 vs ≡ vs ++ drop (length vs) out
+sets-front vs out h =
+    let from : 0 + length vs ≡ length vs = omega arith in
+    sets-eq vs out 0 (omega arith) ∙ ap (λ (k : ℕ). vs ++ drop k out) from
 
 -- ---- refusals under a list of numbers
 pub record Under (ns : List ℕ) (o : Option Refusal) : Type 0 where

@@ -7,7 +7,7 @@ use mathlib.Core.List.{List, [], _∷_, _++_}
 use Prim.Native.Nat.{ℕ, _+_, _≤_}
 use native.Mathlib.Omega.{arith}
 use lib.Dec.{ltb}
-use lib.ListN.{length, getD, take, drop}
+use lib.ListN.{length, take, drop}
 use lib.Seq.{sets, take-append-seam}
 use borrow.Author.Tests.{ltb-false, le-ltb}
 use Rattle.laws.proofs.Booleans.{or-first, or-rest}
@@ -26,10 +26,8 @@ use Rattle.steps.proofs.Claims.{exactly-one, written-reads-back}
 use Rattle.writer.specs.declared.Wrote.{Wrote}
 use Rattle.writer.specs.declared.Wrote.the-variants as answer
 use Rattle.writer.specs.Wrote.{wroteAnswer}
-use Rattle.exports.specs.Generator.{toldWriter}
 use Rattle.demands.specs.Generator.{writerNumbers, stepsNumbers, writerTold, Writes, Lists, Generator1, TheList, GivesBack, GeneratorLists}
-use Rattle.demands.proofs.Demand1.{Under, under-if, under-none, under-first, under-more, answered, left-same}
-use Rattle.demands.proofs.Exported.{stored, two}
+use Rattle.demands.proofs.Demand1.{Under, sets-front, under-if, under-none, under-first, under-more, answered, left-same}
 
 -- ---- demand 1
 steps-under : (l : List ℕ) → Under writerNumbers (stepsRefusal (contentsFrom l))
@@ -39,7 +37,7 @@ steps-under l = go (contentsFrom l) refl
     go (got c end) e = under-none writerNumbers
     go (bad n p) e = under-if writerNumbers true n p (ap (λ (k : ℕ). isOneOf k writerNumbers) (steps-number l n p e))
 
-write-under : (l : List ℕ) (room : ℕ) → Under writerNumbers (writerRefusal l room)
+pub write-under : (l : List ℕ) (room : ℕ) → Under writerNumbers (writerRefusal l room)
 write-under l room =
     let long = ltb (5 + MAX-BODY) (length (imageDue l)) || ltb room (length (imageDue l)) in
     under-first writerNumbers (stepsRefusal (contentsFrom l) ∷ refuseIf long 17 (length (imageDue l)) ∷ [])
@@ -52,7 +50,7 @@ read-under s b = go (readAll s b) refl
     go (got i end) e = under-none readNumbers
     go (bad n p) e = under-if readNumbers true n p (read-numbers s b n p e)
 
-list-under : (s b : List ℕ) (room : ℕ) → Under stepsNumbers (stepsOfRefusal s b room)
+pub list-under : (s b : List ℕ) (room : ℕ) → Under stepsNumbers (stepsOfRefusal s b room)
 list-under s b room =
     let long = ltb room (length (stepsDue s b)) in
     under-first stepsNumbers (readRefused (readAll s b) ∷ refuseIf long 17 (length (stepsDue s b)) ∷ []) (
@@ -65,17 +63,6 @@ by-table : (o : Option Refusal) (n : ℕ) → writerTold (writerAnswerBy o n) �
 by-table (some r) n = refl
 by-table none n = refl
 
-told-zero : (o : Option Refusal) (n : ℕ) (out : List ℕ) → 2 ≤ length out → o ≡ none → getD (toldWriter (writerAnswerBy o n) out) 0 0 ≡ 0
-told-zero none n out h e = ap (λ (l : List ℕ). getD l 0 0) (stored (0 ∷ n ∷ []) out h)
-told-zero (some q) n out h e = absurd (options.never q e)
-
-told-refusal : (o : Option Refusal) (n : ℕ) (out : List ℕ) (r : Refusal) → o ≡ some r
-    → toldWriter (writerAnswerBy o n) out ≡ sets out 0 (r .number ∷ r .place ∷ [])
-told-refusal (some q) n out r e =
-    let same : q ≡ r = cc in
-    ap (λ (x : Refusal). sets out 0 (x .number ∷ x .place ∷ [])) same
-told-refusal none n out r e = absurd (options.never r (sym e))
-
 pub generator-1 : Generator1
 generator-1 = record {
   write =
@@ -86,20 +73,6 @@ generator-1 = record {
       λ s b out r out2 p.
       answered (ap writerTold (p .answered) ∙ by-table (stepsOfRefusal s b (length out)) _) (list-under s b (length out))
       (λ q f. p .output-left ∙ left-same _ q out _ f);
-  linked-write =
-      λ l output out output2 out2 h e f.
-      let o = writerRefusal l (length output) in
-      two writerNumbers o out out2 (output2 ≡ output) (omega arith) (write-under l (length output))
-      (λ g. ap (λ (x : List ℕ). getD x 0 0) f ∙ told-zero o _ out (omega arith) g)
-      (λ r g. f ∙ told-refusal o _ out r g)
-      (λ r g. e ∙ left-same o r output _ g);
-  linked-steps =
-      λ s b output out output2 out2 h e f.
-      let o = stepsOfRefusal s b (length output) in
-      two stepsNumbers o out out2 (output2 ≡ output) (omega arith) (list-under s b (length output))
-      (λ g. ap (λ (x : List ℕ). getD x 0 0) f ∙ told-zero o _ out (omega arith) g)
-      (λ r g. f ∙ told-refusal o _ out r g)
-      (λ r g. e ∙ left-same o r output _ g);
 }
 
 -- ---- what stands at the start of an output
@@ -121,7 +94,7 @@ front none ws out n out2 e f fits =
     record {
       passed = refl;
       count = same;
-      bytes = ap (λ (k : ℕ). take k out2) same ∙ ap (λ (x : List ℕ). take (length ws) x) (f ∙ stored ws out (fits refl)) ∙ take-append-seam ws (drop (length ws) out);
+      bytes = ap (λ (k : ℕ). take k out2) same ∙ ap (λ (x : List ℕ). take (length ws) x) (f ∙ sets-front ws out (fits refl)) ∙ take-append-seam ws (drop (length ws) out);
     }
 front (some r) ws out n out2 e f fits = let z : _≡_ {A = ℕ} 0 1 = cc in absurd (omega arith)
 

@@ -8,8 +8,7 @@ use Prim.Native.Nat.{ℕ, suc, _*_, _+_, _-_, _≤_}
 use native.Mathlib.Omega.{arith}
 use native.Mathlib.Nat.{sub-zero}
 use lib.Dec.{ltb}
-use lib.ListN.{length, getD, take, drop, length-append}
-use borrow.Author.Tests.{eqb-false}
+use lib.ListN.{length, take, length-append}
 use Rattle.refusals.specs.Refusals.{Refusal, unless, refuseIf}
 use Rattle.image.specs.Read.{readAll}
 use Rattle.cut_rule.specs.Run.{writeFront, Carried}
@@ -24,21 +23,15 @@ use Rattle.plain_run.specs.File.{FileChoice, FileAnswer, refused, formatted, re
 use Rattle.plain_run.specs.Text.{IsProgram, TextKept}
 use Rattle.plain_run.proofs.File.{new-mode-leaves-none}
 use Rattle.plain_run.proofs.Text.{kept-comments-held, text-is-the-program, new-mode-places-all, output-is-the-program, calls-keep-the-text}
-use Rattle.file.specs.Whole.{toChoice, sourceOf, imageOf}
+use Rattle.file.specs.Whole.{sourceOf, imageOf}
 use Rattle.reply.specs.Reply.{reply, replyBy, programRefusal}
-use Rattle.batch.specs.Batch.{Save, allSaves, savesBy, rowOf, textBy, rendered, single, tableOf, textsOf, tableDue, textsDue, BatchAnswer, batched, batchRefusal, batchAnswerBy, tableLeft, textsLeft}
-use Rattle.exports.specs.Numbers.{fileChoice, toldFile}
-use Rattle.exports.specs.Saves.{toldBatch}
+use Rattle.batch.specs.Batch.{Save, allSaves, savesBy, rowOf, textBy, rendered, single, tableOf, textsOf, tableDue, textsDue, batched, batchRefusal, batchAnswerBy, tableLeft, textsLeft}
 use Rattle.demands.specs.Demand3.{callMade}
-use Rattle.demands.specs.Exported.{callLinked}
+use Rattle.demands.specs.Linked.{callLinked}
 use Rattle.demands.specs.Text.{FileIsTheProgram, FileHolds, NewModeFileHoldsAll, LinkedFileIsTheProgram, ReplyIsTheProgram, CallsAreTheProgram, LinkedCallsAreTheProgram}
 use Rattle.demands.specs.Text.{CallsHold, ClosedCallsHoldAll, SaveKept, EachKept, noFile, refusedOne, textOfOne, BatchIsThePrograms, LinkedBatchIsThePrograms}
 use Rattle.demands.proofs.Demand3.{made-run}
-use Rattle.demands.specs.Demand1.{fileNumbers}
-use Rattle.demands.specs.Saves.{batchNumbers}
-use Rattle.demands.proofs.Demand1.{file-under}
-use Rattle.demands.proofs.Exported.{stored, not-zero, linked-run}
-use Rattle.demands.proofs.Saves.{batch-under, refused-by}
+use Rattle.demands.proofs.Linked.{linked-run, linked-file, linked-batch}
 
 -- ---- a whole file
 pub file-is-the-program : FileIsTheProgram
@@ -57,25 +50,7 @@ new-mode-file-holds-all s b c out n left rows numbers out2 new f =
 
 pub linked-file-is-the-program : LinkedFileIsTheProgram
 linked-file-is-the-program s b choice output out output2 out2 h p e =
-    go (fileAnswer s b c (length output)) refl
-  where
-    c : FileChoice
-    c = toChoice (fileChoice choice)
-
-    go : (a : FileAnswer) → fileAnswer s b c (length output) ≡ a → IsProgram s b (length (listed s b) - getD out2 2 0) (take (getD out2 1 0) output2)
-    go (refused r) f =
-        let u = file-under s b c (length output) .of r (refused-by (fileRefusal s b c (length output)) _ _ _ _ r f) in
-        let at : out2 ≡ (r .number ∷ r .place ∷ []) ++ drop 2 out =
-        p .told-as ∙ ap (λ (a : FileAnswer). toldFile a out) f ∙ stored (r .number ∷ r .place ∷ []) out (omega arith)
-        in
-        let zero-told : r .number ≡ 0 = sym (ap (λ (x : List ℕ). getD x 0 0) at) ∙ e in
-        absurd (eqb-false (r .number) 0 (not-zero fileNumbers r refl u) zero-told)
-    go (formatted n l k m) f =
-        let at : out2 ≡ (0 ∷ n ∷ l ∷ k ∷ m ∷ []) ++ drop 5 out =
-        p .told-as ∙ ap (λ (a : FileAnswer). toldFile a out) f ∙ stored (0 ∷ n ∷ l ∷ k ∷ m ∷ []) out (omega arith)
-        in
-        subst₂ (λ (o x : List ℕ). IsProgram s b (length (listed s b) - getD x 2 0) (take (getD x 1 0) o)) (sym (p .output-left)) (sym at)
-        (output-is-the-program s b c output n l k m f)
+    file-is-the-program s b _ output _ _ _ _ output2 (linked-file s b choice output out output2 out2 h p e)
 
 pub reply-is-the-program : ReplyIsTheProgram
 unfolding reply
@@ -181,31 +156,5 @@ batch-is-the-programs f c table out files bytes table2 out2 p =
     (kept-in c f table out files bytes (sym (p .answer)))
 
 pub linked-batch-is-the-programs : LinkedBatchIsThePrograms
-linked-batch-is-the-programs f choice table output out table2 output2 out2 h p e = go (batchRefusal c f (length table) (length output)) refl
-  where
-    c : FileChoice
-    c = toChoice (fileChoice choice)
-
-    xs : List Save
-    xs = savesBy (allSaves f)
-
-    answered : Option Refusal → BatchAnswer
-    answered o = batchAnswerBy o (length xs) (length (textsDue c f))
-
-    go : (o : Option Refusal) → batchRefusal c f (length table) (length output) ≡ o
-        → EachKept c xs (take (3 * getD out2 1 0) table2) (take (getD out2 2 0) output2)
-    go (some r) f2 =
-        let u = batch-under c f (length table) (length output) .of r f2 in
-        let at : out2 ≡ (r .number ∷ r .place ∷ []) ++ drop 2 out =
-        p .told-as ∙ ap (λ (o : Option Refusal). toldBatch (answered o) out) f2 ∙ stored (r .number ∷ r .place ∷ []) out (omega arith)
-        in
-        let zero-told : r .number ≡ 0 = sym (ap (λ (x : List ℕ). getD x 0 0) at) ∙ e in
-        absurd (eqb-false (r .number) 0 (not-zero batchNumbers r refl u) zero-told)
-    go noRefusal f2 =
-        let numbers : List ℕ = 0 ∷ length xs ∷ length (textsDue c f) ∷ [] in
-        let at : out2 ≡ numbers ++ drop 3 out =
-        p .told-as ∙ ap (λ (o : Option Refusal). toldBatch (answered o) out) f2 ∙ stored numbers out (omega arith)
-        in
-        subst (λ (x : List ℕ). EachKept c xs (take (3 * getD x 1 0) table2) (take (getD x 2 0) output2)) (sym at)
-        (subst₂ (λ (x y : List ℕ). EachKept c xs (take (3 * length xs) x) (take (length (textsDue c f)) y)) (sym (p .table-left)) (sym (p .texts-left))
-        (kept-in c f table output (length xs) (length (textsDue c f)) (ap answered f2)))
+linked-batch-is-the-programs f choice table output out table2 output2 out2 h p e =
+    batch-is-the-programs f _ table output _ _ table2 output2 (linked-batch f choice table output out table2 output2 out2 h p e)

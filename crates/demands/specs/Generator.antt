@@ -1,6 +1,5 @@
--- Document 02, 5/14, of the writer's entries, by what they promise and nothing else: demand 1 of `writer::write_image` and `writer::steps_of` and of
--- the functions that other languages link, `rrufthim_write` and `rrufthim_steps`; and the request's two sentences on lists.
--- proofs/Generator.antt proves it.
+-- Document 02, 5/14, of the writer's entries, by what they promise and nothing else: demand 1 of `writer::write_image` and `writer::steps_of`, and the
+-- request's two sentences on lists. proofs/Generator.antt proves it.
 use mathlib.Core.Path.{_≡_}
 use mathlib.Core.Bool.{true}
 use mathlib.Core.Option.{Option, none, some}
@@ -16,9 +15,7 @@ use Rattle.steps.specs.Exact.{Bytes}
 use Rattle.writer.specs.declared.Wrote.{Wrote}
 use Rattle.writer.specs.declared.Wrote.the-variants as answer
 use Rattle.writer.specs.Wrote.{wroteAnswer}
-use Rattle.exports.specs.Generator.{toldWriter}
 use Rattle.demands.specs.Demand1.{Answered}
-use Rattle.demands.specs.Exported.{Told}
 
 -- ---- the numbers of each entry
 -- "16 first", then 17
@@ -51,12 +48,6 @@ pub record Generator1 : Type 0 where
       → Answered writerNumbers (writerRefusal l (length out)) (writerTold (wroteAnswer r)) (out2 ≡ out)
   pub list : (s b out : List ℕ) (r : Wrote) (out2 : List ℕ) → Lists s b out r out2
       → Answered stepsNumbers (stepsOfRefusal s b (length out)) (writerTold (wroteAnswer r)) (out2 ≡ out)
-  pub linked-write : (l output out output2 out2 : List ℕ) → length out ≡ 2 → output2 ≡ writerOutput l output
-      → out2 ≡ toldWriter (writerAnswer l (length output)) out
-      → Told writerNumbers (writerRefusal l (length output)) out2 (output2 ≡ output)
-  pub linked-steps : (s b output out output2 out2 : List ℕ) → length out ≡ 2 → output2 ≡ stepsOfOutput s b output
-      → out2 ≡ toldWriter (stepsOfAnswer s b (length output)) out
-      → Told stepsNumbers (stepsOfRefusal s b (length output)) out2 (output2 ≡ output)
 
 -- ---- the two sentences
 -- "exactly one list of steps that the writer, given room, turns into it": l is turned into b wherever the output has room for b, and no other is

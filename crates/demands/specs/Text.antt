@@ -27,7 +27,7 @@ use Rattle.exports.specs.Numbers.{fileChoice}
 use Rattle.exports.specs.Calls.{FormatsFile}
 use Rattle.exports.specs.Saves.{FormatsBatch}
 use Rattle.demands.specs.Demand3.{freshCaller, Made, Promised, afterMade, callMade, held}
-use Rattle.demands.specs.Exported.{freshHolder, LinkedCall, LinkedPromised, afterLinked, callLinked, heldLinked}
+use Rattle.demands.specs.Linked.{freshHolder, LinkedCall, LinkedPromised, afterLinked, callLinked, heldLinked}
 
 -- ---- a whole file
 -- `file::format_file`: the n bytes that it wrote are the program, and all comments but the last so many, those that it told to be left
