@@ -7,8 +7,8 @@ use mathlib.Core.List.{List, [], _∷_, _++_}
 use Prim.Native.Nat.{ℕ, _+_, _≤_}
 use native.Mathlib.Omega.{arith}
 use lib.Dec.{eqb, ltb}
-use lib.ListN.{length, drop}
-use lib.Seq.{sets, sets-eq}
+use lib.ListN.{length, take, drop}
+use lib.Seq.{sets, sets-eq, drop-at}
 use Rattle.refusals.specs.Refusals.{Refusal, refuseIf, refuseAt, any, first, isOneOf, unless}
 use Rattle.image.specs.Read.{Read, got, bad, Image, readAll, readNumbers, outcome, header, sourceFits}
 use Rattle.image.proofs.Numbers.{read-numbers}
@@ -23,8 +23,9 @@ use Rattle.plain_run.specs.File.{FileChoice, referenceChoice, layoutChoice, mod
 use Rattle.file.specs.Whole.{sourceOf, imageOf, frameFits, frameRefusal}
 use Rattle.layout_call.specs.Calls as layout
 use Rattle.render_call.specs.Calls as render
-use Rattle.reply.specs.Reply.{frameTable, programRoom}
-use Rattle.demands.specs.Demand1.{layoutNumbers, renderNumbers, fileNumbers, referenceNumbers, frameNumbers, countNumbers, readTold, callTold, fileTold, countTold, Answered, CheckAnswered, LayoutAnswered, RenderAnswered, FileAnswered, FrameAnswered, CountAnswered, Demand1}
+use Rattle.reply.specs.Reply.{frameTable, programRoom, replyBy, reply}
+use Rattle.cut_rule.proofs.Memory.{take-front}
+use Rattle.demands.specs.Demand1.{layoutNumbers, renderNumbers, fileNumbers, referenceNumbers, frameNumbers, countNumbers, readTold, callTold, fileTold, countTold, Answered, CheckAnswered, LayoutAnswered, RenderAnswered, FileAnswered, FrameAnswered, ProgramAnswered, CountAnswered, Demand1}
 use Rattle.tallies.specs.declared.Figures.{Figures}
 use Rattle.tallies.specs.declared.Tallies.{Tallies}
 use Rattle.tallies.specs.Tallies.{tallyTests, tallyRefusal}
@@ -266,6 +267,20 @@ count-under s b t =
 count-file : CountAnswered
 count-file s b t r e = answered (ap countTold e ∙ count-told (countRefusal s b t) (figuresOf s b) t) (count-under s b t) (λ r f. tt)
 
+program-wrote : ProgramAnswered
+unfolding reply
+program-wrote frame out n out2 p =
+    let text = drawnDue (sourceOf frame) (imageOf frame) referenceChoice .text in
+    let wrote : take n out2 ≡ reply frame = ap (λ (o : List ℕ). take n o) (p .output-left) ∙ take-front n (reply frame) out (p .bytes-due) in
+    record {
+      refused = λ r e. (wrote ∙ ap (λ (o : Option Refusal). replyBy o text) e, frame-under frame programRoom .of r e);
+      accepted = λ e. wrote ∙ ap (λ (o : Option Refusal). replyBy o text) e;
+      behind =
+          ap (λ (o : List ℕ). drop n o) (p .output-left)
+          ∙ drop-at (reply frame) (drop (length (reply frame)) out) n (sym (p .bytes-due))
+          ∙ ap (λ (k : ℕ). drop k out) (sym (p .bytes-due));
+    }
+
 pub demand-1 : Demand1
 demand-1 = record {
   check = check;
@@ -273,6 +288,6 @@ demand-1 = record {
   render = render-call;
   file = format-file;
   frame = format-frame;
-  program = λ frame r e. frame-under frame programRoom .of r e;
+  program = program-wrote;
   count = count-file;
 }
