@@ -1,7 +1,7 @@
 //! Whether a text is made of comments and tokens: each once, in order, with
 //! nothing around them but blanks, newlines, and commas where a list ends.
 
-use std::{collections::BTreeMap, fmt};
+use std::{cmp::Reverse, collections::BinaryHeap, fmt};
 
 use crate::{contents::Place, tokens::Token};
 
@@ -15,7 +15,7 @@ pub struct Pieces<'p> {
 }
 
 /// Where no way of reading a text as pieces goes on.
-#[derive(Clone, Debug, PartialEq, Eq)]
+#[derive(Clone, Debug, Default, PartialEq, Eq)]
 pub struct Fault {
     pub at: usize,
     /// What comes before, by one of the ways that lead there.
@@ -68,27 +68,22 @@ impl Pieces<'_> {
         text: &[u8],
         right: impl Fn(Place) -> bool,
     ) -> Result<(), Fault> {
-        let mut ways = BTreeMap::from([(0, vec![Way::default()])]);
-        while let Some((at, here)) = ways.pop_first() {
-            let here = self.best(here);
+        let mut ways = Ways::from([Reverse((0, Way::default()))]);
+        let mut here = Vec::new();
+        let mut fault = Fault::default();
+        while let Some(at) = take_first(&mut ways, &mut here) {
+            self.keep_best(&mut here);
             if at == text.len() && here.iter().any(|way| right(way.before)) {
                 return Ok(());
             }
-            let mut add = |length: usize, way: Way| {
-                let there = ways.entry(at + length).or_default();
-                if !there.contains(&way) {
-                    there.push(way);
-                }
-            };
+            let mut add = |on, way| ways.push(Reverse((at + on, way)));
             for way in &here {
                 self.steps(*way, &text[at..], &mut add);
             }
-            if ways.is_empty() {
-                let before = here[0].before;
-                return Err(Fault { at, before });
-            }
+            let before = here[0].before;
+            fault = Fault { at, before };
         }
-        unreachable!("the last ways are looked at above")
+        Err(fault)
     }
 
     /// Where a way may go from here: how many bytes on, and what it is then.
@@ -120,30 +115,29 @@ impl Pieces<'_> {
         }
     }
 
-    /// The ways to a byte without those from which the text can only be read
-    /// if it can be read from another.
+    /// Drops the ways to a byte from which the text can only be read if it can
+    /// be read from another of them.
     ///
     /// A way that has a blank piece more behind it is as good: where the other
     /// one finds that piece later on, this one finds filler. So empty tokens
     /// are passed at once.
-    fn best(&self, mut ways: Vec<Way>) -> Vec<Way> {
-        for way in &mut ways {
+    fn keep_best(&self, ways: &mut Vec<Way>) {
+        for way in ways.iter_mut() {
             while let Some(token) = self.tokens.get(way.before.tokens)
                 && token.text.is_empty()
             {
                 *way = way.behind_token();
             }
         }
-        if ways.len() == 1 {
-            return ways;
+        if ways.len() > 1 {
+            ways.sort();
+            ways.dedup();
+            let all = ways.clone();
+            let there = |way: Way| all.binary_search(&way).is_ok();
+            ways.retain(|way| {
+                !self.better(*way).into_iter().flatten().any(there)
+            });
         }
-        ways.sort();
-        ways.dedup();
-        let worse = |way: &Way| {
-            let better = self.better(*way);
-            better.into_iter().flatten().any(|way| ways.contains(&way))
-        };
-        ways.iter().copied().filter(|way| !worse(way)).collect()
     }
 
     /// Ways that are as good as this one.
@@ -163,6 +157,23 @@ impl Pieces<'_> {
             way.comma.then_some(unused),
         ]
     }
+}
+
+/// Ways still to be followed, by how many bytes they have read.
+type Ways = BinaryHeap<Reverse<(usize, Way)>>;
+
+/// Takes all ways to the first byte that any of them leads to.
+fn take_first(ways: &mut Ways, here: &mut Vec<Way>) -> Option<usize> {
+    let Reverse((at, way)) = ways.pop()?;
+    here.clear();
+    here.push(way);
+    while let Some(Reverse((there, way))) = ways.peek()
+        && *there == at
+    {
+        here.push(*way);
+        ways.pop();
+    }
+    Some(at)
 }
 
 /// A way of reading the bytes so far.
