@@ -15,72 +15,45 @@ use judge::{
     tree::Input,
 };
 
-/// The tokens of a file, with `^` before those that end a list.
-fn said(bytes: &[u8]) -> Vec<String> {
+/// The tokens of a file with bars between, and `^` before those that end a
+/// list.
+fn said(bytes: &[u8]) -> String {
     let Frame { source, image } = frame::split_any_size(bytes).unwrap();
     let accepted = reader::read(source, image).unwrap();
     let contents = Contents::of(&accepted);
+    let mark = |ends_list| if ends_list { "^" } else { "" };
     let tokens = contents.tokens.all.iter();
-    tokens
-        .map(|token| match token.ends_list {
-            true => format!("^{}", token.text),
-            false => token.text.to_string(),
-        })
-        .collect()
+    let tokens = tokens.map(|t| format!("{}{}", mark(t.ends_list), t.text));
+    tokens.collect::<Vec<_>>().join("|")
 }
 
-/// The tokens of a text, without those of `fn f() { … }` around it.
-fn within(statements: &str) -> Vec<String> {
-    let frame = script::frame(&format!("fn f() {{ {statements} }}")).unwrap();
-    let mut tokens = said(&frame);
-    let around = ["fn ", "f", "(", ")", " ", "{"];
-    assert_eq!(tokens[..around.len()], around);
-    assert_eq!(tokens.pop().unwrap(), "}");
-    tokens.split_off(around.len())
+/// Those of a text.
+fn of(text: &str) -> String {
+    said(&script::frame(text).unwrap())
+}
+
+/// Those of statements.
+fn within(statements: &str) -> String {
+    let tokens = of(&format!("fn f() {{ {statements} }}"));
+    let inner = tokens.strip_prefix("fn |f|(|)| |{|");
+    inner.and_then(|t| t.strip_suffix("|}")).unwrap().into()
+}
+
+/// Those of a declaration over an empty source.
+fn declared(declaration: Tree) -> String {
+    said(&examples::of_source("", vec![], vec![declaration]))
 }
 
 #[test]
 fn declarations() {
-    let of = |text: &str| said(&script::frame(text).unwrap());
-    assert_eq!(
-        of("filtermap m(a: A, b: B) { }"),
-        [
-            "filtermap ",
-            "m",
-            "(",
-            "a",
-            ": ",
-            "A",
-            ",",
-            "b",
-            ": ",
-            "B",
-            "^)",
-            " ",
-            "{",
-            "}"
-        ]
-    );
-    assert_eq!(
-        of("const A: u32 = 1;"),
-        ["const ", "A", ": ", "u32", " = ", "1", ";"]
-    );
-    assert_eq!(
-        of("record R { a: A? }"),
-        ["record ", "R", " ", "{", "a", ": ", "A", "?", "^}"]
-    );
-    assert_eq!(
-        of("fn f() -> ! { a }"),
-        ["fn ", "f", "(", ")", " ", "-> ", "!", " ", "{", "a", "}"]
-    );
-    assert_eq!(of("test t { }"), ["test ", "t", " ", "{", "}"]);
-    assert_eq!(
-        of("import a.{b, c.d}; test t { }"),
-        [
-            "import ", "a", ".", "{", "b", ",", "c", ".", "d", "^}", ";",
-            "test ", "t", " ", "{", "}"
-        ]
-    );
+    let due = "filtermap |m|(|a|: |A|,|b|: |B|^)| |{|}";
+    assert_eq!(of("filtermap m(a: A, b: B) { }"), due);
+    assert_eq!(of("const A: u32 = 1;"), "const |A|: |u32| = |1|;");
+    assert_eq!(of("record R { a: A? }"), "record |R| |{|a|: |A|?|^}");
+    assert_eq!(of("fn f() -> ! { a }"), "fn |f|(|)| |-> |!| |{|a|}");
+    assert_eq!(of("test t { }"), "test |t| |{|}");
+    let due = "import |a|.|{|b|,|c|.|d|^}|;|test |t| |{|}";
+    assert_eq!(of("import a.{b, c.d}; test t { }"), due);
 }
 
 fn name(name: &str) -> Option<Tree> {
@@ -95,65 +68,53 @@ fn path(names: &[&str]) -> Option<Tree> {
     Some(node(4, 0..0, names.iter().map(|one| name(one))))
 }
 
-fn declared(declaration: Tree) -> Vec<String> {
-    said(&examples::of_source("", vec![], vec![declaration]))
+fn unit() -> Tree {
+    node(43, 0..0, [])
 }
 
 #[test]
-fn lists_that_are_absent_or_empty() {
+fn type_parameters_and_variants_that_are_absent_or_empty() {
     let record = |names| node(12, 0..0, [name("R"), names, list([])]);
-    assert_eq!(declared(record(None)), ["record ", "R", " ", "{", "}"]);
-    assert_eq!(declared(record(list([]))), ["record ", "R", " ", "{", "}"]);
-    assert_eq!(
-        declared(record(list([text(0..0, 1, "T")]))),
-        ["record ", "R", "[", "T", "^]", " ", "{", "}"]
-    );
-    let unit = || node(43, 0..0, []);
+    assert_eq!(declared(record(None)), "record |R| |{|}");
+    assert_eq!(declared(record(list([]))), "record |R| |{|}");
+    let one = list([text(0..0, 1, "T")]);
+    assert_eq!(declared(record(one)), "record |R|[|T|^]| |{|}");
     let variant = |types| node(21, 0..0, [name("V"), types]);
-    let two = [variant(list([])), variant(list([unit()]))];
-    assert_eq!(
-        declared(node(13, 0..0, [name("E"), None, list(two)])),
-        ["enum ", "E", " ", "{", "V", ",", "V", "(", "()", "^)", "^}"]
-    );
-    let alias = |types| node(41, 0..0, [path(&["a", "b"]), types]);
-    let constant = |ty| {
+    let two = list([variant(list([])), variant(list([unit()]))]);
+    let due = "enum |E| |{|V|,|V|(|()|^)|^}";
+    assert_eq!(declared(node(13, 0..0, [name("E"), None, two])), due);
+}
+
+#[test]
+fn types() {
+    let of = |ty| {
         let truth = node(51, 0..0, [Some(chosen(87, 0..0, 1, []))]);
-        declared(node(11, 0..0, [name("C"), Some(ty), Some(truth)]))[3..]
-            .to_vec()
+        let constant = [name("C"), Some(ty), Some(truth)];
+        let tokens = declared(node(11, 0..0, constant));
+        let ty = tokens.strip_prefix("const |C|: |").unwrap();
+        ty.strip_suffix("| = |true|;").unwrap().to_string()
     };
-    assert_eq!(constant(alias(None)), ["a", ".", "b", " = ", "true", ";"]);
-    assert_eq!(
-        constant(alias(list([]))),
-        ["a", ".", "b", "[", "]", " = ", "true", ";"]
-    );
-    assert_eq!(
-        constant(alias(list([unit(), node(42, 0..0, [])]))),
-        ["a", ".", "b", "[", "()", ",", "!", "^]", " = ", "true", ";"]
-    );
-    let fields = [node(20, 0..0, [name("f"), Some(unit())])];
-    assert_eq!(
-        constant(node(44, 0..0, [list(fields)])),
-        ["{", "f", ": ", "()", "^}", " = ", "true", ";"]
-    );
+    let named = |types| node(41, 0..0, [path(&["a", "b"]), types]);
+    assert_eq!(of(named(None)), "a|.|b");
+    assert_eq!(of(named(list([]))), "a|.|b|[|]");
+    let two = list([unit(), node(42, 0..0, [])]);
+    assert_eq!(of(named(two)), "a|.|b|[|()|,|!|^]");
+    let field = node(20, 0..0, [name("f"), Some(unit())]);
+    assert_eq!(of(node(44, 0..0, [list([field])])), "{|f|: |()|^}");
+    assert_eq!(of(node(40, 0..0, [Some(unit())])), "()|?");
 }
 
 #[test]
 fn imports() {
     let import = |path, group| node(16, 0..0, [path, group]);
     let item = |name: &str| import(path(&[name]), None);
-    assert_eq!(declared(import(None, None)), ["import ", ";"]);
-    assert_eq!(
-        declared(import(path(&["a"]), list([item("b")]))),
-        ["import ", "a", ".", "b", ";"]
-    );
-    assert_eq!(
-        declared(import(None, list([item("b"), import(None, None)]))),
-        ["import ", "{", "b", ",", "^}", ";"]
-    );
-    assert_eq!(
-        declared(import(path(&["a"]), list([]))),
-        ["import ", "a", ".", "{", "}", ";"]
-    );
+    assert_eq!(declared(import(None, None)), "import |;");
+    let one = import(path(&["a"]), list([item("b")]));
+    assert_eq!(declared(one), "import |a|.|b|;");
+    let two = import(None, list([item("b"), import(None, None)]));
+    assert_eq!(declared(two), "import |{|b|,|^}|;");
+    let none = import(path(&["a"]), list([]));
+    assert_eq!(declared(none), "import |a|.|{|}|;");
 }
 
 #[test]
@@ -161,71 +122,36 @@ fn a_shebang_is_trimmed() {
     let shebang = text(0..0, 4, "#!/x \u{2003}\n");
     let tree = node(1, 0..0, [Some(shebang)]);
     let image = judge::image::write(&[], &tree);
-    assert_eq!(said(&frame::join(b"", &image)), ["#!/x"]);
+    assert_eq!(said(&frame::join(b"", &image)), "#!/x");
 }
 
 #[test]
 fn statements() {
-    assert_eq!(
-        within("let a: A = b; c;"),
-        ["let ", "a", ": ", "A", " = ", "b", ";", "c", ";"]
-    );
-    assert_eq!(
-        within("let a = true; import b; ()"),
-        ["let ", "a", " = ", "true", ";", "import ", "b", ";", "()"]
-    );
-    assert_eq!(
-        within("if a { b; } else { c } while d { } for e in f { }"),
-        [
-            "if ", "a", " ", "{", "b", ";", "}", " else ", "{", "c", "}",
-            "while ", "d", " ", "{", "}", "for ", "e", " in ", "f", " ", "{",
-            "}"
-        ]
-    );
-    assert_eq!(
-        within("return; accept 1; reject"),
-        ["return", ";", "accept", " ", "1", ";", "reject"]
-    );
-    assert_eq!(
-        within("a.b = c; a += d; a -= 1;"),
-        [
-            "a", ".", "b", " = ", "c", ";", "a", " += ", "d", ";", "a",
-            " -= ", "1", ";"
-        ]
-    );
+    assert_eq!(within("let a: A = b; c;"), "let |a|: |A| = |b|;|c|;");
+    let due = "let |a| = |true|;|import |b|;|()";
+    assert_eq!(within("let a = true; import b; ()"), due);
+    let due = "if |a| |{|b|;|}| else |{|c|}|while |d| |{|}";
+    assert_eq!(within("if a { b; } else { c } while d { }"), due);
+    assert_eq!(within("for e in f { }"), "for |e| in |f| |{|}");
+    let due = "return|;|accept| |1|;|reject";
+    assert_eq!(within("return; accept 1; reject"), due);
+    let due = "a|.|b| = |c|;|a| += |d|;|a| -= |1|;";
+    assert_eq!(within("a.b = c; a += d; a -= 1;"), due);
 }
 
 #[test]
 fn expressions() {
-    assert_eq!(
-        within("a - b * -c"),
-        ["a", "-", " ", "b", "*", " ", "-", "c"]
-    );
-    assert_eq!(
-        within("!a(b, 1).c?"),
-        ["!", "a", "(", "b", ",", "1", "^)", ".", "c", "?"]
-    );
-    assert_eq!(
-        within("R { a: 1, b: [], c: [2] }"),
-        [
-            "R", " ", "{", "a", ": ", "1", ",", "b", ": ", "[", "]", ",",
-            "c", ": ", "[", "2", "^]", "^}"
-        ]
-    );
-    assert_eq!(
-        within("(f\"x {a} y\" == \"s\")"),
-        [
-            "(", "f\"", "x ", "{", "a", "}", " y", "\"", "==", " ", "\"s\"",
-            ")"
-        ]
-    );
+    assert_eq!(within("a - b * -c"), "a|-| |b|*| |-|c");
+    assert_eq!(within("!a(b, 1).c?"), "!|a|(|b|,|1|^)|.|c|?");
+    let due = "R| |{|a|: |1|,|b|: |[|]|,|c|: |[|2|^]|^}";
+    assert_eq!(within("R { a: 1, b: [], c: [2] }"), due);
+    let due = "(|f\"|x |{|a|}| y|\"|==| |\"s\"|)";
+    assert_eq!(within("(f\"x {a} y\" == \"s\")"), due);
+    let due =
+        "match |a| |{|B|(|c|,|d|^)| if |e| => |f|,|G| => |{|h|}|_| => |1|,|}";
     assert_eq!(
         within("match a { B(c, d) if e => f, G => { h } _ => 1, }"),
-        [
-            "match ", "a", " ", "{", "B", "(", "c", ",", "d", "^)", " if ",
-            "e", " => ", "f", ",", "G", " => ", "{", "h", "}", "_", " => ",
-            "1", ",", "}"
-        ]
+        due
     );
 }
 

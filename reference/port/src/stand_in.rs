@@ -534,16 +534,7 @@ pub fn render(
     let before = world.rendering;
     let given = Given { source, image };
     let [stop, width] = args.map(|number| number as usize);
-    if planted(Fault::WidthNotKept) {
-        world.rendering.width = 0;
-    }
-    let legal = width::check(width, before.width).is_ok();
-    let max = if planted(Fault::Eighty) && legal {
-        world.rendering.width = 0;
-        width::REFERENCE
-    } else {
-        width
-    };
+    let max = spoil_width(&mut world.rendering, width);
     match render_call(given, &mut world, stop, output.len(), max) {
         Ok(Answer::Written { mut state, .. }) => {
             state.width = width;
@@ -561,6 +552,16 @@ pub fn render(
         }
         _ => unreachable!("a rendering call"),
     }
+}
+
+/// The width that a rendering call really gets.
+fn spoil_width(state: &mut RenderState, width: usize) -> usize {
+    let legal = width::check(width, state.width).is_ok();
+    let eighty = planted(Fault::Eighty) && legal;
+    if planted(Fault::WidthNotKept) || eighty {
+        state.width = 0;
+    }
+    if eighty { width::REFERENCE } else { width }
 }
 
 fn spoil_rendering(

@@ -23,26 +23,32 @@ use crate::Formatted;
 
 /// Compares layout and rendering in pieces, and the whole run.
 pub fn compare(tally: &mut Tally, class: &str, frame: Frame, width: usize) {
-    let contents = texts::contents(frame);
-    let contents = contents.as_ref();
+    let Frame { source, image } = frame;
+    let file = File {
+        given: Given { source, image },
+        contents: texts::contents(frame),
+    };
     for mode in [OLD, NEW] {
-        compare_as(tally, class, frame, contents, Choice { width, mode });
+        let choice = Choice { width, mode };
+        let run = program::format_as(frame, Widths::Supplied, choice);
+        compare_as(tally, class, &file, choice, run);
     }
-    compare_illegal(tally, frame, contents);
+    compare_illegal(tally, &file, frame);
+}
+
+/// A file, and what it says, if the reader accepts it.
+struct File<'f> {
+    given: Given<'f>,
+    contents: Option<Contents<'f>>,
 }
 
 fn compare_as(
     tally: &mut Tally,
     class: &str,
-    frame: Frame,
-    contents: Option<&Contents>,
+    file: &File,
     choice: Choice,
+    run: Result<Run, Refusal>,
 ) {
-    let given = Given {
-        source: frame.source,
-        image: frame.image,
-    };
-    let run = program::format_as(frame, Widths::Supplied, choice);
     let due = run.as_ref().map_err(|refusal| *refusal).and_then(|run| {
         program::fits(run).map(|()| Formatted {
             bytes: run.text.len() as u64,
@@ -54,41 +60,44 @@ fn compare_as(
     let number = due.err().map_or(0, |refusal| refusal.number);
     let way = if choice.mode == OLD { "" } else { ", mode 1" };
     tally.count(&format!("whole run, {class}{way}"), number);
-    let file = (given, contents);
     compare_whole(tally, file, choice, run.as_ref().ok(), due);
     match run {
         // A layout call has no width.
         Err(Refusal { number: 15, .. }) => {}
-        Err(refusal) => compare_refused(tally, given, choice.mode, refusal),
-        Ok(run) => {
-            let contents = contents.expect("the reader accepts it");
-            texts::expect_run(tally, contents, choice.mode, &run);
-            let mut cut = Cut {
-                tally,
-                given,
-                contents,
-                choice,
-                run: &run,
-                store: junk_cells((run.rows.len() + 2) * Row::CELLS + 4),
-                marks: junk_bytes(run.marks.len() + 3),
-            };
-            let _ = cut.layout().is_some() && cut.rendering().is_some();
+        Err(refusal) => {
+            compare_refused(tally, file.given, choice.mode, refusal);
         }
+        Ok(run) => compare_pieces(tally, file, choice, &run),
     }
+}
+
+fn compare_pieces(tally: &mut Tally, file: &File, choice: Choice, run: &Run) {
+    let contents = file.contents.as_ref().expect("the reader accepts it");
+    texts::expect_run(tally, contents, choice.mode, run);
+    let mut cut = Cut {
+        tally,
+        given: file.given,
+        contents,
+        choice,
+        run,
+        store: junk_cells((run.rows.len() + 2) * Row::CELLS + 4),
+        marks: junk_bytes(run.marks.len() + 3),
+    };
+    let _ = cut.layout().is_some() && cut.rendering().is_some();
 }
 
 /// The whole run; a refusal leaves the output as it was.
 fn compare_whole(
     tally: &mut Tally,
-    (given, contents): (Given, Option<&Contents>),
+    file: &File,
     choice: Choice,
     run: Option<&Run>,
     due: Result<Formatted, Refusal>,
 ) {
     let mut output = junk_bytes(OUTPUT);
     let mut due_output = output.clone();
-    let got = crate::format(given, choice, &mut output);
-    if let (Ok(said), Some(contents)) = (got, contents) {
+    let got = crate::format(file.given, choice, &mut output);
+    if let (Ok(said), Some(contents)) = (got, &file.contents) {
         let left = (choice.mode, said.comments_left as usize);
         let text = &output[..OUTPUT.min(said.bytes as usize)];
         texts::expect_file(tally, texts::FILES, contents, left, text);
@@ -102,13 +111,8 @@ fn compare_whole(
 
 /// The whole run with a width or a mode that can't be chosen: 12, then 15,
 /// also where there are too many rows.
-fn compare_illegal(
-    tally: &mut Tally,
-    frame: Frame,
-    contents: Option<&Contents>,
-) {
+fn compare_illegal(tally: &mut Tally, file: &File, frame: Frame) {
     const NARROW: usize = 39;
-    let Frame { source, image } = frame;
     let choice = |width, mode| Choice { width, mode };
     for choice in [
         choice(NARROW, OLD),
@@ -118,7 +122,6 @@ fn compare_illegal(
     ] {
         let run = program::format_as(frame, Widths::Supplied, choice);
         let due = Err(run.expect_err("a choice that isn't legal"));
-        let file = (Given { source, image }, contents);
         compare_whole(tally, file, choice, None, due);
     }
 }

@@ -61,7 +61,7 @@ pub fn expect_file(
     let all = contents.comments.len();
     let placed = match mode {
         NEW => all,
-        // None is left that isn't there: so many is no place.
+        // With more left than there are, there are no such pieces.
         _ => all.checked_sub(left).unwrap_or(usize::MAX),
     };
     let to = contents.end(placed);
@@ -73,15 +73,10 @@ pub fn expect(
     tally: &mut Tally,
     sort: &'static str,
     contents: &Contents,
-    [from, to]: [Place; 2],
+    places: [Place; 2],
     text: &[u8],
 ) {
-    let pieces = contents.between(from, to);
-    let answer = match &pieces {
-        None => Err(format!("no place {to:?}")),
-        Some(pieces) => told(pieces, text, pieces.make(text)),
-    };
-    tally.text(sort, answer);
+    tally.text(sort, read(contents, places, text, Pieces::make));
 }
 
 /// A text that has some of the pieces before a place, the first ones.
@@ -92,21 +87,21 @@ pub fn expect_begun(
     to: Place,
     text: &[u8],
 ) {
-    let pieces = contents.between(Place::default(), to);
-    let answer = match &pieces {
-        None => Err(format!("no place {to:?}")),
-        Some(pieces) => told(pieces, text, pieces.begin(text)),
-    };
-    tally.text(sort, answer);
+    let places = [Place::default(), to];
+    tally.text(sort, read(contents, places, text, Pieces::begin));
 }
 
-/// A fault with what stands there and what might have.
-fn told(
-    pieces: &Pieces,
+/// A fault is told with what stands there, and what might have.
+fn read<'c>(
+    contents: &'c Contents,
+    [from, to]: [Place; 2],
     text: &[u8],
-    answer: Result<(), Fault>,
+    made_of: impl Fn(&Pieces<'c>, &[u8]) -> Result<(), Fault>,
 ) -> Result<(), String> {
-    answer.map_err(|fault| {
+    let pieces = contents
+        .between(from, to)
+        .ok_or_else(|| format!("no pieces from {from:?} to {to:?}"))?;
+    made_of(&pieces, text).map_err(|fault| {
         let end = text.len().min(fault.at + 24);
         let there = String::from_utf8_lossy(&text[fault.at..end]);
         let Place { comments, tokens } = fault.before;
