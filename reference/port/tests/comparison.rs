@@ -4,7 +4,7 @@
 
 use judge::rows;
 use port::{
-    compare::{Item, PORT_WORDS, Plan, Tally, one},
+    compare::{Item, PORT_WORDS, Plan, Tally, one, texts},
     measure::inputs,
     stand_in::{Fault, plant},
 };
@@ -32,6 +32,13 @@ const SHORT: Plan = Plan {
 fn each_planted_fault_is_found() {
     let tally = PLAN.run();
     assert_eq!(tally.differences, 0, "{}", tally.report());
+    texts_of_each_sort_are_tried(&tally);
+    for fault in [Fault::CommentLost, Fault::WordsSwapped] {
+        plant(fault);
+        let tally = PLAN.run();
+        plant(Fault::None);
+        faulty_texts_are_found(&tally, fault);
+    }
     for fault in Fault::ALL {
         plant(fault);
         let mut tally = Tally::default();
@@ -53,6 +60,25 @@ fn each_planted_fault_is_found() {
         assert!(tally.differences > 0, "{fault:?} isn't found");
         println!("{fault:?}\n{}", tally.report());
     }
+}
+
+fn texts_of_each_sort_are_tried(tally: &Tally) {
+    for sort in texts::SORTS {
+        let [tried, faulty] = tally.texts_of(sort);
+        assert!(tried > 0 && faulty == 0, "{sort}, {}", tally.report());
+    }
+}
+
+/// By what each text says, the other side aside: all of the port's are wrong,
+/// and none of the judge's.
+fn faulty_texts_are_found(tally: &Tally, fault: Fault) {
+    for sort in texts::SORTS {
+        let [_, faulty] = tally.texts_of(sort);
+        let found = sort.ends_with("the port's");
+        assert_eq!(faulty > 0, found, "{fault:?}, {sort}");
+    }
+    let report = tally.report();
+    assert!(report.contains("not the program, word by word"), "{report}");
 }
 
 /// Rows that no layout made name words by the judge's starts, so the tables

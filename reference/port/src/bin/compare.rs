@@ -25,6 +25,7 @@ fn main() -> ExitCode {
         println!("{notice}");
     }
     println!("{:.1} seconds", start.elapsed().as_secs_f64());
+    println!("{} texts tried word by word", tally.texts());
     println!("{} differences", tally.differences);
     if tally.differences == 0 {
         ExitCode::SUCCESS

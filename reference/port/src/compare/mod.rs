@@ -22,6 +22,8 @@ mod rooms;
 #[cfg(feature = "calls")]
 mod step_lists;
 mod tally;
+#[cfg(feature = "calls")]
+pub mod texts;
 mod work;
 
 #[cfg(feature = "calls")]
