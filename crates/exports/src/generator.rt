@@ -27,7 +27,7 @@ fn put_wrote(out: &mut [u64; 2], answer: Wrote)
 
 // Writes the image of a list of steps to the start of the output. `out` gets the refusal's number and place, or 0 and the image's bytes.
 #[no_mangle]
-pub extern "C" fn rrufthim_write(steps: &[u8], output: &mut [u8], out: &mut [u64; 2])
+pub extern "C" fn rrufthim_write_s1(steps: &[u8], output: &mut [u8], out: &mut [u64; 2])
     ensures { λ r. ⌜ (now (output .exit) ≡ writerOutput (now (steps .entry)) (now (output .entry))) × (now (out .exit) ≡ toldWriter (writerAnswer (now (steps .entry)) (length (now (output .entry)))) (now (out .entry))) ⌝ }
 {
     let answer = write_image(steps, output);
@@ -36,7 +36,12 @@ pub extern "C" fn rrufthim_write(steps: &[u8], output: &mut [u8], out: &mut [u64
 
 // Writes the steps of an image to the start of the output. `out` gets the refusal's number and place, or 0 and the bytes of the steps.
 #[no_mangle]
-pub extern "C" fn rrufthim_steps(source: &[u8], image: &[u8], output: &mut [u8], out: &mut [u64; 2])
+pub extern "C" fn rrufthim_steps_s1(
+    source: &[u8],
+    image: &[u8],
+    output: &mut [u8],
+    out: &mut [u64; 2],
+)
     ensures { λ r. ⌜ (now (output .exit) ≡ stepsOfOutput (now (source .entry)) (now (image .entry)) (now (output .entry))) × (now (out .exit) ≡ toldWriter (stepsOfAnswer (now (source .entry)) (now (image .entry)) (length (now (output .entry)))) (now (out .entry))) ⌝ }
 {
     let answer = steps_of(source, image, output);

@@ -2,8 +2,8 @@
 use mathlib.Core.Path.{refl}
 use Rattle.exports.proofs.Told.{formats}
 use borrow.Author.Needs.{needs}
-use Rattle.exports.proofs.rrufthim_format.Statement.{statement}
-use Rattle.exports.proofs.rrufthim_format.Tie as tie
+use Rattle.exports.proofs.rrufthim_format_s1.Statement.{statement}
+use Rattle.exports.proofs.rrufthim_format_s1.Tie as tie
 
 returns : tie.Need-returns
 returns c = formats _ _ _ _ _ _ _ _ _ _ (c .before .before .before .before .before .before .file-choice .ensures) (c .before .before .before .before .before .format-file .ensures) (c .before .n .given .1) refl
@@ -11,8 +11,8 @@ returns c = formats _ _ _ _ _ _ _ _ _ _ (c .before .before .before .before .befo
 returns-2 : tie.Need-returns-2
 returns-2 c = formats _ _ _ _ _ _ _ _ _ _ (c .before .before .before .before .before .before .before .before .file-choice .ensures) (c .before .before .before .before .before .before .before .format-file .ensures) (c .before .before .before .bytes .given .1) (c .put-formatted .ensures)
 
-pub rrufthim-format-spec : {M : Type 1} → statement M
-rrufthim-format-spec =
+pub rrufthim-format-s1-spec : {M : Type 1} → statement M
+rrufthim-format-s1-spec =
     tie.close
     (tie.spec
     (λ c κs. search needs)
