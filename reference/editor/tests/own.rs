@@ -2,7 +2,10 @@
 
 use std::{fs, path::PathBuf};
 
-use editor::own::{replace::replace, text_of};
+use editor::own::{
+    target::{Put, Target},
+    text_of,
+};
 use judge::{
     frame,
     generate::{self, Class},
@@ -124,11 +127,15 @@ fn a_file_that_changed_meanwhile_stays() {
     let folder = PathBuf::from(env!("CARGO_TARGET_TMPDIR")).join("own");
     fs::create_dir_all(&folder).expect("a folder");
     let path = folder.join("a.roto");
+    fs::write(&path, "older").expect("a file");
+    let target = Target::read(&path).expect("it is there");
     fs::write(&path, "newer").expect("a file");
-    let error = replace(&path, b"older", b"text").expect_err("not replaced");
-    assert_eq!(error.to_string(), "it was changed meanwhile");
+    let put = target.replace(b"text").expect("nothing fails");
+    assert_eq!(put, Put::LeftAlone);
     assert_eq!(fs::read(&path).expect("it is there"), b"newer");
-    replace(&path, b"newer", b"text").expect("replaced");
+    let target = Target::read(&path).expect("it is there");
+    let put = target.replace(b"text").expect("nothing fails");
+    assert_eq!(put, Put::Replaced);
     assert_eq!(fs::read(&path).expect("it is there"), b"text");
     assert_eq!(fs::read_dir(&folder).expect("a folder").count(), 1);
 }

@@ -2,7 +2,7 @@
 //! formatter. `reference/fmt` is the program for it.
 
 mod meaning;
-pub mod replace;
+pub mod target;
 
 use std::ops::Range;
 
