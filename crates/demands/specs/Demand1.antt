@@ -1,5 +1,5 @@
--- Demand 1: "A tree image with its source, comments, carried states and lent buffers of any size is laid out and rendered, or refused under a
--- number of document 01. .. a refusal gives a number and a place and changes no lent buffer." proofs/Demand1.antt proves it.
+-- Demand 1: a tree image with its source, comments, carried states and lent buffers of any size is laid out and rendered, or refused under a
+-- number of document 01; a refusal gives a number and a place and changes no lent buffer. proofs/Demand1.antt proves it.
 --
 -- Of each entry, by what it promises and nothing else. None of the entries requires anything of its caller, and each of them is total: a function
 -- of Rattle is proved to end, and not to trap, whatever it is called with. The entries for other languages are in Linked.antt.
@@ -86,7 +86,7 @@ pub record Answered (numbers : List ℕ) (table told : Option Refusal) (Kept : T
   -- "No other cause refuses, and each listed one does": accepted, or refused with the table's number and place
   pub as-table : told ≡ table
   pub listed : (r : Refusal) → told ≡ some r → isOneOf (r .number) numbers ≡ true
-  -- "Left as it was: all"
+  -- the table's column "Left as it was": all
   pub kept : (r : Refusal) → told ≡ some r → Kept
 
 -- `image::check`, which is lent nothing to change

@@ -1,4 +1,4 @@
--- Demand 2: "For an accepted tree the rows, marks, text and comments left equal what `fmt_parsed` builds and renders." proofs/Demand2.antt proves it.
+-- Demand 2: for an accepted tree the rows, marks, text and comments left equal what `fmt_parsed` builds and renders. proofs/Demand2.antt proves it.
 --
 -- Of the two calls and of a whole file, by what they promise. What `fmt_parsed` builds: `fmtParsed` (crates/layout/specs/Layout.antt), what it has
 -- when its loop reaches a declaration: `upTo` (crates/layout_facts/specs/Accepted.antt); what `Renderer` makes of it: `renderNodes`
