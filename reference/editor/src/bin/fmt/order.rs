@@ -12,8 +12,8 @@ usage: fmt [--check] [--width N] [--as-roto] [--] FILE...";
 const HELP: &str = "\
 Formats Roto files in place and keeps every comment. A file is replaced only
 if it has a text that holds all of its comments and is read as the same file;
-else it is named, with line and column, and stays as it is. Mode, owner and
-links are kept.
+else it is named, with line and column where the fault has a place, and stays
+as it is. Mode, owner and links are kept.
 
   --check     writes nothing, and says which files would change
   --width N   lines of N columns, from 40 to 200, in place of 80
