@@ -25,8 +25,8 @@ use Rattle.steps.proofs.Numbers.{steps-number}
 use Rattle.steps.proofs.Claims.{exactly-one, written-reads-back}
 use Rattle.writer.specs.declared.Wrote.{Wrote}
 use Rattle.writer.specs.declared.Wrote.the-variants as answer
-use Rattle.writer.specs.Wrote.{wroteAnswer}
-use Rattle.demands.specs.Generator.{writerNumbers, stepsNumbers, writerTold, Writes, Lists, Generator1, TheList, GivesBack, GeneratorLists}
+use Rattle.writer.specs.Wrote.{wroteAnswer, Writes, Lists}
+use Rattle.demands.specs.Generator.{writerNumbers, stepsNumbers, writerTold, Generator1, TheList, GivesBack, GeneratorLists}
 use Rattle.demands.proofs.Demand1.{Under, sets-front, under-if, under-none, under-first, under-more, answered, left-same}
 
 -- ---- demand 1
@@ -67,12 +67,12 @@ pub generator-1 : Generator1
 generator-1 = record {
   write =
       λ l out r out2 p.
-      answered (ap writerTold (p .answered) ∙ by-table (writerRefusal l (length out)) _) (write-under l (length out))
-      (λ q f. p .output-left ∙ left-same _ q out _ f);
+      answered (ap writerTold (p .0) ∙ by-table (writerRefusal l (length out)) _) (write-under l (length out))
+      (λ q f. p .1 ∙ left-same _ q out _ f);
   list =
       λ s b out r out2 p.
-      answered (ap writerTold (p .answered) ∙ by-table (stepsOfRefusal s b (length out)) _) (list-under s b (length out))
-      (λ q f. p .output-left ∙ left-same _ q out _ f);
+      answered (ap writerTold (p .0) ∙ by-table (stepsOfRefusal s b (length out)) _) (list-under s b (length out))
+      (λ q f. p .1 ∙ left-same _ q out _ f);
 }
 
 -- ---- what stands at the start of an output
@@ -119,7 +119,7 @@ given-room l room more t h = rw (t .taken, t .small, le-ltb more (length (imageD
 
 written-front : (l out : List ℕ) (n : ℕ) (out2 : List ℕ) → Writes l out (answer.Bytes n) out2 → Front (writerRefusal l (length out)) (imageDue l) n out2
 written-front l out n out2 p =
-    front (writerRefusal l (length out)) (imageDue l) out n out2 (p .answered) (p .output-left)
+    front (writerRefusal l (length out)) (imageDue l) out n out2 (p .0) (p .1)
     (λ e. ltb-false (length out) (length (imageDue l)) (takes l (length out) e .fits))
 
 turns-by : (l b : List ℕ) (room : ℕ) → Takes l room → imageDue l ≡ b → Turns l b
@@ -143,8 +143,8 @@ turned-by l b out r out2 t p h =
     let passed : writerRefusal l (length b) ≡ none = none-by (writerRefusal l (length b)) (length (imageDue l)) (length b) (t .accepted) in
     let due : length (imageDue l) ≡ length b = ap length (t .image) in
     let none-at : writerRefusal l (length out) ≡ none = given-room l (length b) (length out) (takes l (length b) passed) (omega (arith, due, h)) in (
-      p .answered ∙ ap (λ (o : Option Refusal). writerAnswerBy o (length (imageDue l))) none-at ∙ ap (λ (x : List ℕ). wrote (length x)) (t .image),
-      p .output-left ∙ ap (λ (o : Option Refusal). unless o out (sets out 0 (imageDue l))) none-at ∙ ap (λ (x : List ℕ). sets out 0 x) (t .image),
+      p .0 ∙ ap (λ (o : Option Refusal). writerAnswerBy o (length (imageDue l))) none-at ∙ ap (λ (x : List ℕ). wrote (length x)) (t .image),
+      p .1 ∙ ap (λ (o : Option Refusal). unless o out (sets out 0 (imageDue l))) none-at ∙ ap (λ (x : List ℕ). sets out 0 x) (t .image),
     )
 
 -- ---- the steps of an image
@@ -170,7 +170,7 @@ listed s b out m out2 p = go (readAll s b) refl
         (not-if (ltb (length out) (length due)) 17 (length due) (passes-line line [] (passes-others (readRefused (readAll s b)) (line ∷ []) e)))
 
     whole : Front (stepsOfRefusal s b (length out)) due m out2
-    whole = front (stepsOfRefusal s b (length out)) due out m out2 (p .answered) (p .output-left) fits
+    whole = front (stepsOfRefusal s b (length out)) due out m out2 (p .0) (p .1) fits
 
     go : (x : Read Image) → readAll s b ≡ x → Listed s b m out2
     go (got i end) e = record { image = i; end = end; read = e; steps = whole .bytes ∙ ap (stepsBy b) e }
@@ -195,7 +195,7 @@ refused-as : (s b out : List ℕ) (r : Wrote) (out2 : List ℕ) (q : Refusal) �
 refused-as s b out r out2 q p e by =
     under-first (1 ∷ 2 ∷ 6 ∷ 7 ∷ 17 ∷ []) (readRefused (readAll s b) ∷ line ∷ [])
     (under-more (1 ∷ 2 ∷ 6 ∷ 7 ∷ []) (17 ∷ []) (readRefused (readAll s b)) (go (readAll s b) refl), (under-if (1 ∷ 2 ∷ 6 ∷ 7 ∷ 17 ∷ []) (ltb (length out) (length due)) 17 (length due) refl, tt))
-    .of q (sym (by-table (stepsOfRefusal s b (length out)) (length due)) ∙ sym (ap writerTold (p .answered)) ∙ ap writerTold e)
+    .of q (sym (by-table (stepsOfRefusal s b (length out)) (length due)) ∙ sym (ap writerTold (p .0)) ∙ ap writerTold e)
   where
     due : List ℕ
     due = stepsDue s b

@@ -49,7 +49,7 @@ use Rattle.steps.specs.Writer.{WriterAnswer, writerRefusal, writerAnswerBy, ima
 use Rattle.steps.specs.OfImage.{stepsOfRefusal, stepsDue}
 use Rattle.writer.specs.declared.Wrote.{Wrote}
 use Rattle.writer.specs.declared.Wrote.the-variants as wrote
-use Rattle.writer.specs.Wrote.{wroteAnswer}
+use Rattle.writer.specs.Wrote.{wroteAnswer, Writes, Lists}
 use Rattle.batch.specs.Batch.{BatchAnswer, batchRefusal, batchAnswerBy, allSaves, savesBy, textsDue}
 use Rattle.batch.specs.Whole.{batchedAnswer, Batches}
 use Rattle.batch.specs.declared.Batch.{Batch}
@@ -62,7 +62,7 @@ use Rattle.exports.specs.Saves.{toldBatch, FormatsBatch}
 use Rattle.demands.specs.Demand1.{layoutNumbers, renderNumbers, fileNumbers, countNumbers, readTold, callTold, fileTold, countTold, Answered}
 use Rattle.demands.specs.Demand3.{Caller, freshCaller, Made, Promised, afterMade, callMade, answerMade, held, HeldAsDue}
 use Rattle.demands.specs.Demand3 as made
-use Rattle.demands.specs.Generator.{writerNumbers, stepsNumbers, writerTold, Writes, Lists}
+use Rattle.demands.specs.Generator.{writerNumbers, stepsNumbers, writerTold}
 use Rattle.demands.specs.Saves.{batchNumbers, batchTold}
 use Rattle.demands.specs.Linked.{answerFrom, checkedFrom, layingFrom, renderingFrom, formattedFrom, countedFrom, wroteFrom, batchFrom, LinkedPromises, Told, Linked1, Linked2}
 use Rattle.demands.specs.Linked.{Holder, freshHolder, LinkedCall, laid, rendered, LinkedPromised, afterLinked, callLinked, heldLinked, madeLinked, LinkedCut, Linked3, LinkedCallsHoldAll, LinkedLists, LinkedSingles}
@@ -197,17 +197,15 @@ linked-promises = record {
       λ s b from out out2 h e.
       count-from (countRefusal s b (talliesFrom from)) (figuresOf s b) (talliesFrom from) out out2 (count-under s b (talliesFrom from)) (omega arith) e;
   write =
-      λ l output out output2 out2 h f e.
-      record {
-        answered = wrote-from writerNumbers (writerRefusal l (length output)) (length (imageDue l)) out out2 refl (write-under l (length output)) (omega arith) e;
-        output-left = f;
-      };
+      λ l output out output2 out2 h p. (
+        wrote-from writerNumbers (writerRefusal l (length output)) (length (imageDue l)) out out2 refl (write-under l (length output)) (omega arith) (p .1),
+        p .0,
+      );
   steps =
-      λ s b output out output2 out2 h f e.
-      record {
-        answered = wrote-from stepsNumbers (stepsOfRefusal s b (length output)) (length (stepsDue s b)) out out2 refl (list-under s b (length output)) (omega arith) e;
-        output-left = f;
-      };
+      λ s b output out output2 out2 h p. (
+        wrote-from stepsNumbers (stepsOfRefusal s b (length output)) (length (stepsDue s b)) out out2 refl (list-under s b (length output)) (omega arith) (p .1),
+        p .0,
+      );
   batch =
       λ f choice table output out table2 output2 out2 h p.
       let c = toChoice (fileChoice choice) in
@@ -289,13 +287,13 @@ linked-1 = record {
       told-as countNumbers _ _ out2 _ (demand-1 .count s b (talliesFrom from) (countedFrom out2) (linked-promises .count s b from out out2 h e))
       (told-by (λ (r : Counted). countTold (countedAnswer r)) counted.Refused _ out2 refl (λ n p. refl));
   write =
-      λ l output out output2 out2 h f e.
-      told-as writerNumbers _ _ out2 _ (generator-1 .write l output _ output2 (linked-promises .write l output out output2 out2 h f e))
-      (told-by (λ (r : Wrote). writerTold (wroteAnswer r)) wrote.Refused _ out2 refl (λ n p. refl));
+      λ l output out output2 out2 h p.
+      told-as writerNumbers _ _ out2 _ (generator-1 .write l output _ output2 (linked-promises .write l output out output2 out2 h p))
+      (told-by (λ (r : Wrote). writerTold (wroteAnswer r)) wrote.Refused _ out2 refl (λ n q. refl));
   steps =
-      λ s b output out output2 out2 h f e.
-      told-as stepsNumbers _ _ out2 _ (generator-1 .list s b output _ output2 (linked-promises .steps s b output out output2 out2 h f e))
-      (told-by (λ (r : Wrote). writerTold (wroteAnswer r)) wrote.Refused _ out2 refl (λ n p. refl));
+      λ s b output out output2 out2 h p.
+      told-as stepsNumbers _ _ out2 _ (generator-1 .list s b output _ output2 (linked-promises .steps s b output out output2 out2 h p))
+      (told-by (λ (r : Wrote). writerTold (wroteAnswer r)) wrote.Refused _ out2 refl (λ n q. refl));
   batch =
       λ f choice table output out table2 output2 out2 h p.
       told-as batchNumbers _ _ out2 _ (saves-1 .batch f _ table output _ table2 output2 (linked-promises .batch f choice table output out table2 output2 out2 h p))
@@ -463,13 +461,13 @@ linked-calls-hold-all s b store₀ marks₀ calls p closed new = linked-holds s 
 pub linked-lists : LinkedLists
 linked-lists = record {
   one =
-      λ s b output out output2 out2 h small f e z.
+      λ s b output out output2 out2 h small p z.
       generator-lists .one s b output (getD out2 1 0) output2 small
-      (subst (λ (r : Wrote). Lists s b output r output2) (from-accepted wrote.Refused _ out2 z) (linked-promises .steps s b output out output2 out2 h f e));
+      (subst (λ (r : Wrote). Lists s b output r output2) (from-accepted wrote.Refused _ out2 z) (linked-promises .steps s b output out output2 out2 h p));
   back =
-      λ l output out output2 out2 h small f e z.
+      λ l output out output2 out2 h small p z.
       generator-lists .back l output (getD out2 1 0) output2 small
-      (subst (λ (r : Wrote). Writes l output r output2) (from-accepted wrote.Refused _ out2 z) (linked-promises .write l output out output2 out2 h f e));
+      (subst (λ (r : Wrote). Writes l output r output2) (from-accepted wrote.Refused _ out2 z) (linked-promises .write l output out output2 out2 h p));
 }
 
 pub linked-singles : LinkedSingles

@@ -10,7 +10,7 @@ use mathlib.Core.List.{List, [], _∷_, _++_}
 use Prim.Native.Nat.{ℕ}
 use lib.ListN.{length, take, drop}
 use Rattle.refusals.specs.Refusals.{Refusal, isOneOf}
-use Rattle.image.specs.Read.{readAll, readNumbers, Outcome, outcome, outcomeOf}
+use Rattle.image.specs.Read.{readAll, readNumbers, Outcome, outcomeOf, Checks}
 use Rattle.image.specs.Read as image
 use Rattle.image.specs.declared.Answer as check
 use Rattle.cut_rule.specs.Run.{Answer, laidOut, written}
@@ -91,7 +91,7 @@ pub record Answered (numbers : List ℕ) (table told : Option Refusal) (Kept : T
 
 -- `image::check`, which is lent nothing to change
 abbrev pub CheckAnswered : Type 0
-CheckAnswered = (s b : List ℕ) (r : check.Answer) → outcomeOf r ≡ outcome (readAll s b)
+CheckAnswered = (s b : List ℕ) (r : check.Answer) → Checks s b r
     → Answered readNumbers (readRefusal (readAll s b)) (readTold (outcomeOf r)) (Unit {0})
 
 -- `layout_call::layout_call`
@@ -131,7 +131,7 @@ ProgramAnswered = (frame out : List ℕ) (n : ℕ) (out2 : List ℕ) → Replies
 
 -- `figures::count_file`, which is lent nothing to change
 abbrev pub CountAnswered : Type 0
-CountAnswered = (s b : List ℕ) (t : Tallies) (r : Counted) → count.countedAnswer r ≡ count.countAnswer s b t
+CountAnswered = (s b : List ℕ) (t : Tallies) (r : Counted) → count.Counts s b t r
     → Answered countNumbers (count.countRefusal s b t) (countTold (count.countedAnswer r)) (Unit {0})
 
 pub record Demand1 : Type 0 where

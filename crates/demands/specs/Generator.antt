@@ -9,12 +9,12 @@ use lib.ListN.{length, take}
 use lib.Seq.{sets}
 use Rattle.refusals.specs.Refusals.{Refusal, isOneOf}
 use Rattle.image.specs.Read.{readNumbers}
-use Rattle.steps.specs.Writer.{WriterAnswer, refused, wrote, writerRefusal, writerAnswer, writerOutput}
-use Rattle.steps.specs.OfImage.{stepsOfRefusal, stepsOfAnswer, stepsOfOutput}
+use Rattle.steps.specs.Writer.{WriterAnswer, refused, wrote, writerRefusal}
+use Rattle.steps.specs.OfImage.{stepsOfRefusal}
 use Rattle.steps.specs.Exact.{Bytes}
 use Rattle.writer.specs.declared.Wrote.{Wrote}
 use Rattle.writer.specs.declared.Wrote.the-variants as answer
-use Rattle.writer.specs.Wrote.{wroteAnswer}
+use Rattle.writer.specs.Wrote.{wroteAnswer, Writes, Lists}
 use Rattle.demands.specs.Demand1.{Answered}
 
 -- ---- the numbers of each entry
@@ -30,17 +30,6 @@ stepsNumbers = readNumbers ++ (17 ∷ [])
 abbrev pub writerTold : WriterAnswer → Option Refusal
 writerTold (refused r) = some r
 writerTold (wrote n) = none
-
--- ---- what is promised
--- `write_image`: of the list l, with the output before and after
-pub record Writes (l out : List ℕ) (r : Wrote) (out2 : List ℕ) : Type 0 where
-  pub answered : wroteAnswer r ≡ writerAnswer l (length out)
-  pub output-left : out2 ≡ writerOutput l out
-
--- `steps_of`: of the image b with the source s
-pub record Lists (s b out : List ℕ) (r : Wrote) (out2 : List ℕ) : Type 0 where
-  pub answered : wroteAnswer r ≡ stepsOfAnswer s b (length out)
-  pub output-left : out2 ≡ stepsOfOutput s b out
 
 -- ---- demand 1
 pub record Generator1 : Type 0 where

@@ -9,7 +9,7 @@ use Prim.Native.Nat.{ℕ, _-_}
 use lib.Dec.{eqb}
 use lib.ListN.{length, getD, take, drop, replicate}
 use Rattle.refusals.specs.Refusals.{Refusal, isOneOf}
-use Rattle.image.specs.Read.{readAll, readNumbers, outcome, outcomeOf}
+use Rattle.image.specs.Read.{readAll, readNumbers, Checks}
 use Rattle.image.specs.declared.Answer.{Answer as Checked}
 use Rattle.image.specs.declared.Answer.the-variants as checked
 use Rattle.rows.specs.Rows.{sizes}
@@ -39,26 +39,27 @@ use Rattle.file.specs.declared.Formatted.the-variants as formatted
 use Rattle.file.specs.Whole.{toChoice, Formats}
 use Rattle.figures.specs.declared.Counted.{Counted}
 use Rattle.figures.specs.declared.Counted.the-variants as counted
-use Rattle.figures.specs.Figures.{countRefusal, countAnswer, countedAnswer}
+use Rattle.figures.specs.Figures.{countRefusal, Counts}
 use Rattle.steps.specs.Exact.{Bytes}
-use Rattle.steps.specs.Writer.{writerRefusal, writerAnswer, writerOutput}
-use Rattle.steps.specs.OfImage.{stepsOfRefusal, stepsOfAnswer, stepsOfOutput}
+use Rattle.steps.specs.Writer.{writerRefusal}
+use Rattle.steps.specs.OfImage.{stepsOfRefusal}
 use Rattle.writer.specs.declared.Wrote.{Wrote}
 use Rattle.writer.specs.declared.Wrote.the-variants as wrote
+use Rattle.writer.specs.Wrote.{Writes, Lists}
 use Rattle.batch.specs.Batch.{allSaves, savesBy, batchRefusal}
 use Rattle.batch.specs.Whole.{Batches}
 use Rattle.batch.specs.Singles as singles
 use Rattle.batch.specs.declared.Batch.{Batch}
 use Rattle.batch.specs.declared.Batch.the-variants as batch
-use Rattle.exports.specs.Numbers.{layoutState, layoutArgs, renderState, renderArgs, fileChoice, toldRead, figuresFrom, talliesFrom, toldCount}
-use Rattle.exports.specs.Calls.{Lays, Renders, FormatsFile}
-use Rattle.exports.specs.Generator.{toldWriter}
+use Rattle.exports.specs.Numbers.{layoutState, layoutArgs, renderState, renderArgs, fileChoice, figuresFrom, talliesFrom}
+use Rattle.exports.specs.Calls.{ChecksFile, CountsFile, Lays, Renders, FormatsFile}
+use Rattle.exports.specs.Generator.{WritesImage, ListsSteps}
 use Rattle.exports.specs.Saves.{FormatsBatch}
 use Rattle.demands.specs.Demand1.{layoutNumbers, renderNumbers, fileNumbers, countNumbers}
 use Rattle.demands.specs.Demand2.{LaidOutAs, DrawnAs, FileAs}
 use Rattle.demands.specs.Demand3.{Caller, Made, afterMade, callMade, answerMade, held, HeldAsDue}
 use Rattle.demands.specs.Demand3 as made
-use Rattle.demands.specs.Generator.{writerNumbers, stepsNumbers, Writes, Lists, TheList, GivesBack}
+use Rattle.demands.specs.Generator.{writerNumbers, stepsNumbers, TheList, GivesBack}
 use Rattle.demands.specs.Saves.{batchNumbers}
 
 -- ---- what the numbers of an answer tell
@@ -94,8 +95,8 @@ batchFrom o = answerFrom batch.Refused (batch.Done (getD o 1 0) (getD o 2 0)) o
 
 -- the promise of each, by what is promised of the function that is linked
 pub record LinkedPromises : Type 0 where
-  pub check : (s b out out2 : List ℕ) → length out ≡ 4 → out2 ≡ toldRead (outcome (readAll s b)) (length (declared s b)) out
-      → outcomeOf (checkedFrom out2) ≡ outcome (readAll s b)
+  pub check : (s b out out2 : List ℕ) → length out ≡ 4 → ChecksFile s b out out2
+      → Checks s b (checkedFrom out2)
   pub layout : (s b store state args out store2 out2 : List ℕ) → length out ≡ 10 → Lays s b store state args out store2 out2
       → LayoutCalled s b (layoutState state) (layoutArgs args) store (layingFrom out2) store2
   pub render : (s b store marks output state args out store2 marks2 output2 out2 : List ℕ) → length out ≡ 8
@@ -103,13 +104,11 @@ pub record LinkedPromises : Type 0 where
       → RenderCalled s b (renderState state) (renderArgs args) store marks output (renderingFrom out2) store2 marks2 output2
   pub format : (s b choice output out output2 out2 : List ℕ) → length out ≡ 5 → FormatsFile s b choice output out output2 out2
       → Formats s b (toChoice (fileChoice choice)) output (formattedFrom out2) output2
-  pub count : (s b from out out2 : List ℕ) → length out ≡ 18 → out2 ≡ toldCount (countAnswer s b (talliesFrom from)) out
-      → countedAnswer (countedFrom out2) ≡ countAnswer s b (talliesFrom from)
-  pub write : (l output out output2 out2 : List ℕ) → length out ≡ 2 → output2 ≡ writerOutput l output
-      → out2 ≡ toldWriter (writerAnswer l (length output)) out
+  pub count : (s b from out out2 : List ℕ) → length out ≡ 18 → CountsFile s b from out out2
+      → Counts s b (talliesFrom from) (countedFrom out2)
+  pub write : (l output out output2 out2 : List ℕ) → length out ≡ 2 → WritesImage l output out output2 out2
       → Writes l output (wroteFrom out2) output2
-  pub steps : (s b output out output2 out2 : List ℕ) → length out ≡ 2 → output2 ≡ stepsOfOutput s b output
-      → out2 ≡ toldWriter (stepsOfAnswer s b (length output)) out
+  pub steps : (s b output out output2 out2 : List ℕ) → length out ≡ 2 → ListsSteps s b output out output2 out2
       → Lists s b output (wroteFrom out2) output2
   pub batch : (f choice table output out table2 output2 out2 : List ℕ) → length out ≡ 3 → FormatsBatch f choice table output out table2 output2 out2
       → Batches f (toChoice (fileChoice choice)) table output (batchFrom out2) table2 output2
@@ -129,7 +128,7 @@ pub record Told (numbers : List ℕ) (table : Option Refusal) (out2 : List ℕ) 
 
 pub record Linked1 : Type 0 where
   pub check : (s b out out2 : List ℕ) → length out ≡ 4
-      → out2 ≡ toldRead (outcome (readAll s b)) (length (declared s b)) out
+      → ChecksFile s b out out2
       → Told readNumbers (readRefusal (readAll s b)) out2 (Unit {0})
   pub layout : (s b store state args out store2 out2 : List ℕ) → length out ≡ 10
       → Lays s b store state args out store2 out2
@@ -140,13 +139,11 @@ pub record Linked1 : Type 0 where
       ((store2 ≡ store) × (marks2 ≡ marks) × (output2 ≡ output))
   pub format : (s b choice output out output2 out2 : List ℕ) → length out ≡ 5 → FormatsFile s b choice output out output2 out2
       → Told fileNumbers (fileRefusal s b (toChoice (fileChoice choice)) (length output)) out2 (output2 ≡ output)
-  pub count : (s b from out out2 : List ℕ) → length out ≡ 18 → out2 ≡ toldCount (countAnswer s b (talliesFrom from)) out
+  pub count : (s b from out out2 : List ℕ) → length out ≡ 18 → CountsFile s b from out out2
       → Told countNumbers (countRefusal s b (talliesFrom from)) out2 (Unit {0})
-  pub write : (l output out output2 out2 : List ℕ) → length out ≡ 2 → output2 ≡ writerOutput l output
-      → out2 ≡ toldWriter (writerAnswer l (length output)) out
+  pub write : (l output out output2 out2 : List ℕ) → length out ≡ 2 → WritesImage l output out output2 out2
       → Told writerNumbers (writerRefusal l (length output)) out2 (output2 ≡ output)
-  pub steps : (s b output out output2 out2 : List ℕ) → length out ≡ 2 → output2 ≡ stepsOfOutput s b output
-      → out2 ≡ toldWriter (stepsOfAnswer s b (length output)) out
+  pub steps : (s b output out output2 out2 : List ℕ) → length out ≡ 2 → ListsSteps s b output out output2 out2
       → Told stepsNumbers (stepsOfRefusal s b (length output)) out2 (output2 ≡ output)
   pub batch : (f choice table output out table2 output2 out2 : List ℕ) → length out ≡ 3 → FormatsBatch f choice table output out table2 output2 out2
       → Told batchNumbers (batchRefusal (toChoice (fileChoice choice)) f (length table) (length output)) out2 ((table2 ≡ table) × (output2 ≡ output))
@@ -273,12 +270,10 @@ LinkedCallsHoldAll =
 -- ---- request 5
 -- the request's two sentences, of a list that `rrufthim_steps` gave and of an image that `rrufthim_write` wrote
 pub record LinkedLists : Type 0 where
-  pub one : (s b output out output2 out2 : List ℕ) → length out ≡ 2 → Bytes b → output2 ≡ stepsOfOutput s b output
-      → out2 ≡ toldWriter (stepsOfAnswer s b (length output)) out
+  pub one : (s b output out output2 out2 : List ℕ) → length out ≡ 2 → Bytes b → ListsSteps s b output out output2 out2
       → getD out2 0 0 ≡ 0
       → TheList b (take (getD out2 1 0) output2)
-  pub back : (l output out output2 out2 : List ℕ) → length out ≡ 2 → Bytes l → output2 ≡ writerOutput l output
-      → out2 ≡ toldWriter (writerAnswer l (length output)) out
+  pub back : (l output out output2 out2 : List ℕ) → length out ≡ 2 → Bytes l → WritesImage l output out output2 out2
       → getD out2 0 0 ≡ 0
       → GivesBack l (take (getD out2 1 0) output2)
 

@@ -6,13 +6,9 @@ mod numbers;
 mod saves;
 
 ghost use mathlib.Core.Path.{_≡_};
-ghost use lib.ListN.{length};
-ghost use Rattle.image.specs.Read.{readAll, outcome};
-ghost use Rattle.layout_call.specs.Steps.{declared};
 ghost use Rattle.text.specs.Newlines.{countNewlines};
-ghost use Rattle.figures.specs.Figures.{countAnswer};
-ghost use Rattle.exports.specs.Numbers.{toldRead, toldNewlines, talliesFrom, toldCount};
-ghost use Rattle.exports.specs.Calls.{Lays, Renders, FormatsFile};
+ghost use Rattle.exports.specs.Numbers.{toldNewlines};
+ghost use Rattle.exports.specs.Calls.{ChecksFile, CountsFile, Lays, Renders, FormatsFile};
 use crate::count::put_counted;
 use crate::count::tallies_from;
 use crate::numbers::file_choice;
@@ -40,7 +36,7 @@ use text::newlines::count_newlines;
 // the number of declarations.
 #[no_mangle]
 pub extern "C" fn rrufthim_check_s1(source: &[u8], image: &[u8], out: &mut [u64; 4])
-    ensures { λ r. ⌜ now (out .exit) ≡ toldRead (outcome (readAll (now (source .entry)) (now (image .entry)))) (length (declared (now (source .entry)) (now (image .entry)))) (now (out .entry)) ⌝ }
+    ensures { λ r. ⌜ ChecksFile (now (source .entry)) (now (image .entry)) (now (out .entry)) (now (out .exit)) ⌝ }
 {
     match image::check(source, image) {
         Answer::Refused(n, p) => {
@@ -158,7 +154,7 @@ pub extern "C" fn rrufthim_count_s1(
     tallies: &[u64; 8],
     out: &mut [u64; 18],
 )
-    ensures { λ r. ⌜ now (out .exit) ≡ toldCount (countAnswer (now (source .entry)) (now (image .entry)) (talliesFrom (now (tallies .entry)))) (now (out .entry)) ⌝ }
+    ensures { λ r. ⌜ CountsFile (now (source .entry)) (now (image .entry)) (now (tallies .entry)) (now (out .entry)) (now (out .exit)) ⌝ }
 {
     match count_file(source, image, tallies_from(tallies)) {
         Counted::Refused(n, p) => {
