@@ -20,7 +20,8 @@ use Rattle.rows.specs.Node.{Text, Node, ascii, str, line, emptyLine, lineOrSpac
 use Rattle.rows.specs.Words.{word}
 use Rattle.renderer_rules.specs.Holds.{Token, aWord, lastComma}
 use Rattle.state.specs.Act.{Given, Act, Asking, _⨟_, _⨟?_, skip, when, push, told, grouped, indented, indentedNext, called, says, content}
-use Rattle.comments.specs.Comments.{popWhitespace, popTrailingComment}
+use Rattle.comments.specs.Comments.{whitespace, popWhitespace, popTrailingComment}
+use Rattle.comments.specs.declared.Gap.{Gap}
 use Rattle.layout.specs.declared.forms.WrapStyle.{WrapStyle}
 use Rattle.layout.specs.declared.forms.WrapStyle.the-variants.{Tight, Spaced, Wrap}
 use Rattle.layout.specs.Layout.{edge, isWrap, opens, ends, inside, beforeElem, pathNext, operator, maybeExpr, placeholder, clause, blockStart, beforeStmt, afterStmt, leftmost, pickOperands, popped, someTypeParams, Elem, Operands, Bottom, Chain, Unit′, binopPrecedence, symbol, assignSymbol, returnWord, elements, separated, pathMore, pathRule, identElems, typeExpr, typeForm, typeArgs, typeElems, fieldElems, params, typeParams, importPath, importGroup, importItems, importElems, pattern, binop, literalRule, exprWithPrecedence, exprForm, operands, operandsForm, otherwise, exprElems, groupedElems, entryElems, armElems, partsRule, blockRule, stmtsRule, lastRule, stmtRule, stmtForm, opening, variantElems, declaration, declares, shebangRule, declarationsRule, importSpan, noneOf, isEmpty, isBlock, isBraced, unlessEmpty, oneOr, ident, letType, returnType, importFirst, isSome, isGroup}
@@ -49,7 +50,7 @@ pub record Joining (g : Given) (P : ℕ → List Token → Act → Type 0) : Typ
   pub indents : {k : ℕ} {ts : List Token} {a : Act} → P k ts a → P k ts (indented a)
   pub indents-next : {k : ℕ} {ts : List Token} {a : Act} → P k ts a → P k ts (indentedNext a)
   pub calls : {k : ℕ} {ts us : List Token} {e a : Act} → P k ts e → P k us a → P k (ts ++ us) (called e a)
-  pub asks : {k : ℕ} {ts us : List Token} (a : Asking) {b : Bool → Act} → P k ts (told a) → ((answer : Bool) → P k us (b answer)) → P k (ts ++ us) (a ⨟? b)
+  pub asks : {k : ℕ} {ts us : List Token} (a : Asking Gap) {b : Gap → Act} → P k ts (told a) → ((answer : Gap) → P k us (b answer)) → P k (ts ++ us) (a ⨟? b)
   pub gaps : {k : ℕ} (position : ℕ) (leading trailing only : Bool) → P k [] (told (popWhitespace g position leading trailing only))
   pub trails : {k : ℕ} → P k [] (popTrailingComment g)
 
@@ -120,7 +121,7 @@ module _ {g : Given} {P : ℕ → List Token → Act → Type 0} (J : Joining g 
   every-called : {ts us : List Token} {e a : Act} → Every ts e → Every us a → Every (ts ++ us) (called e a)
   every-called p q k = J .calls (p k) (q k)
 
-  every-asks : {ts us : List Token} (a : Asking) {b : Bool → Act} → Every ts (told a) → ((answer : Bool) → Every us (b answer)) → Every (ts ++ us) (a ⨟? b)
+  every-asks : {ts us : List Token} (a : Asking Gap) {b : Gap → Act} → Every ts (told a) → ((answer : Gap) → Every us (b answer)) → Every (ts ++ us) (a ⨟? b)
   every-asks a p q k = J .asks a (p k) (λ answer. q answer k)
 
   gapped : (position : ℕ) (leading trailing only : Bool) → EveryNone (told (popWhitespace g position leading trailing only))
@@ -276,7 +277,7 @@ module _ {g : Given} {P : ℕ → List Token → Act → Type 0} (J : Joining g 
   unfolding operator
   every-operator first s op =
       every-asks (popWhitespace g (s .start) true true false) (gapped (s .start) true true false)
-      (λ whitespace. every-when (not first && not whitespace) spaced)
+      (λ gap. every-when (not first && not (whitespace gap)) spaced)
       ⨾ said (symbol op)
       ⨾ said " "
 
@@ -435,7 +436,7 @@ module _ {g : Given} {P : ℕ → List Token → Act → Type 0} (J : Joining g 
   unfolding opening
   every-opening p first =
       every-asks (popWhitespace g p (not first) true (not first)) (gapped p (not first) true (not first))
-      (λ whitespace. every-when (not first && not whitespace) lined)
+      (λ gap. every-when (not first && not (whitespace gap)) lined)
 
   every-params : (fs : Fields) (s : Span) → Every (listTokens "(" ")" true (fieldsTokens fs)) (params g (fieldElems g fs) s)
   every-params fs s = every-separated "(" ")" true (all-fields fs) s Tight

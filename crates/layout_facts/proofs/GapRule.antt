@@ -7,13 +7,14 @@ use mathlib.Core.Option.{Option, none as nothing, some}
 use lib.Dec.{ltb, eqb}
 use lib.ListN.{length}
 use Rattle.text.specs.Newlines.{countNewlines}
+use Rattle.text.specs.declared.newlines.Newlines.{Newlines}
 use Rattle.text.specs.Space.{something}
 use Rattle.text.specs.declared.space.Found.{Found}
 use Rattle.text.specs.declared.space.Found.the-variants.{At, Nowhere}
 use Rattle.ast.specs.Syntax.{Span}
 use Rattle.rows.specs.Node.{line, emptyLine}
-use Rattle.state.specs.Act.{Given, St, Act, Asking, _⨟_, _⨟!_, skip, push, moveTo, pop, told, answering}
-use Rattle.comments.specs.Comments.{front, pushComment, newlines, ignoreNewlines, popComment, waits, popComments, popWhitespace, popTrailingComment}
+use Rattle.state.specs.Act.{Given, St, Act, _⨟_, _⨟!_, skip, push, moveTo, pop, told}
+use Rattle.comments.specs.Comments.{breakLine, front, pushComment, newlines, ignoreNewlines, popComment, waits, popComments, afterComments, popWhitespace, popTrailingComment}
 
 pub record GapSteps (g : Given) (P : Act → Type 0) : Type 0 where
   pub skips : P skip
@@ -34,13 +35,10 @@ module _ {g : Given} {P : Act → Type 0} (J : GapSteps g P) where
 
   gap-newlines : (p : ℕ) → P (told (newlines g p))
   unfolding newlines
-  gap-newlines p = J .looks (λ s. counted (countNewlines (g .source) (s .pos) p .count)) (λ s. kept (countNewlines (g .source) (s .pos) p .count)) (λ s. refl)
+  gap-newlines p = J .looks (λ s. breakLine (countNewlines (g .source) (s .pos) p) ⨟ moveTo p) (λ s. kept (countNewlines (g .source) (s .pos) p)) (λ s. refl)
     where
-      counted : ℕ → Act
-      counted n = cond (eqb n 0) skip (cond (eqb n 1) (push line) (push emptyLine)) ⨟ moveTo p
-
-      kept : (n : ℕ) → P (counted n)
-      kept n = J .joins (gap-cond (eqb n 0) (J .skips) (gap-cond (eqb n 1) (J .lines) (J .empty-lines))) (J .moves p)
+      kept : (n : Newlines) → P (breakLine n ⨟ moveTo p)
+      kept n = J .joins (gap-cond (eqb (n .count) 0) (J .skips) (gap-cond (eqb (n .count) 1) (J .lines) (J .empty-lines))) (J .moves p)
 
   gap-popComment : (leading : Bool) (c : Span) → P (popComment g leading c)
   unfolding popComment
@@ -62,14 +60,11 @@ module _ {g : Given} {P : Act → Type 0} (J : GapSteps g P) where
   pub every-gap : (p : ℕ) (leading trailing only : Bool) → P (told (popWhitespace g p leading trailing only))
   unfolding popWhitespace _⨟!_
   every-gap p leading trailing only =
-      J .looks (λ s. popComments g (length (g .comments)) p leading ⨟ told (ending (waits g p s && trailing)))
+      J .looks (λ s. popComments g (length (g .comments)) p leading ⨟ told (afterComments g (waits g p s && trailing) p only))
       (λ s. J .joins (gap-popComments (length (g .comments)) p leading) (last (waits g p s && trailing) only))
       (λ s. refl)
     where
-      ending : Bool → Asking
-      ending t = cond t (answering true (told (newlines g p))) (cond only (newlines g p) (answering false (ignoreNewlines g p)))
-
-      last : (t u : Bool) → P (told (cond t (answering true (told (newlines g p))) (cond u (newlines g p) (answering false (ignoreNewlines g p)))))
+      last : (t u : Bool) → P (told (afterComments g t p u))
       last true u = gap-newlines p
       last false true = gap-newlines p
       last false false = J .ignores p

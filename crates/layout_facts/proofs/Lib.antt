@@ -14,3 +14,4 @@ pub mod Rights
 pub mod Passes
 pub mod Limits
 pub mod Foot
+pub mod BlankLines

@@ -4,3 +4,4 @@ pub mod Height
 pub mod Accepted
 pub mod Right
 pub mod Tokens
+pub mod BlankLines
