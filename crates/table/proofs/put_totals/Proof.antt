@@ -1,18 +1,21 @@
 -- The word, the tallies, and the newline.
 -- Assumes nothing.
 use Rattle.rows.specs.Ascii.{bytes}
-use Rattle.table.proofs.Parts.{puts-both, puts-text, writes}
+use Rattle.table.proofs.Parts.{puts-both, puts-text}
 use native.Mathlib.Omega.{arith}
 use borrow.Author.Needs.{needs}
-use Rattle.table.proofs.totals_line.Statement.{statement}
-use Rattle.table.proofs.totals_line.Tie as tie
+use Rattle.table.proofs.put_totals.Statement.{statement}
+use Rattle.table.proofs.put_totals.Tie as tie
 
 returns : tie.Need-returns
 unfolding bytes
-returns c = writes (omega arith) (omega arith) (puts-both (puts-both (c .before .before .before .before .before .put-cell .ensures) (c .before .before .before .put-figures .ensures)) (puts-text (bytes "\n") (c .put-text .ensures)))
+returns c =
+    let first = c .before .before .before .before .before .before .before .before .before .before .before .put-cell .ensures in
+    let others = c .before .before .before .before .before .before .before .put-figures .ensures in
+    puts-both (puts-both first others) (puts-text (bytes "\n") (c .before .before .put-text .ensures))
 
-pub totals-line-spec : {M : Type 1} → statement M
-totals-line-spec =
+pub put-totals-spec : {M : Type 1} → statement M
+put-totals-spec =
     tie.close
     (tie.spec
     (λ c. search needs)
@@ -20,4 +23,5 @@ totals-line-spec =
     (λ c κs. search needs)
     (λ c. search needs)
     (λ c κs. search needs)
+    (λ c. search needs)
     returns)
