@@ -6,3 +6,4 @@ pub mod Generator
 pub mod Saves
 pub mod Linked
 pub mod Text
+pub mod Claims

@@ -14,7 +14,7 @@ use Rattle.tallies.specs.declared.Tallies.{Tallies}
 use Rattle.tallies.specs.Tallies.{MAX-FILES, freshTallies}
 use Rattle.tallies.specs.Order as tallied
 use Rattle.tallies.specs.Order.{Reordered, sum}
-use Rattle.figures.specs.Figures.{FILE-OUTPUT, figuresOf, CountAnswer, refused, counted, countAnswer, countedAnswer}
+use Rattle.figures.specs.Figures.{FILE-OUTPUT, figuresOf, CountAnswer, refused, counted, countedAnswer, Counts}
 use Rattle.figures.specs.declared.Counted.{Counted}
 
 -- A source and an image of bytes. (The column is bounded because widths stand in two bytes; of the source nothing is asked.)
@@ -57,7 +57,7 @@ after t m = talliesAfter t (countedAnswer (m .answer))
 
 -- what `count_file` promises
 abbrev pub Keeps : Tallies → Made → Type 0
-Keeps t m = countedAnswer (m .answer) ≡ countAnswer (m .file .source) (m .file .image) t
+Keeps t m = Counts (m .file .source) (m .file .image) t (m .answer)
 
 abbrev pub files : List Made → List File
 files ms = map (λ m. m .file) ms
