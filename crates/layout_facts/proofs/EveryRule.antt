@@ -21,7 +21,8 @@ use Rattle.state.specs.Act.{Given, Act, Asking, _⨟_, _⨟?_, skip, when, push
 use Rattle.layout.specs.declared.forms.WrapStyle.{WrapStyle}
 use Rattle.layout.specs.declared.forms.WrapStyle.the-variants.{Tight, Spaced, Wrap}
 use Rattle.layout.specs.Layout.{edge, isWrap, opens, ends, inside, beforeElem, pathNext, operator, maybeExpr, placeholder, clause, blockStart, beforeStmt, afterStmt, leftmost, pickOperands, popped, someTypeParams, Elem, Operands, Bottom, Chain, Unit′, binopPrecedence, elements, separated, pathMore, pathRule, identElems, typeExpr, typeForm, typeArgs, typeElems, fieldElems, params, typeParams, importPath, importGroup, importItems, importElems, pattern, binop, literalRule, exprWithPrecedence, exprForm, operands, operandsForm, otherwise, exprElems, groupedElems, entryElems, armElems, partsRule, blockRule, stmtsRule, lastRule, stmtRule, stmtForm, opening, variantElems, declaration, declares, shebangRule, declarationsRule, importSpan, noneOf, isEmpty, isBlock, isBraced, unlessEmpty, oneOr}
-use Rattle.comments.specs.Comments.{popWhitespace, popTrailingComment}
+use Rattle.comments.specs.Comments.{whitespace, popWhitespace, popTrailingComment}
+use Rattle.comments.specs.declared.Gap.{Gap}
 use Rattle.layout_facts.specs.Accepted.{closing, wholeRule, callRule}
 
 -- the nodes without parts and numbers that a rule pushes
@@ -43,7 +44,7 @@ pub record Joining (g : Given) (P : ℕ → Act → Type 0) : Type 0 where
   pub indents : {k : ℕ} {a : Act} → P k a → P k (indented a)
   pub indents-next : {k : ℕ} {a : Act} → P k a → P k (indentedNext a)
   pub calls : {k : ℕ} {e a : Act} → P k e → P k a → P k (called e a)
-  pub asks : {k : ℕ} (a : Asking) {b : Bool → Act} → P k (told a) → ((answer : Bool) → P k (b answer)) → P k (a ⨟? b)
+  pub asks : {k : ℕ} (a : Asking Gap) {b : Gap → Act} → P k (told a) → ((answer : Gap) → P k (b answer)) → P k (a ⨟? b)
   pub gaps : {k : ℕ} (position : ℕ) (leading trailing only : Bool) → P k (told (popWhitespace g position leading trailing only))
   pub trails : {k : ℕ} → P k (popTrailingComment g)
 
@@ -97,7 +98,7 @@ module _ {g : Given} {P : ℕ → Act → Type 0} (J : Joining g P) where
   every-called : {e a : Act} → Every e → Every a → Every (called e a)
   every-called p q k = J .calls (p k) (q k)
 
-  every-asks : (a : Asking) {b : Bool → Act} → Every (told a) → ((answer : Bool) → Every (b answer)) → Every (a ⨟? b)
+  every-asks : (a : Asking Gap) {b : Gap → Act} → Every (told a) → ((answer : Gap) → Every (b answer)) → Every (a ⨟? b)
   every-asks a p q k = J .asks a (p k) (λ answer. q answer k)
 
   every-gap : (position : ℕ) (leading trailing only : Bool) → Every (told (popWhitespace g position leading trailing only))
@@ -226,7 +227,7 @@ module _ {g : Given} {P : ℕ → Act → Type 0} (J : Joining g P) where
   unfolding operator
   every-operator first s op =
       every-asks (popWhitespace g (s .start) true true false) (every-gap (s .start) true true false)
-      (λ whitespace. every-when (not first && not whitespace) spaced)
+      (λ gap. every-when (not first && not (whitespace gap)) spaced)
       ⨾ said
       ⨾ said
 
@@ -380,7 +381,7 @@ module _ {g : Given} {P : ℕ → Act → Type 0} (J : Joining g P) where
   unfolding opening
   every-opening p first =
       every-asks (popWhitespace g p (not first) true (not first)) (every-gap p (not first) true (not first))
-      (λ whitespace. every-when (not first && not whitespace) lined)
+      (λ gap. every-when (not first && not (whitespace gap)) lined)
 
   every-typeParams : (is : Idents) → Every (typeParams g (identElems g (is .elems)) (is .span))
   every-typeParams is = every-separated "[" "]" "," (all-idents (is .elems)) (is .span) Tight

@@ -15,9 +15,10 @@ use Rattle.text.specs.declared.space.Found.the-variants.{At, Nowhere}
 use Rattle.ast.specs.Syntax.{Span, SyntaxTree}
 use Rattle.rows.specs.Node.{Node, Nodes, line, emptyLine, none, _then_, join}
 use Rattle.renderer_rules.proofs.Names.{names, namesIn}
-use Rattle.state.specs.Act.{Given, St, Out, Act, next, _⨟_, _⨟?_, _⨟!_, skip, push, moveTo, pop, told, answering, grouped, indented}
+use Rattle.state.specs.Act.{Given, St, Out, Act, next, _⨟_, _⨟?_, _⨟!_, skip, push, moveTo, pop, told, grouped, indented}
 use Rattle.state.specs.Act.{indentedNext, called}
-use Rattle.comments.specs.Comments.{front, pushComment, newlines, ignoreNewlines, popComment, waits, popComments, popWhitespace, popTrailingComment}
+use Rattle.comments.specs.Comments.{breakLine, front, pushComment, newlines, ignoreNewlines, popComment, waits}
+use Rattle.comments.specs.Comments.{popComments, afterComments, popWhitespace, popTrailingComment}
 use Rattle.layout.specs.Layout.{fmtParsed}
 use Rattle.layout_facts.specs.Accepted.{fresh, wholeRule}
 use Rattle.layout_facts.proofs.EveryRule.{Leaf, ascii-leaf, str-leaf, line-leaf, emptyLine-leaf, lineOrSpace-leaf, wrapParent-leaf, Joining, every-whole}
@@ -70,7 +71,7 @@ plain-newlines : (g : Given) (p : ℕ) → Plain (told (newlines g p))
 unfolding newlines namesIn
 plain-newlines g p = record { none = λ s x. kept s .none s x }
   where
-    kept : (s : St) → Plain (cond (eqb (countNewlines (g .source) (s .pos) p .count) 0) skip (cond (eqb (countNewlines (g .source) (s .pos) p .count) 1) (push line) (push emptyLine)) ⨟ moveTo p)
+    kept : (s : St) → Plain (breakLine (countNewlines (g .source) (s .pos) p) ⨟ moveTo p)
     kept s =
         let n = countNewlines (g .source) (s .pos) p .count in
         plain-then (plain-cond (eqb n 0) plain-skip (plain-cond (eqb n 1) (record { none = λ s x. refl }) (record { none = λ s x. refl }))) plain-move
@@ -100,7 +101,7 @@ pub plain-gap : (g : Given) (p : ℕ) (a b c : Bool) → Plain (told (popWhitesp
 unfolding popWhitespace _⨟!_
 plain-gap g p a b c = record { none = λ s x. plain-then (plain-popComments g (length (g .comments)) p a) (last (waits g p s && b) c) .none s x }
   where
-    last : (t u : Bool) → Plain (told (cond t (answering true (told (newlines g p))) (cond u (newlines g p) (answering false (ignoreNewlines g p)))))
+    last : (t u : Bool) → Plain (told (afterComments g t p u))
     last true u = plain-newlines g p
     last false true = plain-newlines g p
     last false false = plain-ignore g p

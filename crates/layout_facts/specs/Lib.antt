@@ -6,3 +6,4 @@ pub mod Right
 pub mod Chosen
 pub mod Texts
 pub mod Tokens
+pub mod BlankLines
