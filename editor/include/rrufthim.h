@@ -157,9 +157,9 @@ void rrufthim_format(
     uint64_t out[RRUFTHIM_FORMAT_OUT]);
 
 /*
- * The newlines (0x0A) of the source from start up to end, that one not included: to jump to the gap that made a blank line. It refuses
- * nothing. Where the range is reversed, ends past the source, or starts or ends inside a character (at a byte from 0x80 to 0xBF), none is
- * counted. The source need not be UTF-8.
+ * The newlines (0x0A) of the source from start up to end, that one not included: to jump to the gap that made a blank line (README.md,
+ * "Jump to the gap", says which ranges are such gaps). It refuses nothing. Where the range is reversed, ends past the source, or starts or
+ * ends inside a character (at a byte from 0x80 to 0xBF), none is counted. The source need not be UTF-8.
  *
  * out: [0] how many, [1] the place of the last one, or end if there is none.
  */
