@@ -20,7 +20,7 @@ use Rattle.renderer.proofs.machine.run_rows.Tie as tie
 
 abbrev Inv-loop : tie.InvT-loop
 Inv-loop store source image marks₀ out₀ bounds stop frames₀ r₀ marks out frames r =
-    Going store source image (bounds .max .0) (bounds .limit) stop (renderNodes (pageOf (bounds .max .0) source image) (nodesAt (viewOf store) (r₀ .next) stop) true (freshRenderer (r₀ .writing .pen) marks₀)) out₀ marks out (wholeRun frames r)
+    Going store source image (bounds .max .0) (bounds .limit .0) stop (renderNodes (pageOf (bounds .max .0) source image) (nodesAt (viewOf store) (r₀ .next) stop) true (freshRenderer (r₀ .writing .pen) marks₀)) out₀ marks out (wholeRun frames r)
     × (length marks ≡ length marks₀)
 
 abbrev μ-loop : tie.MeasureT-loop
