@@ -6,7 +6,7 @@ use std::{
     path::{Path, PathBuf},
 };
 
-use super::{frame::is_frame, report::Report};
+use super::common::report::Report;
 
 /// Folders that hold no work of anybody's, by name or by what is in them.
 const PASSED_OVER: [&str; 2] = [".git", "target"];
@@ -78,6 +78,10 @@ fn entries(folder: &Path) -> io::Result<Vec<PathBuf>> {
     let mut inner = inner.collect::<io::Result<Vec<_>>>()?;
     inner.sort();
     Ok(inner)
+}
+
+fn is_frame(path: &Path) -> bool {
+    path.extension().is_some_and(|word| word == "frame")
 }
 
 fn is_passed_over(folder: &Path) -> bool {

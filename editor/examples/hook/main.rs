@@ -2,13 +2,11 @@
 //! batches, or looked at whether they are. `hook --help` says how it is used.
 //!
 //! What stands in a target is somebody's work: it is replaced only if the
-//! frame holds it.
+//! frame holds it (../common/put.rs).
 
+#[path = "../common/mod.rs"]
+pub(crate) mod common;
 mod find;
-mod frame;
-mod order;
-mod report;
-mod target;
 
 use std::{
     env,
@@ -18,12 +16,48 @@ use std::{
     process::ExitCode,
 };
 
-use rrufthim::{Batch, Cause, FormatError, Formatted, MAX_BATCH};
+use rrufthim::{Batch, Formatted, MAX_BATCH};
 
-use frame::Frame;
-use order::{Order, Stop};
-use report::{Fate, Report};
-pub(crate) use target::{Put, Target};
+use common::{
+    frame::Frame,
+    order::{Order, Program},
+    put::{self, Text},
+    report::Report,
+    target::Target,
+};
+
+const HOOK: Program = Program {
+    name: "hook",
+    counted: "frame",
+    usage: "\
+usage: hook [--check] [--force] [--width N] [--as-roto] [--] PATH...",
+    manual: MANUAL,
+    takes: &["--check", "--force", "--width", "--as-roto"],
+    fault_in: |paths| {
+        let none = paths.is_empty();
+        none.then(|| "no path is given".into())
+    },
+};
+
+const MANUAL: &str = "\
+Formats each frame NAME.frame that is a path, or lies in a folder that is one,
+and writes its text beside it as NAME.roto, if that isn't the text already.
+A NAME.roto that is neither the frame's source nor the text was changed since
+the frame was made: it is named, and left alone.
+
+  --check     writes nothing, and says which files would change
+  --force     overwrites what was changed since its frame was made
+  --width N   lines of N columns, from 40 to 200, in place of 80
+  --as-roto   as Roto's own formatter does it: comments after the last
+              declaration are left out
+  --help      says this
+
+In a folder, these are passed over: links to folders, folders named .git or
+target, and folders that hold a CACHEDIR.TAG.
+
+Status: 2 if a frame is refused, a file is left alone, a path has no frame, or
+something can't be read or written; else 1 if a file would change, with
+--check alone; else 0. What makes it 2 is said on standard error.";
 
 fn main() -> ExitCode {
     let (mut out, mut err) = (io::stdout().lock(), io::stderr().lock());
@@ -36,25 +70,16 @@ pub(crate) fn run(
     out: &mut dyn Write,
     err: &mut dyn Write,
 ) -> u8 {
-    let order = Order::read(words);
-    let mut report = Report::new(out, err);
-    match order {
-        Ok(order) => work(&order, &mut report),
-        Err(Stop::Help) => report.say(&order::help()),
-        Err(Stop::Fault(why)) => report.blame(&order::fault(&why)),
-    }
-    report.status()
+    common::run(&HOOK, words, out, err, format_all)
 }
 
-fn work(order: &Order, report: &mut Report<'_>) {
-    report.check = order.check;
+fn format_all(order: &Order, report: &mut Report<'_>) {
     let frames = find::frames(&order.paths, report);
     // One for all: its buffers are kept.
     let mut batch = Batch::new(order.options);
     for some in frames.chunks(MAX_BATCH) {
         format(&mut batch, some, order, report);
     }
-    report.sum_up();
 }
 
 /// Formats some frames, and writes what changes, in their order.
@@ -75,29 +100,14 @@ fn format(
             Ok((frame, Some(Ok(formatted)))) => {
                 put(path, frame, &formatted, order, report);
             }
-            Ok((_, Some(Err(error)))) => {
-                report.end(path, Fate::Refused, &told(&error));
-            }
+            Ok((_, Some(Err(error)))) => report.refuse(path, &error),
             Ok((_, None)) => unreachable!("each file has its answer"),
-            Err(error) => {
-                report.end(path, Fate::Failed, &error.to_string());
-            }
+            Err(error) => report.fail(path, error),
         }
     }
 }
 
-/// Number and place of a refusal, and the words for it.
-fn told(error: &FormatError) -> String {
-    match &error.cause {
-        Cause::Refused(refusal) => {
-            let (number, place) = (refusal.number(), refusal.place());
-            format!("refused {number} at {place}: {error}")
-        }
-        _ => error.to_string(),
-    }
-}
-
-/// Puts a text in its place, or says that it should be there.
+/// Puts a text beside its frame, or says that it should be there.
 fn put(
     path: &Path,
     frame: &Frame,
@@ -105,46 +115,16 @@ fn put(
     order: &Order,
     report: &mut Report<'_>,
 ) {
-    let place = frame::target_of(path);
-    let (fate, words) = match settle(&place, frame, formatted, order) {
-        Ok(settled) => settled,
-        Err(error) => (Fate::Failed, error.to_string()),
+    let place = path.with_extension("roto");
+    let text = Text {
+        bytes: formatted.text.as_bytes(),
+        comments_left: formatted.comments_left.len(),
+        outgrown: formatted.outgrown,
     };
-    if matches!(fate, Fate::Same | Fate::Changed) {
-        report.remark(&place, formatted);
-    }
-    report.end(&place, fate, &words);
-}
-
-/// What becomes of a target, and what is said of it.
-fn settle(
-    place: &Path,
-    frame: &Frame,
-    formatted: &Formatted,
-    order: &Order,
-) -> io::Result<(Fate, String)> {
-    let text = formatted.text.as_bytes();
-    let target = Target::read(place)?;
-    if target.held() == Some(text) {
-        return Ok((Fate::Same, String::new()));
-    }
-    let newer = target.held().is_some_and(|held| held != frame.source);
-    if newer && !order.force {
-        let words = "changed since its frame was made; left alone";
-        return Ok((Fate::LeftAlone, words.into()));
-    }
-    target.may_be_replaced()?;
-    if !order.check && target.replace(text)? == Put::LeftAlone {
-        let words = "changed while it was formatted; left alone";
-        return Ok((Fate::LeftAlone, words.into()));
-    }
-    let words = match (newer, order.check) {
-        (false, false) => "changed",
-        (false, true) => "would change",
-        (true, false) => "overwritten, and had changed since its frame",
-        (true, true) => {
-            "would be overwritten, and has changed since its frame"
+    match Target::read(&place) {
+        Ok(target) => {
+            put::put(&target, &frame.source, &text, order, report);
         }
-    };
-    Ok((Fate::Changed, words.into()))
+        Err(error) => report.fail(&place, &error),
+    }
 }

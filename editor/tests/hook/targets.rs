@@ -8,7 +8,7 @@ use std::{
 };
 
 use super::{
-    example::{Put, Target},
+    example::common::target::{Put, Target},
     folder::{Folder, LINE, WIDE},
 };
 

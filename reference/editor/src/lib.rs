@@ -8,6 +8,9 @@ mod declarations;
 mod expressions;
 pub mod own;
 pub mod patched;
+// What `reference/fmt` shares with the examples that write files.
+#[path = "../../../editor/examples/common/mod.rs"]
+pub mod common;
 // The files that are copied into Roto, compiled for its real ast.rs.
 #[path = "../../../editor/plug/mod.rs"]
 pub mod plug;

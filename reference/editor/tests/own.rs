@@ -2,9 +2,9 @@
 
 use std::{fs, path::PathBuf};
 
-use editor::own::{
-    target::{Put, Target},
-    text_of,
+use editor::{
+    common::target::{Put, Target},
+    own::text_of,
 };
 use judge::{
     frame,

@@ -2,7 +2,6 @@
 //! formatter. `reference/fmt` is the program for it.
 
 mod meaning;
-pub mod target;
 
 use std::ops::Range;
 

@@ -1,90 +1,116 @@
 //! Formats Roto files in place and keeps every comment. `fmt --help` says how
 //! it is used.
 
-mod order;
-mod report;
-
-use std::{env, io, path::Path, process::ExitCode, thread};
-
-use editor::own::{
-    self, Own,
-    target::{Put, Target},
+use std::{
+    env, fs,
+    io::{self, Write},
+    path::Path,
+    process::ExitCode,
+    thread,
 };
-use order::{Order, Stop};
-use report::{Fate, Report};
+
+use editor::{
+    common::{
+        self,
+        order::{Order, Program},
+        put::{self, Text},
+        report::{self, Fate, Report},
+        target::Target,
+    },
+    own,
+};
 use rrufthim::Formatter;
 
 /// For the parser, which goes as deep as a file's brackets: 65,536 of them
 /// take a third of it.
 const STACK: usize = 512 << 20;
 
+const FMT: Program = Program {
+    name: "fmt",
+    counted: "file",
+    usage: "usage: fmt [--check] [--width N] [--as-roto] [--] FILE...",
+    manual: MANUAL,
+    takes: &["--check", "--width", "--as-roto"],
+    fault_in: |paths| {
+        let none = paths.is_empty();
+        none.then(|| "no file is named".into())
+    },
+};
+
+const MANUAL: &str = "\
+Formats Roto files in place and keeps every comment. A file is replaced only
+if it has a text that holds all of its comments and is read as the same file;
+else it is named, with line and column where the fault has a place, and stays
+as it is. Mode, owner and links are kept.
+
+  --check     writes nothing, and says which files would change
+  --width N   lines of N columns, from 40 to 200, in place of 80
+  --as-roto   the text of Roto's own formatter: a file of which that would drop
+              comments is refused
+  --help      says this
+
+Status: 2 if a file is refused or left alone, or can't be read or written; else
+1 if a file would change, with --check alone; else 0. What makes it 2 is said
+on standard error.";
+
+/// All of it, on a stack of its own.
 fn main() -> ExitCode {
-    let mut report = Report::default();
-    match Order::read(env::args_os().skip(1)) {
-        Ok(order) => report = work(order),
-        Err(Stop::Help) => report.say(&order::help()),
-        Err(Stop::Fault(why)) => report.blame(&order::fault(&why)),
-    }
-    ExitCode::from(report.status())
-}
-
-/// All files, on a stack of its own.
-fn work(order: Order) -> Report {
     let large = thread::Builder::new().stack_size(STACK);
-    let thread = large.spawn(move || format_all(&order));
-    match thread.map(|thread| thread.join().expect("no panic")) {
-        Ok(report) => report,
+    let thread = large.spawn(run);
+    let status = match thread.map(|thread| thread.join().expect("no panic")) {
+        Ok(status) => status,
         Err(error) => {
-            let mut report = Report::default();
-            report.blame(&format!("fmt: {error}"));
-            report
+            let _ = writeln!(io::stderr(), "fmt: {error}");
+            report::FAILED
         }
-    }
+    };
+    ExitCode::from(status)
 }
 
-fn format_all(order: &Order) -> Report {
-    let mut report = Report::default();
-    report.check = order.check;
+fn run() -> u8 {
+    let (mut out, mut err) = (io::stdout().lock(), io::stderr().lock());
+    let words = env::args_os().skip(1);
+    common::run(&FMT, words, &mut out, &mut err, format_all)
+}
+
+fn format_all(order: &Order, report: &mut Report<'_>) {
     // One for all: its buffers are kept.
     let mut formatter = Formatter::new();
     formatter.set_options(order.options);
     for path in &order.paths {
-        let (fate, words) = format(&mut formatter, path, order, &mut report)
-            .unwrap_or_else(|error| (Fate::Failed, error.to_string()));
-        report.end(path, fate, &words);
+        match read(path) {
+            Ok(target) => format(&mut formatter, &target, order, report),
+            Err(error) => report.fail(path, &error),
+        }
     }
-    report.sum_up();
-    report
 }
 
-/// Formats one file: what becomes of it, and what is said of it.
+/// A target may be absent; a file that is to be formatted may not.
+fn read(path: &Path) -> io::Result<Target> {
+    if fs::metadata(path)?.is_dir() {
+        return Err(io::Error::other("is a folder: name the files in it"));
+    }
+    Target::read(path)
+}
+
+/// Formats one file, whose source is what it holds.
 fn format(
     formatter: &mut Formatter,
-    path: &Path,
+    target: &Target,
     order: &Order,
-    report: &mut Report,
-) -> io::Result<(Fate, String)> {
-    let target = Target::read(path)?;
-    let Own { text, outgrown } = match own::text_of(formatter, target.held())
-    {
-        Ok(own) => own,
-        Err(why) => return Ok((Fate::Refused, why)),
+    report: &mut Report<'_>,
+) {
+    let Some(source) = target.held() else {
+        return report.fail(target.path(), &io::ErrorKind::NotFound.into());
     };
-    if outgrown {
-        report.remark(path, "too long to be formatted again");
-    }
-    if text.as_bytes() == target.held() {
-        return Ok((Fate::Same, String::new()));
-    }
-    target.may_be_replaced()?;
-    if order.check {
-        return Ok((Fate::Changed, "would change".into()));
-    }
-    Ok(match target.replace(text.as_bytes())? {
-        Put::Replaced => (Fate::Changed, "changed".into()),
-        Put::LeftAlone => {
-            let words = "changed while it was formatted; left alone";
-            (Fate::LeftAlone, words.into())
-        }
-    })
+    let own = match own::text_of(formatter, source) {
+        Ok(own) => own,
+        Err(why) => return report.end(target.path(), Fate::Refused, &why),
+    };
+    let text = Text {
+        bytes: own.text.as_bytes(),
+        comments_left: 0,
+        outgrown: own.outgrown,
+    };
+    put::put(target, source, &text, order, report);
 }

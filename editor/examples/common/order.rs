@@ -6,56 +6,51 @@ use rrufthim::{Comments, MAX_LINE_WIDTH, MIN_LINE_WIDTH, Options};
 
 use super::report::shown;
 
-const USAGE: &str = "\
-usage: hook [--check] [--force] [--width N] [--as-roto] [--] PATH...";
+/// A program as its users know it.
+pub struct Program {
+    pub name: &'static str,
+    /// What its last line counts, one of them.
+    pub counted: &'static str,
+    pub usage: &'static str,
+    /// What `--help` says besides.
+    pub manual: &'static str,
+    /// The options that it takes, besides `--help`.
+    pub takes: &'static [&'static str],
+    /// What is wrong with its paths, if anything is.
+    pub fault_in: fn(&[PathBuf]) -> Option<String>,
+}
 
-const HELP: &str = "\
-Formats each frame NAME.frame that is a path, or lies in a folder that is one,
-and writes its text beside it as NAME.roto, if that isn't the text already.
-A NAME.roto that is neither the frame's source nor the text was changed since
-the frame was made: it is named, and left alone.
+impl Program {
+    pub fn help(&self) -> String {
+        format!("{}\n\n{}", self.usage, self.manual)
+    }
 
-  --check     writes nothing, and says which files would change
-  --force     overwrites what was changed since its frame was made
-  --width N   lines of N columns, from 40 to 200, in place of 80
-  --as-roto   as Roto's own formatter does it: comments after the last
-              declaration are left out
-  --help      says this
-
-In a folder, these are passed over: links to folders, folders named .git or
-target, and folders that hold a CACHEDIR.TAG.
-
-Status: 2 if a frame is refused, a file is left alone, a path has no frame, or
-something can't be read or written; else 1 if a file would change, with
---check alone; else 0. What makes it 2 is said on standard error.";
+    /// What is said of words that aren't understood.
+    pub fn fault(&self, why: &str) -> String {
+        let (name, usage) = (self.name, self.usage);
+        format!("{name}: {why}\n{usage}\n{name} --help says more")
+    }
+}
 
 /// What is to be done.
 #[derive(Debug, Default)]
-pub(crate) struct Order {
-    pub(crate) check: bool,
-    pub(crate) force: bool,
-    pub(crate) options: Options,
-    pub(crate) paths: Vec<PathBuf>,
+pub struct Order {
+    pub check: bool,
+    pub force: bool,
+    pub options: Options,
+    pub paths: Vec<PathBuf>,
 }
 
 /// Why nothing is to be done.
 #[derive(Debug)]
-pub(crate) enum Stop {
+pub enum Stop {
     Help,
     Fault(String),
 }
 
-pub(crate) fn help() -> String {
-    format!("{USAGE}\n\n{HELP}")
-}
-
-/// What is said of words that aren't understood.
-pub(crate) fn fault(why: &str) -> String {
-    format!("hook: {why}\n{USAGE}\nhook --help says more")
-}
-
 impl Order {
-    pub(crate) fn read(
+    pub fn read(
+        program: &Program,
         mut words: impl Iterator<Item = OsString>,
     ) -> Result<Self, Stop> {
         let mut order = Order::default();
@@ -63,23 +58,26 @@ impl Order {
             if word == "--" {
                 order.paths.extend(words.by_ref().map(PathBuf::from));
             } else if word.as_encoded_bytes().starts_with(b"-") {
-                order.choose(&word, &mut words)?;
+                order.choose(program, &word, &mut words)?;
             } else {
                 order.paths.push(word.into());
             }
         }
-        match order.paths.is_empty() {
-            true => Err(Stop::Fault("no path is given".into())),
-            false => Ok(order),
+        match (program.fault_in)(&order.paths) {
+            Some(why) => Err(Stop::Fault(why)),
+            None => Ok(order),
         }
     }
 
     fn choose(
         &mut self,
+        program: &Program,
         option: &OsString,
         words: &mut impl Iterator<Item = OsString>,
     ) -> Result<(), Stop> {
-        match option.to_str() {
+        let taken =
+            |word: &&str| *word == "--help" || program.takes.contains(word);
+        match option.to_str().filter(taken) {
             Some("--check") => self.check = true,
             Some("--force") => self.force = true,
             Some("--as-roto") => self.options.comments = Comments::AsRoto,

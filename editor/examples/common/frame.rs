@@ -1,26 +1,15 @@
-//! A frame: a file's source and its tree, as in save.rs.
+//! A frame: what an editor has at hand, a file's source and its tree. Four
+//! bytes with the source's length, the source, the tree image.
 
-use std::{
-    fs, io,
-    path::{Path, PathBuf},
-};
+use std::{fs, io, path::Path};
 
-pub(crate) struct Frame {
-    pub(crate) source: Vec<u8>,
-    pub(crate) image: Vec<u8>,
-}
-
-pub(crate) fn is_frame(path: &Path) -> bool {
-    path.extension().is_some_and(|word| word == "frame")
-}
-
-/// Where a frame's text goes.
-pub(crate) fn target_of(frame: &Path) -> PathBuf {
-    frame.with_extension("roto")
+pub struct Frame {
+    pub source: Vec<u8>,
+    pub image: Vec<u8>,
 }
 
 impl Frame {
-    pub(crate) fn read(path: &Path) -> io::Result<Self> {
+    pub fn read(path: &Path) -> io::Result<Self> {
         // What is no file, such as a pipe, may never end.
         if !fs::metadata(path)?.is_file() {
             return Err(io::Error::other("is no file"));

@@ -17,7 +17,7 @@ const PRIVATE: u32 = 0o600;
 const SHARED: u32 = 0o666;
 
 /// A target as it was found.
-pub(crate) struct Target {
+pub struct Target {
     /// As it is named.
     path: PathBuf,
     /// The file itself, where the name is a link.
@@ -33,7 +33,7 @@ struct Found {
 
 /// Whether a target was replaced.
 #[derive(Debug, PartialEq, Eq)]
-pub(crate) enum Put {
+pub enum Put {
     Replaced,
     /// It is no longer as it was found.
     LeftAlone,
@@ -42,7 +42,7 @@ pub(crate) enum Put {
 impl Target {
     /// Fails where there is something that isn't a file to be read: then
     /// nothing may be put there.
-    pub(crate) fn read(path: &Path) -> io::Result<Self> {
+    pub fn read(path: &Path) -> io::Result<Self> {
         let mut target = Target {
             path: path.to_owned(),
             real: path.to_owned(),
@@ -64,14 +64,19 @@ impl Target {
         Ok(target)
     }
 
+    /// As it is named.
+    pub fn path(&self) -> &Path {
+        &self.path
+    }
+
     /// What it holds; nothing if it isn't there.
-    pub(crate) fn held(&self) -> Option<&[u8]> {
+    pub fn held(&self) -> Option<&[u8]> {
         self.found.as_ref().map(|found| &found.bytes[..])
     }
 
     /// To replace a file takes no right to write to it, so its own mode is
     /// looked at.
-    pub(crate) fn may_be_replaced(&self) -> io::Result<()> {
+    pub fn may_be_replaced(&self) -> io::Result<()> {
         match &self.found {
             Some(found) if found.about.permissions().readonly() => {
                 Err(io::Error::other("is read-only"))
@@ -81,8 +86,9 @@ impl Target {
     }
 
     /// Written beside it first and then renamed, so that it is never half a
-    /// file. Whoever changes it meanwhile is not overwritten.
-    pub(crate) fn replace(&self, text: &[u8]) -> io::Result<Put> {
+    /// file. Its mode and owner are kept, a link stays a link, and whoever
+    /// changes it meanwhile is not overwritten.
+    pub fn replace(&self, text: &[u8]) -> io::Result<Put> {
         let name = format!(".rrufthim-{}.new", process::id());
         let beside = self.real.with_file_name(name);
         let mode = if self.found.is_some() {
