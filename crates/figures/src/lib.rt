@@ -17,6 +17,7 @@ use image::Answer;
 use image::check;
 use layout_call::Document;
 use layout_call::modes::OLD_MODE;
+use rows::units::Columns;
 use tallies::Figures;
 use tallies::Fraction;
 use tallies::Tallies;
@@ -68,11 +69,11 @@ fn count_accepted(source: &[u8], image: &[u8], doc: Document, t: Tallies) -> Cou
     let mut used = marks();
     let mut out = output();
     let choice = FileChoice {
-        width: REFERENCE_WIDTH,
+        width: Columns(REFERENCE_WIDTH),
         mode: OLD_MODE,
     };
     match run_file(source, image, &mut store, &mut used, &mut out, doc, choice) {
-        FileRun::Refused(number, place) => Counted::Refused(number, place),
+        FileRun::Stopped(number, place) => Counted::Refused(number, place),
         FileRun::Text {
             bytes,
             left,
