@@ -1,4 +1,5 @@
 -- Document 02, 2/14: the figures of one file, and what counting it answers.
+use mathlib.Core.Path.{_≡_}
 use mathlib.Core.Option.{Option, none, some}
 use mathlib.Core.Bool.{cond}
 use mathlib.Core.List.{List, [], _∷_}
