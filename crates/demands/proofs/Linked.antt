@@ -288,12 +288,12 @@ linked-1 = record {
       (told-by (λ (r : Counted). countTold (countedAnswer r)) counted.Refused _ out2 refl (λ n p. refl));
   write =
       λ l output out output2 out2 h p.
-      told-as writerNumbers _ _ out2 _ (generator-1 .write l output _ output2 (linked-promises .write l output out output2 out2 h p))
-      (told-by (λ (r : Wrote). writerTold (wroteAnswer r)) wrote.Refused _ out2 refl (λ n q. refl));
+      told-as writerNumbers _ _ out2 _ (generator-1 .write l output (wroteFrom out2) output2 (linked-promises .write l output out output2 out2 h p))
+      (told-by (λ (r : Wrote). writerTold (wroteAnswer r)) wrote.Refused (wrote.Bytes (getD out2 1 0)) out2 refl (λ n q. refl));
   steps =
       λ s b output out output2 out2 h p.
-      told-as stepsNumbers _ _ out2 _ (generator-1 .list s b output _ output2 (linked-promises .steps s b output out output2 out2 h p))
-      (told-by (λ (r : Wrote). writerTold (wroteAnswer r)) wrote.Refused _ out2 refl (λ n q. refl));
+      told-as stepsNumbers _ _ out2 _ (generator-1 .list s b output (wroteFrom out2) output2 (linked-promises .steps s b output out output2 out2 h p))
+      (told-by (λ (r : Wrote). writerTold (wroteAnswer r)) wrote.Refused (wrote.Bytes (getD out2 1 0)) out2 refl (λ n q. refl));
   batch =
       λ f choice table output out table2 output2 out2 h p.
       told-as batchNumbers _ _ out2 _ (saves-1 .batch f _ table output _ table2 output2 (linked-promises .batch f choice table output out table2 output2 out2 h p))
@@ -463,11 +463,11 @@ linked-lists = record {
   one =
       λ s b output out output2 out2 h small p z.
       generator-lists .one s b output (getD out2 1 0) output2 small
-      (subst (λ (r : Wrote). Lists s b output r output2) (from-accepted wrote.Refused _ out2 z) (linked-promises .steps s b output out output2 out2 h p));
+      (subst (λ (r : Wrote). Lists s b output r output2) (from-accepted wrote.Refused (wrote.Bytes (getD out2 1 0)) out2 z) (linked-promises .steps s b output out output2 out2 h p));
   back =
       λ l output out output2 out2 h small p z.
       generator-lists .back l output (getD out2 1 0) output2 small
-      (subst (λ (r : Wrote). Writes l output r output2) (from-accepted wrote.Refused _ out2 z) (linked-promises .write l output out output2 out2 h p));
+      (subst (λ (r : Wrote). Writes l output r output2) (from-accepted wrote.Refused (wrote.Bytes (getD out2 1 0)) out2 z) (linked-promises .write l output out output2 out2 h p));
 }
 
 pub linked-singles : LinkedSingles
