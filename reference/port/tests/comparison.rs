@@ -16,6 +16,7 @@ const PLAN: Plan = Plan {
     files: 100,
     steps: 300,
     batches: 60,
+    reports: 10,
 };
 
 const SHORT: Plan = Plan {
@@ -25,6 +26,7 @@ const SHORT: Plan = Plan {
     files: 0,
     steps: 0,
     batches: 0,
+    reports: 0,
 };
 
 /// One test, since a planted fault holds for all threads.
@@ -43,7 +45,7 @@ fn each_planted_fault_is_found() {
         plant(fault);
         let mut tally = Tally::default();
         let mut items = PLAN.items();
-        // Batches come last.
+        // Batches come last but for reports.
         if fault as u8 >= Fault::FramePlace as u8 {
             items.reverse();
         }
@@ -109,6 +111,7 @@ fn items_are_repeated_by_their_names() {
         Item::from_words("fixed-batch", 2),
         Some(Item::FixedBatch(2))
     );
+    assert_eq!(Item::from_words("report", 3), Some(Item::Report(3)));
     assert_eq!(Item::from_words("other", 4), None);
 }
 

@@ -18,6 +18,8 @@ mod lists;
 #[cfg(feature = "calls")]
 mod ranges;
 #[cfg(feature = "calls")]
+mod reports;
+#[cfg(feature = "calls")]
 mod rooms;
 #[cfg(feature = "calls")]
 mod step_lists;
@@ -28,5 +30,7 @@ mod work;
 
 #[cfg(feature = "calls")]
 pub use buffers::PORT_WORDS;
+#[cfg(feature = "calls")]
+pub use reports::compare_with as compare_report;
 pub use tally::Tally;
 pub use work::{Item, Plan, one};
