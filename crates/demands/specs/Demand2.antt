@@ -73,7 +73,7 @@ abbrev pub RenderedDue : Type 0
 RenderedDue = (s b store : List ℕ) (mode : ℕ) (t : LayoutState) (left : ℕ) (store2 : List ℕ)
     → LayoutCalled s b freshLayout (record { stop = length (declared s b); close = true; mode = mode }) store (laying.Laid t left) store2
     → (width : ℕ) (marks out : List ℕ) (u : RenderState) (n : Bytes) (store3 marks2 out2 : List ℕ)
-    → RenderCalled s b freshRender (record { stop = t .row; width = width }) store2 marks out (rendering.Written u n) store3 marks2 out2
+    → RenderCalled s b freshRender (record { stop = t .row; width = record { 0 = width } }) store2 marks out (rendering.Written u n) store3 marks2 out2
     → DrawnAs s b (record { width = width; mode = mode }) marks out (n .0) marks2 out2
 
 -- ---- a whole file
