@@ -17,37 +17,37 @@ use Rattle.figures.specs.Figures.{CountAnswer, refused, counted}
 use Rattle.figures.specs.Order.{File}
 use Rattle.table.specs.Table.{fileLine, refusedFileLine, endsInsideLine, Writes}
 use Rattle.feed.specs.Input.{sourceLength, imageLength}
-use Rattle.report.specs.Report.{numberOf, freshProgress, answerTo, progressBy, sourceIn, imageIn, progressDue, StepsBy, StepsNext}
+use Rattle.report.specs.Report.{numberOf, freshProgress, answerTo, progressBy, sourceIn, imageIn, progressDue, TakesBy, TakesNext}
 use Rattle.report.specs.Report.{afterFiles, isWhole, Stops, input-ended, unwritten}
 use Rattle.feed.specs.declared.Came.{Came}
 use Rattle.feed.specs.declared.Came.the-variants.{Nothing, Cut, Whole}
 use Rattle.report.specs.declared.progress.Progress.{Progress}
-use Rattle.report.specs.declared.progress.Step.{Step}
+use Rattle.report.specs.declared.progress.Turn.{Turn}
 
 -- ---- one file
 module _ (p : Progress) (a : CountAnswer) {out out2 : List ℕ} {n : ℕ} where
-  pub counted-step : (f : Figures) (t : Tallies) (q : Fraction) → counted f t q ≡ a → Writes (fileLine (numberOf p) f) out n out2
-      → StepsBy p a out
+  pub counted-turn : (f : Figures) (t : Tallies) (q : Fraction) → counted f t q ≡ a → Writes (fileLine (numberOf p) f) out n out2
+      → TakesBy p a out
       (record { progress = record { files = p .files + 1; refused = p .refused; tallies = t }; bytes = n })
       out2
-  counted-step f t q e w =
+  counted-turn f t q e w =
       subst
       (λ (x : CountAnswer).
-      StepsBy p x out
+      TakesBy p x out
       (record { progress = record { files = p .files + 1; refused = p .refused; tallies = t }; bytes = n })
       out2)
       e
       (record { writes = w; progress = refl })
 
-  pub refused-step : (number place : ℕ) → refused (record { number = number; place = place }) ≡ a
+  pub refused-turn : (number place : ℕ) → refused (record { number = number; place = place }) ≡ a
       → Writes (refusedFileLine (numberOf p) (record { number = number; place = place })) out n out2
-      → StepsBy p a out
+      → TakesBy p a out
       (record { progress = record { files = p .files + 1; refused = p .refused + 1; tallies = p .tallies }; bytes = n })
       out2
-  refused-step number place e w =
+  refused-turn number place e w =
       subst
       (λ (x : CountAnswer).
-      StepsBy p x out
+      TakesBy p x out
       (record { progress = record { files = p .files + 1; refused = p .refused + 1; tallies = p .tallies }; bytes = n })
       out2)
       e
@@ -64,31 +64,31 @@ take-kept n xs = go (decLe n (length xs))
         ap (λ (k : ℕ). take k xs) e ∙ take-all (length xs) xs (omega arith) ∙ sym (take-all n xs (omega arith))
 
 module _ (lengths source image : List ℕ) (p : Progress) (came : Came) where
-  abbrev Due : List ℕ → Step → List ℕ → Type 0
-  Due out r out2 = StepsNext lengths source image p came out r out2
+  abbrev Due : List ℕ → Turn → List ℕ → Type 0
+  Due out r out2 = TakesNext lengths source image p came out r out2
 
-  pub nothing-step : (out : List ℕ) → came ≡ Nothing → Due out (record { progress = p; bytes = 0 }) out
-  nothing-step out e =
-      subst (λ (x : Came). StepsNext lengths source image p x out (record { progress = p; bytes = 0 }) out)
+  pub nothing-turn : (out : List ℕ) → came ≡ Nothing → Due out (record { progress = p; bytes = 0 }) out
+  nothing-turn out e =
+      subst (λ (x : Came). TakesNext lengths source image p x out (record { progress = p; bytes = 0 }) out)
       (sym e)
       (record { writes = record { bytes-due = refl; output-left = refl; within = omega arith }; progress = refl })
 
-  pub cut-step : {out out2 : List ℕ} {n : ℕ} → came ≡ Cut → Writes (endsInsideLine (numberOf p)) out n out2
+  pub cut-turn : {out out2 : List ℕ} {n : ℕ} → came ≡ Cut → Writes (endsInsideLine (numberOf p)) out n out2
       → Due out (record { progress = p; bytes = n }) out2
-  cut-step {out} {out2} {n} e w =
-      subst (λ (x : Came). StepsNext lengths source image p x out (record { progress = p; bytes = n }) out2)
+  cut-turn {out} {out2} {n} e w =
+      subst (λ (x : Came). TakesNext lengths source image p x out (record { progress = p; bytes = n }) out2)
       (sym e)
       (record { writes = w; progress = refl })
 
-  pub whole-step : {out out2 : List ℕ} {r : Step} (i j : ℕ) → came ≡ Whole → i ≡ min (sourceLength lengths) (length source)
+  pub whole-turn : {out out2 : List ℕ} {r : Turn} (i j : ℕ) → came ≡ Whole → i ≡ min (sourceLength lengths) (length source)
       → j ≡ min (imageLength lengths) (length image)
-      → StepsBy p (answerTo p (take i source) (take j image)) out r out2
+      → TakesBy p (answerTo p (take i source) (take j image)) out r out2
       → Due out r out2
-  whole-step {out} {out2} {r} i j e f g s =
+  whole-turn {out} {out2} {r} i j e f g s =
       let one : take i source ≡ sourceIn lengths source = ap (λ (k : ℕ). take k source) f ∙ take-kept (sourceLength lengths) source in
       let two : take j image ≡ imageIn lengths image = ap (λ (k : ℕ). take k image) g ∙ take-kept (imageLength lengths) image in
-      subst (λ (x : Came). StepsNext lengths source image p x out r out2) (sym e)
-      (subst (λ (a : CountAnswer). StepsBy p a out r out2) (ap₂ (answerTo p) one two) s)
+      subst (λ (x : Came). TakesNext lengths source image p x out r out2) (sym e)
+      (subst (λ (a : CountAnswer). TakesBy p a out r out2) (ap₂ (answerTo p) one two) s)
 
 -- ---- all files so far
 -- these files give what is held
@@ -134,9 +134,9 @@ module _ (lengths source image : List ℕ) (bytes : AreBytes image) where
     among = still-among p (answerTo p (fileIn .source) (fileIn .image)) (t .among);
   }
 
-  -- what a step holds
-  pub taken-step : (p q : Progress) (came : Came) → Taken p → q ≡ progressDue lengths source image p came → Taken q
-  taken-step p q came t e = subst Taken (sym e) (taken-by p came t)
+  -- what a turn holds
+  pub taken-turn : (p q : Progress) (came : Came) → Taken p → q ≡ progressDue lengths source image p came → Taken q
+  taken-turn p q came t e = subst Taken (sym e) (taken-by p came t)
 
 -- ---- going on
 -- a whole file is a file more

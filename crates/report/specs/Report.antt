@@ -13,7 +13,7 @@ use Rattle.feed.specs.Input.{sourceLength, imageLength}
 use Rattle.feed.specs.declared.Came.{Came}
 use Rattle.feed.specs.declared.Came.the-variants.{Nothing, Cut, Whole}
 use Rattle.report.specs.declared.progress.Progress.{Progress}
-use Rattle.report.specs.declared.progress.Step.{Step}
+use Rattle.report.specs.declared.progress.Turn.{Turn}
 use Rattle.report.specs.declared.Ended.{Ended}
 
 -- the last number of 64 bits that a file can have
@@ -71,18 +71,18 @@ pub record GoesOn (p : Progress) : Type 0 where
   pub more : p .files < LAST-FILE
   pub among : p .refused ≤ p .files
 
--- a step: its line is put at the front of the output, and what is held is due
-pub record Steps (line : List ℕ) (p : Progress) (out : List ℕ) (r : Step) (out2 : List ℕ) : Type 0 where
+-- a turn: its line is put at the front of the output, and what is held is due
+pub record Takes (line : List ℕ) (p : Progress) (out : List ℕ) (r : Turn) (out2 : List ℕ) : Type 0 where
   pub writes : Writes line out (r .bytes) out2
   pub progress : r .progress ≡ p
 
 -- by an answer, and by what came
-abbrev pub StepsBy : Progress → CountAnswer → List ℕ → Step → List ℕ → Type 0
-StepsBy p a out r out2 = Steps (lineBy (numberOf p) a) (progressBy p a) out r out2
+abbrev pub TakesBy : Progress → CountAnswer → List ℕ → Turn → List ℕ → Type 0
+TakesBy p a out r out2 = Takes (lineBy (numberOf p) a) (progressBy p a) out r out2
 
-abbrev pub StepsNext : List ℕ → List ℕ → List ℕ → Progress → Came → List ℕ → Step → List ℕ → Type 0
-StepsNext lengths source image p came out r out2 =
-    Steps (lineDue lengths source image p came) (progressDue lengths source image p came) out r out2
+abbrev pub TakesNext : List ℕ → List ℕ → List ℕ → Progress → Came → List ℕ → Turn → List ℕ → Type 0
+TakesNext lengths source image p came out r out2 =
+    Takes (lineDue lengths source image p came) (progressDue lengths source image p came) out r out2
 
 -- ---- all files
 -- one after another

@@ -6,6 +6,7 @@ ghost use mathlib.Core.Bool.{_&&_};
 ghost use Prim.Native.Nat.{_≤_};
 ghost use lib.ListN.{length};
 ghost use Rattle.table.specs.Table.{LINE-ROOM};
+ghost use Rattle.report.specs.Front.{SOURCE-KEPT, IMAGE-KEPT};
 ghost use Rattle.report.specs.Report.{isWhole, Fed};
 use feed::Came;
 use feed::IMAGE_KEPT;
@@ -34,13 +35,13 @@ struct Ended {
 
 // Room for what is kept of a source and of an image.
 fn source_room() -> [u8; SOURCE_KEPT]
-    ensures { λ r. ⌜ 65537 ≡ length r ⌝ }
+    ensures { λ r. ⌜ SOURCE-KEPT ≡ length r ⌝ }
 {
     [0; SOURCE_KEPT]
 }
 
 fn image_room() -> [u8; IMAGE_KEPT]
-    ensures { λ r. ⌜ 1048582 ≡ length r ⌝ }
+    ensures { λ r. ⌜ IMAGE-KEPT ≡ length r ⌝ }
 {
     [0; IMAGE_KEPT]
 }
@@ -92,10 +93,10 @@ fn take_files(source: &mut [u8], image: &mut [u8]) -> Ended
     while p.files < FILES {
         let next = read_file(&mut lengths, source, image);
         let came = next.came;
-        let step = take_next(came, &lengths, source, image, p, &mut line);
-        let after = step.progress;
+        let turn = take_next(came, &lengths, source, image, p, &mut line);
+        let after = turn.progress;
         p = after;
-        let written = show(&line, step.bytes);
+        let written = show(&line, turn.bytes);
         if !goes_on(came, written) {
             return Ended {
                 progress: p,

@@ -1,6 +1,6 @@
 // The files one by one: what is held after each, and its line.
 ghost use mathlib.Core.Path.{_≡_};
-ghost use Rattle.report.specs.Report.{freshProgress, answerTo, GoesOn, StepsBy, StepsNext};
+ghost use Rattle.report.specs.Report.{freshProgress, answerTo, GoesOn, TakesBy, TakesNext};
 use feed::Came;
 use feed::LENGTHS;
 use feed::image_kept;
@@ -21,8 +21,8 @@ pub(crate) struct Progress {
     pub(crate) tallies: Tallies,
 }
 
-// What is held after a step, and how many bytes its line has.
-pub(crate) struct Step {
+// What is held after a turn, and how many bytes its line has.
+pub(crate) struct Turn {
     pub(crate) progress: Progress,
     pub(crate) bytes: usize,
 }
@@ -52,9 +52,9 @@ pub(crate) fn fresh() -> Progress
 }
 
 // Counts a file or refuses it, and puts its line at the front of the output.
-fn count_next(source: &[u8], image: &[u8], p: Progress, line: &mut [u8; LINE_ROOM]) -> Step
+fn count_next(source: &[u8], image: &[u8], p: Progress, line: &mut [u8; LINE_ROOM]) -> Turn
     requires { ⌜ GoesOn p ⌝ }
-    ensures { λ r. ⌜ StepsBy p (answerTo p (now (source .entry)) (now (image .entry))) (now (line .entry)) r (now (line .exit)) ⌝ }
+    ensures { λ r. ⌜ TakesBy p (answerTo p (now (source .entry)) (now (image .entry))) (now (line .entry)) r (now (line .exit)) ⌝ }
 {
     let before = p.tallies;
     let file = p.files + 1;
@@ -66,7 +66,7 @@ fn count_next(source: &[u8], image: &[u8], p: Progress, line: &mut [u8; LINE_ROO
                 tallies: after,
             };
             let n = file_line(line, file, f);
-            Step {
+            Turn {
                 progress: progress,
                 bytes: n,
             }
@@ -78,7 +78,7 @@ fn count_next(source: &[u8], image: &[u8], p: Progress, line: &mut [u8; LINE_ROO
                 tallies: before,
             };
             let n = refused_file_line(line, file, number, place);
-            Step {
+            Turn {
                 progress: progress,
                 bytes: n,
             }
@@ -94,18 +94,18 @@ pub(crate) fn take_next(
     image: &[u8],
     p: Progress,
     line: &mut [u8; LINE_ROOM],
-) -> Step
+) -> Turn
     requires { ⌜ GoesOn p ⌝ }
-    ensures { λ r. ⌜ StepsNext (now (lengths .entry)) (now (source .entry)) (now (image .entry)) p came (now (line .entry)) r (now (line .exit)) ⌝ }
+    ensures { λ r. ⌜ TakesNext (now (lengths .entry)) (now (source .entry)) (now (image .entry)) p came (now (line .entry)) r (now (line .exit)) ⌝ }
 {
     match came {
-        Came::Nothing => Step {
+        Came::Nothing => Turn {
             progress: p,
             bytes: 0,
         },
         Came::Cut => {
             let n = ends_inside_line(line, p.files + 1);
-            Step {
+            Turn {
                 progress: p,
                 bytes: n,
             }

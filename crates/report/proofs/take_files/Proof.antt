@@ -5,7 +5,7 @@ use Prim.Native.Nat.{_-_, _≤_}
 use native.Mathlib.Omega.{arith}
 use lib.ListN.{length}
 use Rattle.report.specs.Report.{most-files}
-use Rattle.report.proofs.Turns.{Taken, taken-none, taken-step, stops-here, goes-more}
+use Rattle.report.proofs.Turns.{Taken, taken-none, taken-turn, stops-here, goes-more}
 use borrow.Author.Needs.{needs}
 use Rattle.report.proofs.take_files.Statement.{statement}
 use Rattle.report.proofs.take_files.Tie as tie
@@ -51,7 +51,7 @@ returns c =
     let taken = c .before .before .before .before .before .take-next in
     let asked = c .before .goes-on in
     let held =
-    taken-step (rooms .0) (rooms .1 .0) (rooms .1 .1 .0) (λ i. omega (arith, bytes i)) (turn .p) (taken .result .progress) came (turn .inv .1 .1)
+    taken-turn (rooms .0) (rooms .1 .0) (rooms .1 .1 .0) (λ i. omega (arith, bytes i)) (turn .p) (taken .result .progress) came (turn .inv .1 .1)
     (taken .ensures .progress)
     in
     record {
@@ -86,7 +86,7 @@ loop-again c =
       read .read-file .kept .1 .0 ∙ turn .inv .0,
       (
         read .read-file .kept .1 .1 .0 ∙ turn .inv .1 .0,
-        taken-step (rooms .0) (rooms .1 .0) (rooms .1 .1 .0) (λ i. omega (arith, bytes i)) (turn .p) (taken .result .progress)
+        taken-turn (rooms .0) (rooms .1 .0) (rooms .1 .1 .0) (λ i. omega (arith, bytes i)) (turn .p) (taken .result .progress)
             (read .read-file .result .came)
             (turn .inv .1 .1)
             (taken .ensures .progress),

@@ -3,7 +3,7 @@
 use mathlib.Core.Path.{sym, ap, _∙_}
 use Rattle.figures.specs.Figures.{countedAnswer}
 use Rattle.report.specs.Report.{answerTo}
-use Rattle.report.proofs.Turns.{counted-step, refused-step}
+use Rattle.report.proofs.Turns.{counted-turn, refused-turn}
 use borrow.Author.Needs.{needs}
 use Rattle.report.proofs.progress.count_next.Statement.{statement}
 use Rattle.report.proofs.progress.count_next.Tie as tie
@@ -13,7 +13,7 @@ returns c =
     let file = c .before .before .before .before .before .before .before .before .before .before .args in
     let answer = c .before .before .before .before .before .count-file in
     let told = c .before .before .before .f .given .1 in
-    counted-step (file .p) (answerTo (file .p) (file .source .now) (file .image .now)) _ _ _ (sym (ap countedAnswer told) ∙ answer .ensures)
+    counted-turn (file .p) (answerTo (file .p) (file .source .now) (file .image .now)) _ _ _ (sym (ap countedAnswer told) ∙ answer .ensures)
     (c .file-line .ensures)
 
 returns-2 : tie.Need-returns-2
@@ -21,7 +21,7 @@ returns-2 c =
     let file = c .before .before .before .before .before .before .before .before .before .before .before .args in
     let answer = c .before .before .before .before .before .before .count-file in
     let told = c .before .before .before .before .number .given .1 in
-    refused-step (file .p) (answerTo (file .p) (file .source .now) (file .image .now)) _ _ (sym (ap countedAnswer told) ∙ answer .ensures)
+    refused-turn (file .p) (answerTo (file .p) (file .source .now) (file .image .now)) _ _ (sym (ap countedAnswer told) ∙ answer .ensures)
     (c .refused-file-line .ensures)
 
 pub count-next-spec : {M : Type 1} → statement M
