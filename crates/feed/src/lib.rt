@@ -169,9 +169,3 @@ pub fn image_kept(lengths: &[u8; LENGTHS], room: usize) -> usize
 {
     least(num32(lengths, IMAGE_LENGTH), room)
 }
-
-// Whether the input, which gave no further byte, failed and didn't end.
-pub fn unreadable() -> bool {
-    let mut one = [0u8; 1];
-    libc::read(STDIN_FILENO, &mut one) < 0
-}

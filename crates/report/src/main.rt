@@ -13,8 +13,8 @@ use feed::IMAGE_KEPT;
 use feed::LENGTHS;
 use feed::SOURCE_KEPT;
 use feed::read_file;
-use feed::unreadable;
 use libc::STDERR_FILENO;
+use libc::STDIN_FILENO;
 use libc::STDOUT_FILENO;
 use progress::Progress;
 use progress::fresh;
@@ -124,6 +124,12 @@ fn report() -> bool {
         return false;
     }
     show_last(end.progress)
+}
+
+// Whether the input, which gave no further byte, failed and didn't end.
+fn unreadable() -> bool {
+    let mut one = [0u8; 1];
+    libc::read(STDIN_FILENO, &mut one) < 0
 }
 
 // There is no status to tell a failure by: it is said on standard error.
