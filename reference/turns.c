@@ -4,12 +4,15 @@
 #include <stdlib.h>
 #include <string.h>
 #include <time.h>
+#include "../editor/include/rrufthim.h"
 
-#define SIDE(name) \
-    void name##_rrufthim_check(const uint8_t *, size_t, const uint8_t *, size_t, uint64_t *); \
-    void name##_rrufthim_layout(const uint8_t *, size_t, const uint8_t *, size_t, uint32_t *, size_t, const uint64_t *, const uint64_t *, uint64_t *); \
-    void name##_rrufthim_render(const uint8_t *, size_t, const uint8_t *, size_t, uint32_t *, size_t, uint8_t *, size_t, uint8_t *, size_t, \
-                                const uint64_t *, const uint64_t *, uint64_t *);
+/* The functions of a side: its archive's symbols, with the side's name before them. Another shape than the header's isn't linked. */
+#define OF(side, name) RRUFTHIM_JOIN(side##_rrufthim_##name##_s, RRUFTHIM_SHAPE)
+#define SIDE(side) \
+    void OF(side, check)(const uint8_t *, size_t, const uint8_t *, size_t, uint64_t *); \
+    void OF(side, layout)(const uint8_t *, size_t, const uint8_t *, size_t, uint32_t *, size_t, const uint64_t *, const uint64_t *, uint64_t *); \
+    void OF(side, render)(const uint8_t *, size_t, const uint8_t *, size_t, uint32_t *, size_t, uint8_t *, size_t, uint8_t *, size_t, \
+                          const uint64_t *, const uint64_t *, uint64_t *);
 SIDE(before)
 SIDE(after)
 
@@ -40,14 +43,14 @@ static void accepted(void) {
 
 static void lay(int side, const struct file *f) {
     uint64_t args[3] = {f->declarations, 1, 0};
-    (side == AFTER ? after_rrufthim_layout : before_rrufthim_layout)(f->source, f->source_len, f->image, f->image_len, store, STORE, fresh, args, out);
+    (side == AFTER ? OF(after, layout) : OF(before, layout))(f->source, f->source_len, f->image, f->image_len, store, STORE, fresh, args, out);
     accepted();
 }
 
 static void render(int side, const struct file *f) {
     uint64_t args[2] = {f->rows, 80};
-    (side == AFTER ? after_rrufthim_render : before_rrufthim_render)(f->source, f->source_len, f->image, f->image_len, store, STORE, marks, MARKS,
-                                                                     output, OUTPUT, fresh, args, out);
+    (side == AFTER ? OF(after, render) : OF(before, render))(f->source, f->source_len, f->image, f->image_len, store, STORE, marks, MARKS, output, OUTPUT,
+                                                             fresh, args, out);
     accepted();
 }
 
@@ -102,7 +105,7 @@ static struct file file_of(FILE *in) {
     struct file f = {number(in), number(in), 0, 0, NULL, NULL};
     f.source = bytes(in, f.source_len);
     f.image = bytes(in, f.image_len);
-    after_rrufthim_check(f.source, f.source_len, f.image, f.image_len, out);
+    OF(after, check)(f.source, f.source_len, f.image, f.image_len, out);
     accepted();
     f.declarations = out[3];
     lay(AFTER, &f);

@@ -88,6 +88,34 @@ typedef char rrufthim_lengths_have_64_bits[sizeof(size_t) == 8 ? 1 : -1];
 #define RRUFTHIM_BATCH_OUT 3
 
 /*
+ * Which library this header is for.
+ *
+ * RRUFTHIM_SHAPE is the number of the functions' shape: how many parameters, of which kinds, arrays of how many places. It is raised with each
+ * change of these, or of what a place means, and the library's symbols end in it. So a library of another shape isn't linked: the linker names
+ * the symbol that it misses, such as rrufthim_check_s followed by this number. Who calls writes the names without it.
+ *
+ * RRUFTHIM_VERSION is the version of this header and of the crate for Rust beside it, major.minor; RRUFTHIM_VERSION_NUMBER is 1,000 times the
+ * major and the minor, for #if. The minor is raised where something is added, the major where something changes that was there; as long as
+ * the major is 0, the minor is raised for both. Another shape is always another version too.
+ */
+#define RRUFTHIM_SHAPE 1
+#define RRUFTHIM_VERSION "0.1"
+#define RRUFTHIM_VERSION_NUMBER 1
+
+#define RRUFTHIM_JOIN_AS_IT_IS(name, number) name##number
+#define RRUFTHIM_JOIN(name, number) RRUFTHIM_JOIN_AS_IT_IS(name, number)
+#define RRUFTHIM_SYMBOL(name) RRUFTHIM_JOIN(rrufthim_##name##_s, RRUFTHIM_SHAPE)
+#define rrufthim_check RRUFTHIM_SYMBOL(check)
+#define rrufthim_layout RRUFTHIM_SYMBOL(layout)
+#define rrufthim_render RRUFTHIM_SYMBOL(render)
+#define rrufthim_format RRUFTHIM_SYMBOL(format)
+#define rrufthim_newlines RRUFTHIM_SYMBOL(newlines)
+#define rrufthim_count RRUFTHIM_SYMBOL(count)
+#define rrufthim_write RRUFTHIM_SYMBOL(write)
+#define rrufthim_steps RRUFTHIM_SYMBOL(steps)
+#define rrufthim_batch RRUFTHIM_SYMBOL(batch)
+
+/*
  * Whether a source and its tree image are accepted. Refusals 1 to 7.
  *
  * out: [0] 0, [1] number of comments, [2] offset of the tree's record in the image, [3] number of declarations: the stop at which
@@ -157,9 +185,9 @@ void rrufthim_format(
     uint64_t out[RRUFTHIM_FORMAT_OUT]);
 
 /*
- * The newlines (0x0A) of the source from start up to end, that one not included: to jump to the gap that made a blank line. It refuses
- * nothing. Where the range is reversed, ends past the source, or starts or ends inside a character (at a byte from 0x80 to 0xBF), none is
- * counted. The source need not be UTF-8.
+ * The newlines (0x0A) of the source from start up to end, that one not included: to jump to the gap that made a blank line (README.md,
+ * "Jump to the gap", says which ranges are such gaps). It refuses nothing. Where the range is reversed, ends past the source, or starts or
+ * ends inside a character (at a byte from 0x80 to 0xBF), none is counted. The source need not be UTF-8.
  *
  * out: [0] how many, [1] the place of the last one, or end if there is none.
  */

@@ -286,7 +286,8 @@ pub fn format_batch(
 }
 
 /// The newlines of a range of the source, and where the last of them is: for
-/// who wants to jump to the gap that made a blank line.
+/// who wants to jump to the gap that made a blank line. Which ranges layout
+/// asks about says [`Steps::gaps`](crate::Steps::gaps).
 ///
 /// Any range will do. None is counted in one that is reversed, ends past the
 /// source, or starts or ends inside a character.

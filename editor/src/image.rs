@@ -1,5 +1,7 @@
 //! What a caller must know of an image's bytes.
 
+use std::iter;
+
 use crate::ast::Span;
 
 /// Version and length of the body.
@@ -9,6 +11,8 @@ const PAIR: usize = 8;
 const LENGTH: usize = 4;
 /// Kind and span of a record.
 const HEAD: usize = 9;
+/// The kind of a declaration that has no name.
+const IMPORT: u8 = 16;
 
 /// How many declarations an image has: the tree's children but the first, the
 /// shebang's.
@@ -17,14 +21,27 @@ const HEAD: usize = 9;
 /// which does no harm as a stop: [`layout`](crate::layout) refuses the image
 /// before it looks at that.
 pub fn declarations(image: &[u8]) -> u64 {
+    (children(image).count() as u64).saturating_sub(1)
+}
+
+/// The offsets of the tree's children, the shebang's before all others.
+fn children(image: &[u8]) -> impl Iterator<Item = usize> {
     let tree = HEADER + COUNT + PAIR * comments(image) as usize;
     let mut at = tree + LENGTH + HEAD;
-    let mut children: u64 = 0;
-    while let Some(length) = number(image, at) {
-        at += LENGTH + length;
-        children += 1;
-    }
-    children.saturating_sub(1)
+    iter::from_fn(move || {
+        let child = at;
+        at += LENGTH + number(image, at)?;
+        Some(child)
+    })
+}
+
+/// Where a declaration's name starts, or an import's path, in an accepted
+/// image: up to there layout counts the newlines before it.
+pub(crate) fn name_start(image: &[u8], declaration: u64) -> Option<usize> {
+    let at = children(image).nth(declaration as usize + 1)?;
+    let named = image[at + LENGTH] != IMPORT;
+    let name = if named { at + LENGTH + HEAD } else { at };
+    span_at(image, name).map(|span| span.start)
 }
 
 /// How many comments an image says it has.

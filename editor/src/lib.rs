@@ -66,6 +66,7 @@ pub use fmt::{
 };
 pub use formatter::{Formatter, MAX_OUTPUT};
 pub use image::declarations;
+pub use linked::SHAPE;
 pub use options::{Comments, MAX_LINE_WIDTH, MIN_LINE_WIDTH, Options};
 pub use place::Place;
 pub use refusal::Refusal;

@@ -5,8 +5,34 @@
 #[cfg(not(target_pointer_width = "64"))]
 compile_error!("the static library is for 64-bit machines");
 
-unsafe extern "C" {
-    pub fn rrufthim_check(
+/// The number that the library's symbols end in. tools/raise-shape raises it,
+/// here and wherever else it stands.
+macro_rules! shape {
+    () => {
+        1
+    };
+}
+
+/// The number of the shape that these functions have: how many parameters,
+/// of which kinds, arrays of how many places. It is part of the library's
+/// symbols, so that a library of another shape isn't linked: the linker names
+/// the symbol that it misses.
+pub const SHAPE: u64 = shape!();
+
+/// Declares functions under their names without the number.
+macro_rules! linked {
+    ($(fn $name:ident($($parameters:tt)*);)*) => {
+        unsafe extern "C" {
+            $(
+                #[link_name = concat!(stringify!($name), "_s", shape!())]
+                pub fn $name($($parameters)*);
+            )*
+        }
+    };
+}
+
+linked! {
+    fn rrufthim_check(
         source: *const u8,
         source_len: usize,
         image: *const u8,
@@ -14,7 +40,7 @@ unsafe extern "C" {
         out: *mut [u64; 4],
     );
 
-    pub fn rrufthim_layout(
+    fn rrufthim_layout(
         source: *const u8,
         source_len: usize,
         image: *const u8,
@@ -26,7 +52,7 @@ unsafe extern "C" {
         out: *mut [u64; 10],
     );
 
-    pub fn rrufthim_render(
+    fn rrufthim_render(
         source: *const u8,
         source_len: usize,
         image: *const u8,
@@ -42,7 +68,7 @@ unsafe extern "C" {
         out: *mut [u64; 8],
     );
 
-    pub fn rrufthim_format(
+    fn rrufthim_format(
         source: *const u8,
         source_len: usize,
         image: *const u8,
@@ -53,7 +79,7 @@ unsafe extern "C" {
         out: *mut [u64; 5],
     );
 
-    pub fn rrufthim_newlines(
+    fn rrufthim_newlines(
         source: *const u8,
         source_len: usize,
         start: u64,
@@ -61,7 +87,7 @@ unsafe extern "C" {
         out: *mut [u64; 2],
     );
 
-    pub fn rrufthim_count(
+    fn rrufthim_count(
         source: *const u8,
         source_len: usize,
         image: *const u8,
@@ -70,7 +96,7 @@ unsafe extern "C" {
         out: *mut [u64; 18],
     );
 
-    pub fn rrufthim_write(
+    fn rrufthim_write(
         steps: *const u8,
         steps_len: usize,
         output: *mut u8,
@@ -78,7 +104,7 @@ unsafe extern "C" {
         out: *mut [u64; 2],
     );
 
-    pub fn rrufthim_steps(
+    fn rrufthim_steps(
         source: *const u8,
         source_len: usize,
         image: *const u8,
@@ -88,7 +114,7 @@ unsafe extern "C" {
         out: *mut [u64; 2],
     );
 
-    pub fn rrufthim_batch(
+    fn rrufthim_batch(
         frames: *const u8,
         frames_len: usize,
         choice: *const [u64; 2],

@@ -6,7 +6,7 @@ use crate::{
     calls::check,
     error::FormatError,
     formatter::MAX_OUTPUT,
-    image::comments_from,
+    image::{comments_from, name_start},
     options::Options,
     states::{LayoutState, RenderState},
 };
@@ -100,6 +100,38 @@ impl<'f> Steps<'f> {
     /// Roto's own formatter.
     pub fn comments_left(&self) -> Vec<Span> {
         comments_from(self.file.image, self.layout.comments_placed)
+    }
+
+    /// The gaps before the next declaration: the ranges of the source in
+    /// which layout counts newlines there, one before each comment that still
+    /// stands in front of it and one before its name, or an import's path.
+    /// Where [`newlines`](crate::newlines) counts two or more in a gap, that
+    /// gap makes a blank line, and else it makes none.
+    ///
+    /// A gap starts where layout last looked at the source, which may be long
+    /// before the declaration in front of it ends. Up to the first comment of
+    /// a file, or to its first declaration, no newline is counted. There is
+    /// no gap if all declarations are laid out.
+    pub fn gaps(&self) -> Vec<Span> {
+        let next = self.layout.next_declaration;
+        let Some(name) = name_start(self.file.image, next) else {
+            return Vec::new();
+        };
+        let mut from = self.layout.position as usize;
+        let mut gaps = Vec::new();
+        for comment in self.comments_left() {
+            if comment.start >= name {
+                break;
+            }
+            gaps.push(from..comment.start);
+            // The newline at its end is counted with those after it.
+            from = comment.end - 1;
+        }
+        gaps.push(from..name);
+        if next == 0 {
+            gaps.remove(0);
+        }
+        gaps
     }
 
     /// Lays out and renders so many declarations more, but at least one, and

@@ -14,14 +14,19 @@ type Built<'b> = Result<&'b mut Builder, Refusal>;
 
 /// `const A: ! = true;` and a comment.
 fn constant(builder: &mut Builder) -> Built<'_> {
+    constant_up_to_its_value(builder)?.payload(1)?.close()?;
+    builder.close()?.close()?.close()
+}
+
+/// The same before the byte that is `true`.
+fn constant_up_to_its_value(builder: &mut Builder) -> Built<'_> {
     builder.comment(0, 5)?;
     builder.open(1, 0..0)?.absent()?;
     builder.open(11, 0..18)?;
     builder.open(2, 6..7)?.text(1, "A")?.close()?;
     builder.open(42, 9..10)?.close()?;
     builder.open(51, 13..17)?;
-    builder.open(87, 13..17)?.payload(1)?.close()?;
-    builder.close()?.close()?.close()
+    builder.open(87, 13..17)
 }
 
 const CONSTANT: &[u8] = b"const A: ! = true;";
@@ -304,6 +309,20 @@ fn the_writer_has_the_last_word() {
     // A later step that is turned down isn't the first that is wrong.
     let later = builder.comment(0, 1).map(|_| ());
     assert_eq!(later, Err(bad));
+}
+
+/// A kind and a payload byte that there are not, wherever they stand, are
+/// added too.
+#[test]
+fn unknown_kinds_are_for_the_writer() {
+    let mut builder = Builder::new();
+    builder.open(99, 0..0).expect("it is added");
+    assert_eq!(builder.check(), Err(Refusal::BadStep { at: 0 }));
+    let mut builder = Builder::new();
+    constant_up_to_its_value(&mut builder).expect("steps in order");
+    let at = builder.list().len() as u64;
+    builder.payload(200).expect("it is added");
+    assert_eq!(builder.check(), Err(Refusal::BadStep { at }));
 }
 
 /// The list's end while something is missing.

@@ -1,130 +1,54 @@
 //! The header for C and src/linked.rs declare what crates/exports has: the
-//! same functions, parameters in the same order, kinds and sizes.
+//! same symbols, parameters in the same order, kinds and sizes.
 
+#[allow(dead_code)]
+#[path = "support/declared.rs"]
+mod declared;
+
+use declared::{
+    HEADER, LINKED, constants, declared, exported, exports, linked,
+};
 use rrufthim::{
     MAX_BATCH, MAX_BODY, MAX_COMMENTS, MAX_DEPTH, MAX_FILE_ROWS, MAX_FILES,
     MAX_LINE_WIDTH, MAX_SOURCE, MAX_TALLY, MAX_WIDTH, MIN_LINE_WIDTH,
-    Options, ROW, Refusal, TABLE_ROW,
+    Options, ROW, Refusal, SHAPE, TABLE_ROW,
 };
-
-const HEADER: &str = include_str!("../include/rrufthim.h");
-const LINKED: &str = include_str!("../src/linked.rs");
-const EXPORTS: &str = concat!(
-    include_str!("../../crates/exports/src/lib.rt"),
-    include_str!("../../crates/exports/src/generator.rt"),
-    include_str!("../../crates/exports/src/saves.rt"),
-);
-
-/// A function's name with its parameters, written as in src/linked.rs.
-type Function = (String, Vec<String>);
-
-/// The functions that follow these words, each parameter turned into those of
-/// src/linked.rs.
-fn functions(
-    text: &str,
-    words: &str,
-    turn: impl Fn(&str) -> Vec<String>,
-) -> Vec<Function> {
-    let mut found = Vec::new();
-    for part in text.split(words).skip(1) {
-        let (name, rest) = part.split_once('(').expect("parameters");
-        let (parameters, _) = rest.split_once(')').expect("their end");
-        let parameters = parameters.split(',').map(spaced);
-        let parameters = parameters.filter(|one| !one.is_empty());
-        let turned = parameters.flat_map(|one| turn(&one)).collect();
-        found.push((spaced(name), turned));
-    }
-    found
-}
-
-/// One space in place of many.
-fn spaced(text: &str) -> String {
-    text.split_whitespace().collect::<Vec<_>>().join(" ")
-}
-
-fn linked() -> Vec<Function> {
-    functions(LINKED, "pub fn ", |one| vec![one.to_owned()])
-}
-
-/// A slice is a pointer and a length, an array a pointer.
-fn exported() -> Vec<Function> {
-    functions(EXPORTS, "pub extern \"C\" fn ", |one| {
-        let (name, kind) = one.split_once(": ").expect("a kind");
-        let (pointer, lent) = match kind.strip_prefix('&') {
-            None => return vec![one.to_owned()],
-            Some(lent) => match lent.strip_prefix("mut ") {
-                Some(lent) => ("*mut", lent),
-                None => ("*const", lent),
-            },
-        };
-        if lent.contains(';') {
-            return vec![format!("{name}: {pointer} {lent}")];
-        }
-        let element = lent.trim_matches(['[', ']']);
-        vec![
-            format!("{name}: {pointer} {element}"),
-            format!("{name}_len: usize"),
-        ]
-    })
-}
-
-/// The prototypes of a header, its constants put in.
-fn declared(header: &str) -> Vec<Function> {
-    let mut text = without_comments(header);
-    for (name, value) in constants(header) {
-        text = text.replace(&format!("[{name}]"), &format!("[{value}]"));
-    }
-    functions(&text, "void ", |one| vec![from_c(one)])
-}
-
-fn from_c(parameter: &str) -> String {
-    let (pointer, rest) = match parameter.strip_prefix("const ") {
-        Some(rest) => ("*const", rest),
-        None => ("*mut", parameter),
-    };
-    let (kind, name) = rest.split_once(' ').expect("a name");
-    let kind = match kind {
-        "uint8_t" => "u8",
-        "uint32_t" => "u32",
-        "uint64_t" => "u64",
-        "size_t" => "usize",
-        other => other,
-    };
-    if let Some(name) = name.strip_prefix('*') {
-        format!("{name}: {pointer} {kind}")
-    } else if let Some((name, size)) = name.split_once('[') {
-        let size = size.trim_end_matches(']');
-        format!("{name}: {pointer} [{kind}; {size}]")
-    } else {
-        format!("{name}: {kind}")
-    }
-}
-
-fn without_comments(text: &str) -> String {
-    let mut parts = text.split("/*");
-    let mut out = parts.next().unwrap_or("").to_owned();
-    for part in parts {
-        out += part.split_once("*/").expect("a comment's end").1;
-    }
-    out
-}
-
-/// Names and values of the header's constants, in order.
-fn constants(header: &str) -> Vec<(String, u64)> {
-    let text = without_comments(header);
-    let lines = text.lines().filter_map(|line| {
-        let (name, value) = line.strip_prefix("#define ")?.split_once(' ')?;
-        Some((name.to_owned(), value.trim().parse().ok()?))
-    });
-    lines.collect()
-}
 
 #[test]
 fn all_say_the_same() {
-    let exported = exported();
+    let exported = exported(&exports());
     assert_eq!(exported.len(), 9);
-    assert_eq!(linked(), exported);
+    assert_eq!(linked(LINKED), exported);
     assert_eq!(declared(HEADER), exported);
+    let check = format!("rrufthim_check_s{SHAPE}");
+    assert!(exported.iter().any(|(name, _)| *name == check));
+}
+
+/// Whichever of the three has another number is found out, and so is one of
+/// crates/exports' functions.
+#[test]
+fn another_number_is_found() {
+    let (text, next) = (exports(), SHAPE + 1);
+    let exported_now = exported(&text);
+    for (from, to) in [
+        (format!("_SHAPE {SHAPE}\n"), format!("_SHAPE {next}\n")),
+        ("_SYMBOL(check)".into(), "_SYMBOL(count)".into()),
+        ("#define rrufthim_steps ".into(), "#define other ".into()),
+    ] {
+        let changed = HEADER.replacen(&from, &to, 1);
+        assert!(changed != HEADER, "{from}");
+        assert_ne!(declared(&changed), exported_now, "{from}");
+    }
+    let (from, to) = (format!("  {SHAPE}\n"), format!("  {next}\n"));
+    let changed = LINKED.replacen(&from, &to, 1);
+    assert!(changed != LINKED, "{from}");
+    assert_ne!(linked(&changed), exported_now);
+    let (from, to) = (format!("_s{SHAPE}("), format!("_s{next}("));
+    for (at, _) in text.match_indices(&from) {
+        let (before, behind) = text.split_at(at);
+        let changed = before.to_owned() + &behind.replacen(&from, &to, 1);
+        assert_ne!(exported(&changed), exported_now);
+    }
 }
 
 /// A header that says another thing is found out.
@@ -152,10 +76,11 @@ fn a_difference_is_found() {
         ("uint32_t *table", "const uint32_t *table"),
         ("const uint8_t *frames", "uint8_t *frames"),
     ];
+    let exported = exported(&exports());
     for (from, to) in changes {
         let changed = HEADER.replacen(from, to, 1);
-        assert_ne!(changed, HEADER, "{from}");
-        assert_ne!(declared(&changed), exported(), "{from}");
+        assert!(changed != HEADER, "{from}");
+        assert_ne!(declared(&changed), exported, "{from}");
     }
 }
 

@@ -1,6 +1,9 @@
 //! Newlines of ranges, and the jump to the gap that made a blank line.
 
-use rrufthim::{Newlines, Place, newlines};
+mod support;
+
+use rrufthim::{Newlines, Place, Steps, ast::*, encode, newlines};
+use support::path;
 
 /// Between the imports are a blank line, `é` in a comment, U+0085 and U+2028.
 const SOURCE: &str =
@@ -31,16 +34,60 @@ fn every_range() {
     }
 }
 
-/// The gap between two declarations is found from their spans.
+/// The imports of [`SOURCE`], and its comment, newline included.
+fn imports() -> (SyntaxTree, Extras) {
+    let import = |(at, word): (usize, &str)| {
+        let span = at + word.len()..at + word.len() + 1;
+        let path = Some(path(SOURCE, &span));
+        let import = ImportPath { path, group: None };
+        Declaration::Import(Meta::new(import, span))
+    };
+    let declarations = SOURCE.match_indices("import ").map(import).collect();
+    let start = SOURCE.find("//").expect("there");
+    let end = SOURCE.find("import b").expect("there");
+    let tree = SyntaxTree {
+        shebang: None,
+        declarations,
+    };
+    (
+        tree,
+        Extras {
+            comments: vec![start..end],
+        },
+    )
+}
+
+/// Of each declaration the gaps, as the text in them, and where to jump to
+/// from the blank lines that they make.
 #[test]
 fn jump_to_the_gap() {
-    let end = SOURCE.find("b;").expect("there") + 2;
-    let start = SOURCE.find("import c").expect("there");
-    let gap = newlines(SOURCE.as_bytes(), end..start);
-    assert_eq!(gap.count, 3);
-    assert_eq!(gap.place, start - 1);
-    let place = Place::new(SOURCE.as_bytes(), gap.place..gap.place);
-    assert_eq!((place.line, place.column), (6, 1));
+    let (tree, extras) = imports();
+    let image = encode(&tree, &extras.comments).expect("an image");
+    let mut steps = Steps::new(SOURCE.as_bytes(), &image).expect("accepted");
+    let mut found = Vec::new();
+    for stop in 1..=steps.declarations() {
+        let gaps = steps.gaps();
+        let blank = gaps.iter().filter_map(|gap| {
+            let Newlines { count, place } =
+                newlines(SOURCE.as_bytes(), gap.clone());
+            let place = Place::new(SOURCE.as_bytes(), place..place);
+            (count >= 2).then_some((place.line, place.column))
+        });
+        let blank: Vec<_> = blank.collect();
+        let texts = gaps.into_iter().map(|gap| &SOURCE[gap]);
+        found.push((texts.collect::<Vec<_>>(), blank));
+        steps.lay_out(stop).expect("in order");
+    }
+    let due = [
+        (vec![], vec![]),
+        (vec!["a;\n\n", "\nimport "], vec![(2, 1)]),
+        (vec!["b;\n\n\nimport "], vec![(6, 1)]),
+    ];
+    assert_eq!(found, due);
+    assert!(steps.gaps().is_empty());
+    let text = steps.render().expect("a text");
+    let due = "import a;\n\n// é\nimport b;\n\nimport c;\n";
+    assert_eq!(text, due);
 }
 
 /// Bytes that are no text have newlines too, in ranges without an end at a

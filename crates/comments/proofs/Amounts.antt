@@ -15,8 +15,8 @@ use Rattle.rows.specs.Node.{comment, line, emptyLine}
 use Rattle.rows.specs.Rows.{size}
 use Rattle.state.specs.Act.{Given, St, _⨟_, skip, push, moveTo, pop, told}
 use Rattle.state.proofs.Few.{FewAt, Few, few-more, few-skip, few-moveTo, few-push, few-pop, few-then, few-cond, few-answers}
-use Rattle.comments.specs.Comments.{nth, pushComment, newlines, ignoreNewlines, popComment, waits, popComments, popWhitespace, popTrailingComment}
-use Rattle.comments.proofs.Pops.{ending}
+use Rattle.comments.specs.Comments.{nth, pushComment, newlines, ignoreNewlines, popComment, waits}
+use Rattle.comments.specs.Comments.{popComments, afterComments, popWhitespace, popTrailingComment}
 
 module _ (g : Given) where
   few-newlines : (position : ℕ) → Few 1 0 (told (newlines g position))
@@ -65,11 +65,11 @@ module _ (g : Given) where
       record {
         at =
             λ s.
-            few-answers (ending g (waits g position s && trailing) position only) (few-comments (length (g .comments)) position leading)
+            few-answers (afterComments g (waits g position s && trailing) position only) (few-comments (length (g .comments)) position leading)
             (after (waits g position s && trailing) only) .at s;
       }
     where
-      after : (x y : Bool) → Few 1 0 (told (ending g x position y))
+      after : (x y : Bool) → Few 1 0 (told (afterComments g x position y))
       after true y = few-newlines position
       after false true = few-newlines position
       after false false = few-more (omega arith) (omega arith) (few-ignored position)

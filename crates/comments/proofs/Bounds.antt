@@ -17,10 +17,10 @@ use Rattle.ast.specs.Syntax.{Span}
 use Rattle.rows.specs.Node.{comment, line, emptyLine}
 use Rattle.state.specs.Act.{St, Out, Act, next, _⨟_, skip, push, moveTo, pop, told}
 use Rattle.state.proofs.Keeps.{Keeps, KeepsAt, keeps-at, keeps-of, keeps-skip, keeps-push, keeps-moveTo, keeps-then, keeps-after, keeps-cond, keeps-answers}
-use Rattle.comments.specs.Comments.{nth, front, pushComment, newlines, ignoreNewlines, popComment, waits, popComments, popWhitespace, popTrailingComment}
+use Rattle.comments.specs.Comments.{nth, front, pushComment, newlines, ignoreNewlines, popComment, waits}
+use Rattle.comments.specs.Comments.{popComments, afterComments, popWhitespace, popTrailingComment}
 use Rattle.tree.specs.CommentList.{commentsOf}
 use Rattle.comments.specs.Listed.{given, Listed}
-use Rattle.comments.proofs.Pops.{ending}
 use Rattle.comments.proofs.Fronts.{count-of, inside, good}
 
 module _ {s b : List ℕ} (l : Listed s b) where
@@ -109,11 +109,12 @@ module _ {s b : List ℕ} (l : Listed s b) where
       keeps-of
       (λ t.
       keeps-at
-      (keeps-answers (ending (given s b) (waits (given s b) position t && trailing) position only) (comments-within (length (commentsOf b)) position leading)
+      (keeps-answers (afterComments (given s b) (waits (given s b) position t && trailing) position only)
+      (comments-within (length (commentsOf b)) position leading)
       (after (waits (given s b) position t && trailing) only))
       t)
     where
-      after : (x y : Bool) → Keeps (length (commentsOf b)) (length s) (told (ending (given s b) x position y))
+      after : (x y : Bool) → Keeps (length (commentsOf b)) (length s) (told (afterComments (given s b) x position y))
       after true y = newlines-within position h
       after false true = newlines-within position h
       after false false = ignored-within position h

@@ -15,14 +15,17 @@ use Rattle.text.specs.Newlines.{countNewlines}
 use Rattle.text.specs.declared.space.Found.{Found}
 use Rattle.text.specs.declared.space.Found.the-variants.{At, Nowhere}
 use Rattle.ast.specs.Syntax.{Span}
+use Rattle.text.specs.declared.newlines.Newlines.{Newlines}
 use Rattle.rows.specs.Node.{line, emptyLine}
-use Rattle.state.specs.Act.{Given, St, Out, Act, Asking, next, _⨟_, _⨟!_, skip, push, moveTo, pop, told, answering}
+use Rattle.state.specs.Act.{Given, St, Out, Act, Asking, next, _⨟_, _⨟!_, skip, push, moveTo, pop, told}
 use Rattle.state.specs.declared.Cursor.{Cursor}
-use Rattle.state.specs.declared.Asked.{Asked}
+use Rattle.comments.specs.declared.Gap.{Gap}
 use Rattle.state.specs.Laid.{cursor, st, Room, Laid, LaidAsking}
-use Rattle.state.proofs.Laws.{room-same, room-first, room-past, room-else, laid-same, laid-then, laid-skip, laid-moveTo, laid-pop, asking-same, laid-answering, laid-answers}
+use Rattle.state.proofs.Laws.{room-same, room-first, room-past, room-else, laid-same, laid-then, laid-skip, laid-moveTo, laid-pop}
+use Rattle.state.proofs.Laws.{asking-same, laid-answering, laid-turning, laid-answers}
 use Rattle.comments.specs.Listed.{given}
-use Rattle.comments.specs.Comments.{nth, front, pushComment, newlines, ignoreNewlines, popComment, waits, popComments, popWhitespace, popTrailingComment}
+use Rattle.comments.specs.Comments.{nth, breakLine, gapOf, uncounted, front, pushComment, newlines, ignoreNewlines, popComment, waits}
+use Rattle.comments.specs.Comments.{popComments, afterComments, popWhitespace, popTrailingComment}
 
 module _ (g : Given) where
   -- ---- by what waits at the front
@@ -42,25 +45,17 @@ module _ (g : Given) where
   ignored-some position s p e = rw e
 
   -- ---- `newlines` and `ignore_newlines`
-  pub room-newlines : (position : ℕ) {c : Cursor} → Room (told (newlines g position)) c
-      → (let n = countNewlines (g .source) (c .pos) position .count in Room (cond (eqb n 0) skip (cond (eqb n 1) (push line) (push emptyLine))) c)
+  pub room-newlines : (position : ℕ) {c : Cursor} → Room (told (newlines g position)) c → Room (breakLine (countNewlines (g .source) (c .pos) position)) c
   unfolding newlines
   room-newlines position room = room-first (moveTo position) (room-same refl room)
 
-  pub laid-newlines : (position n : ℕ) {s s₁ : List ℕ} {c c₁ c₂ : Cursor} → n ≡ countNewlines (g .source) (c .pos) position .count
-      → Laid (cond (eqb n 0) skip (cond (eqb n 1) (push line) (push emptyLine))) s c s₁ c₁
-      → c₂ ≡ cursor (c₁ .row) (c₁ .number) position (c₁ .placed)
-      → LaidAsking (newlines g position) s c s₁ (record { cursor = c₂; answer = ltb 0 n })
+  pub laid-newlines : (position : ℕ) (n : Newlines) {s s₁ : List ℕ} {c c₁ c₂ : Cursor} → n ≡ countNewlines (g .source) (c .pos) position
+      → Laid (breakLine n) s c s₁ c₁ → c₂ ≡ cursor (c₁ .row) (c₁ .number) position (c₁ .placed) → LaidAsking (newlines g position) s c s₁ c₂ n
   unfolding newlines
   laid-newlines position n {s} {s₁} {c} {c₁} {c₂} e l m =
-      let r : Asking = λ s. ((cond (eqb n 0) skip (cond (eqb n 1) (push line) (push emptyLine)) ⨟ moveTo position) s, ltb 0 n) in
-      let k : LaidAsking r s c s₁ (record { cursor = c₂; answer = ltb 0 n }) =
-      record { laid = laid-then l (laid-moveTo m); answers = refl } in
-      asking-same
-      (ap
-      (λ (i : ℕ). ((cond (eqb i 0) skip (cond (eqb i 1) (push line) (push emptyLine)) ⨟ moveTo position) (st c), ltb 0 i))
-      e)
-      k
+      let r : Asking Newlines = λ s. ((breakLine n ⨟ moveTo position) s, n) in
+      let k : LaidAsking r s c s₁ c₂ n = record { laid = laid-then l (laid-moveTo m); answers = refl } in
+      asking-same (ap (λ (x : Newlines). ((breakLine x ⨟ moveTo position) (st c), x)) e) k
 
   pub laid-ignored : (position : ℕ) {s : List ℕ} {c c′ : Cursor}
       → c′ ≡ cursor (c .row) (c .number) (ignoreNewlines g position (st c) .pos) (c .placed) → Laid (ignoreNewlines g position) s c s c′
@@ -113,18 +108,18 @@ module _ (g : Given) where
   one-more leading p {c = c} l = ap (λ (x : Cursor). x .placed) (l .moved) ∙ comment-placed leading p (st c)
 
   -- ---- the loop of `pop_whitespace`
-  pop-on : (n position : ℕ) (leading : Bool) (s : St) (p : Span) → nth (g .comments) (s .placed) ≡ some p → ltb (p .start) position ≡ true
+  pub pop-on : (n position : ℕ) (leading : Bool) (s : St) (p : Span) → nth (g .comments) (s .placed) ≡ some p → ltb (p .start) position ≡ true
       → popComments g (suc n) position leading s ≡ (popComment g leading p ⨟ popComments g n position true) s
   unfolding popComments
   pop-on n position leading s p e w = rw (e, popComments) (rw w)
 
-  pop-late : (n position : ℕ) (leading : Bool) (s : St) (p : Span) → nth (g .comments) (s .placed) ≡ some p → ltb (p .start) position ≡ false
+  pub pop-late : (n position : ℕ) (leading : Bool) (s : St) (p : Span) → nth (g .comments) (s .placed) ≡ some p → ltb (p .start) position ≡ false
       → popComments g n position leading s ≡ skip s
   unfolding popComments
   pop-late zero position leading s p e w = refl
   pop-late (suc n) position leading s p e w = rw (e, popComments) (rw w)
 
-  pop-none : (n position : ℕ) (leading : Bool) (s : St) → nth (g .comments) (s .placed) ≡ none → popComments g n position leading s ≡ skip s
+  pub pop-none : (n position : ℕ) (leading : Bool) (s : St) → nth (g .comments) (s .placed) ≡ none → popComments g n position leading s ≡ skip s
   unfolding popComments
   pop-none zero position leading s e = refl
   pop-none (suc n) position leading s e = rw (e, popComments)
@@ -183,22 +178,17 @@ module _ (g : Given) where
         i .goes s c (laid-same (sym (pop-late (i .turns) position keep (st c) p e (le-ltb (p .start) position w))) laid-skip)
 
   -- ---- `pop_whitespace`, by its loop and what is done after it
-  abbrev pub ending : Bool → ℕ → Bool → Asking
-  ending kept position only =
-      cond kept (answering true (told (newlines g position)))
-      (cond only (newlines g position) (answering false (ignoreNewlines g position)))
-
-  whole : (position : ℕ) (leading trailing only : Bool) {s s₁ s₂ : List ℕ} {c c₁ : Cursor} {r : Asked}
+  whole : (position : ℕ) (leading trailing only : Bool) {s s₁ s₂ : List ℕ} {c c₁ c₂ : Cursor} {r : Gap}
       → Laid (popComments g (length (g .comments)) position leading) s c s₁ c₁
-      → LaidAsking (ending (waits g position (st c) && trailing) position only) s₁ c₁ s₂ r
-      → LaidAsking (popWhitespace g position leading trailing only) s c s₂ r
+      → LaidAsking (afterComments g (waits g position (st c) && trailing) position only) s₁ c₁ s₂ c₂ r
+      → LaidAsking (popWhitespace g position leading trailing only) s c s₂ c₂ r
   unfolding popWhitespace
   whole position leading trailing only l m = asking-same refl (laid-answers l m)
 
   -- room for it is room for its loop, and then for what is done after it
   room-whole : (position : ℕ) (leading trailing only : Bool) {c : Cursor} → Room (told (popWhitespace g position leading trailing only)) c
       → Room
-      (popComments g (length (g .comments)) position leading ⨟ told (ending (waits g position (st c) && trailing) position only))
+      (popComments g (length (g .comments)) position leading ⨟ told (afterComments g (waits g position (st c) && trailing) position only))
       c
   unfolding popWhitespace _⨟!_
   room-whole position leading trailing only room = room-same refl room
@@ -206,32 +196,30 @@ module _ (g : Given) where
   pub room-comments : (position : ℕ) (leading trailing only : Bool) {c : Cursor} → Room (told (popWhitespace g position leading trailing only)) c
       → Room (popComments g (length (g .comments)) position leading) c
   room-comments position leading trailing only {c} room =
-      room-first (told (ending (waits g position (st c) && trailing) position only)) (room-whole position leading trailing only room)
+      room-first (told (afterComments g (waits g position (st c) && trailing) position only)) (room-whole position leading trailing only room)
 
   -- newlines after a comment
   pub room-trailing : (position : ℕ) (leading trailing only : Bool) {s s₁ : List ℕ} {c c₁ : Cursor} → waits g position (st c) ≡ true → trailing ≡ true
       → Laid (popComments g (length (g .comments)) position leading) s c s₁ c₁ → Room (told (popWhitespace g position leading trailing only)) c
       → Room (told (newlines g position)) c₁
   room-trailing position leading trailing only {c = c} {c₁ = c₁} w t l room =
-      let after : Room (told (ending (waits g position (st c) && trailing) position only)) c₁ =
+      let after : Room (told (afterComments g (waits g position (st c) && trailing) position only)) c₁ =
       room-past (room-whole position leading trailing only room) l in
-      subst (λ (y : Bool). Room (told (ending (true && y) position only)) c₁) t
-      (subst (λ (x : Bool). Room (told (ending (x && trailing) position only)) c₁) w after)
+      subst (λ (y : Bool). Room (told (afterComments g (true && y) position only)) c₁) t
+      (subst (λ (x : Bool). Room (told (afterComments g (x && trailing) position only)) c₁) w after)
 
-  pub laid-trailing : (position : ℕ) (leading only : Bool) {trailing : Bool} {s s₁ s₂ : List ℕ} {c c₁ c₂ : Cursor}
+  pub laid-trailing : (position : ℕ) (leading only : Bool) {trailing : Bool} {s s₁ s₂ : List ℕ} {c c₁ c₂ : Cursor} {n : Newlines}
       → waits g position (st c) ≡ true → trailing ≡ true → Laid (popComments g (length (g .comments)) position leading) s c s₁ c₁
-      → Laid (told (newlines g position)) s₁ c₁ s₂ c₂
-      → LaidAsking (popWhitespace g position leading trailing only) s c s₂ (record { cursor = c₂; answer = true })
-  laid-trailing position leading only {trailing} {s} {s₁} {s₂} {c} {c₁} {c₂} w t l m =
-      let r : Asked = record { cursor = c₂; answer = true } in
-      let k : LaidAsking (ending true position only) s₁ c₁ s₂ r = laid-answering m in
+      → LaidAsking (newlines g position) s₁ c₁ s₂ c₂ n → LaidAsking (popWhitespace g position leading trailing only) s c s₂ c₂ (gapOf true n)
+  laid-trailing position leading only {trailing} {s} {s₁} {s₂} {c} {c₁} {c₂} {n} w t l m =
+      let k : LaidAsking (afterComments g true position only) s₁ c₁ s₂ c₂ (gapOf true n) = laid-turning (gapOf true) m in
       whole position leading trailing only l
-      (subst (λ (x : Bool). LaidAsking (ending (x && trailing) position only) s₁ c₁ s₂ r) (sym w)
-      (subst (λ (y : Bool). LaidAsking (ending (true && y) position only) s₁ c₁ s₂ r) (sym t) k))
+      (subst (λ (x : Bool). LaidAsking (afterComments g (x && trailing) position only) s₁ c₁ s₂ c₂ (gapOf true n)) (sym w)
+      (subst (λ (y : Bool). LaidAsking (afterComments g (true && y) position only) s₁ c₁ s₂ c₂ (gapOf true n)) (sym t) k))
 
   -- otherwise
-  rest : (x y : Bool) (position : ℕ) (only : Bool) {s s′ : List ℕ} {c : Cursor} {r : Asked} → (y ≡ false) ⊎ (x ≡ false)
-      → LaidAsking (ending false position only) s c s′ r → LaidAsking (ending (x && y) position only) s c s′ r
+  rest : (x y : Bool) (position : ℕ) (only : Bool) {s s′ : List ℕ} {c c′ : Cursor} {r : Gap} → (y ≡ false) ⊎ (x ≡ false)
+      → LaidAsking (afterComments g false position only) s c s′ c′ r → LaidAsking (afterComments g (x && y) position only) s c s′ c′ r
   rest true true position only (inl e) l = let z : _≡_ {A = ℕ} 0 1 = cc in absurd (omega arith)
   rest true true position only (inr e) l = let z : _≡_ {A = ℕ} 0 1 = cc in absurd (omega arith)
   rest true false position only e l = l
@@ -247,32 +235,31 @@ module _ (g : Given) where
       → only ≡ true → Laid (popComments g (length (g .comments)) position leading) s c s₁ c₁
       → Room (told (popWhitespace g position leading trailing only)) c → Room (told (newlines g position)) c₁
   room-only position leading trailing only {c = c} {c₁ = c₁} e o l room =
-      let after : Room (told (ending (waits g position (st c) && trailing) position only)) c₁ =
+      let after : Room (told (afterComments g (waits g position (st c) && trailing) position only)) c₁ =
       room-past (room-whole position leading trailing only room) l in
-      subst (λ (y : Bool). Room (told (ending false position y)) c₁) o
-      (subst (λ (x : Bool). Room (told (ending x position only)) c₁) (neither (waits g position (st c)) trailing e) after)
+      subst (λ (y : Bool). Room (told (afterComments g false position y)) c₁) o
+      (subst (λ (x : Bool). Room (told (afterComments g x position only)) c₁) (neither (waits g position (st c)) trailing e) after)
 
-  pub laid-only : (position : ℕ) (leading trailing : Bool) {only : Bool} {s s₁ s₂ : List ℕ} {c c₁ : Cursor} {r : Asked}
+  pub laid-only : (position : ℕ) (leading trailing : Bool) {only : Bool} {s s₁ s₂ : List ℕ} {c c₁ c₂ : Cursor} {n : Newlines}
       → (trailing ≡ false) ⊎ (waits g position (st c) ≡ false) → only ≡ true
       → Laid (popComments g (length (g .comments)) position leading) s c s₁ c₁
-      → LaidAsking (newlines g position) s₁ c₁ s₂ r → LaidAsking (popWhitespace g position leading trailing only) s c s₂ r
-  laid-only position leading trailing {only} {s} {s₁} {s₂} {c} {c₁} {r} e o l m =
-      let k : LaidAsking (ending false position true) s₁ c₁ s₂ r = m in
+      → LaidAsking (newlines g position) s₁ c₁ s₂ c₂ n → LaidAsking (popWhitespace g position leading trailing only) s c s₂ c₂ (gapOf false n)
+  laid-only position leading trailing {only} {s} {s₁} {s₂} {c} {c₁} {c₂} {n} e o l m =
+      let k : LaidAsking (afterComments g false position true) s₁ c₁ s₂ c₂ (gapOf false n) = laid-turning (gapOf false) m in
       whole position leading trailing only l
       (rest (waits g position (st c)) trailing position only e
-      (subst (λ (x : Bool). LaidAsking (ending false position x) s₁ c₁ s₂ r) (sym o) k))
+      (subst (λ (x : Bool). LaidAsking (afterComments g false position x) s₁ c₁ s₂ c₂ (gapOf false n)) (sym o) k))
 
   pub laid-neither : (position : ℕ) (leading trailing : Bool) {only : Bool} {s s₁ s₂ : List ℕ} {c c₁ c₂ : Cursor}
       → (trailing ≡ false) ⊎ (waits g position (st c) ≡ false) → only ≡ false
       → Laid (popComments g (length (g .comments)) position leading) s c s₁ c₁
       → Laid (ignoreNewlines g position) s₁ c₁ s₂ c₂
-      → LaidAsking (popWhitespace g position leading trailing only) s c s₂ (record { cursor = c₂; answer = false })
+      → LaidAsking (popWhitespace g position leading trailing only) s c s₂ c₂ (uncounted position)
   laid-neither position leading trailing {only} {s} {s₁} {s₂} {c} {c₁} {c₂} e o l m =
-      let r : Asked = record { cursor = c₂; answer = false } in
-      let k : LaidAsking (ending false position false) s₁ c₁ s₂ r = laid-answering m in
+      let k : LaidAsking (afterComments g false position false) s₁ c₁ s₂ c₂ (uncounted position) = laid-answering m in
       whole position leading trailing only l
       (rest (waits g position (st c)) trailing position only e
-      (subst (λ (x : Bool). LaidAsking (ending false position x) s₁ c₁ s₂ r) (sym o) k))
+      (subst (λ (x : Bool). LaidAsking (afterComments g false position x) s₁ c₁ s₂ c₂ (uncounted position)) (sym o) k))
 
   -- ---- where no comment waits
   passes : (n position : ℕ) (leading : Bool) (s : St) → waits g position s ≡ false → popComments g n position leading s ≡ skip s
@@ -292,7 +279,7 @@ module _ (g : Given) where
 
   pub laid-quiet : (position : ℕ) (leading trailing : Bool) {only : Bool} {s : List ℕ} {c c′ : Cursor} → waits g position (st c) ≡ false
       → only ≡ false → c′ ≡ cursor (c .row) (c .number) position (c .placed)
-      → LaidAsking (popWhitespace g position leading trailing only) s c s (record { cursor = c′; answer = false })
+      → LaidAsking (popWhitespace g position leading trailing only) s c s c′ (uncounted position)
   laid-quiet position leading trailing {only} {s} {c} {c′} w o e =
       laid-neither position leading trailing (inr w) o
       (laid-same (sym (passes (length (g .comments)) position leading (st c) w)) laid-skip)

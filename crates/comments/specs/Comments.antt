@@ -1,22 +1,41 @@
--- `pop_trailing_comment`, `pop_whitespace`, `newlines` and `ignore_newlines` of fmt.rs.
+-- `pop_trailing_comment`, `pop_whitespace`, `newlines` and `ignore_newlines` of fmt.rs. Where these answer whether there is white space, the rules
+-- hand on what was counted, with its place (request 1).
 use Prim.Native.Nat.{ℕ, zero, suc, _+_, _-_, min}
-use mathlib.Core.Bool.{Bool, true, false, cond, _&&_}
+use mathlib.Core.Bool.{Bool, true, false, cond, _&&_, _||_}
 use mathlib.Core.List.{List, [], _∷_}
 use mathlib.Core.Option.{Option, none, some}
 use lib.ListN.{length}
 use lib.Dec.{ltb, eqb}
 use Rattle.text.specs.Space.{trimEnd, something}
 use Rattle.text.specs.Newlines.{countNewlines}
+use Rattle.text.specs.declared.newlines.Newlines.{Newlines}
 use Rattle.text.specs.declared.space.Found.the-variants.{At, Nowhere}
 use Rattle.ast.specs.Syntax.{Span}
 use Rattle.rows.specs.Node.{comment, line, emptyLine}
-use Rattle.state.specs.Act.{Given, St, Act, Asking, _⨟_, _⨟!_, skip, push, moveTo, pop, told, answering}
+use Rattle.state.specs.Act.{Given, St, Act, Asking, _⨟_, _⨟!_, skip, push, moveTo, pop, told, answering, turning}
+use Rattle.comments.specs.declared.Gap.{Gap}
 
 -- the element of a list at a place
 unfoldable pub nth : {A : Type 0} → List A → ℕ → Option A
 nth [] k = none
 nth (x ∷ xs) zero = some x
 nth (x ∷ xs) (suc k) = nth xs k
+
+-- a line for one newline, an empty line for more
+abbrev pub breakLine : Newlines → Act
+breakLine n = cond (eqb (n .count) 0) skip (cond (eqb (n .count) 1) (push line) (push emptyLine))
+
+-- newlines after comments, or without
+abbrev pub gapOf : Bool → Newlines → Gap
+gapOf commented n = record { newlines = n; commented = commented }
+
+-- newlines up to the position are not looked at
+abbrev pub uncounted : ℕ → Gap
+uncounted position = gapOf false (record { count = 0; place = position })
+
+-- what `pop_whitespace` of the Rust answers
+abbrev pub whitespace : Gap → Bool
+whitespace x = x .commented || ltb 0 (x .newlines .count)
 
 module _ (g : Given) where
   -- `comments.front()`
@@ -27,11 +46,11 @@ module _ (g : Given) where
   abbrev pub pushComment : Span → Act
   pushComment c = push (comment (record { origin = 0; start = c .start; size = trimEnd (g .source) (c .start) (c .end) - c .start }))
 
-  -- `newlines`: a line for one newline before the position, an empty line for more; it answers whether there is any
-  unfoldable pub newlines : ℕ → Asking
+  -- `newlines`: the line or the empty line for the newlines up to the position; it answers them, and the Rust whether there is any
+  unfoldable pub newlines : ℕ → Asking Newlines
   newlines position s =
-      let n = countNewlines (g .source) (s .pos) position .count in
-      ((cond (eqb n 0) skip (cond (eqb n 1) (push line) (push emptyLine)) ⨟ moveTo position) s, ltb 0 n)
+      let n = countNewlines (g .source) (s .pos) position in
+      ((breakLine n ⨟ moveTo position) s, n)
 
   -- `ignore_newlines`: to the position, or to the front comment where that starts before it
   unfoldable pub ignoreNewlines : ℕ → Act
@@ -56,13 +75,16 @@ module _ (g : Given) where
         | some c ↦ cond (ltb (c .start) position) (popComment leading c ⨟ popComments n position true) skip s
       ]
 
+  -- what `pop_whitespace` does after its loop, where comments were placed and newlines after them are kept, or not
+  abbrev pub afterComments : Bool → ℕ → Bool → Asking Gap
+  afterComments commented position only =
+      cond commented (turning (gapOf true) (newlines position))
+      (cond only (turning (gapOf false) (newlines position)) (answering (uncounted position) (ignoreNewlines position)))
+
   -- `pop_whitespace`, with its flags `preserve_leading_whitespace`, `preserve_trailing_whitespace`, `preserve_only_whitespace`
-  unfoldable pub popWhitespace : ℕ → Bool → Bool → Bool → Asking
+  unfoldable pub popWhitespace : ℕ → Bool → Bool → Bool → Asking Gap
   popWhitespace position leading trailing only s =
-      (popComments (length (g .comments)) position leading
-      ⨟! cond (waits position s && trailing) (answering true (told (newlines position)))
-      (cond only (newlines position) (answering false (ignoreNewlines position))))
-      s
+      (popComments (length (g .comments)) position leading ⨟! afterComments (waits position s && trailing) position only) s
 
   -- `pop_trailing_comment`
   unfoldable pub popTrailingComment : Act

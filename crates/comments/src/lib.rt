@@ -6,12 +6,10 @@ ghost use mathlib.Core.List.{List, []};
 ghost use mathlib.Core.Option.{some};
 ghost use Prim.Native.Nat.{ℕ, _+_, _≤_};
 ghost use lib.ListN.{length};
-ghost use lib.Dec.{eqb};
-ghost use Rattle.rows.specs.Node.{line, emptyLine};
-ghost use Rattle.state.specs.Act.{skip, push, told};
+ghost use Rattle.state.specs.Act.{told};
 ghost use Rattle.state.specs.Laid.{cursor, st, Room, Laid, LaidAsking};
-ghost use Rattle.comments.specs.Comments.{nth, pushComment, newlines, ignoreNewlines, popComment, waits, popComments, popWhitespace};
-ghost use Rattle.comments.specs.Comments.{popTrailingComment};
+ghost use Rattle.comments.specs.Comments.{nth, breakLine, gapOf, uncounted, whitespace, pushComment, newlines, ignoreNewlines, popComment, waits};
+ghost use Rattle.comments.specs.Comments.{popComments, popWhitespace, popTrailingComment};
 ghost use Rattle.tree.specs.CommentList.{span, commentsOf};
 ghost use Rattle.comments.specs.Listed.{given, ListFits, Listed, pendingOf};
 
@@ -22,7 +20,6 @@ use crate::reading::something_from;
 use image::bytes::num16;
 use image::bytes::num32;
 use rows::units::Bytes;
-use state::Asked;
 use state::Cursor;
 use state::leaves::empty_line;
 use state::leaves::line;
@@ -36,6 +33,25 @@ use text::space::trim_end;
 pub enum Pending {
     Comment(u32, u32),
     Nothing,
+}
+
+// The white space before something: the newlines that were counted last, with the place of the last of them, and whether they come after
+// comments that keep them.
+pub struct Gap {
+    pub newlines: Newlines,
+    pub commented: bool,
+}
+
+// What `pop_whitespace` leaves: the cursor, and the gap that it went over.
+pub struct Passed {
+    pub cursor: Cursor,
+    pub gap: Gap,
+}
+
+// What `newlines` leaves: the cursor, and the newlines that it counted.
+struct Counted {
+    cursor: Cursor,
+    newlines: Newlines,
 }
 
 // `comments.front()`
@@ -75,10 +91,10 @@ fn push_comment(store: &mut [u32], c: Cursor, source: &[u8], start: u32, end: u3
     state::leaves::comment(store, c, start, size)
 }
 
-// A line for one newline, an empty line for more. Where the last of them was doesn't matter here.
+// A line for one newline, an empty line for more. Where the last of them is doesn't matter here.
 fn break_line(store: &mut [u32], c: Cursor, n: Newlines) -> Cursor
-    requires { ⌜ Room (cond (eqb (n .count) 0) skip (cond (eqb (n .count) 1) (push line) (push emptyLine))) c ⌝ }
-    ensures { λ r. ⌜ Laid (cond (eqb (n .count) 0) skip (cond (eqb (n .count) 1) (push line) (push emptyLine))) (now (store .entry)) c (now (store .exit)) r ⌝ }
+    requires { ⌜ Room (breakLine n) c ⌝ }
+    ensures { λ r. ⌜ Laid (breakLine n) (now (store .entry)) c (now (store .exit)) r ⌝ }
 {
     if n.count == 0 {
         return c;
@@ -89,16 +105,16 @@ fn break_line(store: &mut [u32], c: Cursor, n: Newlines) -> Cursor
     empty_line(store, c)
 }
 
-// A line for one newline up to the position, an empty line for more; it answers whether there is any.
-fn newlines(store: &mut [u32], c: Cursor, source: &[u8], position: u32) -> Asked
+// A line for one newline up to the position, an empty line for more; it answers them.
+fn newlines(store: &mut [u32], c: Cursor, source: &[u8], position: u32) -> Counted
     requires { ⌜ Room (told (newlines (given (now source) []) position)) c ⌝ }
-    ensures { λ r. ⌜ ((b : List ℕ) → LaidAsking (newlines (given (now (source .entry)) b) position) (now (store .entry)) c (now (store .exit)) r) ⌝ }
+    ensures { λ r. ⌜ ((b : List ℕ) → LaidAsking (newlines (given (now (source .entry)) b) position) (now (store .entry)) c (now (store .exit)) (r .cursor) (r .newlines)) ⌝ }
 {
     let n = newlines_from(source, c.pos as usize, position as usize);
     let d = break_line(store, c, n);
-    Asked {
+    Counted {
         cursor: move_to(d, position),
-        answer: 0 < n.count,
+        newlines: n,
     }
 }
 
@@ -132,8 +148,8 @@ fn before_comment(
     ensures { λ r. ⌜ Laid (cond leading (told (newlines (given (now (source .entry)) (now (image .entry))) start)) (ignoreNewlines (given (now (source .entry)) (now (image .entry))) start)) (now (store .entry)) c (now (store .exit)) r ⌝ }
 {
     if leading {
-        let a = newlines(store, c, source, start);
-        return a.cursor;
+        let before = newlines(store, c, source, start);
+        return before.cursor;
     }
     ignore_newlines(image, c, start)
 }
@@ -187,6 +203,34 @@ fn pop_comments(
     }
 }
 
+// The gap of newlines that were counted, after comments or not.
+fn gap_of(n: Counted, commented: bool) -> Passed
+    ensures { λ r. ⌜ (r .cursor ≡ n .cursor) × (r .gap ≡ gapOf commented (n .newlines)) ⌝ }
+{
+    let cursor = n.cursor;
+    let newlines = n.newlines;
+    Passed {
+        cursor: cursor,
+        gap: Gap {
+            newlines: newlines,
+            commented: commented,
+        },
+    }
+}
+
+// The gap where newlines up to the position are not looked at.
+fn uncounted(position: u32) -> Gap
+    ensures { λ r. ⌜ r ≡ uncounted position ⌝ }
+{
+    Gap {
+        newlines: Newlines {
+            count: 0,
+            place: position as usize,
+        },
+        commented: false,
+    }
+}
+
 // `pop_whitespace`: the comments that wait, and then newlines, kept or not.
 fn place_comments(
     store: &mut [u32],
@@ -197,32 +241,29 @@ fn place_comments(
     leading: bool,
     trailing: bool,
     only: bool,
-) -> Asked
+) -> Passed
     requires { ⌜ Listed (now source) (now image) ⌝ }
     requires { ⌜ Room (told (popWhitespace (given (now source) (now image)) position leading trailing only)) c ⌝ }
-    ensures { λ r. ⌜ LaidAsking (popWhitespace (given (now (source .entry)) (now (image .entry))) position leading trailing only) (now (store .entry)) c (now (store .exit)) r ⌝ }
+    ensures { λ r. ⌜ LaidAsking (popWhitespace (given (now (source .entry)) (now (image .entry))) position leading trailing only) (now (store .entry)) c (now (store .exit)) (r .cursor) (r .gap) ⌝ }
 {
     let waiting = is_waiting(image, c, position);
     let d = pop_comments(store, c, source, image, position, leading);
     if waiting && trailing {
-        let e = newlines(store, d, source, position);
-        let f = e.cursor;
-        return Asked {
-            cursor: f,
-            answer: true,
-        };
+        let after = newlines(store, d, source, position);
+        return gap_of(after, true);
     }
     if only {
-        return newlines(store, d, source, position);
+        let alone = newlines(store, d, source, position);
+        return gap_of(alone, false);
     }
-    Asked {
+    Passed {
         cursor: ignore_newlines(image, d, position),
-        answer: false,
+        gap: uncounted(position),
     }
 }
 
 // Places the comments that start before the position, and goes there. The flags say which newlines are kept: `preserve_leading_whitespace`,
-// `preserve_trailing_whitespace` and `preserve_only_whitespace` of the Rust.
+// `preserve_trailing_whitespace` and `preserve_only_whitespace` of the Rust. It answers the gap up to the position.
 pub fn pop_whitespace(
     store: &mut [u32],
     c: Cursor,
@@ -232,10 +273,10 @@ pub fn pop_whitespace(
     leading: bool,
     trailing: bool,
     only: bool,
-) -> Asked
+) -> Passed
     requires { ⌜ Listed (now source) (now image) ⌝ }
     requires { ⌜ Room (told (popWhitespace (given (now source) (now image)) position leading trailing only)) c ⌝ }
-    ensures { λ r. ⌜ LaidAsking (popWhitespace (given (now (source .entry)) (now (image .entry))) position leading trailing only) (now (store .entry)) c (now (store .exit)) r ⌝ }
+    ensures { λ r. ⌜ LaidAsking (popWhitespace (given (now (source .entry)) (now (image .entry))) position leading trailing only) (now (store .entry)) c (now (store .exit)) (r .cursor) (r .gap) ⌝ }
 {
     if only {
         return place_comments(store, c, source, image, position, leading, trailing, only);
@@ -243,10 +284,20 @@ pub fn pop_whitespace(
     if is_waiting(image, c, position) {
         return place_comments(store, c, source, image, position, leading, trailing, only);
     }
-    Asked {
+    Passed {
         cursor: move_to(c, position),
-        answer: false,
+        gap: uncounted(position),
     }
+}
+
+// What `pop_whitespace` of the Rust answers: whether there is white space that is kept.
+pub fn is_whitespace(gap: Gap) -> bool
+    ensures { λ r. ⌜ r ≡ whitespace gap ⌝ }
+{
+    if gap.commented {
+        return true;
+    }
+    0 < gap.newlines.count
 }
 
 // Places the comment at the front, if it starts at the first place that is not white space or is a newline.

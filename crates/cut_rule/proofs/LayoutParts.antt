@@ -103,6 +103,7 @@ module _ (P : RuleParts) where
     pub record FitsParts (q : LayoutArgs LayoutChoice) : Type 0 where
       pub image : P .layout-image ≡ none
       pub to : q .stop ≤ P .declarations
+      pub closes-at-end : q .close ≡ true → q .stop ≡ P .declarations
 
     goes-on : (p q : LayoutArgs LayoutChoice) → LayoutAfter p q → laidOf P layoutFresh q ≡ thenLaid (laidOf P layoutFresh p) (λ s. laidOf P s q)
     goes-on p q a = ap laidAs (piece-on (p .stop) (p .choice .mode) q (a .not-past)) ∙ ap parted (sym (stopped p (a .not-closed)))
@@ -122,7 +123,11 @@ module _ (P : RuleParts) where
     pub layout-laws : LayoutLaws (rules P)
     layout-laws = record {
       Fits = FitsParts;
-      accepted-fits = λ q s store e. record { image = layout-told P q s store e .image; to = layout-told P q s store e .fits .stop .to };
+      accepted-fits = λ q s store e. record {
+        image = layout-told P q s store e .image;
+        to = layout-told P q s store e .fits .stop .to;
+        closes-at-end = layout-told P q s store e .fits .stop .closes-at-end;
+      };
       accepted-after = λ p q store k e. record {
         not-closed = layout-told P q (laidOf P layoutFresh p .state) store e .fits .stop .not-closed;
         not-past = layout-told P q (laidOf P layoutFresh p .state) store e .fits .stop .from;

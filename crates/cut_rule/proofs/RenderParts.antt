@@ -113,9 +113,9 @@ module _ (P : RuleParts) (D : RenderPartLaws P) where
         shape y k = record { state = record { pen = y .pen; in-use = k; row = m; width = w }; marks = y .marks; text = y .text }
 
   -- a call can choose the width, and the rows before row n are right
-  record Whole (c : RenderChoice) (rows : List ℕ) (n : ℕ) : Type 0 where
-    legal : LegalWidth (c .width)
-    right : P .wrong-row rows 0 n ≡ none
+  pub record Whole (c : RenderChoice) (rows : List ℕ) (n : ℕ) : Type 0 where
+    pub legal : LegalWidth (c .width)
+    pub right : P .wrong-row rows 0 n ≡ none
 
   pub render-laws : RenderLaws (rules P)
   render-laws = record {
@@ -141,6 +141,10 @@ module _ (P : RuleParts) (D : RenderPartLaws P) where
     render-local = λ c s marks rows others n e. rendering-local c s marks rows others n e;
     goes-on = λ c rows n m h w v. joined c rows n m h (w .right) (v .right);
   }
+
+  pub whole : (c : RenderChoice) (rows : List ℕ) (n : ℕ) → render-laws .WholeRows c rows n → Whole c rows n
+  unfolding render-laws
+  whole c rows n k = k
 
   pub room-laws : LayoutPartLaws P → RoomLaws (rules P)
   room-laws L = record {

@@ -83,13 +83,18 @@ module _ (R : Rules) (L : LayoutLaws R) (D : RenderLaws R) where
     due-from store₀ marks₀ calls (atFirst R) at-first,
   )
 
-  -- ---- the comments
+  -- ---- what stays true on the way
   ok-from : (s m : List ℕ) (cs : List (Call R)) (f : Progress R) → Ok f → AllReadLaid R (due R s m f) cs → Ok (plain R s m f cs)
   ok-from s m [] f k a = k
   ok-from s m (c ∷ cs) f k a =
       let t = one-call R L D s m f c k (a .0) in
       ok-from s m cs (plainCall R s m f c) (t .1) (subst (λ (w : Carried R). AllReadLaid R w cs) (t .0) (a .1))
 
+  pub progress-ok : (store₀ marks₀ : List ℕ) (calls : List (Call R)) → AllReadLaid R (start R store₀ marks₀) calls
+      → Ok (plain R store₀ marks₀ (atFirst R) calls)
+  progress-ok store₀ marks₀ calls a = ok-from store₀ marks₀ calls (atFirst R) at-first a
+
+  -- ---- the comments
   module _ (listed : List Text) (K : CommentLaws R L listed) where
     kept-due : (s m : List ℕ) (o : Option (LayoutArgs (R .LayoutChoice))) (d : Option (RenderedTo (R .RenderChoice))) → LaidOk R L D o
         → (n : ℕ) → leftDue R o ≡ some n → CommentsKept R listed (due R s m (record { laid-to = o; rendered-to = d })) n
@@ -107,7 +112,7 @@ module _ (R : Rules) (L : LayoutLaws R) (D : RenderLaws R) where
     comments-kept store₀ marks₀ calls a n e =
         let t = cut-rule store₀ marks₀ calls a in
         let f = plain R store₀ marks₀ (atFirst R) calls in
-        let k = ok-from store₀ marks₀ calls (atFirst R) at-first a in
+        let k = progress-ok store₀ marks₀ calls a in
         subst (λ (w : Carried R). CommentsKept R listed w n) (sym t)
         (kept-due store₀ marks₀ (f .laid-to) (f .rendered-to) (k .laid-ok) n (sym (ap (λ (w : Carried R). w .left) t) ∙ e))
 

@@ -1,6 +1,6 @@
 -- What an accepted call tells: each line of the table lets it pass, and so does each group of tests of 12 and 15.
 -- Assumes nothing.
-use mathlib.Core.Path.{_≡_}
+use mathlib.Core.Path.{_≡_, refl, sym}
 use mathlib.Core.Bool.{Bool, true, false, not, _&&_, _||_}
 use mathlib.Core.Option.{none}
 use mathlib.Core.List.{List, [], _∷_, _++_}
@@ -58,6 +58,13 @@ pub record StopFits (declarations : ℕ) (q : LayoutArgs LayoutChoice) (s : Layo
   pub from : s .declaration ≤ q .stop
   pub to : q .stop ≤ declarations
   pub not-closed : s .closed ≡ false
+  pub closes-at-end : q .close ≡ true → q .stop ≡ declarations
+
+only-there : (c t : Bool) → c ≡ true → (c && not t) ≡ false → t ≡ true
+only-there true true h e = refl
+only-there true false h e = sym e
+only-there false true h e = refl
+only-there false false h e = h
 
 stop-fits : (declarations : ℕ) (q : LayoutArgs LayoutChoice) (s : LayoutState) → any (stopTests declarations q s) ≡ false
     → StopFits declarations q s
@@ -68,6 +75,10 @@ stop-fits declarations q s e =
       from = first-within (q .stop) (s .declaration) _ e;
       to = first-within declarations (q .stop) _ e2;
       not-closed = or-first (s .closed) _ e3;
+      closes-at-end =
+          λ h.
+          eqb-true (q .stop) declarations
+          (only-there (q .close) (eqb (q .stop) declarations) h (or-first (q .close && not (eqb (q .stop) declarations)) _ (or-rest (s .closed) _ e3)));
     }
 
 -- the choice is a mode, and the carried one once begun

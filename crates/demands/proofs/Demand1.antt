@@ -4,10 +4,11 @@ use mathlib.Core.Path.{_≡_, refl, sym, ap, _∙_}
 use mathlib.Core.Bool.{Bool, true, false, not, _||_}
 use mathlib.Core.Option.{Option, none, some}
 use mathlib.Core.List.{List, [], _∷_, _++_}
-use Prim.Native.Nat.{ℕ}
+use Prim.Native.Nat.{ℕ, _+_, _≤_}
 use native.Mathlib.Omega.{arith}
 use lib.Dec.{eqb, ltb}
-use lib.ListN.{length}
+use lib.ListN.{length, take, drop}
+use lib.Seq.{sets, sets-eq, drop-at}
 use Rattle.refusals.specs.Refusals.{Refusal, refuseIf, refuseAt, any, first, isOneOf, unless}
 use Rattle.image.specs.Read.{Read, got, bad, Image, readAll, readNumbers, outcome, header, sourceFits}
 use Rattle.image.proofs.Numbers.{read-numbers}
@@ -22,12 +23,19 @@ use Rattle.plain_run.specs.File.{FileChoice, referenceChoice, layoutChoice, mod
 use Rattle.file.specs.Whole.{sourceOf, imageOf, frameFits, frameRefusal}
 use Rattle.layout_call.specs.Calls as layout
 use Rattle.render_call.specs.Calls as render
-use Rattle.reply.specs.Reply.{frameTable, programRoom}
-use Rattle.demands.specs.Demand1.{layoutNumbers, renderNumbers, fileNumbers, referenceNumbers, frameNumbers, countNumbers, readTold, callTold, fileTold, countTold, Answered, CheckAnswered, LayoutAnswered, RenderAnswered, FileAnswered, FrameAnswered, CountAnswered, Demand1}
+use Rattle.reply.specs.Reply.{frameTable, programRoom, replyBy, reply}
+use Rattle.cut_rule.proofs.Memory.{take-front}
+use Rattle.demands.specs.Demand1.{layoutNumbers, renderNumbers, fileNumbers, referenceNumbers, frameNumbers, countNumbers, readTold, callTold, fileTold, countTold, Answered, CheckAnswered, LayoutAnswered, RenderAnswered, FileAnswered, FrameAnswered, ProgramAnswered, CountAnswered, Demand1}
 use Rattle.tallies.specs.declared.Figures.{Figures}
 use Rattle.tallies.specs.declared.Tallies.{Tallies}
 use Rattle.tallies.specs.Tallies.{tallyTests, tallyRefusal}
 use Rattle.figures.specs.Figures.{FILE-OUTPUT, figuresOf, countRefusal, countAnswerBy}
+
+-- numbers stored from the start of an array that has room for them stand at its start
+pub sets-front : (vs out : List ℕ) → length vs ≤ length out → sets out 0 vs ≡ vs ++ drop (length vs) out
+sets-front vs out h =
+    let from : 0 + length vs ≡ length vs = omega arith in
+    sets-eq vs out 0 (omega arith) ∙ ap (λ (k : ℕ). vs ++ drop k out) from
 
 -- ---- refusals under a list of numbers
 pub record Under (ns : List ℕ) (o : Option Refusal) : Type 0 where
@@ -259,6 +267,20 @@ count-under s b t =
 count-file : CountAnswered
 count-file s b t r e = answered (ap countTold e ∙ count-told (countRefusal s b t) (figuresOf s b) t) (count-under s b t) (λ r f. tt)
 
+program-wrote : ProgramAnswered
+unfolding reply
+program-wrote frame out n out2 p =
+    let text = drawnDue (sourceOf frame) (imageOf frame) referenceChoice .text in
+    let wrote : take n out2 ≡ reply frame = ap (λ (o : List ℕ). take n o) (p .output-left) ∙ take-front n (reply frame) out (p .bytes-due) in
+    record {
+      refused = λ r e. (wrote ∙ ap (λ (o : Option Refusal). replyBy o text) e, frame-under frame programRoom .of r e);
+      accepted = λ e. wrote ∙ ap (λ (o : Option Refusal). replyBy o text) e;
+      behind =
+          ap (λ (o : List ℕ). drop n o) (p .output-left)
+          ∙ drop-at (reply frame) (drop (length (reply frame)) out) n (sym (p .bytes-due))
+          ∙ ap (λ (k : ℕ). drop k out) (sym (p .bytes-due));
+    }
+
 pub demand-1 : Demand1
 demand-1 = record {
   check = check;
@@ -266,6 +288,6 @@ demand-1 = record {
   render = render-call;
   file = format-file;
   frame = format-frame;
-  program = λ frame r e. frame-under frame programRoom .of r e;
+  program = program-wrote;
   count = count-file;
 }

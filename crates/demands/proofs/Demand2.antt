@@ -109,7 +109,7 @@ width-passes width h = rw (le-ltb width MIN-WIDTH (h .least), le-ltb MAX-WIDTH w
 rendered : RenderedDue
 rendered s b store mode t left store2 p width marks out u n store3 marks2 out2 q =
     let c : FileChoice = record { width = width; mode = mode } in
-    let to = render.toArgs (record { stop = t .row; width = width }) (length out) in
+    let to = render.toArgs (record { stop = t .row; width = record { 0 = width } }) (length out) in
     let a = written-told (rulesOf s b) (rulesOf s b .render-refusal to (render.toState freshRender) store2 marks) (render.toState u) (n .0) _ _ (q .answer) in
     let legal = width-passes width (render-told (partsOf s b) to (render.toState freshRender) store2 marks (a .passes) .checked .width .legal) in
     let before = told s b store (record { stop = length (declared s b); close = true; mode = mode }) t left store2 p in
@@ -119,19 +119,19 @@ rendered s b store mode t left store2 p width marks out u n store3 marks2 out2 q
     let left-store : store2 ≡ storeLeft s b c store = p .store-left ∙ layout-store-due s b c moded legal store in
     let v = written-told (rulesOf s b) (refusalIn s b c (tests.rowsIn store) (length marks) (length out)) (render.toState u) (n .0) (renderedDue s b c moded legal) _
     (q .answer
-    ∙ ap₂ (λ (i : ℕ) (l : List ℕ). renderAnswer (rulesOf s b) (render.toArgs (record { stop = i; width = width }) (length out)) (render.toState freshRender) l marks) row left-store
+    ∙ ap₂ (λ (i : ℕ) (l : List ℕ). renderAnswer (rulesOf s b) (render.toArgs (record { stop = i; width = record { 0 = width } }) (length out)) (render.toState freshRender) l marks) row left-store
     ∙ render-answer-due s b c moded legal store marks out (w .passes))
     in
     record {
       marks-due =
           q .marks-left
-          ∙ ap₂ (λ (i : ℕ) (l : List ℕ). renderMarks (rulesOf s b) (render.toArgs (record { stop = i; width = width }) (length out)) (render.toState freshRender) l marks) row left-store
+          ∙ ap₂ (λ (i : ℕ) (l : List ℕ). renderMarks (rulesOf s b) (render.toArgs (record { stop = i; width = record { 0 = width } }) (length out)) (render.toState freshRender) l marks) row left-store
           ∙ render-marks-due s b c moded legal store marks out (w .passes)
           ∙ ap (λ (x : Option Refusal). unless x marks (writeFront (drawnDue s b c .marks) marks)) (v .passes);
       bytes-due = v .bytes;
       text-due =
           q .output-left
-          ∙ ap₂ (λ (i : ℕ) (l : List ℕ). renderOutput (rulesOf s b) (render.toArgs (record { stop = i; width = width }) (length out)) (render.toState freshRender) l marks out) row left-store
+          ∙ ap₂ (λ (i : ℕ) (l : List ℕ). renderOutput (rulesOf s b) (render.toArgs (record { stop = i; width = record { 0 = width } }) (length out)) (render.toState freshRender) l marks out) row left-store
           ∙ render-output-due s b c moded legal store marks out (w .passes)
           ∙ ap (λ (x : Option Refusal). unless x out (writeFront (drawnDue s b c .text) out)) (v .passes);
     }

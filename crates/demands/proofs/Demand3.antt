@@ -8,14 +8,21 @@ use Rattle.image.specs.Read.{readAll}
 use Rattle.cut_rule.specs.Run.{Call, Carried, Answer, layoutCall, renderCall, start, call, run, answer, answers}
 use Rattle.cut_rule.specs.Entries.{entryCall}
 use Rattle.cut_rule.specs.CutRule.{CommentsKept, CutRule}
-use Rattle.cut_rule.specs.Callers.{AllKept}
+use Rattle.cut_rule.specs.Callers.{afterAll, AllKept}
 use Rattle.cut_rule.proofs.Entries.{entries-are-calls}
 use Rattle.cut_rule.proofs.Answers.{all-held}
-use Rattle.plain_run.specs.Parts.{listed}
+use mathlib.Core.Bool.{false}
+use mathlib.Core.Option.{none}
+use Rattle.refusals.specs.Refusals.{any, refuseIf}
+use Rattle.refusals.proofs.Groups.{passes-left, passes-line, passes-others, not-if}
+use Rattle.cut_rule.specs.States as states
+use Rattle.cut_rule.specs.Parts.{layoutTests, beforeRows, rowsLine, laidOf}
+use Rattle.cut_rule.proofs.Answers.{laid-told}
+use Rattle.plain_run.specs.Parts.{readRefusal, listed, partsOf}
 use Rattle.plain_run.specs.Demands.{rulesOf}
 use Rattle.plain_run.specs.Foot.{HoldsAll}
 use Rattle.plain_run.proofs.Demands.{rules-cut}
-use Rattle.plain_run.proofs.Foot.{closed-holds-all}
+use Rattle.plain_run.proofs.Foot.{closing-places-all, closed-holds-all}
 use Rattle.layout_call.specs.declared.LayoutArgs.{LayoutArgs}
 use Rattle.layout_call.specs.declared.Laying.{Laying}
 use Rattle.layout_call.specs.declared.Laying.the-variants as laying
@@ -26,7 +33,7 @@ use Rattle.render_call.specs.declared.Rendering.{Rendering}
 use Rattle.render_call.specs.declared.Rendering.the-variants as rendering
 use Rattle.render_call.specs.Calls as render
 use Rattle.render_call.specs.Whole.{RenderCalled}
-use Rattle.demands.specs.Demand3.{Caller, freshCaller, Made, laid, rendered, Promised, afterMade, callMade, answerMade, held, HeldAsDue, Demand3, CallsHoldAll}
+use Rattle.demands.specs.Demand3.{Caller, freshCaller, Made, laid, rendered, Promised, afterMade, callMade, answerMade, held, HeldAsDue, Demand3, CallsHoldAll, ClosingLeavesNone}
 
 module _ (s b : List ℕ) where
   -- one call
@@ -74,22 +81,46 @@ held-as-due s b store₀ marks₀ calls v e rule = record {
       (rule .comments n (ap (λ (x : Carried (rulesOf s b)). x .left) (sym e) ∙ f));
 }
 
+-- calls that keep their promises make the run of the rules
+pub made-run : (s b store₀ marks₀ : List ℕ) (made : List Made) → AllKept afterMade (Promised s b) (freshCaller store₀ marks₀) made
+    → held s b (afterAll afterMade (freshCaller store₀ marks₀) made) ≡ run (rulesOf s b) (start (rulesOf s b) store₀ marks₀) (map (callMade s b) made)
+made-run s b store₀ marks₀ made p =
+    all-held (rulesOf s b) afterMade (Promised s b) (held s b) (callMade s b) (one-held s b) (freshCaller store₀ marks₀) made p
+
 pub demand-3 : Demand3
 demand-3 s b store₀ marks₀ made p h =
     let w = freshCaller store₀ marks₀ in
     let rule = rules-cut (readAll s b) s b store₀ marks₀ (map (callMade s b) made) h in
     record {
       as-due =
-          held-as-due s b store₀ marks₀ (map (callMade s b) made) _
-          (all-held (rulesOf s b) afterMade (Promised s b) (held s b) (callMade s b) (one-held s b) w made p)
-          rule;
+          held-as-due s b store₀ marks₀ (map (callMade s b) made) _ (made-run s b store₀ marks₀ made p) rule;
       answered = all-answers s b w made p ∙ rule .answered;
     }
 
 pub calls-hold-all : CallsHoldAll
 calls-hold-all s b store₀ marks₀ made p closed new =
-    let e = all-held (rulesOf s b) afterMade (Promised s b) (held s b) (callMade s b) (one-held s b) (freshCaller store₀ marks₀) made p in
+    let e = made-run s b store₀ marks₀ made p in
     subst (HoldsAll s b) (sym e)
     (closed-holds-all s b store₀ marks₀ (map (callMade s b) made)
     (ap (λ (v : Carried (rulesOf s b)). v .layout-state .closed) (sym e) ∙ closed)
     (ap (λ (v : Carried (rulesOf s b)). v .layout-state .mode) (sym e) ∙ new))
+
+pub closing-leaves-none : ClosingLeavesNone
+closing-leaves-none s b state args store t left store2 p closes new =
+    let q = layout.toArgs args in
+    let z = layout.toState state in
+    let P = partsOf s b in
+    let given = laidOf P z q in
+    let told = laid-told (rulesOf s b) (rulesOf s b .layout-refusal q z store) (layout.toState t) left (given .state) (given .left) (p .answer) in
+    let lines = passes-left (beforeRows P q z store) (rowsLine P q z store) (told .passes) in
+    let twelve = refuseIf (any (layoutTests P q z store)) 12 0 in
+    let read : readRefusal (readAll s b) ≡ none = passes-line (P .layout-image) (twelve ∷ []) lines in
+    let tests : any (layoutTests P q z store) ≡ false =
+    not-if (any (layoutTests P q z store)) 12 0 (passes-line twelve [] (passes-others (P .layout-image) (twelve ∷ []) lines))
+    in
+    let all = closing-places-all s b store q z read tests closes new in
+    record {
+      none-left = told .left ∙ all .left;
+      placed = ap (λ (x : states.LayoutState). x .cursor .placed) (told .state) ∙ all .placed;
+      position = ap (λ (x : states.LayoutState). x .cursor .position) (told .state) ∙ all .position;
+    }

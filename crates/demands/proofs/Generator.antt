@@ -7,7 +7,7 @@ use mathlib.Core.List.{List, [], _∷_, _++_}
 use Prim.Native.Nat.{ℕ, _+_, _≤_}
 use native.Mathlib.Omega.{arith}
 use lib.Dec.{ltb}
-use lib.ListN.{length, getD, take, drop}
+use lib.ListN.{length, take, drop}
 use lib.Seq.{sets, take-append-seam}
 use borrow.Author.Tests.{ltb-false, le-ltb}
 use Rattle.laws.proofs.Booleans.{or-first, or-rest}
@@ -25,11 +25,9 @@ use Rattle.steps.proofs.Numbers.{steps-number}
 use Rattle.steps.proofs.Claims.{exactly-one, written-reads-back}
 use Rattle.writer.specs.declared.Wrote.{Wrote}
 use Rattle.writer.specs.declared.Wrote.the-variants as answer
-use Rattle.writer.specs.Wrote.{wroteAnswer}
-use Rattle.exports.specs.Generator.{toldWriter}
-use Rattle.demands.specs.Generator.{writerNumbers, stepsNumbers, writerTold, Writes, Lists, Generator1, TheList, GivesBack, GeneratorLists}
-use Rattle.demands.proofs.Demand1.{Under, under-if, under-none, under-first, under-more, answered, left-same}
-use Rattle.demands.proofs.Exported.{stored, two}
+use Rattle.writer.specs.Wrote.{wroteAnswer, Writes, Lists}
+use Rattle.demands.specs.Generator.{writerNumbers, stepsNumbers, writerTold, Generator1, TheList, GivesBack, GeneratorLists}
+use Rattle.demands.proofs.Demand1.{Under, sets-front, under-if, under-none, under-first, under-more, answered, left-same}
 
 -- ---- demand 1
 steps-under : (l : List ℕ) → Under writerNumbers (stepsRefusal (contentsFrom l))
@@ -39,7 +37,7 @@ steps-under l = go (contentsFrom l) refl
     go (got c end) e = under-none writerNumbers
     go (bad n p) e = under-if writerNumbers true n p (ap (λ (k : ℕ). isOneOf k writerNumbers) (steps-number l n p e))
 
-write-under : (l : List ℕ) (room : ℕ) → Under writerNumbers (writerRefusal l room)
+pub write-under : (l : List ℕ) (room : ℕ) → Under writerNumbers (writerRefusal l room)
 write-under l room =
     let long = ltb (5 + MAX-BODY) (length (imageDue l)) || ltb room (length (imageDue l)) in
     under-first writerNumbers (stepsRefusal (contentsFrom l) ∷ refuseIf long 17 (length (imageDue l)) ∷ [])
@@ -52,7 +50,7 @@ read-under s b = go (readAll s b) refl
     go (got i end) e = under-none readNumbers
     go (bad n p) e = under-if readNumbers true n p (read-numbers s b n p e)
 
-list-under : (s b : List ℕ) (room : ℕ) → Under stepsNumbers (stepsOfRefusal s b room)
+pub list-under : (s b : List ℕ) (room : ℕ) → Under stepsNumbers (stepsOfRefusal s b room)
 list-under s b room =
     let long = ltb room (length (stepsDue s b)) in
     under-first stepsNumbers (readRefused (readAll s b) ∷ refuseIf long 17 (length (stepsDue s b)) ∷ []) (
@@ -65,41 +63,16 @@ by-table : (o : Option Refusal) (n : ℕ) → writerTold (writerAnswerBy o n) �
 by-table (some r) n = refl
 by-table none n = refl
 
-told-zero : (o : Option Refusal) (n : ℕ) (out : List ℕ) → 2 ≤ length out → o ≡ none → getD (toldWriter (writerAnswerBy o n) out) 0 0 ≡ 0
-told-zero none n out h e = ap (λ (l : List ℕ). getD l 0 0) (stored (0 ∷ n ∷ []) out h)
-told-zero (some q) n out h e = absurd (options.never q e)
-
-told-refusal : (o : Option Refusal) (n : ℕ) (out : List ℕ) (r : Refusal) → o ≡ some r
-    → toldWriter (writerAnswerBy o n) out ≡ sets out 0 (r .number ∷ r .place ∷ [])
-told-refusal (some q) n out r e =
-    let same : q ≡ r = cc in
-    ap (λ (x : Refusal). sets out 0 (x .number ∷ x .place ∷ [])) same
-told-refusal none n out r e = absurd (options.never r (sym e))
-
 pub generator-1 : Generator1
 generator-1 = record {
   write =
       λ l out r out2 p.
-      answered (ap writerTold (p .answered) ∙ by-table (writerRefusal l (length out)) _) (write-under l (length out))
-      (λ q f. p .output-left ∙ left-same _ q out _ f);
+      answered (ap writerTold (p .0) ∙ by-table (writerRefusal l (length out)) _) (write-under l (length out))
+      (λ q f. p .1 ∙ left-same _ q out _ f);
   list =
       λ s b out r out2 p.
-      answered (ap writerTold (p .answered) ∙ by-table (stepsOfRefusal s b (length out)) _) (list-under s b (length out))
-      (λ q f. p .output-left ∙ left-same _ q out _ f);
-  linked-write =
-      λ l output out output2 out2 h e f.
-      let o = writerRefusal l (length output) in
-      two writerNumbers o out out2 (output2 ≡ output) (omega arith) (write-under l (length output))
-      (λ g. ap (λ (x : List ℕ). getD x 0 0) f ∙ told-zero o _ out (omega arith) g)
-      (λ r g. f ∙ told-refusal o _ out r g)
-      (λ r g. e ∙ left-same o r output _ g);
-  linked-steps =
-      λ s b output out output2 out2 h e f.
-      let o = stepsOfRefusal s b (length output) in
-      two stepsNumbers o out out2 (output2 ≡ output) (omega arith) (list-under s b (length output))
-      (λ g. ap (λ (x : List ℕ). getD x 0 0) f ∙ told-zero o _ out (omega arith) g)
-      (λ r g. f ∙ told-refusal o _ out r g)
-      (λ r g. e ∙ left-same o r output _ g);
+      answered (ap writerTold (p .0) ∙ by-table (stepsOfRefusal s b (length out)) _) (list-under s b (length out))
+      (λ q f. p .1 ∙ left-same _ q out _ f);
 }
 
 -- ---- what stands at the start of an output
@@ -121,7 +94,7 @@ front none ws out n out2 e f fits =
     record {
       passed = refl;
       count = same;
-      bytes = ap (λ (k : ℕ). take k out2) same ∙ ap (λ (x : List ℕ). take (length ws) x) (f ∙ stored ws out (fits refl)) ∙ take-append-seam ws (drop (length ws) out);
+      bytes = ap (λ (k : ℕ). take k out2) same ∙ ap (λ (x : List ℕ). take (length ws) x) (f ∙ sets-front ws out (fits refl)) ∙ take-append-seam ws (drop (length ws) out);
     }
 front (some r) ws out n out2 e f fits = let z : _≡_ {A = ℕ} 0 1 = cc in absurd (omega arith)
 
@@ -146,7 +119,7 @@ given-room l room more t h = rw (t .taken, t .small, le-ltb more (length (imageD
 
 written-front : (l out : List ℕ) (n : ℕ) (out2 : List ℕ) → Writes l out (answer.Bytes n) out2 → Front (writerRefusal l (length out)) (imageDue l) n out2
 written-front l out n out2 p =
-    front (writerRefusal l (length out)) (imageDue l) out n out2 (p .answered) (p .output-left)
+    front (writerRefusal l (length out)) (imageDue l) out n out2 (p .0) (p .1)
     (λ e. ltb-false (length out) (length (imageDue l)) (takes l (length out) e .fits))
 
 turns-by : (l b : List ℕ) (room : ℕ) → Takes l room → imageDue l ≡ b → Turns l b
@@ -170,8 +143,8 @@ turned-by l b out r out2 t p h =
     let passed : writerRefusal l (length b) ≡ none = none-by (writerRefusal l (length b)) (length (imageDue l)) (length b) (t .accepted) in
     let due : length (imageDue l) ≡ length b = ap length (t .image) in
     let none-at : writerRefusal l (length out) ≡ none = given-room l (length b) (length out) (takes l (length b) passed) (omega (arith, due, h)) in (
-      p .answered ∙ ap (λ (o : Option Refusal). writerAnswerBy o (length (imageDue l))) none-at ∙ ap (λ (x : List ℕ). wrote (length x)) (t .image),
-      p .output-left ∙ ap (λ (o : Option Refusal). unless o out (sets out 0 (imageDue l))) none-at ∙ ap (λ (x : List ℕ). sets out 0 x) (t .image),
+      p .0 ∙ ap (λ (o : Option Refusal). writerAnswerBy o (length (imageDue l))) none-at ∙ ap (λ (x : List ℕ). wrote (length x)) (t .image),
+      p .1 ∙ ap (λ (o : Option Refusal). unless o out (sets out 0 (imageDue l))) none-at ∙ ap (λ (x : List ℕ). sets out 0 x) (t .image),
     )
 
 -- ---- the steps of an image
@@ -197,7 +170,7 @@ listed s b out m out2 p = go (readAll s b) refl
         (not-if (ltb (length out) (length due)) 17 (length due) (passes-line line [] (passes-others (readRefused (readAll s b)) (line ∷ []) e)))
 
     whole : Front (stepsOfRefusal s b (length out)) due m out2
-    whole = front (stepsOfRefusal s b (length out)) due out m out2 (p .answered) (p .output-left) fits
+    whole = front (stepsOfRefusal s b (length out)) due out m out2 (p .0) (p .1) fits
 
     go : (x : Read Image) → readAll s b ≡ x → Listed s b m out2
     go (got i end) e = record { image = i; end = end; read = e; steps = whole .bytes ∙ ap (stepsBy b) e }
@@ -222,7 +195,7 @@ refused-as : (s b out : List ℕ) (r : Wrote) (out2 : List ℕ) (q : Refusal) �
 refused-as s b out r out2 q p e by =
     under-first (1 ∷ 2 ∷ 6 ∷ 7 ∷ 17 ∷ []) (readRefused (readAll s b) ∷ line ∷ [])
     (under-more (1 ∷ 2 ∷ 6 ∷ 7 ∷ []) (17 ∷ []) (readRefused (readAll s b)) (go (readAll s b) refl), (under-if (1 ∷ 2 ∷ 6 ∷ 7 ∷ 17 ∷ []) (ltb (length out) (length due)) 17 (length due) refl, tt))
-    .of q (sym (by-table (stepsOfRefusal s b (length out)) (length due)) ∙ sym (ap writerTold (p .answered)) ∙ ap writerTold e)
+    .of q (sym (by-table (stepsOfRefusal s b (length out)) (length due)) ∙ sym (ap writerTold (p .0)) ∙ ap writerTold e)
   where
     due : List ℕ
     due = stepsDue s b

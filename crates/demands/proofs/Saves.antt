@@ -7,22 +7,17 @@ use mathlib.Core.List.{List, [], _∷_}
 use Prim.Native.Nat.{ℕ, _≤_}
 use native.Mathlib.Omega.{arith}
 use lib.Dec.{ltb}
-use lib.ListN.{length, getD}
-use lib.Seq.{sets}
+use lib.ListN.{length}
 use Rattle.laws.proofs.Options as options
 use Rattle.refusals.specs.Refusals.{Refusal, refuseIf, isOneOf}
 use Rattle.image.specs.Read.{Read, got, bad, readNumbers}
 use Rattle.plain_run.specs.File.{FileChoice, refused, formatted, fileRows, fileMarks, laidRefusal, marksDue, fileAnswerBy}
-use Rattle.file.specs.Whole.{toChoice}
 use Rattle.batch.specs.Batch.{MAX-SAVES, Save, allSaves, savesRefusal, tableDue, textsDue, batchRefusal, batchAnswerBy}
 use Rattle.batch.proofs.Buffer.{cut-number}
 use Rattle.batch.proofs.Rooms.{nine, early, single-by}
 use Rattle.batch.proofs.Singles.{as-singles}
-use Rattle.exports.specs.Numbers.{fileChoice}
-use Rattle.exports.specs.Saves.{toldBatch}
 use Rattle.demands.specs.Saves.{batchNumbers, rowNumbers, batchTold, Saves1}
 use Rattle.demands.proofs.Demand1.{Under, under-if, under-none, under-first, under-more, read-under, laid-under, answered, left-same}
-use Rattle.demands.proofs.Exported.{stored, two}
 
 -- ---- the batch's table
 frames-under : (f : List ℕ) → Under batchNumbers (savesRefusal (allSaves f))
@@ -32,7 +27,7 @@ frames-under f = go (allSaves f) refl
     go (got xs end) e = under-none batchNumbers
     go (bad n p) e = under-if batchNumbers true n p (ap (λ (k : ℕ). isOneOf k batchNumbers) (cut-number f MAX-SAVES 0 n p e))
 
-batch-under : (c : FileChoice) (f : List ℕ) (cells room : ℕ) → Under batchNumbers (batchRefusal c f cells room)
+pub batch-under : (c : FileChoice) (f : List ℕ) (cells room : ℕ) → Under batchNumbers (batchRefusal c f cells room)
 batch-under c f cells room =
     let rows = length (tableDue c f) in
     let bytes = length (textsDue c f) in
@@ -45,18 +40,6 @@ batch-under c f cells room =
 by-table : (o : Option Refusal) (files bytes : ℕ) → batchTold (batchAnswerBy o files bytes) ≡ o
 by-table (some r) files bytes = refl
 by-table none files bytes = refl
-
-told-zero : (o : Option Refusal) (files bytes : ℕ) (out : List ℕ) → 3 ≤ length out → o ≡ none
-    → getD (toldBatch (batchAnswerBy o files bytes) out) 0 0 ≡ 0
-told-zero none files bytes out h e = ap (λ (l : List ℕ). getD l 0 0) (stored (0 ∷ files ∷ bytes ∷ []) out h)
-told-zero (some q) files bytes out h e = absurd (options.never q e)
-
-told-refusal : (o : Option Refusal) (files bytes : ℕ) (out : List ℕ) (r : Refusal) → o ≡ some r
-    → toldBatch (batchAnswerBy o files bytes) out ≡ sets out 0 (r .number ∷ r .place ∷ [])
-told-refusal (some q) files bytes out r e =
-    let same : q ≡ r = cc in
-    ap (λ (x : Refusal). sets out 0 (x .number ∷ x .place ∷ [])) same
-told-refusal none files bytes out r e = absurd (options.never r (sym e))
 
 -- ---- a file's row
 -- what refuses a file that has room for its text
@@ -78,14 +61,6 @@ saves-1 = record {
       let o = batchRefusal c f (length table) (length out) in
       answered (ap batchTold (p .answer) ∙ by-table o _ _) (batch-under c f (length table) (length out))
       (λ q g. (p .table-left ∙ left-same o q table _ g, p .texts-left ∙ left-same o q out _ g));
-  linked-batch =
-      λ f choice table output out table2 output2 out2 h p.
-      let c = toChoice (fileChoice choice) in
-      let o = batchRefusal c f (length table) (length output) in
-      two batchNumbers o out out2 ((table2 ≡ table) × (output2 ≡ output)) (omega arith) (batch-under c f (length table) (length output))
-      (λ g. ap (λ (l : List ℕ). getD l 0 0) (p .told-as) ∙ told-zero o _ _ out (omega arith) g)
-      (λ r g. p .told-as ∙ told-refusal o _ _ out r g)
-      (λ r g. (p .table-left ∙ left-same o r table _ g, p .texts-left ∙ left-same o r output _ g));
   row = λ c x r e. early-under c x .of r (refused-by (early c x) _ _ _ _ r (sym (single-by c x) ∙ e));
   singles = as-singles;
 }

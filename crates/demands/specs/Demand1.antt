@@ -1,23 +1,23 @@
--- Demand 1: "A tree image with its source, comments, carried states and lent buffers of any size is laid out and rendered, or refused under a
--- number of document 01. .. a refusal gives a number and a place and changes no lent buffer." proofs/Demand1.antt proves it.
+-- Demand 1: a tree image with its source, comments, carried states and lent buffers of any size is laid out and rendered, or refused under a
+-- number of document 01; a refusal gives a number and a place and changes no lent buffer. proofs/Demand1.antt proves it.
 --
 -- Of each entry, by what it promises and nothing else. None of the entries requires anything of its caller, and each of them is total: a function
--- of Rattle is proved to end, and not to trap, whatever it is called with. The entries for other languages are in Exported.antt.
+-- of Rattle is proved to end, and not to trap, whatever it is called with. The entries for other languages are in Linked.antt.
 use mathlib.Core.Path.{_≡_}
 use mathlib.Core.Bool.{true}
 use mathlib.Core.Option.{Option, none, some}
 use mathlib.Core.List.{List, [], _∷_, _++_}
 use Prim.Native.Nat.{ℕ}
-use lib.ListN.{length}
+use lib.ListN.{length, take, drop}
 use Rattle.refusals.specs.Refusals.{Refusal, isOneOf}
-use Rattle.image.specs.Read.{readAll, readNumbers, Outcome, outcome, outcomeOf}
+use Rattle.image.specs.Read.{readAll, readNumbers, Outcome, outcomeOf, Checks}
 use Rattle.image.specs.Read as image
 use Rattle.image.specs.declared.Answer as check
 use Rattle.cut_rule.specs.Run.{Answer, laidOut, written}
 use Rattle.cut_rule.specs.Run as cut
 use Rattle.plain_run.specs.Parts.{readRefusal}
 use Rattle.plain_run.specs.Demands.{rulesOf}
-use Rattle.plain_run.specs.File.{FileChoice, FileAnswer, formatted, fileRefusal}
+use Rattle.plain_run.specs.File.{FileChoice, FileAnswer, referenceChoice, drawnDue, formatted, fileRefusal}
 use Rattle.plain_run.specs.File as file
 use Rattle.layout_call.specs.declared.LayoutState.{LayoutState}
 use Rattle.layout_call.specs.declared.LayoutArgs.{LayoutArgs}
@@ -30,8 +30,9 @@ use Rattle.render_call.specs.declared.Rendering.{Rendering}
 use Rattle.render_call.specs.Calls as render
 use Rattle.render_call.specs.Whole.{RenderCalled}
 use Rattle.file.specs.declared.Formatted.{Formatted}
-use Rattle.file.specs.Whole.{formattedAnswer, Formats, FormatsFrame}
-use Rattle.reply.specs.Reply.{frameTable, programRefusal}
+use Rattle.file.specs.Whole.{formattedAnswer, Formats, FormatsFrame, sourceOf, imageOf}
+use Rattle.reply.specs.Reply.{frameTable, programRefusal, Replies}
+use Rattle.lines.specs.Lines.{refusedLine}
 use Rattle.tallies.specs.declared.Tallies.{Tallies}
 use Rattle.figures.specs.declared.Counted.{Counted}
 use Rattle.figures.specs.Figures as count
@@ -85,12 +86,12 @@ pub record Answered (numbers : List ℕ) (table told : Option Refusal) (Kept : T
   -- "No other cause refuses, and each listed one does": accepted, or refused with the table's number and place
   pub as-table : told ≡ table
   pub listed : (r : Refusal) → told ≡ some r → isOneOf (r .number) numbers ≡ true
-  -- "Left as it was: all"
+  -- the table's column "Left as it was": all
   pub kept : (r : Refusal) → told ≡ some r → Kept
 
 -- `image::check`, which is lent nothing to change
 abbrev pub CheckAnswered : Type 0
-CheckAnswered = (s b : List ℕ) (r : check.Answer) → outcomeOf r ≡ outcome (readAll s b)
+CheckAnswered = (s b : List ℕ) (r : check.Answer) → Checks s b r
     → Answered readNumbers (readRefusal (readAll s b)) (readTold (outcomeOf r)) (Unit {0})
 
 -- `layout_call::layout_call`
@@ -118,13 +119,19 @@ abbrev pub FrameAnswered : Type 0
 FrameAnswered = (frame out : List ℕ) (r : Formatted) (out2 : List ℕ) → FormatsFrame frame out r out2
     → Answered frameNumbers (frameTable frame (length out)) (fileTold (formattedAnswer r)) (out2 ≡ out)
 
--- `reply::reply`: the number that the program prints
+-- `reply::reply`, which is lent the output: the n bytes that the program writes for a frame are the line of its refusal, with a number of the list, or the text of the
+-- frame's file; behind them the output is as it was
+pub record ProgramWrote (frame out : List ℕ) (n : ℕ) (out2 : List ℕ) : Type 0 where
+  pub refused : (r : Refusal) → programRefusal frame ≡ some r → (take n out2 ≡ refusedLine r) × (isOneOf (r .number) frameNumbers ≡ true)
+  pub accepted : programRefusal frame ≡ none → take n out2 ≡ drawnDue (sourceOf frame) (imageOf frame) referenceChoice .text
+  pub behind : drop n out2 ≡ drop n out
+
 abbrev pub ProgramAnswered : Type 0
-ProgramAnswered = (frame : List ℕ) (r : Refusal) → programRefusal frame ≡ some r → isOneOf (r .number) frameNumbers ≡ true
+ProgramAnswered = (frame out : List ℕ) (n : ℕ) (out2 : List ℕ) → Replies frame out n out2 → ProgramWrote frame out n out2
 
 -- `figures::count_file`, which is lent nothing to change
 abbrev pub CountAnswered : Type 0
-CountAnswered = (s b : List ℕ) (t : Tallies) (r : Counted) → count.countedAnswer r ≡ count.countAnswer s b t
+CountAnswered = (s b : List ℕ) (t : Tallies) (r : Counted) → count.Counts s b t r
     → Answered countNumbers (count.countRefusal s b t) (countTold (count.countedAnswer r)) (Unit {0})
 
 pub record Demand1 : Type 0 where

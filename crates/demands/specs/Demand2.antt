@@ -1,4 +1,4 @@
--- Demand 2: "For an accepted tree the rows, marks, text and comments left equal what `fmt_parsed` builds and renders." proofs/Demand2.antt proves it.
+-- Demand 2: for an accepted tree the rows, marks, text and comments left equal what `fmt_parsed` builds and renders. proofs/Demand2.antt proves it.
 --
 -- Of the two calls and of a whole file, by what they promise. What `fmt_parsed` builds: `fmtParsed` (crates/layout/specs/Layout.antt), what it has
 -- when its loop reaches a declaration: `upTo` (crates/layout_facts/specs/Accepted.antt); what `Renderer` makes of it: `renderNodes`
@@ -73,7 +73,7 @@ abbrev pub RenderedDue : Type 0
 RenderedDue = (s b store : List ℕ) (mode : ℕ) (t : LayoutState) (left : ℕ) (store2 : List ℕ)
     → LayoutCalled s b freshLayout (record { stop = length (declared s b); close = true; mode = mode }) store (laying.Laid t left) store2
     → (width : ℕ) (marks out : List ℕ) (u : RenderState) (n : Bytes) (store3 marks2 out2 : List ℕ)
-    → RenderCalled s b freshRender (record { stop = t .row; width = width }) store2 marks out (rendering.Written u n) store3 marks2 out2
+    → RenderCalled s b freshRender (record { stop = t .row; width = record { 0 = width } }) store2 marks out (rendering.Written u n) store3 marks2 out2
     → DrawnAs s b (record { width = width; mode = mode }) marks out (n .0) marks2 out2
 
 -- ---- a whole file

@@ -141,3 +141,17 @@ CallsHoldAll =
     → afterAll afterMade (freshCaller store₀ marks₀) made .layout-state .closed ≡ true
     → afterAll afterMade (freshCaller store₀ marks₀) made .layout-state .mode ≡ NEW-MODE
     → HoldsAll s b (held s b (afterAll afterMade (freshCaller store₀ marks₀) made))
+
+-- "closing places every waiting comment": from every state that `layout_call` accepts, whatever layout came before
+pub record ClosedAll (s b : List ℕ) (t : LayoutState) (left : ℕ) : Type 0 where
+  pub none-left : left ≡ 0
+  pub placed : t .placed ≡ length (listed s b)
+  pub position : t .position ≡ length s
+
+abbrev pub ClosingLeavesNone : Type 0
+ClosingLeavesNone =
+    (s b : List ℕ) (state : LayoutState) (args : LayoutArgs) (store : List ℕ) (t : LayoutState) (left : ℕ) (store2 : List ℕ)
+    → LayoutCalled s b state args store (laying.Laid t left) store2
+    → args .close ≡ true
+    → args .mode ≡ NEW-MODE
+    → ClosedAll s b t left

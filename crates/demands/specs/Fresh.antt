@@ -7,4 +7,4 @@ abbrev pub freshLayout : LayoutState
 freshLayout = record { begun = false; closed = false; declaration = 0; row = 0; number = 0; placed = 0; position = 0; mode = 0 }
 
 abbrev pub freshRender : RenderState
-freshRender = record { indent = 0; «next_indent» = 0; column = record { 0 = 0 }; «in_use» = 0; row = 0; width = 0 }
+freshRender = record { indent = 0; «next_indent» = 0; column = record { 0 = 0 }; «in_use» = 0; row = 0; width = record { 0 = 0 } }

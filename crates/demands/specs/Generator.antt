@@ -1,6 +1,5 @@
--- Document 02, 5/14, of the writer's entries, by what they promise and nothing else: demand 1 of `writer::write_image` and `writer::steps_of` and of
--- the functions that other languages link, `rrufthim_write` and `rrufthim_steps`; and the request's two sentences on lists.
--- proofs/Generator.antt proves it.
+-- Document 02, 5/14, of the writer's entries, by what they promise and nothing else: demand 1 of `writer::write_image` and `writer::steps_of`, and the
+-- request's two sentences on lists. proofs/Generator.antt proves it.
 use mathlib.Core.Path.{_≡_}
 use mathlib.Core.Bool.{true}
 use mathlib.Core.Option.{Option, none, some}
@@ -10,15 +9,13 @@ use lib.ListN.{length, take}
 use lib.Seq.{sets}
 use Rattle.refusals.specs.Refusals.{Refusal, isOneOf}
 use Rattle.image.specs.Read.{readNumbers}
-use Rattle.steps.specs.Writer.{WriterAnswer, refused, wrote, writerRefusal, writerAnswer, writerOutput}
-use Rattle.steps.specs.OfImage.{stepsOfRefusal, stepsOfAnswer, stepsOfOutput}
+use Rattle.steps.specs.Writer.{WriterAnswer, refused, wrote, writerRefusal}
+use Rattle.steps.specs.OfImage.{stepsOfRefusal}
 use Rattle.steps.specs.Exact.{Bytes}
 use Rattle.writer.specs.declared.Wrote.{Wrote}
 use Rattle.writer.specs.declared.Wrote.the-variants as answer
-use Rattle.writer.specs.Wrote.{wroteAnswer}
-use Rattle.exports.specs.Generator.{toldWriter}
+use Rattle.writer.specs.Wrote.{wroteAnswer, Writes, Lists}
 use Rattle.demands.specs.Demand1.{Answered}
-use Rattle.demands.specs.Exported.{Told}
 
 -- ---- the numbers of each entry
 -- "16 first", then 17
@@ -34,29 +31,12 @@ abbrev pub writerTold : WriterAnswer → Option Refusal
 writerTold (refused r) = some r
 writerTold (wrote n) = none
 
--- ---- what is promised
--- `write_image`: of the list l, with the output before and after
-pub record Writes (l out : List ℕ) (r : Wrote) (out2 : List ℕ) : Type 0 where
-  pub answered : wroteAnswer r ≡ writerAnswer l (length out)
-  pub output-left : out2 ≡ writerOutput l out
-
--- `steps_of`: of the image b with the source s
-pub record Lists (s b out : List ℕ) (r : Wrote) (out2 : List ℕ) : Type 0 where
-  pub answered : wroteAnswer r ≡ stepsOfAnswer s b (length out)
-  pub output-left : out2 ≡ stepsOfOutput s b out
-
 -- ---- demand 1
 pub record Generator1 : Type 0 where
   pub write : (l out : List ℕ) (r : Wrote) (out2 : List ℕ) → Writes l out r out2
       → Answered writerNumbers (writerRefusal l (length out)) (writerTold (wroteAnswer r)) (out2 ≡ out)
   pub list : (s b out : List ℕ) (r : Wrote) (out2 : List ℕ) → Lists s b out r out2
       → Answered stepsNumbers (stepsOfRefusal s b (length out)) (writerTold (wroteAnswer r)) (out2 ≡ out)
-  pub linked-write : (l output out output2 out2 : List ℕ) → length out ≡ 2 → output2 ≡ writerOutput l output
-      → out2 ≡ toldWriter (writerAnswer l (length output)) out
-      → Told writerNumbers (writerRefusal l (length output)) out2 (output2 ≡ output)
-  pub linked-steps : (s b output out output2 out2 : List ℕ) → length out ≡ 2 → output2 ≡ stepsOfOutput s b output
-      → out2 ≡ toldWriter (stepsOfAnswer s b (length output)) out
-      → Told stepsNumbers (stepsOfRefusal s b (length output)) out2 (output2 ≡ output)
 
 -- ---- the two sentences
 -- "exactly one list of steps that the writer, given room, turns into it": l is turned into b wherever the output has room for b, and no other is

@@ -1,5 +1,5 @@
--- Document 02, 7/14, of the batch's entries, by what they promise and nothing else: demand 1 of `batch::format_batch` and of the function that other
--- languages link, `rrufthim_batch`; and the request's sentence on single calls. proofs/Saves.antt proves it.
+-- Document 02, 7/14, of the batch's entry, `batch::format_batch`, by what it promises and nothing else: demand 1, and the request's sentence on single calls.
+-- proofs/Saves.antt proves it.
 use mathlib.Core.Path.{_≡_}
 use mathlib.Core.Bool.{true}
 use mathlib.Core.Option.{Option, none, some}
@@ -9,15 +9,11 @@ use lib.ListN.{length}
 use Rattle.refusals.specs.Refusals.{Refusal, isOneOf}
 use Rattle.image.specs.Read.{readNumbers}
 use Rattle.plain_run.specs.File.{FileChoice, refused}
-use Rattle.file.specs.Whole.{toChoice}
 use Rattle.batch.specs.Batch.{Save, single, BatchAnswer, turnedDown, batched, batchRefusal}
 use Rattle.batch.specs.Whole.{batchedAnswer, Batches}
 use Rattle.batch.specs.Singles.{AsSingles}
 use Rattle.batch.specs.declared.Batch.{Batch}
-use Rattle.exports.specs.Numbers.{fileChoice}
-use Rattle.exports.specs.Saves.{FormatsBatch}
 use Rattle.demands.specs.Demand1.{Answered}
-use Rattle.demands.specs.Exported.{Told}
 
 -- "18 .. 19, table, then output"
 abbrev pub batchNumbers : List ℕ
@@ -35,9 +31,6 @@ batchTold (batched files bytes) = none
 pub record Saves1 : Type 0 where
   pub batch : (f : List ℕ) (c : FileChoice) (table out : List ℕ) (r : Batch) (table2 out2 : List ℕ) → Batches f c table out r table2 out2
       → Answered batchNumbers (batchRefusal c f (length table) (length out)) (batchTold (batchedAnswer r)) ((table2 ≡ table) × (out2 ≡ out))
-  pub linked-batch : (f choice table output out table2 output2 out2 : List ℕ) → length out ≡ 3
-      → FormatsBatch f choice table output out table2 output2 out2
-      → Told batchNumbers (batchRefusal (toChoice (fileChoice choice)) f (length table) (length output)) out2 ((table2 ≡ table) × (output2 ≡ output))
   -- a file of the batch that is refused, in its row of the table
   pub row : (c : FileChoice) (x : Save) (r : Refusal) → single c x ≡ refused r → isOneOf (r .number) rowNumbers ≡ true
   -- "The result is that of single calls in the same order"

@@ -9,7 +9,18 @@ use Rattle.plain_run.specs.File.{fileOutput, fileAnswer}
 use Rattle.layout_call.specs.Calls as laying
 use Rattle.render_call.specs.Calls as rendering
 use Rattle.file.specs.Whole as whole
-use Rattle.exports.specs.Numbers.{layoutState, layoutArgs, renderState, renderArgs, fileChoice, toldCall, toldFile}
+use Rattle.image.specs.Read.{readAll, outcome}
+use Rattle.layout_call.specs.Steps.{declared}
+use Rattle.figures.specs.Figures.{countAnswer}
+use Rattle.exports.specs.Numbers.{layoutState, layoutArgs, renderState, renderArgs, fileChoice, toldRead, toldCall, toldFile, talliesFrom, toldCount}
+
+-- the reader's check: the answer's numbers
+abbrev pub ChecksFile : List ℕ → List ℕ → List ℕ → List ℕ → Type 0
+ChecksFile s b out out2 = out2 ≡ toldRead (outcome (readAll s b)) (length (declared s b)) out
+
+-- a file that is counted: the answer's numbers
+abbrev pub CountsFile : List ℕ → List ℕ → List ℕ → List ℕ → List ℕ → Type 0
+CountsFile s b tallies out out2 = out2 ≡ toldCount (countAnswer s b (talliesFrom tallies)) out
 
 -- a layout call: the store, and the answer's numbers
 pub record Lays (s b store state args out store2 out2 : List ℕ) : Type 0 where

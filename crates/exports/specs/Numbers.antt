@@ -52,7 +52,7 @@ renderState l = record {
   column = record { 0 = getD l 2 0 };
   «in_use» = getD l 3 0;
   row = getD l 4 0;
-  width = getD l 5 0;
+  width = record { 0 = getD l 5 0 };
 }
 
 -- ---- arguments and choices
@@ -62,11 +62,11 @@ layoutArgs l = record { stop = getD l 0 0; close = flag (getD l 1 0); mode = get
 
 -- the row to stop before, and the width
 abbrev pub renderArgs : List ℕ → RenderArgs
-renderArgs l = record { stop = getD l 0 0; width = getD l 1 0 }
+renderArgs l = record { stop = getD l 0 0; width = record { 0 = getD l 1 0 } }
 
 -- of a whole file: the width, and the mode
 abbrev pub fileChoice : List ℕ → FileChoice
-fileChoice l = record { width = getD l 0 0; mode = getD l 1 0 }
+fileChoice l = record { width = record { 0 = getD l 0 0 }; mode = getD l 1 0 }
 
 -- ---- answers
 -- a call's answer: a refusal's number and place; or 0, the comments left or the bytes written, and the new state

@@ -1,10 +1,7 @@
 // Request 5: an image from a list of steps, and the steps of an image.
 ghost use mathlib.Core.Path.{_≡_};
-ghost use lib.ListN.{length};
-ghost use Rattle.steps.specs.OfImage.{stepsOfAnswer, stepsOfOutput};
-ghost use Rattle.steps.specs.Writer.{writerAnswer, writerOutput};
 ghost use Rattle.writer.specs.Wrote.{wroteAnswer};
-ghost use Rattle.exports.specs.Generator.{toldWriter};
+ghost use Rattle.exports.specs.Generator.{toldWriter, WritesImage, ListsSteps};
 use writer::Wrote;
 use writer::steps_of;
 use writer::write_image;
@@ -27,8 +24,8 @@ fn put_wrote(out: &mut [u64; 2], answer: Wrote)
 
 // Writes the image of a list of steps to the start of the output. `out` gets the refusal's number and place, or 0 and the image's bytes.
 #[no_mangle]
-pub extern "C" fn rrufthim_write(steps: &[u8], output: &mut [u8], out: &mut [u64; 2])
-    ensures { λ r. ⌜ (now (output .exit) ≡ writerOutput (now (steps .entry)) (now (output .entry))) × (now (out .exit) ≡ toldWriter (writerAnswer (now (steps .entry)) (length (now (output .entry)))) (now (out .entry))) ⌝ }
+pub extern "C" fn rrufthim_write_s1(steps: &[u8], output: &mut [u8], out: &mut [u64; 2])
+    ensures { λ r. ⌜ WritesImage (now (steps .entry)) (now (output .entry)) (now (out .entry)) (now (output .exit)) (now (out .exit)) ⌝ }
 {
     let answer = write_image(steps, output);
     put_wrote(out, answer);
@@ -36,8 +33,13 @@ pub extern "C" fn rrufthim_write(steps: &[u8], output: &mut [u8], out: &mut [u64
 
 // Writes the steps of an image to the start of the output. `out` gets the refusal's number and place, or 0 and the bytes of the steps.
 #[no_mangle]
-pub extern "C" fn rrufthim_steps(source: &[u8], image: &[u8], output: &mut [u8], out: &mut [u64; 2])
-    ensures { λ r. ⌜ (now (output .exit) ≡ stepsOfOutput (now (source .entry)) (now (image .entry)) (now (output .entry))) × (now (out .exit) ≡ toldWriter (stepsOfAnswer (now (source .entry)) (now (image .entry)) (length (now (output .entry)))) (now (out .entry))) ⌝ }
+pub extern "C" fn rrufthim_steps_s1(
+    source: &[u8],
+    image: &[u8],
+    output: &mut [u8],
+    out: &mut [u64; 2],
+)
+    ensures { λ r. ⌜ ListsSteps (now (source .entry)) (now (image .entry)) (now (output .entry)) (now (out .entry)) (now (output .exit)) (now (out .exit)) ⌝ }
 {
     let answer = steps_of(source, image, output);
     put_wrote(out, answer);

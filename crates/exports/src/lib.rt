@@ -1,17 +1,14 @@
-// The functions that other languages call: numbers and slices in, numbers out.
+// The functions that other languages call: numbers and slices in, numbers out. Their names are symbols, and end in the number of their shape:
+// tools/raise-shape raises it when a parameter or an array changes, so that nothing older is linked.
 mod count;
 mod generator;
 mod numbers;
 mod saves;
 
 ghost use mathlib.Core.Path.{_≡_};
-ghost use lib.ListN.{length};
-ghost use Rattle.image.specs.Read.{readAll, outcome};
-ghost use Rattle.layout_call.specs.Steps.{declared};
 ghost use Rattle.text.specs.Newlines.{countNewlines};
-ghost use Rattle.figures.specs.Figures.{countAnswer};
-ghost use Rattle.exports.specs.Numbers.{toldRead, toldNewlines, talliesFrom, toldCount};
-ghost use Rattle.exports.specs.Calls.{Lays, Renders, FormatsFile};
+ghost use Rattle.exports.specs.Numbers.{toldNewlines};
+ghost use Rattle.exports.specs.Calls.{ChecksFile, CountsFile, Lays, Renders, FormatsFile};
 use crate::count::put_counted;
 use crate::count::tallies_from;
 use crate::numbers::file_choice;
@@ -38,8 +35,8 @@ use text::newlines::count_newlines;
 // Whether a source and an image are accepted. `out` gets the refusal's number and place, or 0, the number of comments, the tree's offset and
 // the number of declarations.
 #[no_mangle]
-pub extern "C" fn rrufthim_check(source: &[u8], image: &[u8], out: &mut [u64; 4])
-    ensures { λ r. ⌜ now (out .exit) ≡ toldRead (outcome (readAll (now (source .entry)) (now (image .entry)))) (length (declared (now (source .entry)) (now (image .entry)))) (now (out .entry)) ⌝ }
+pub extern "C" fn rrufthim_check_s1(source: &[u8], image: &[u8], out: &mut [u64; 4])
+    ensures { λ r. ⌜ ChecksFile (now (source .entry)) (now (image .entry)) (now (out .entry)) (now (out .exit)) ⌝ }
 {
     match image::check(source, image) {
         Answer::Refused(n, p) => {
@@ -63,7 +60,7 @@ pub extern "C" fn rrufthim_check(source: &[u8], image: &[u8], out: &mut [u64; 4]
 // declaration to stop before, whether to close, and the mode. `out` gets the refusal's number and place, or 0, the comments left and the new
 // state.
 #[no_mangle]
-pub extern "C" fn rrufthim_layout(
+pub extern "C" fn rrufthim_layout_s1(
     source: &[u8],
     image: &[u8],
     store: &mut [u32],
@@ -87,7 +84,7 @@ pub extern "C" fn rrufthim_layout(
 // A rendering call. The state: indent, next indent, column, marks in use, next row, width. The arguments: the row to stop before, and the
 // width. `out` gets the refusal's number and place, or 0, the bytes written and the new state.
 #[no_mangle]
-pub extern "C" fn rrufthim_render(
+pub extern "C" fn rrufthim_render_s1(
     source: &[u8],
     image: &[u8],
     store: &mut [u32],
@@ -113,7 +110,7 @@ pub extern "C" fn rrufthim_render(
 // The run of one file: all is laid out and rendered, in rows and marks of its own. The choice: the width and the mode. `out` gets the refusal's
 // number and place, or 0, the bytes written, the comments left, the rows and the group numbers.
 #[no_mangle]
-pub extern "C" fn rrufthim_format(
+pub extern "C" fn rrufthim_format_s1(
     source: &[u8],
     image: &[u8],
     choice: &[u64; 2],
@@ -139,7 +136,7 @@ pub extern "C" fn rrufthim_format(
 // The newlines of a range of the source, UTF-8 or not. `out` gets how many there are and the place of the last, or the range's end if there is
 // none; none is counted where the range is outside the source, reversed or off a boundary.
 #[no_mangle]
-pub extern "C" fn rrufthim_newlines(source: &[u8], start: u64, end: u64, out: &mut [u64; 2])
+pub extern "C" fn rrufthim_newlines_s1(source: &[u8], start: u64, end: u64, out: &mut [u64; 2])
     ensures { λ r. ⌜ now (out .exit) ≡ toldNewlines (countNewlines (now (source .entry)) start end) (now (out .entry)) ⌝ }
 {
     let found = count_newlines(source, start as usize, end as usize);
@@ -151,13 +148,13 @@ pub extern "C" fn rrufthim_newlines(source: &[u8], start: u64, end: u64, out: &m
 // column, given, wrapped, placed, left. `out` gets the refusal's number and place, or 0, the seven figures, the eight tallies, and the
 // fraction's two numbers.
 #[no_mangle]
-pub extern "C" fn rrufthim_count(
+pub extern "C" fn rrufthim_count_s1(
     source: &[u8],
     image: &[u8],
     tallies: &[u64; 8],
     out: &mut [u64; 18],
 )
-    ensures { λ r. ⌜ now (out .exit) ≡ toldCount (countAnswer (now (source .entry)) (now (image .entry)) (talliesFrom (now (tallies .entry)))) (now (out .entry)) ⌝ }
+    ensures { λ r. ⌜ CountsFile (now (source .entry)) (now (image .entry)) (now (tallies .entry)) (now (out .entry)) (now (out .exit)) ⌝ }
 {
     match count_file(source, image, tallies_from(tallies)) {
         Counted::Refused(n, p) => {

@@ -61,7 +61,7 @@ pub(crate) fn render_state(from: &[u64; 6]) -> RenderState
         column: Columns(from[2] as usize),
         in_use: from[3] as usize,
         row: from[4] as usize,
-        width: from[5] as usize,
+        width: Columns(from[5] as usize),
     }
 }
 
@@ -70,7 +70,7 @@ pub(crate) fn render_args(from: &[u64; 2]) -> RenderArgs
 {
     RenderArgs {
         stop: from[0] as usize,
-        width: from[1] as usize,
+        width: Columns(from[1] as usize),
     }
 }
 
@@ -78,7 +78,7 @@ pub(crate) fn file_choice(from: &[u64; 2]) -> FileChoice
     ensures { λ r. ⌜ r ≡ fileChoice (now (from .entry)) ⌝ }
 {
     FileChoice {
-        width: from[0] as usize,
+        width: Columns(from[0] as usize),
         mode: from[1] as usize,
     }
 }
@@ -101,7 +101,7 @@ pub(crate) fn put_laid(out: &mut [u64; 10], t: LayoutState, left: usize)
 
 // What a rendering call that is accepted tells.
 pub(crate) fn put_written(out: &mut [u64; 8], t: RenderState, bytes: Bytes)
-    ensures { λ r. ⌜ now (out .exit) ≡ sets (now (out .entry)) 0 (0 ∷ bytes .0 ∷ t .indent ∷ t .«next_indent» ∷ t .column .0 ∷ t .«in_use» ∷ t .row ∷ t .width ∷ []) ⌝ }
+    ensures { λ r. ⌜ now (out .exit) ≡ sets (now (out .entry)) 0 (0 ∷ bytes .0 ∷ t .indent ∷ t .«next_indent» ∷ t .column .0 ∷ t .«in_use» ∷ t .row ∷ t .width .0 ∷ []) ⌝ }
 {
     out[0] = 0;
     out[1] = bytes.0 as u64;
@@ -110,7 +110,7 @@ pub(crate) fn put_written(out: &mut [u64; 8], t: RenderState, bytes: Bytes)
     out[4] = t.column.0 as u64;
     out[5] = t.in_use as u64;
     out[6] = t.row as u64;
-    out[7] = t.width as u64;
+    out[7] = t.width.0 as u64;
 }
 
 // What the run of a file that is accepted tells.

@@ -117,7 +117,7 @@ module _ (s b : List ℕ) where
     told = ran .answer ∙ ap (λ (o : Option Refusal). fileAnswerBy o (formatted textDue leftDue (rowsDue s b referenceChoice) (built s b referenceChoice .taken))) table-same
 
     -- 8 to 10
-    pub run-refused : (t : Tallies) (n p : ℕ) → r ≡ run.Refused n p → countedAnswer (answer.Refused n p) ≡ countAnswer s b t
+    pub run-refused : (t : Tallies) (n p : ℕ) → r ≡ run.Stopped n p → countedAnswer (answer.Refused n p) ≡ countAnswer s b t
     run-refused t n p e =
         file-refused t n p
         (refusal-told (fileRefusal s b referenceChoice FILE-OUTPUT) textDue leftDue (rowsDue s b referenceChoice) (built s b referenceChoice .taken) (at n p) (ap (λ (x : FileRun). formattedAnswer (formattedOf x)) (sym e) ∙ told))

@@ -1,4 +1,5 @@
 -- Document 02, 2/14: the figures of one file, and what counting it answers.
+use mathlib.Core.Path.{_≡_}
 use mathlib.Core.Option.{Option, none, some}
 use mathlib.Core.Bool.{cond}
 use mathlib.Core.List.{List, [], _∷_}
@@ -58,3 +59,7 @@ countAnswer s b t = countAnswerBy (countRefusal s b t) (figuresOf s b) t
 abbrev pub countedAnswer : Counted → CountAnswer
 countedAnswer (answer.File f t q) = counted f t q
 countedAnswer (answer.Refused n p) = refused (record { number = n; place = p })
+
+-- what `count_file` promises of its answer
+abbrev pub Counts : List ℕ → List ℕ → Tallies → Counted → Type 0
+Counts s b t r = countedAnswer r ≡ countAnswer s b t

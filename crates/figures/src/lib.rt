@@ -5,7 +5,7 @@ ghost use mathlib.Core.Path.{_≡_};
 ghost use lib.ListN.{length};
 ghost use Rattle.layout_call.specs.Steps.{Accepts};
 ghost use Rattle.tallies.specs.Tallies.{Within, tallyRefusal};
-ghost use Rattle.figures.specs.Figures.{FILE-OUTPUT, countAnswerBy, countAnswer, countedAnswer};
+ghost use Rattle.figures.specs.Figures.{FILE-OUTPUT, countAnswerBy, countAnswer, countedAnswer, Counts};
 use crate::occurrences::occurrences;
 use file::FileChoice;
 use file::FileRun;
@@ -17,6 +17,7 @@ use image::Answer;
 use image::check;
 use layout_call::Document;
 use layout_call::modes::OLD_MODE;
+use rows::units::Columns;
 use tallies::Figures;
 use tallies::Fraction;
 use tallies::Tallies;
@@ -68,11 +69,11 @@ fn count_accepted(source: &[u8], image: &[u8], doc: Document, t: Tallies) -> Cou
     let mut used = marks();
     let mut out = output();
     let choice = FileChoice {
-        width: REFERENCE_WIDTH,
+        width: Columns(REFERENCE_WIDTH),
         mode: OLD_MODE,
     };
     match run_file(source, image, &mut store, &mut used, &mut out, doc, choice) {
-        FileRun::Refused(number, place) => Counted::Refused(number, place),
+        FileRun::Stopped(number, place) => Counted::Refused(number, place),
         FileRun::Text {
             bytes,
             left,
@@ -97,7 +98,7 @@ fn count_accepted(source: &[u8], image: &[u8], doc: Document, t: Tallies) -> Cou
 
 // Counts a file with those before it, or refuses to: the file by what document 01 refuses, the tallies by 14.
 pub fn count_file(source: &[u8], image: &[u8], t: Tallies) -> Counted
-    ensures { λ r. ⌜ countedAnswer r ≡ countAnswer (now (source .entry)) (now (image .entry)) t ⌝ }
+    ensures { λ r. ⌜ Counts (now (source .entry)) (now (image .entry)) t r ⌝ }
 {
     match check(source, image) {
         Answer::Refused(number, place) => Counted::Refused(number, place),

@@ -102,7 +102,7 @@ module _ (s b : List ℕ) (c : FileChoice) where
 
     -- refused by the layout call, or before it
     laid-refused : (n p : ℕ) (store2 : List ℕ) → laidRefusal s b c (tests.rowsIn store) ≡ some (at n p) → store2 ≡ storeLeft s b c store
-        → RunsFile s b c store marks out (run.Refused n p) store2 marks out
+        → RunsFile s b c store marks out (run.Stopped n p) store2 marks out
     laid-refused n p store2 e h =
         let r = first-refused (at n p) e in
         record {
@@ -114,7 +114,7 @@ module _ (s b : List ℕ) (c : FileChoice) where
         }
 
     -- refused before the layout call: the rows stay as they were
-    before-layout : (n p : ℕ) → laidRefusal s b c (tests.rowsIn store) ≡ some (at n p) → RunsFile s b c store marks out (run.Refused n p) store marks out
+    before-layout : (n p : ℕ) → laidRefusal s b c (tests.rowsIn store) ≡ some (at n p) → RunsFile s b c store marks out (run.Stopped n p) store marks out
     before-layout n p r =
         laid-refused n p store r (sym (ap (λ (y : Option Refusal). unless y store (writeFront (rows (built s b c .nodes) 0) store)) r))
 
@@ -123,7 +123,7 @@ module _ (s b : List ℕ) (c : FileChoice) where
 
     -- ---- 12
     pub mode-refused : (n tree : ℕ) → answerOf (readAll s b) ≡ checked.Accepted n tree → states.NEW-MODE < c .mode
-        → RunsFile s b c store marks out (run.Refused 12 0) store marks out
+        → RunsFile s b c store marks out (run.Stopped 12 0) store marks out
     mode-refused n tree e h =
         let over : modeLine c ≡ some (at 12 0) = rw (lt-ltb states.NEW-MODE (c .mode) h) in
         before-layout 12 0
@@ -136,7 +136,7 @@ module _ (s b : List ℕ) (c : FileChoice) where
       -- ---- 15
       pub width-refused : (n tree : ℕ) (x : Bool) → answerOf (readAll s b) ≡ checked.Accepted n tree → x ≡ not (any (tests.widthTests (c .width) 0))
           → not x ≡ true
-          → RunsFile s b c store marks out (run.Refused 15 0) store marks out
+          → RunsFile s b c store marks out (run.Stopped 15 0) store marks out
       width-refused n tree x e f h =
           let t : any (tests.widthTests (c .width) 0) ≡ true = not-false (any (tests.widthTests (c .width) 0)) (sym f ∙ not-true x h) in
           before-layout 15 0
@@ -163,7 +163,7 @@ module _ (s b : List ℕ) (c : FileChoice) where
         never-laid : (x : Refusal) (t : states.LayoutState) (l : ℕ) → _≡_ {A = Answer (rulesOf s b)} (refused x) (laidOut t l) → ⊥
         never-laid x t l e = let z : _≡_ {A = ℕ} 0 1 = cc in omega arith
 
-        pub layout-refused : (n p : ℕ) → r ≡ laying.Refused n p → RunsFile s b c store marks out (run.Refused n p) store2 marks out
+        pub layout-refused : (n p : ℕ) → r ≡ laying.Refused n p → RunsFile s b c store marks out (run.Stopped n p) store2 marks out
         layout-refused n p e =
             laid-refused n p store2
             (refused-told (rulesOf s b) (laidRefusal s b c (tests.rowsIn store)) (laidOut (stateDue s b c) leftDue) (at n p) (ap (layouts.layingAnswer s b) (sym e) ∙ layout-answer)
@@ -180,18 +180,18 @@ module _ (s b : List ℕ) (c : FileChoice) where
 
           -- what the call had is what is due
           same : {A : Type 0} (f : states.RenderState → RenderArgs → List ℕ → A)
-              → f (renders.toState pen) (record { stop = t .row; width = c .width }) store2 ≡ f renderFresh (record { stop = rowsDue s b c; width = c .width }) (storeLeft s b c store)
-          same f = λ i. f (blank i) (record { stop = to-row i; width = c .width }) (layout-left i)
+              → f (renders.toState pen) (record { stop = t .row; width = record { 0 = c .width } }) store2 ≡ f renderFresh (record { stop = rowsDue s b c; width = record { 0 = c .width } }) (storeLeft s b c store)
+          same f = λ i. f (blank i) (record { stop = to-row i; width = record { 0 = c .width } }) (layout-left i)
 
           -- the rows that the layout call leaves are right
-          pub drawn-starts : Checked s b pen (record { stop = t .row; width = c .width }) store2 marks
+          pub drawn-starts : Checked s b pen (record { stop = t .row; width = record { 0 = c .width } }) store2 marks
           drawn-starts = record {
             passes =
                 same (λ x q rows. first (beforeMarks (partsOf s b) (renders.toArgs q 0) x rows marks))
                 ∙ render-early-due s b c moded legal store marks [] (told .passes);
           }
 
-          module _ (o : Drawing) (store3 marks2 out2 : List ℕ) (drew : Draws s b pen (record { stop = t .row; width = c .width }) store2 marks out o store3 marks2 out2) where
+          module _ (o : Drawing) (store3 marks2 out2 : List ℕ) (drew : Draws s b pen (record { stop = t .row; width = record { 0 = c .width } }) store2 marks out o store3 marks2 out2) where
             drawn-answer : renders.renderingAnswer s b (renders.renderingOf o) ≡ answerBy (rulesOf s b) (refusalIn s b c (tests.rowsIn store) (length marks) (length out)) (written (renderedDue s b c moded legal) textDue)
             drawn-answer =
                 drew .called .answer
@@ -218,13 +218,13 @@ module _ (s b : List ℕ) (c : FileChoice) where
                 drew .widest
                 ∙ same (λ x q rows.
                 unless (rulesOf s b .render-refusal (renders.toArgs q (length out)) x rows marks) 0
-                (widestDrawn s b (q .width) (x .pen) (withCleared (partsOf s b) (take (x .in-use) marks) (partsOf s b .needed rows (x .row) (q .stop))) rows (x .row) (q .stop)))
+                (widestDrawn s b (q .width .0) (x .pen) (withCleared (partsOf s b) (take (x .in-use) marks) (partsOf s b .needed rows (x .row) (q .stop))) rows (x .row) (q .stop)))
                 ∙ render-widest-due s b c moded legal store marks out (told .passes)
 
             never-written : (x : Refusal) (u : states.RenderState) (l : ℕ) → _≡_ {A = Answer (rulesOf s b)} (refused x) (written u l) → ⊥
             never-written x u l e = let z : _≡_ {A = ℕ} 0 1 = cc in omega arith
 
-            pub drawn-refused : (n p : ℕ) → o ≡ drawing.Refused n p → RunsFile s b c store marks out (run.Refused n p) store3 marks2 out2
+            pub drawn-refused : (n p : ℕ) → o ≡ drawing.Refused n p → RunsFile s b c store marks out (run.Stopped n p) store3 marks2 out2
             drawn-refused n p e =
                 let r : refusalIn s b c (tests.rowsIn store) (length marks) (length out) ≡ some (at n p) =
                 refused-told (rulesOf s b) (refusalIn s b c (tests.rowsIn store) (length marks) (length out)) (written (renderedDue s b c moded legal) textDue) (at n p) (ap (λ (x : Drawing). renders.renderingAnswer s b (renders.renderingOf x)) (sym e) ∙ drawn-answer)

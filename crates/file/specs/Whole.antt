@@ -20,23 +20,24 @@ use Rattle.file.specs.declared.FileRun.the-variants as run
 
 -- "other entries over whole files take their caller's choice"
 abbrev pub toChoice : FileChoice → plain.FileChoice
-toChoice c = record { width = c .width; mode = c .mode }
+toChoice c = record { width = c .width .0; mode = c .mode }
 
 -- An answer, case by case: the bytes written, the comments left, the rows and the group numbers; "Number and place are all that comes back."
 abbrev pub formattedAnswer : Formatted → FileAnswer
 formattedAnswer (answer.Text bytes left rows numbers) = formatted (bytes .0) left rows numbers
 formattedAnswer (answer.Refused n p) = refused (record { number = n; place = p })
 
--- A run with its greatest column: the answer, and that column, 0 where it is refused.
+-- A run with its greatest column: the answer of the entries above it, which refuse where it stops; and that column, 0 where it stops.
 abbrev pub formattedOf : FileRun → Formatted
 formattedOf (run.Text bytes left rows numbers widest) = answer.Text bytes left rows numbers
-formattedOf (run.Refused n p) = answer.Refused n p
+formattedOf (run.Stopped n p) = answer.Refused n p
 
 abbrev pub widestOf : FileRun → ℕ
 widestOf (run.Text bytes left rows numbers widest) = widest .0
-widestOf (run.Refused n p) = 0
+widestOf (run.Stopped n p) = 0
 
--- the answer with the greatest column, and store, marks and output at exit, for one source and image and what the caller chose
+-- the answer with the greatest column, and store, marks and output at exit, for one source and image and what the caller chose: where the run
+-- stops after the layout call, `storeLeft` has its rows
 pub record RunsFile (source image : List ℕ) (choice : plain.FileChoice) (store marks out : List ℕ) (r : FileRun) (store2 marks2 out2 : List ℕ) : Type 0 where
   pub answer : formattedAnswer (formattedOf r) ≡ answerIn source image choice (rowsIn store) (length marks) (length out)
   pub widest : widestOf r ≡ unless (refusalIn source image choice (rowsIn store) (length marks) (length out)) 0 (columnDue source image choice)

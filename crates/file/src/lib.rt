@@ -45,7 +45,7 @@ pub const REFERENCE_WIDTH: usize = 80;
 
 // What a caller chooses: the width, and whether the comments that wait at the end are kept.
 pub struct FileChoice {
-    pub width: usize,
+    pub width: Columns,
     pub mode: usize,
 }
 
@@ -61,7 +61,7 @@ pub enum Formatted {
     Refused(u8, usize),
 }
 
-// A file's run, with the greatest value that `column` was set to.
+// A file's run in rows and marks that are lent, with the greatest value that `column` was set to.
 pub enum FileRun {
     Text {
         bytes: Bytes,
@@ -70,8 +70,8 @@ pub enum FileRun {
         numbers: usize,
         widest: Columns,
     },
-    // the number and the place
-    Refused(u8, usize),
+    // where it stops, with the number and the place of what it meets there: rows of it may stand in the store. The entries above refuse.
+    Stopped(u8, usize),
 }
 
 // The answer without the greatest value.
@@ -79,7 +79,7 @@ fn formatted_of(r: FileRun) -> Formatted
     ensures { λ f. ⌜ f ≡ formattedOf r ⌝ }
 {
     match r {
-        FileRun::Refused(number, place) => Formatted::Refused(number, place),
+        FileRun::Stopped(number, place) => Formatted::Refused(number, place),
         FileRun::Text {
             bytes,
             left,
@@ -132,7 +132,7 @@ fn render_fresh() -> RenderState
         column: Columns(0),
         in_use: 0,
         row: 0,
-        width: 0,
+        width: Columns(0),
     }
 }
 
@@ -150,7 +150,8 @@ pub fn marks() -> [u8; MARKS]
     [0; MARKS]
 }
 
-// A file that is accepted, in rows and marks that are lent: all declarations in one layout call, all rows in one rendering call.
+// A file that is accepted, in rows and marks that are lent: all declarations in one layout call, all rows in one rendering call. It is no entry:
+// where it stops, rows of it may stand in the store.
 pub fn run_file(
     source: &[u8],
     image: &[u8],
@@ -164,21 +165,22 @@ pub fn run_file(
     ensures { λ r. ⌜ RunsFile (now (source .entry)) (now (image .entry)) (toChoice choice) (now (store .entry)) (now (marks .entry)) (now (out .entry)) r (now (store .exit)) (now (marks .exit)) (now (out .exit)) ⌝ }
 {
     if NEW_MODE < choice.mode {
-        return FileRun::Refused(12, 0);
+        return FileRun::Stopped(12, 0);
     }
-    if !width_fits(choice.width, 0) {
-        return FileRun::Refused(15, 0);
+    if !width_fits(choice.width, Columns(0)) {
+        return FileRun::Stopped(15, 0);
     }
     let all = closing_at(choice.mode, count_declarations(source, image, doc));
     match layout_accepted(source, image, store, doc, layout_fresh(), all) {
-        Laying::Refused(number, place) => FileRun::Refused(number, place),
+        Laying::Refused(number, place) => FileRun::Stopped(number, place),
         Laying::Laid(state, left) => {
+            let width = choice.width;
             let to = RenderArgs {
                 stop: state.row,
-                width: choice.width,
+                width: width,
             };
             match render_checked(source, image, store, marks, out, render_fresh(), to) {
-                Drawing::Refused(number, place) => FileRun::Refused(number, place),
+                Drawing::Refused(number, place) => FileRun::Stopped(number, place),
                 Drawing::Drawn(end, bytes, widest) => FileRun::Text {
                     bytes: bytes,
                     left: left,
@@ -240,7 +242,7 @@ pub fn format_frame(frame: &[u8], out: &mut [u8]) -> Formatted
     }
     let end = 4 + size;
     let choice = FileChoice {
-        width: REFERENCE_WIDTH,
+        width: Columns(REFERENCE_WIDTH),
         mode: OLD_MODE,
     };
     format_file(&frame[4..end], &frame[end..], out, choice)

@@ -187,6 +187,10 @@ abbrev pub outcomeOf : Answer → Outcome
 outcomeOf (Accepted n at) = accepted n at
 outcomeOf (Refused n p) = refused (record { number = n; place = p })
 
+-- what `check` promises of its answer
+abbrev pub Checks : List ℕ → List ℕ → Answer → Type 0
+Checks s b r = outcomeOf r ≡ outcome (readAll s b)
+
 -- the numbers under which the reader refuses, in the table's order; proofs/Numbers.antt shows that there is no other
 abbrev pub readNumbers : List ℕ
 readNumbers = 1 ∷ 2 ∷ 3 ∷ 7 ∷ 4 ∷ 5 ∷ 6 ∷ []

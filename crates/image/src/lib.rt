@@ -9,7 +9,7 @@ mod records;
 ghost use mathlib.Core.Path.{_≡_};
 ghost use Prim.Native.Nat.{_≤_};
 ghost use lib.ListN.{length};
-ghost use Rattle.image.specs.Read.{sourceFits, header, readTree, readImage, readAll, answerOf, outcome, outcomeOf};
+ghost use Rattle.image.specs.Read.{sourceFits, header, readTree, readImage, answerOf, Checks};
 use bytes::num16;
 use bytes::num32;
 use bytes::wide;
@@ -84,7 +84,7 @@ fn read_image(s: &[u8], b: &[u8], ordered: bool) -> Answer
 
 // Accepts a source and an image, or refuses them.
 pub fn check(source: &[u8], image: &[u8]) -> Answer
-    ensures { λ r. ⌜ outcomeOf r ≡ outcome (readAll (now (source .entry)) (now (image .entry))) ⌝ }
+    ensures { λ r. ⌜ Checks (now (source .entry)) (now (image .entry)) r ⌝ }
 {
     if !source_fits(source) {
         return Answer::Refused(1, 0);

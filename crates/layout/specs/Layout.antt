@@ -21,7 +21,7 @@ use Rattle.tree.specs.At.{formKind}
 use Rattle.rows.specs.Node.{Text, str, ascii, line, emptyLine, lineOrSpace, wrapParent, ifWrap}
 use Rattle.rows.specs.Words.{word}
 use Rattle.state.specs.Act.{Given, St, Out, Act, Asking, _⨟_, _⨟?_, skip, when, push, told, grouped, indented, indentedNext, called, says, content}
-use Rattle.comments.specs.Comments.{popWhitespace, popTrailingComment}
+use Rattle.comments.specs.Comments.{whitespace, popWhitespace, popTrailingComment}
 use Rattle.layout.specs.declared.forms.WrapStyle.{WrapStyle}
 use Rattle.layout.specs.declared.forms.WrapStyle.the-variants.{Tight, Spaced, Wrap}
 
@@ -322,7 +322,7 @@ module _ (g : Given) where
   -- what comes before the right operand
   unfoldable pub operator : Bool → Span → ℕ → Act
   operator first s op =
-      (popWhitespace g (s .start) true true false ⨟? (λ whitespace. when (not first && not whitespace) (push lineOrSpace)))
+      (popWhitespace g (s .start) true true false ⨟? (λ gap. when (not first && not (whitespace gap)) (push lineOrSpace)))
       ⨟ says (symbol op)
       ⨟ says " "
 
@@ -490,7 +490,7 @@ module _ (g : Given) where
   -- how each declaration begins: `first` is true of the file's first
   unfoldable pub opening : ℕ → Bool → Act
   opening position first =
-      popWhitespace g position (not first) true (not first) ⨟? (λ whitespace. when (not first && not whitespace) (push line))
+      popWhitespace g position (not first) true (not first) ⨟? (λ gap. when (not first && not (whitespace gap)) (push line))
 
   abbrev pub someTypeParams : Option Idents → Act
   someTypeParams none = skip

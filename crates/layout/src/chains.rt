@@ -9,6 +9,7 @@ ghost use Rattle.rows.specs.Words.{table};
 ghost use Rattle.ast.specs.Syntax.{binOp};
 ghost use Rattle.state.specs.Act.{when, push};
 ghost use Rattle.state.specs.Laid.{Room, Laid};
+ghost use Rattle.comments.specs.Comments.{whitespace};
 ghost use Rattle.layout.specs.Layout.{symbol, binopPrecedence};
 ghost use Rattle.layout.specs.Contracts.{Has, LaidAs, InImage};
 ghost use Rattle.layout.specs.Forms.{OperatorAt, operatorRule};
@@ -18,6 +19,8 @@ use crate::numbers::kind;
 use crate::numbers::payload;
 use crate::numbers::second;
 use crate::numbers::start;
+use comments::Gap;
+use comments::is_whitespace;
 use comments::pop_whitespace;
 use image::kinds;
 use state::Cursor;
@@ -60,14 +63,14 @@ pub(crate) fn precedence(b: &[u8], at: usize) -> usize
 }
 
 // A line or a space, except before the first operator and after a comment.
-fn between(store: &mut [u32], c: Cursor, first: bool, whitespace: bool) -> Cursor
-    requires { ⌜ Room (when (not first && not whitespace) (push lineOrSpace)) c ⌝ }
-    ensures { λ r. ⌜ Laid (when (not first && not whitespace) (push lineOrSpace)) (now (store .entry)) c (now (store .exit)) r ⌝ }
+fn between(store: &mut [u32], c: Cursor, first: bool, gap: Gap) -> Cursor
+    requires { ⌜ Room (when (not first && not (whitespace gap)) (push lineOrSpace)) c ⌝ }
+    ensures { λ r. ⌜ Laid (when (not first && not (whitespace gap)) (push lineOrSpace)) (now (store .entry)) c (now (store .exit)) r ⌝ }
 {
     if first {
         return c;
     }
-    if whitespace {
+    if is_whitespace(gap) {
         return c;
     }
     line_or_space(store, c)
@@ -87,7 +90,7 @@ pub(crate) fn operator(
 {
     let k = symbol(payload(b, at));
     let a = pop_whitespace(store, c, s, b, start(b, at), true, true, false);
-    let d = between(store, a.cursor, first, a.answer);
+    let d = between(store, a.cursor, first, a.gap);
     let e = word(store, d, k);
     word(store, e, SPACE)
 }

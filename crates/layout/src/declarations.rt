@@ -6,6 +6,7 @@ ghost use Rattle.ast.specs.Syntax.{filterMap, const, recordDecl, enumDecl, func
 ghost use Rattle.tree.specs.At.{IdentAt, DeclarationsAt};
 ghost use Rattle.state.specs.Act.{when, push};
 ghost use Rattle.state.specs.Laid.{Room, Laid};
+ghost use Rattle.comments.specs.Comments.{whitespace};
 ghost use Rattle.comments.specs.Listed.{given};
 ghost use Rattle.layout.specs.Layout.{opening, someTypeParams, returnType, shebangRule};
 ghost use Rattle.layout.specs.Contracts.{Readable, Has, LaidAs, HasAll, LaidAll};
@@ -30,6 +31,8 @@ use crate::types::params;
 use crate::types::record_type;
 use crate::types::type_expr;
 use crate::variants::separated;
+use comments::Gap;
+use comments::is_whitespace;
 use comments::pop_whitespace;
 use image::bytes::num16;
 use image::kinds;
@@ -57,14 +60,14 @@ use state::words::word;
 use text::space::trim_end;
 
 // A line, except before the file's first declaration and after white space.
-fn line_between(store: &mut [u32], c: Cursor, first: bool, whitespace: bool) -> Cursor
-    requires { ⌜ Room (when (not first && not whitespace) (push line)) c ⌝ }
-    ensures { λ r. ⌜ Laid (when (not first && not whitespace) (push line)) (now (store .entry)) c (now (store .exit)) r ⌝ }
+fn line_between(store: &mut [u32], c: Cursor, first: bool, gap: Gap) -> Cursor
+    requires { ⌜ Room (when (not first && not (whitespace gap)) (push line)) c ⌝ }
+    ensures { λ r. ⌜ Laid (when (not first && not (whitespace gap)) (push line)) (now (store .entry)) c (now (store .exit)) r ⌝ }
 {
     if first {
         return c;
     }
-    if whitespace {
+    if is_whitespace(gap) {
         return c;
     }
     line(store, c)
@@ -77,7 +80,7 @@ fn opening(store: &mut [u32], c: Cursor, s: &[u8], b: &[u8], position: u32, firs
     ensures { λ r. ⌜ Laid (opening (given (now (s .entry)) (now (b .entry))) position first) (now (store .entry)) c (now (store .exit)) r ⌝ }
 {
     let a = pop_whitespace(store, c, s, b, position, !first, true, !first);
-    line_between(store, a.cursor, first, a.answer)
+    line_between(store, a.cursor, first, a.gap)
 }
 
 // The start of each declaration but `import`: the word at place k, and the name at `at`.

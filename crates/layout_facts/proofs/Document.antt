@@ -14,7 +14,7 @@ use Rattle.ast.specs.Syntax.{enumDecl, function, test, importDecl, SyntaxTree}
 use Rattle.tree.specs.At.{Head, past, IdentAt, ListAt, Maybe, TypesAt, FieldsAt, VariantsAt, DeclarationAt, DeclarationsAt, TreeAt}
 use Rattle.rows.specs.Words.{among}
 use Rattle.state.specs.Act.{Given, Act}
-use Rattle.comments.specs.Comments.{popWhitespace}
+use Rattle.comments.specs.Comments.{whitespace, popWhitespace}
 use Rattle.layout.specs.declared.forms.WrapStyle.the-variants.{Tight, Wrap}
 use Rattle.layout.specs.Layout.{someTypeParams, Bottom, params, typeParams, identElems, fieldElems, opening, variantElems, declaration, declares, shebangRule}
 use Rattle.layout.specs.Layout.{declarationsRule, importSpan, unlessEmpty}
@@ -31,9 +31,9 @@ module _ {g : Given} (commented : Commented g) where
   sound-opening : {d : ℕ} (p : ℕ) (first : Bool) → p ≤ length (g .source) → Sounds g (2 * ROW-TAKES) d (opening g p first)
   unfolding opening
   sound-opening p true h =
-      fewer (sound-asks (popWhitespace g p false true false) (sound-gap commented p false true false h) (λ whitespace. sound-skip)) (omega arith)
+      fewer (sound-asks (popWhitespace g p false true false) (sound-gap commented p false true false h) (λ gap. sound-skip)) (omega arith)
   sound-opening p false h =
-      sound-asks (popWhitespace g p true true true) (sound-gap commented p true true true h) (λ whitespace. sound-when (not whitespace) sound-line)
+      sound-asks (popWhitespace g p true true true) (sound-gap commented p true true true h) (λ gap. sound-when (not (whitespace gap)) sound-line)
 
   sound-params : (fs : Fields) (s : Span) (at : ℕ) {d : ℕ} → Head (g .source) (g .image) 3 s at
       → FieldsAt (g .source) (g .image) fs (at + 13) (past (g .source) (g .image) at) → 2 * (2 + fieldsHeight fs) ≤ d

@@ -21,7 +21,7 @@ use Rattle.tree.specs.At.{StmtFormAt}
 use Rattle.rows.specs.Node.{ascii}
 use Rattle.rows.specs.Words.{among, isWord}
 use Rattle.state.specs.Act.{Given, Act, _⨟_, push, grouped, content, indentedNext, called}
-use Rattle.comments.specs.Comments.{popWhitespace, popTrailingComment}
+use Rattle.comments.specs.Comments.{whitespace, popWhitespace, popTrailingComment}
 use Rattle.layout.specs.declared.forms.WrapStyle.the-variants.{Tight, Spaced, Wrap}
 use Rattle.layout.specs.Layout.{operator, maybeExpr, placeholder, clause, blockStart, beforeStmt, afterStmt, leftmost, pickOperands, popped}
 use Rattle.layout.specs.Layout.{Operands, Bottom, Chain, Unit′, binopPrecedence, symbol, assignSymbol, returnWord, binop, literalRule, exprWithPrecedence}
@@ -80,7 +80,7 @@ module _ {g : Given} (commented : Commented g) where
   unfolding operator among
   sound-operator first s op h =
       sound-asks (popWhitespace g (s .start) true true false) (sound-gap commented (s .start) true true false h)
-      (λ whitespace. sound-when (not first && not whitespace) sound-lineOrSpace)
+      (λ gap. sound-when (not first && not (whitespace gap)) sound-lineOrSpace)
       ⨾ sound-says (symbol op) (symbol-fits op)
       ⨾ sound-says " " refl
 

@@ -14,8 +14,8 @@ use Rattle.ast.specs.Syntax.{Span, Ident, Declaration, SyntaxTree}
 use Rattle.text.specs.Newlines.{countNewlines, newlinePlaces, isRange}
 use Rattle.text.specs.Utf8.{within, boundary}
 use Rattle.rows.specs.Node.{Node, comment, line, emptyLine, none, _then_, join}
-use Rattle.state.specs.Act.{Given, St, Out, Act, next, _⨟_, _⨟!_, when, skip, moveTo, pop, told, answering}
-use Rattle.comments.specs.Comments.{nth, front, newlines, ignoreNewlines, popComment, waits, popComments, popWhitespace}
+use Rattle.state.specs.Act.{Given, St, Out, Act, next, _⨟_, _⨟!_, when, skip, moveTo, pop, told}
+use Rattle.comments.specs.Comments.{nth, front, newlines, ignoreNewlines, popComment, waits, popComments, afterComments, popWhitespace}
 use Rattle.tree.specs.CommentList.{span, commentsOf}
 use Rattle.comments.specs.Listed.{given, Listed}
 use Rattle.comments.proofs.Fronts.{count-of, none-left, inside, good}
@@ -100,11 +100,7 @@ module _ {s b : List ℕ} (list : Listed s b) where
       done : AtFoot s b ((loop ⨟ ignoreNewlines g (length s)) z)
       done = record { placed = popped; position = ignored (next z (loop z)) (none-left b (loop z .placed) (omega (arith, popped, count-of b))) }
 
-      last : (w : Bool)
-          → AtFoot s b
-          ((loop
-          ⨟ told (cond (w && false) (answering true (told (newlines g (length s)))) (answering false (ignoreNewlines g (length s)))))
-          z)
+      last : (w : Bool) → AtFoot s b ((loop ⨟ told (afterComments g (w && false) (length s) false)) z)
       last true = done
       last false = done
 

@@ -18,8 +18,9 @@ use Rattle.text.specs.declared.space.Found.the-variants.{At, Nowhere}
 use Rattle.ast.specs.Syntax.{Span}
 use Rattle.rows.specs.Node.{line, emptyLine, none, join}
 use Rattle.rows.specs.Rows.{sizes}
-use Rattle.state.specs.Act.{Given, St, Out, Act, next, _⨟_, _⨟!_, skip, push, moveTo, pop, told, answering}
-use Rattle.comments.specs.Comments.{nth, front, pushComment, newlines, ignoreNewlines, popComment, waits, popComments, popWhitespace, popTrailingComment}
+use Rattle.state.specs.Act.{Given, St, Out, Act, next, _⨟_, _⨟!_, skip, push, moveTo, pop, told}
+use Rattle.comments.specs.Comments.{nth, front, pushComment, newlines, ignoreNewlines, popComment, waits}
+use Rattle.comments.specs.Comments.{popComments, afterComments, popWhitespace, popTrailingComment}
 use Rattle.state.proofs.Joins.{sizes-join}
 use Rattle.layout_facts.specs.Placing.{trimmed}
 use Rattle.layout_facts.specs.Sound.{Inside, Ranged, Commented, ROW-TAKES, Sound, Sounds}
@@ -175,7 +176,7 @@ module _ {g : Given} (commented : Commented g) where
       loop : Sounds g 0 d (popComments g (length (g .comments)) p a)
       loop = record { from = λ s. pops-comments (length (g .comments)) p a s .sound }
 
-      last : (t : Bool) → Sounds g ROW-TAKES d (told (cond t (answering true (told (newlines g p))) (newlines g p)))
+      last : (t : Bool) → Sounds g ROW-TAKES d (told (afterComments g t p true))
       last true = sound-newlines p h
       last false = sound-newlines p h
   sound-gap {d} p a b false h = record { from = λ s. last s (waits g p s) refl b }
@@ -189,7 +190,7 @@ module _ {g : Given} (commented : Commented g) where
           (sound-ignoreNewlines p h .from (next s (loop s)))
 
       last : (s : St) (w : Bool) → waits g p s ≡ w → (t : Bool)
-          → Sound g 0 d s ((loop ⨟ told (cond (w && t) (answering true (told (newlines g p))) (answering false (ignoreNewlines g p)))) s)
+          → Sound g 0 d s ((loop ⨟ told (afterComments g (w && t) p false)) s)
       last s true e true =
           sound-closed loop (told (newlines g p)) s (pops-comments (length (g .comments)) p a s) (waiting p s e) (sound-newlines p h) (newlines-free p)
       last s true e false = quiet s

@@ -15,24 +15,24 @@ use Rattle.layout_facts.specs.Placing.{commentsOfNode, commentsInNodes, 
 use Rattle.layout_facts.specs.Accepted.{fresh, closing, wholeRule, callRule}
 use Rattle.layout_facts.proofs.Placing.{_⨾_, places-skip, places-push, places-grouped, places-indented, places-indentedNext}
 use Rattle.layout_facts.proofs.Placing.{places-called, places-asks, places-gap, places-trailing}
-use Rattle.layout_facts.proofs.EveryRule.{Leaf, ascii-leaf, str-leaf, line-leaf, emptyLine-leaf, lineOrSpace-leaf, wrapParent-leaf, Joining}
+use Rattle.layout_facts.proofs.EveryRule.{Break, line-break, emptyLine-break, lineOrSpace-break, wrapParent-break, Joining}
 use Rattle.layout_facts.proofs.EveryRule.{every-declaration, every-declarations, every-shebang, every-closing, every-whole, every-call}
 
-leaf-none : {n : Node} → Leaf n → commentsOfNode n ≡ []
+break-none : {n : Node} → Break n → commentsOfNode n ≡ []
 unfolding commentsOfNode
-leaf-none ascii-leaf = refl
-leaf-none str-leaf = refl
-leaf-none line-leaf = refl
-leaf-none emptyLine-leaf = refl
-leaf-none lineOrSpace-leaf = refl
-leaf-none wrapParent-leaf = refl
+break-none line-break = refl
+break-none emptyLine-break = refl
+break-none lineOrSpace-break = refl
+break-none wrapParent-break = refl
 
 module _ (g : Given) where
-  joining : Joining g (λ k a. Places g a)
+  joining : Joining g (λ k ts a. Places g a)
   unfolding commentsOfNode
   joining = record {
     skips = places-skip;
-    pushes = λ l. places-push (leaf-none l);
+    words = λ t. places-push refl;
+    names = λ w t. places-push refl;
+    breaks = λ h. places-push (break-none h);
     chooses = places-push refl;
     joins = λ p q. p ⨾ q;
     groups = λ p. places-grouped p;

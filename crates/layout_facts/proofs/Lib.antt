@@ -1,7 +1,9 @@
 pub mod Placing
+pub mod GapRule
 pub mod EveryRule
 pub mod InOrder
 pub mod Numbers
+pub mod Tokens
 pub mod Steps
 pub mod Gaps
 pub mod Parts
@@ -12,3 +14,4 @@ pub mod Rights
 pub mod Passes
 pub mod Limits
 pub mod Foot
+pub mod BlankLines

@@ -1,26 +1,21 @@
 -- Every layout rule gives its groups numbers that it takes: none that it pushes has a number at or past the next one.
 -- Assumes nothing.
 use Prim.Native.Nat.{ℕ, zero, suc, _+_, _≤_}
-use mathlib.Core.Path.{_≡_, refl, ap₂}
-use mathlib.Core.Bool.{Bool, true, false, cond, _&&_, _||_}
-use mathlib.Core.Option.{Option, none as nothing, some}
+use mathlib.Core.Path.{_≡_, refl, ap₂, subst}
+use mathlib.Core.Bool.{Bool, true, false, _||_}
 use native.Mathlib.Omega.{arith}
 use borrow.Author.Tests.{ne-eqb}
-use lib.ListN.{length}
-use lib.Dec.{ltb, eqb}
-use Rattle.text.specs.Newlines.{countNewlines}
-use Rattle.text.specs.Space.{something}
-use Rattle.text.specs.declared.space.Found.{Found}
-use Rattle.text.specs.declared.space.Found.the-variants.{At, Nowhere}
-use Rattle.ast.specs.Syntax.{Span, SyntaxTree}
-use Rattle.rows.specs.Node.{Node, Nodes, line, emptyLine, none, _then_, join}
+use lib.Dec.{eqb}
+use Rattle.ast.specs.Syntax.{SyntaxTree}
+use Rattle.rows.specs.Node.{Node, Nodes, none, _then_, join}
 use Rattle.renderer_rules.proofs.Names.{names, namesIn}
-use Rattle.state.specs.Act.{Given, St, Out, Act, next, _⨟_, _⨟?_, _⨟!_, skip, push, moveTo, pop, told, answering, grouped, indented}
+use Rattle.state.specs.Act.{Given, St, Out, Act, next, _⨟_, _⨟?_, skip, push, grouped, indented}
 use Rattle.state.specs.Act.{indentedNext, called}
-use Rattle.comments.specs.Comments.{front, pushComment, newlines, ignoreNewlines, popComment, waits, popComments, popWhitespace, popTrailingComment}
+use Rattle.comments.specs.Comments.{ignoreNewlines}
 use Rattle.layout.specs.Layout.{fmtParsed}
 use Rattle.layout_facts.specs.Accepted.{fresh, wholeRule}
-use Rattle.layout_facts.proofs.EveryRule.{Leaf, ascii-leaf, str-leaf, line-leaf, emptyLine-leaf, lineOrSpace-leaf, wrapParent-leaf, Joining, every-whole}
+use Rattle.layout_facts.proofs.GapRule.{GapSteps, every-gap, every-trailing}
+use Rattle.layout_facts.proofs.EveryRule.{Break, line-break, emptyLine-break, lineOrSpace-break, wrapParent-break, Joining, every-whole}
 
 no-either : (a b : Bool) → a ≡ false → b ≡ false → (a || b) ≡ false
 no-either a b e f = ap₂ _||_ e f
@@ -50,81 +45,20 @@ plain-skip : Plain skip
 unfolding namesIn
 plain-skip = record { none = λ s x. refl }
 
-plain-move : {p : ℕ} → Plain (moveTo p)
-unfolding namesIn
-plain-move = record { none = λ s x. refl }
-
-plain-pop : Plain pop
-unfolding namesIn
-plain-pop = record { none = λ s x. refl }
-
-plain-comment : (g : Given) (c : Span) → Plain (pushComment g c)
-unfolding namesIn
-plain-comment g c = record { none = λ s x. refl }
-
-plain-cond : (t : Bool) {a b : Act} → Plain a → Plain b → Plain (cond t a b)
-plain-cond true p q = p
-plain-cond false p q = q
-
-plain-newlines : (g : Given) (p : ℕ) → Plain (told (newlines g p))
-unfolding newlines namesIn
-plain-newlines g p = record { none = λ s x. kept s .none s x }
-  where
-    kept : (s : St) → Plain (cond (eqb (countNewlines (g .source) (s .pos) p .count) 0) skip (cond (eqb (countNewlines (g .source) (s .pos) p .count) 1) (push line) (push emptyLine)) ⨟ moveTo p)
-    kept s =
-        let n = countNewlines (g .source) (s .pos) p .count in
-        plain-then (plain-cond (eqb n 0) plain-skip (plain-cond (eqb n 1) (record { none = λ s x. refl }) (record { none = λ s x. refl }))) plain-move
-
-plain-ignore : (g : Given) (p : ℕ) → Plain (ignoreNewlines g p)
-unfolding ignoreNewlines namesIn
-plain-ignore g p = record { none = λ s x. refl }
-
-plain-popComment : (g : Given) (leading : Bool) (c : Span) → Plain (popComment g leading c)
-unfolding popComment
-plain-popComment g leading c =
-    plain-then plain-pop
-    (plain-then (plain-cond leading (plain-newlines g (c .start)) (plain-ignore g (c .start))) (plain-then plain-move (plain-comment g c)))
-
-plain-popComments : (g : Given) (n p : ℕ) (leading : Bool) → Plain (popComments g n p leading)
-unfolding popComments
-plain-popComments g zero p leading = plain-skip
-plain-popComments g (suc n) p leading = record { none = λ s x. turn s x (front g s) (plain-popComments g n p true) }
-  where
-    turn : (s : St) (x : ℕ) (f : Option Span) → Plain (popComments g n p true)
-        → Without x
-        (elim f [ nothing ↦ skip s | some c ↦ cond (ltb (c .start) p) (popComment g leading c ⨟ popComments g n p true) skip s ])
-    turn s x nothing more = plain-skip .none s x
-    turn s x (some c) more = plain-cond (ltb (c .start) p) (plain-then (plain-popComment g leading c) more) plain-skip .none s x
-
-plain-gap : (g : Given) (p : ℕ) (a b c : Bool) → Plain (told (popWhitespace g p a b c))
-unfolding popWhitespace _⨟!_
-plain-gap g p a b c = record { none = λ s x. plain-then (plain-popComments g (length (g .comments)) p a) (last (waits g p s && b) c) .none s x }
-  where
-    last : (t u : Bool) → Plain (told (cond t (answering true (told (newlines g p))) (cond u (newlines g p) (answering false (ignoreNewlines g p)))))
-    last true u = plain-newlines g p
-    last false true = plain-newlines g p
-    last false false = plain-ignore g p
-
-plain-trailing : (g : Given) → Plain (popTrailingComment g)
-unfolding popTrailingComment
-plain-trailing g = record { none = λ s x. found s x (something (g .source) (s .pos)) }
-  where
-    turn : (s : St) (x place : ℕ) (f : Option Span)
-        → Without x
-        (elim f [ nothing ↦ skip s | some c ↦ cond (eqb (c .start) place) (pop ⨟ pushComment g c ⨟ moveTo (c .end)) skip s ])
-    turn s x place nothing = plain-skip .none s x
-    turn s x place (some c) =
-        plain-cond (eqb (c .start) place) (plain-then plain-pop (plain-then (plain-comment g c) plain-move)) plain-skip .none s x
-
-    found : (s : St) (x : ℕ) (f : Found)
-        → Without x
-        (elim f [
-          | Nowhere ↦ skip s
-          | At place ↦
-              elim (front g s) [ nothing ↦ skip s | some c ↦ cond (eqb (c .start) place) (pop ⨟ pushComment g c ⨟ moveTo (c .end)) skip s ]
-        ])
-    found s x Nowhere = plain-skip .none s x
-    found s x (At place) = turn s x place (front g s)
+gap-steps : (g : Given) → GapSteps g Plain
+unfolding namesIn ignoreNewlines
+gap-steps g =
+    record {
+      skips = plain-skip;
+      moves = λ p. record { none = λ s x. refl };
+      pops = record { none = λ s x. refl };
+      comments = λ c. record { none = λ s x. refl };
+      lines = record { none = λ s x. refl };
+      empty-lines = record { none = λ s x. refl };
+      ignores = λ p. record { none = λ s x. refl };
+      joins = λ p q. plain-then p q;
+      looks = λ {a} b p e. record { none = λ s x. subst (λ (o : Out). Without x o) (e s) (p s .none s x) };
+    }
 
 -- ---- steps inside groups whose numbers are below k
 record Numbers (k : ℕ) (a : Act) : Type 0 where
@@ -133,14 +67,12 @@ record Numbers (k : ℕ) (a : Act) : Type 0 where
 numbers-plain : {k : ℕ} {a : Act} → Plain a → Numbers k a
 numbers-plain p = record { below = λ s h x l. p .none s x }
 
-plain-leaf : {n : Node} → Leaf n → Plain (push n)
+plain-break : {n : Node} → Break n → Plain (push n)
 unfolding namesIn
-plain-leaf ascii-leaf = record { none = λ s x. refl }
-plain-leaf str-leaf = record { none = λ s x. refl }
-plain-leaf line-leaf = record { none = λ s x. refl }
-plain-leaf emptyLine-leaf = record { none = λ s x. refl }
-plain-leaf lineOrSpace-leaf = record { none = λ s x. refl }
-plain-leaf wrapParent-leaf = record { none = λ s x. refl }
+plain-break line-break = record { none = λ s x. refl }
+plain-break emptyLine-break = record { none = λ s x. refl }
+plain-break lineOrSpace-break = record { none = λ s x. refl }
+plain-break wrapParent-break = record { none = λ s x. refl }
 
 numbers-then : {k : ℕ} {a b : Act} → Numbers k a → Numbers k b → Numbers k (a ⨟ b)
 unfolding _⨟_
@@ -182,12 +114,14 @@ numbers-called {k} {e} {a} p q =
           (no-either _ _ (p .below z (omega arith) x (omega arith)) (q .below w (omega arith) x (omega arith))));
     }
 
-joining : (g : Given) → Joining g Numbers
+joining : (g : Given) → Joining g (λ k ts a. Numbers k a)
 unfolding namesIn indented indentedNext _⨟?_
 joining g =
     record {
       skips = numbers-plain plain-skip;
-      pushes = λ l. numbers-plain (plain-leaf l);
+      words = λ t. numbers-plain (record { none = λ s x. refl });
+      names = λ w t. numbers-plain (record { none = λ s x. refl });
+      breaks = λ h. numbers-plain (plain-break h);
       chooses = λ {n}. record { below = λ s h x l. alone _ (no-either _ _ (other x n (omega arith)) refl) };
       joins = λ p q. numbers-then p q;
       groups = λ p. numbers-grouped p;
@@ -195,8 +129,8 @@ joining g =
       indents-next = λ p. record { below = λ s h x l. alone _ (p .below s h x l) };
       calls = λ p q. numbers-called p q;
       asks = λ a p q. record { below = λ s h x l. numbers-then p (q (a s .1)) .below s h x l };
-      gaps = λ p a b c. numbers-plain (plain-gap g p a b c);
-      trails = numbers-plain (plain-trailing g);
+      gaps = λ p a b c. numbers-plain (every-gap (gap-steps g) p a b c);
+      trails = numbers-plain (every-trailing (gap-steps g));
     }
 
 -- No number of a document is at or past those that it takes.

@@ -16,9 +16,10 @@ use Rattle.text.specs.declared.space.Found.{Found}
 use Rattle.text.specs.declared.space.Found.the-variants.{At, Nowhere}
 use Rattle.ast.specs.Syntax.{Span}
 use Rattle.rows.specs.Node.{Text, Node, Nodes, group, indent, indentNext, comment, line, emptyLine, none, _then_, join}
-use Rattle.state.specs.Act.{Given, St, Out, Act, Asking, next, _⨟_, _⨟?_, _⨟!_, skip, when, push, moveTo, pop, told, answering, grouped}
+use Rattle.state.specs.Act.{Given, St, Out, Act, Asking, next, _⨟_, _⨟?_, _⨟!_, skip, when, push, moveTo, pop, told, grouped}
 use Rattle.state.specs.Act.{indented, indentedNext, called}
-use Rattle.comments.specs.Comments.{nth, front, pushComment, newlines, ignoreNewlines, popComment, waits, popComments, popWhitespace, popTrailingComment}
+use Rattle.comments.specs.Comments.{nth, breakLine, front, pushComment, newlines, ignoreNewlines, popComment, waits}
+use Rattle.comments.specs.Comments.{popComments, afterComments, popWhitespace, popTrailingComment}
 use Rattle.layout_facts.specs.Placing.{commentsOfNode, commentsInNodes, trimmed, between, Placed, Places}
 
 commentsInNodes-join : (ns ms : Nodes) → commentsInNodes (join ns ms) ≡ commentsInNodes ns ++ commentsInNodes ms
@@ -162,9 +163,9 @@ places-called {g} {e} {a} p q =
     }
 
 -- a step that answers, and then one that goes by the answer
-pub places-asks : {g : Given} (a : Asking) {k : Bool → Act} → Places g (told a) → ((b : Bool) → Places g (k b)) → Places g (a ⨟? k)
+pub places-asks : {A : Type 0} {g : Given} (a : Asking A) {k : A → Act} → Places g (told a) → ((b : A) → Places g (k b)) → Places g (a ⨟? k)
 unfolding _⨟?_
-places-asks {g} a {k} p q = record { from = λ s h. places-then p (q (a s .1)) .from s h }
+places-asks a p q = record { from = λ s h. places-then p (q (a s .1)) .from s h }
 
 -- ---- the comment rules
 -- the front comment of those left
@@ -205,7 +206,7 @@ quiet-newlines g p =
       same = λ s. kept s .same s;
     }
   where
-    kept : (s : St) → Quiet (cond (eqb (countNewlines (g .source) (s .pos) p .count) 0) skip (cond (eqb (countNewlines (g .source) (s .pos) p .count) 1) (push line) (push emptyLine)) ⨟ moveTo p)
+    kept : (s : St) → Quiet (breakLine (countNewlines (g .source) (s .pos) p) ⨟ moveTo p)
     kept s =
         let n = countNewlines (g .source) (s .pos) p .count in
         quiet-then (quiet-cond (eqb n 0) quiet-skip (quiet-cond (eqb n 1) (quiet-push refl) (quiet-push refl))) quiet-moveTo
@@ -249,8 +250,7 @@ unfolding popWhitespace _⨟!_
 places-gap {g} p a b c =
     record { from = λ s h. places-then (places-popComments g (length (g .comments)) p a) (last (waits g p s && b) c) .from s h }
   where
-    last : (t u : Bool)
-        → Places g (told (cond t (answering true (told (newlines g p))) (cond u (newlines g p) (answering false (ignoreNewlines g p)))))
+    last : (t u : Bool) → Places g (told (afterComments g t p u))
     last true u = places-quiet (quiet-newlines g p)
     last false true = places-quiet (quiet-newlines g p)
     last false false = places-quiet (quiet-ignoreNewlines g p)

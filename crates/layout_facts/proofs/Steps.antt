@@ -229,7 +229,7 @@ sound-called {g} {e} {a} {m} {n} {c} {d} h p q =
     }
 
 -- ---- a step that answers, and then one that goes by the answer
-pub sound-asks : {g : Given} (a : Asking) {k : Bool → Act} {m n d : ℕ} → Sounds g m d (told a) → ((b : Bool) → Sounds g n d (k b))
+pub sound-asks : {A : Type 0} {g : Given} (a : Asking A) {k : A → Act} {m n d : ℕ} → Sounds g m d (told a) → ((b : A) → Sounds g n d (k b))
     → Sounds g (m + n) d (a ⨟? k)
 unfolding _⨟?_
 sound-asks a {k} p q = record { from = λ s. (p ⨾ q (a s .1)) .from s }

@@ -3,3 +3,5 @@ pub mod Sound
 pub mod Height
 pub mod Accepted
 pub mod Right
+pub mod Tokens
+pub mod BlankLines

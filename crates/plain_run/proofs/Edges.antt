@@ -1,6 +1,10 @@
 -- The marked edges hold: antt computes each from its bytes.
 -- Assumes nothing.
-use mathlib.Core.Path.{refl}
+use mathlib.Core.Path.{refl, ap, _∙_}
+use mathlib.Core.Bool.{Bool, cond}
+use mathlib.Core.List.{[], _++_, append-nil, append-assoc}
+use native.Mathlib.Omega.{arith}
+use borrow.Author.Tests.{lt-ltb, le-ltb}
 use Rattle.text.specs.Newlines.{isRange}
 use Rattle.image.specs.Read.{header, commentFits, commentsFrom, comments as commentList, shape, opens, childrenAt, skips, recordAt, treeAt, readTree}
 use Rattle.image.specs.Read.{readImage, sourceFits, readAll}
@@ -28,7 +32,7 @@ use Rattle.rows.specs.Texts.{originText}
 use Rattle.renderer_rules.specs.Page.{textBytes}
 use Rattle.renderer_rules.specs.Check.{reaches, partsFit, rowFits, firstWrong, wrongRow, placesFit, wrongPlace}
 use Rattle.marks.specs.Marks.{marksNeeded}
-use Rattle.plain_run.specs.Edges.{EdgesHold, WidthsHold}
+use Rattle.plain_run.specs.Edges.{newline, EdgesHold, WidthsHold, EmptyLineHolds}
 
 pub edges-hold : EdgesHold
 unfolding header commentFits commentsFrom commentList shape opens childrenAt skips recordAt treeAt readTree readImage sourceFits readAll be16 be32 rowOf
@@ -48,4 +52,15 @@ widths-hold = record {
   least = record { stays = refl; wraps = refl };
   print-shop = record { stays = refl; wraps = refl };
   most = record { stays = refl; wraps = refl };
+}
+
+pub empty-line-holds : EmptyLineHolds
+unfolding renderNode pushStr newLine
+empty-line-holds = record {
+  at-start =
+      λ width s b w r e.
+      ap (λ (c : Bool). (r .buf ++ newline) ++ cond c newline []) (le-ltb 0 (r .pen .column .0) (omega (arith, e))) ∙ append-nil (r .buf ++ newline);
+  elsewhere =
+      λ width s b w r h.
+      ap (λ (c : Bool). (r .buf ++ newline) ++ cond c newline []) (lt-ltb 0 (r .pen .column .0) h) ∙ append-assoc (r .buf) newline newline;
 }

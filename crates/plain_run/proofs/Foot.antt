@@ -37,7 +37,7 @@ module _ (s b : List ℕ) where
   abbrev ds : List Declaration
   ds = acceptedTree b (readAll s b) .declarations
 
-  list : readRefusal (readAll s b) ≡ none → Listed s b
+  pub list : readRefusal (readAll s b) ≡ none → Listed s b
   list h = go (readAll s b) refl h
     where
       go : (r : Read Image) → readAll s b ≡ r → readRefusal r ≡ none → Listed s b

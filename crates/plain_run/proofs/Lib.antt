@@ -11,5 +11,6 @@ pub mod Foot
 pub mod Edges
 pub mod File
 pub mod FileLimits
+pub mod Text
 pub mod Refused
 pub mod Reference

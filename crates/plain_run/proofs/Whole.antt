@@ -192,7 +192,7 @@ module _ (r : Read Image) (s b : List ℕ) where
       (ap (nodesAt (viewOf (rows ns 0)) 0) (sym (zero-add (sizes ns))) ∙ flattened ns (rows ns 0) 0 (take-length (rows ns 0)))
 
   -- a piece from the fresh cursor is what its step gives
-  gives : (q : LayoutArgs LayoutChoice) (a : Act) → laidTo r s b q .rows ≡ actPiece a start .rows
+  pub gives : (q : LayoutArgs LayoutChoice) (a : Act) → laidTo r s b q .rows ≡ actPiece a start .rows
       → laidTo r s b q .state .cursor ≡ actPiece a start .cursor
       → Gives s b (a fresh) (laidTo r s b q)
   gives q a e f = record {

@@ -3,7 +3,8 @@
 use mathlib.Core.Path.{_≡_}
 use mathlib.Core.Option.{Option, none, some}
 use mathlib.Core.List.{List, [], _∷_, _++_, map}
-use Prim.Native.Nat.{ℕ, zero, suc, _+_}
+use mathlib.Core.Bool.{Bool}
+use Prim.Native.Nat.{ℕ, zero, suc, _+_, _<_}
 use lib.ListN.{length, replicate}
 use Rattle.image.specs.Write.{Plain, Plains, without, plainly, done, _next_, bytes4, framed, written}
 use Rattle.ast.specs.Syntax.{Span}
@@ -16,6 +17,8 @@ use Rattle.tree.specs.CommentList.{span}
 use Rattle.cut_rule.specs.Run.{layoutCall, renderCall, Carried, start, run}
 use Rattle.cut_rule.specs.Limits.{REFERENCE-WIDTH}
 use Rattle.cut_rule.specs.States.{layoutFresh, OLD-MODE, NEW-MODE}
+use Rattle.renderer_rules.specs.Renderer.{Renderer, renderNode}
+use Rattle.plain_run.specs.Parts.{page}
 use Rattle.plain_run.specs.Demands.{rulesOf, closingAt}
 
 -- ---- what an edge is
@@ -347,3 +350,10 @@ pub record WidthsHold : Type 0 where
   pub least : EdgeAt 40 19
   pub print-shop : EdgeAt 100 79
   pub most : EdgeAt 200 179
+
+-- ---- "`EmptyLine` at column 0 writes one newline, elsewhere two", at every column and whatever was written before
+pub record EmptyLineHolds : Type 0 where
+  pub at-start : (width : ℕ) (s b : List ℕ) (w : Bool) (r : Renderer) → r .pen .column .0 ≡ 0
+      → renderNode (page width s b) emptyLine w r .buf ≡ r .buf ++ newline
+  pub elsewhere : (width : ℕ) (s b : List ℕ) (w : Bool) (r : Renderer) → 0 < r .pen .column .0
+      → renderNode (page width s b) emptyLine w r .buf ≡ r .buf ++ (newline ++ newline)

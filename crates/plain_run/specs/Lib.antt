@@ -4,4 +4,5 @@ pub mod Foot
 pub mod Edges
 pub mod File
 pub mod FileLimits
+pub mod Text
 pub mod Reference

@@ -57,7 +57,7 @@ actPiece a c =
       rows = rows (o .nodes) (c .row);
     }
 
--- a declaration; `first` of `fmt_parsed` is "next declaration is 0"
+-- a declaration; `first` of `fmt_parsed` is that the next declaration is 0
 abbrev pub declarationAct : List ℕ → List ℕ → ℕ → Option Declaration → Act
 declarationAct s b n none = skip
 declarationAct s b n (some d) = declaration (given s b) d (eqb n 0)

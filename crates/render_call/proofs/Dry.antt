@@ -113,12 +113,12 @@ module _ (source image : List ℕ) (state : RenderState) (args : RenderArgs) (st
       }
 
   abbrev rendered : Renderer → Renderer
-  rendered r = renderNodes (pageOf (args .width) source image) (nodesAt (viewOf store) (state .row) (args .stop)) true r
+  rendered r = renderNodes (pageOf (args .width .0) source image) (nodesAt (viewOf store) (state .row) (args .stop)) true r
 
   same-text : (p : Writing) → rendered (freshRenderer (p .pen) (aside .marks)) .buf ≡ rendered (freshRenderer (p .pen) (taken ++ behind)) .buf
   same-text p =
       ap (λ (r : Renderer). r .buf)
-      (renders-alike own (pageOf (args .width) source image) (nodesAt (viewOf store) (state .row) (args .stop)) true (freshRenderer (p .pen) (taken ++ behind)) (freshRenderer (p .pen) (aside .marks))
+      (renders-alike own (pageOf (args .width .0) source image) (nodesAt (viewOf store) (state .row) (args .stop)) true (freshRenderer (p .pen) (taken ++ behind)) (freshRenderer (p .pen) (aside .marks))
       inside
       (record { rest = refl; marks = agree }) .rest)
 
@@ -135,13 +135,13 @@ module _ (source image : List ℕ) (state : RenderState) (args : RenderArgs) (st
 
     -- the run with limit 0, and the marks put back
     module _ (p q : Writing) (k : Takes state p) (b : Bytes marks) (out marks3 out3 rows4 marks4 : List ℕ)
-        (r : Ended 0 (renderNodes (pageOf (args .width) source image) (nodesAt (viewOf rows2) (state .row) (args .stop)) true (freshRenderer (p .pen) marks2)) out marks3 out3 q)
+        (r : Ended 0 (renderNodes (pageOf (args .width .0) source image) (nodesAt (viewOf rows2) (state .row) (args .stop)) true (freshRenderer (p .pen) marks2)) out marks3 out3 q)
         (f : held rows4 marks4 ≡ putBack count (held rows2 marks3) (state .row)) where
       dry : Ended 0 (rendered (freshRenderer (p .pen) (aside .marks))) out marks3 out3 q
       dry =
           subst₂
           (λ (v : View) (m : List ℕ).
-          Ended 0 (renderNodes (pageOf (args .width) source image) (nodesAt v (state .row) (args .stop)) true (freshRenderer (p .pen) m)) out marks3 out3 q)
+          Ended 0 (renderNodes (pageOf (args .width .0) source image) (nodesAt v (state .row) (args .stop)) true (freshRenderer (p .pen) m)) out marks3 out3 q)
           same-view
           (ap (λ (h : Held). h .marks) e)
           r
@@ -152,11 +152,11 @@ module _ (source image : List ℕ) (state : RenderState) (args : RenderArgs) (st
           ∙ ap (λ (h : Held). putBack count (held (h .rows) marks3) (state .row)) e
           ∙ undone count (state .«in_use») store marks marks3 (state .row) unused b (let h = a .within in let g = a .ahead in omega arith)
           (ap length (dry .marks)
-          ∙ renders-length (pageOf (args .width) source image) (nodesAt (viewOf store) (state .row) (args .stop)) true (freshRenderer (p .pen) (aside .marks))
+          ∙ renders-length (pageOf (args .width .0) source image) (nodesAt (viewOf store) (state .row) (args .stop)) true (freshRenderer (p .pen) (aside .marks))
           ∙ aside-count count (state .«in_use») (held store marks) (state .row))
           (λ x o.
           ap (λ (m : List ℕ). getD m x 0) (dry .marks)
-          ∙ renders-same x (nodesAt (viewOf store) (state .row) (args .stop)) (pageOf (args .width) source image) true (freshRenderer (p .pen) (aside .marks)) (inside x o) .mark)
+          ∙ renders-same x (nodesAt (viewOf store) (state .row) (args .stop)) (pageOf (args .width .0) source image) true (freshRenderer (p .pen) (aside .marks)) (inside x o) .mark)
 
       pub counted : (n : sizes.Bytes) → n .0 ≡ q .at .0 → Counted source image state args store marks out n rows4 marks4 out3
       counted n g =

@@ -35,7 +35,7 @@ pub record Leaves (q : Writing) (used stop chosen : ℕ) (t : RenderState) : Typ
   pub column : t .column .0 ≡ q .pen .column .0
   pub in-use : t .«in_use» ≡ used
   pub row : t .row ≡ stop
-  pub width : t .width ≡ chosen
+  pub width : t .width .0 ≡ chosen
 
 module _ (source image : List ℕ) (state : RenderState) (args : RenderArgs) (store marks : List ℕ) (ahead : state .row ≤ args .stop) (out : List ℕ) where
   -- the marks that the rows need
@@ -49,7 +49,7 @@ module _ (source image : List ℕ) (state : RenderState) (args : RenderArgs) (st
   given = gives source image state args store marks ahead
 
   abbrev rendered : Renderer → Renderer
-  rendered r = renderNodes (pageOf (args .width) source image) (nodesAt (viewOf store) (state .row) (args .stop)) true r
+  rendered r = renderNodes (pageOf (args .width .0) source image) (nodesAt (viewOf store) (state .row) (args .stop)) true r
 
   module _ (p : Writing) (k : Takes state p) (past : List ℕ) where
     begun : freshRenderer (p .pen) (taken ++ past) ≡ rendererOf (toState state .pen) (taken ++ past)
@@ -75,7 +75,7 @@ module _ (source image : List ℕ) (state : RenderState) (args : RenderArgs) (st
     end = same p k behind
 
     pub finished : (t : RenderState) (n : Bytes) → runRefusal source image args state store marks ≡ none
-        → n .0 ≡ bytes source image state args store marks out → n .0 ≤ length out → Leaves q (max (state .«in_use») needed) (args .stop) (args .width) t
+        → n .0 ≡ bytes source image state args store marks out → n .0 ≤ length out → Leaves q (max (state .«in_use») needed) (args .stop) (args .width .0) t
         → Draws source image state args store marks out (drawing.Drawn t n (q .widest)) store marks2 out2
     finished t n e f h l =
         ends-written source image state args store marks out t n (q .widest) marks2 out2 e f h left-state
@@ -86,8 +86,8 @@ module _ (source image : List ℕ) (state : RenderState) (args : RenderArgs) (st
         pen-same : _≡_ {A = Pen} (record { indent = t .indent; «next_indent» = t .«next_indent»; column = t .column }) (drawnBy after .pen)
         pen-same = (λ i. record { indent = l .indent i; «next_indent» = l .next i; column = record { 0 = l .column i } }) ∙ r .pen
 
-        left-state : toState t ≡ record { pen = given .pen; in-use = max (state .«in_use») needed; row = args .stop; width = args .width }
+        left-state : toState t ≡ record { pen = given .pen; in-use = max (state .«in_use») needed; row = args .stop; width = args .width .0 }
         left-state =
             rw (l .in-use, l .row, l .width)
-            (ap (λ (z : Pen). record { pen = z; in-use = max (state .«in_use») needed; row = args .stop; width = args .width })
+            (ap (λ (z : Pen). record { pen = z; in-use = max (state .«in_use») needed; row = args .stop; width = args .width .0 })
             (pen-same ∙ ap (λ (d : cut.Drawn). d .pen) end))

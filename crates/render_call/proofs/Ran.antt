@@ -39,7 +39,7 @@ module _ (source image : List ℕ) (state : RenderState) (args : RenderArgs) (st
   inUse = withCleared (partsOf source image) (take (state .«in_use») marks) needed
 
   abbrev pub gives : Drawn
-  gives = drawnOf (partsOf source image) (args .width) (toState state) (take (state .«in_use») marks) store (args .stop)
+  gives = drawnOf (partsOf source image) (args .width .0) (toState state) (take (state .«in_use») marks) store (args .stop)
 
   under : Unders (length inUse) (nodesAt (viewOf store) (state .row) (args .stop))
   under =
@@ -50,11 +50,11 @@ module _ (source image : List ℕ) (state : RenderState) (args : RenderArgs) (st
 
   -- the rows rendered, with any marks behind those in use
   abbrev rendered : List ℕ → Renderer
-  rendered m = renderNodes (pageOf (args .width) source image) (nodesAt (viewOf store) (state .row) (args .stop)) true (rendererOf (toState state .pen) m)
+  rendered m = renderNodes (pageOf (args .width .0) source image) (nodesAt (viewOf store) (state .row) (args .stop)) true (rendererOf (toState state .pen) m)
 
   past-same : (past : List ℕ) → rendered (inUse ++ past) ≡ ext [] past 0 (rendered inUse)
   past-same past =
-      renders-ext [] past 0 (pageOf (args .width) source image) (nodesAt (viewOf store) (state .row) (args .stop)) true (rendererOf (toState state .pen) inUse) under
+      renders-ext [] past 0 (pageOf (args .width .0) source image) (nodesAt (viewOf store) (state .row) (args .stop)) true (rendererOf (toState state .pen) inUse) under
 
   pub ran : (past : List ℕ) → drawnBy (rendered (inUse ++ past)) ≡ withPast gives past
   ran past = ap drawnBy (past-same past)
@@ -66,7 +66,7 @@ module _ (source image : List ℕ) (state : RenderState) (args : RenderArgs) (st
   pub marks-onto : gives .marks ++ drop (length inUse) marks ≡ writeFront (gives .marks) marks
   marks-onto =
       ap (λ (n : ℕ). gives .marks ++ drop n marks)
-      (sym (renders-length (pageOf (args .width) source image) (nodesAt (viewOf store) (state .row) (args .stop)) true (rendererOf (toState state .pen) inUse)))
+      (sym (renders-length (pageOf (args .width .0) source image) (nodesAt (viewOf store) (state .row) (args .stop)) true (rendererOf (toState state .pen) inUse)))
 
   -- the renderer that a pen with the state's numbers starts as
   pub started : (p : Writing) (m : List ℕ) → p .pen .indent ≡ state .indent → p .pen .«next_indent» ≡ state .«next_indent» → p .pen .column .0 ≡ state .column .0

@@ -46,7 +46,7 @@ module _ (source image : List ℕ) (state : RenderState) (args : RenderArgs) (st
   pub fits-most : (out : List ℕ) (n : ℕ) → n ≡ mostOf state args store → n ≤ length out → Fitting source image state args store marks out
   fits-most out n f l =
       let m =
-      text-most (args .width) source image store (state .row) (args .stop) 0 (state .indent + state .«next_indent»)
+      text-most (args .width .0) source image store (state .row) (args .stop) 0 (state .indent + state .«next_indent»)
       (nested source image state args store marks may .nests)
       true
       (rendererOf (toState state .pen) (inUse source image state args store marks (may .ahead)))
@@ -71,7 +71,7 @@ module _ (source image : List ℕ) (state : RenderState) (args : RenderArgs) (st
         (may .ahead, omega arith)
 
     pub dry-ends : (p q : Writing) → Takes state p → ((k : ℕ) → getD marks k 0 < 256) → (out marks3 out3 rows4 marks4 : List ℕ)
-        → Ended 0 (renderNodes (pageOf (args .width) source image) (nodesAt (viewOf rows2) (state .row) (args .stop)) true (freshRenderer (p .pen) marks2)) out marks3 out3 q
+        → Ended 0 (renderNodes (pageOf (args .width .0) source image) (nodesAt (viewOf rows2) (state .row) (args .stop)) true (freshRenderer (p .pen) marks2)) out marks3 out3 q
         → held rows4 marks4 ≡ putBack (args .stop - state .row) (held rows2 marks3) (state .row)
         → Counted source image state args store marks out (q .at) rows4 marks4 out3
     dry-ends p q k b out marks3 out3 rows4 marks4 r f =
@@ -114,7 +114,7 @@ module _ (source image : List ℕ) (state : RenderState) (args : RenderArgs) (st
   pub run-ends : (p q : Writing) → Takes state p → (n : ℕ) → n ≡ marksNeeded (args .stop - state .row) store (state .row) → (marks2 : List ℕ)
       → marks2 ≡ clearFrom (n - state .«in_use») (state .«in_use») marks
       → (marks3 out3 : List ℕ)
-      → Ended (length out) (renderNodes (pageOf (args .width) source image) (nodesAt (viewOf store) (state .row) (args .stop)) true (freshRenderer (p .pen) marks2)) out marks3 out3 q
+      → Ended (length out) (renderNodes (pageOf (args .width .0) source image) (nodesAt (viewOf store) (state .row) (args .stop)) true (freshRenderer (p .pen) marks2)) out marks3 out3 q
       → (used : ℕ)
       → used ≡ max (state .«in_use») n
       → Draws source image state args store marks out
@@ -127,7 +127,7 @@ module _ (source image : List ℕ) (state : RenderState) (args : RenderArgs) (st
       let run =
       subst
       (λ (m : List ℕ).
-      Ended (length out) (renderNodes (pageOf (args .width) source image) (nodesAt (viewOf store) (state .row) (args .stop)) true (freshRenderer (p .pen) m)) out marks3 out3 q)
+      Ended (length out) (renderNodes (pageOf (args .width .0) source image) (nodesAt (viewOf store) (state .row) (args .stop)) true (freshRenderer (p .pen) m)) out marks3 out3 q)
       over
       r
       in

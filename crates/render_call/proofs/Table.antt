@@ -38,7 +38,7 @@ module _ (state : RenderState) (args : RenderArgs) (store marks : List ℕ) wher
     marks-say y z f i g = group-passes x z row (pen ++ used) e h (group-passes y z pen used f i g)
 
   abbrev width : Bool
-  width = any (widthTests (args .width) (state .width))
+  width = any (widthTests (args .width .0) (state .width .0))
 
   -- the lines of 12 and 15
   abbrev lines : Bool → Bool → Option Refusal

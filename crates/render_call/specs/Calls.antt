@@ -24,12 +24,12 @@ toState s = record {
   pen = record { indent = s .indent; «next_indent» = s .«next_indent»; column = s .column };
   in-use = s .«in_use»;
   row = s .row;
-  width = s .width;
+  width = s .width .0;
 }
 
 -- "A rendering call names the row to stop before", and chooses a width; `room` is the length of the output that it is lent.
 abbrev pub toArgs : RenderArgs → ℕ → cut.RenderArgs states.RenderChoice
-toArgs args room = record { stop = args .stop; room = room; choice = record { width = args .width } }
+toArgs args room = record { stop = args .stop; room = room; choice = record { width = args .width .0 } }
 
 -- A call's answer, case by case: "the new state and the bytes written"; "Number and place are all that comes back."
 abbrev pub renderingAnswer : (s b : List ℕ) → Rendering → Answer (rulesOf s b)

@@ -29,7 +29,7 @@ pub record RenderCalled (source image : List ℕ) (state : RenderState) (args : 
 -- the greatest value that `column` is set to over the rows that a call reads, with the marks that it has
 abbrev pub widestDue : List ℕ → List ℕ → RenderState → RenderArgs → List ℕ → List ℕ → ℕ
 widestDue source image state args store marks =
-    widestDrawn source image (args .width) (toState state .pen)
+    widestDrawn source image (args .width .0) (toState state .pen)
     (withCleared (partsOf source image) (take (state .«in_use») marks) (marksNeeded (args .stop - state .row) store (state .row)))
     store
     (state .row)

@@ -30,9 +30,10 @@ pub(crate) fn bytes_needed(
         from: from,
         stop: stop,
     };
+    let width = args.width;
     let bounds = Bounds {
-        max: args.width,
-        limit: 0,
+        max: width,
+        limit: Bytes(0),
     };
     let start = start_text(state);
     put_aside(store, marks, state.in_use, from, stop);

@@ -23,13 +23,13 @@ pub struct RenderState {
     pub column: Columns,
     pub in_use: usize,
     pub row: usize,
-    pub width: usize,
+    pub width: Columns,
 }
 
 // The row to stop before, and the width.
 pub struct RenderArgs {
     pub stop: usize,
-    pub width: usize,
+    pub width: Columns,
 }
 
 pub enum Rendering {

@@ -53,9 +53,10 @@ fn write_rows(
         from: state.row,
         stop: args.stop,
     };
+    let width = args.width;
     let bounds = Bounds {
-        max: args.width,
-        limit: out.len(),
+        max: width,
+        limit: Bytes(out.len()),
     };
     let start = start_text(state);
     clear_marks(marks, state.in_use, needed);
@@ -70,7 +71,7 @@ fn write_rows(
         column: column,
         in_use: larger(state.in_use, needed),
         row: args.stop,
-        width: args.width,
+        width: width,
     };
     Drawing::Drawn(left, bytes, widest)
 }

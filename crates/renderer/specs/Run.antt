@@ -110,7 +110,7 @@ pub record Entering (store source image : List ℕ) (max limit stop : ℕ) (mark
 -- a run that takes a turn: it is ready, and not done yet
 pub record Turning (store source image : List ℕ) (bounds : Bounds) (marks out : List ℕ) (r : Running) : Type 0 where
   pub stop : ℕ
-  pub ready : Ready store source image (bounds .max) (bounds .limit) stop marks out r
+  pub ready : Ready store source image (bounds .max .0) (bounds .limit .0) stop marks out r
   pub more : r .depth ≡ 0 → r .next < stop
 
 -- a run that opens a row, which reads no text and writes none

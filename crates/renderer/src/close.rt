@@ -22,6 +22,7 @@ use rows::places::KIND;
 use rows::places::SECOND;
 use rows::store::place;
 use rows::store::to_usize;
+use rows::units::Columns;
 
 // Where the open part of a row ends.
 pub(crate) fn part_end(store: &[u32], f: Frame) -> usize
@@ -83,10 +84,10 @@ pub(crate) fn leave(
     f: Frame,
     store: &[u32],
     marks: &mut [u8],
-    max: usize,
+    max: Columns,
 ) -> Run
     requires { ⌜ Leaves (now store) r f ⌝ }
-    ensures { λ q. ⌜ Left (now (store .entry)) max (now (marks .entry)) (wholeRun (now (frames .entry)) r) f (now (marks .exit)) (wholeRun (now (frames .exit)) q) ⌝ }
+    ensures { λ q. ⌜ Left (now (store .entry)) (max .0) (now (marks .entry)) (wholeRun (now (frames .entry)) r) f (now (marks .exit)) (wholeRun (now (frames .exit)) q) ⌝ }
 {
     let kind = place(store, to_usize(f.row), KIND);
     if kind != CALL {

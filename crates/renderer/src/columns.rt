@@ -33,17 +33,17 @@ pub(crate) fn exceeds(
     marks: &[u8],
     from: usize,
     to: usize,
-    max: usize,
+    max: Columns,
 ) -> bool
     requires { ⌜ Nested (now store) from to × ((p .indent ≤ MAX-MARGIN) × (p .column .0 < BEFORE-ROW)) ⌝ }
-    ensures { λ r. ⌜ r ≡ ltb max (virtualColumn p + widths byteColumns (now (marks .entry)) (nodesAt (viewOf (now (store .entry))) from to)) ⌝ }
+    ensures { λ r. ⌜ r ≡ ltb (max .0) (virtualColumn p + widths byteColumns (now (marks .entry)) (nodesAt (viewOf (now (store .entry))) from to)) ⌝ }
 {
-    let start = virtual_column(p).0;
-    if max < start {
+    let start = virtual_column(p);
+    if max.0 < start.0 {
         return true;
     }
-    let room = max - start;
-    room < width_past(store, marks, from, to, room).0
+    let room = Columns(max.0 - start.0);
+    room.0 < width_past(store, marks, from, to, room).0
 }
 
 // Whether the group of the rows from `from` up to `to` wraps.
@@ -53,10 +53,10 @@ pub(crate) fn group_wraps(
     marks: &[u8],
     from: usize,
     to: usize,
-    max: usize,
+    max: Columns,
 ) -> bool
     requires { ⌜ Nested (now store) from to × ((p .indent ≤ MAX-MARGIN) × (p .column .0 < BEFORE-ROW)) ⌝ }
-    ensures { λ r. ⌜ r ≡ groupWraps (pageOf max [] []) (nodesAt (viewOf (now (store .entry))) from to) (freshRenderer p (now (marks .entry))) ⌝ }
+    ensures { λ r. ⌜ r ≡ groupWraps (pageOf (max .0) [] []) (nodesAt (viewOf (now (store .entry))) from to) (freshRenderer p (now (marks .entry))) ⌝ }
 {
     if must_wrap(store, from, to) {
         return true;
@@ -74,11 +74,11 @@ pub(crate) fn trailing_call(
     from: usize,
     mid: usize,
     to: usize,
-    max: usize,
+    max: Columns,
 ) -> bool
     requires { ⌜ Nested (now store) from mid × (Nested (now store) mid to × ((p .indent ≤ MAX-MARGIN) × (p .column .0 < BEFORE-ROW))) ⌝ }
-    requires { ⌜ over ≡ ltb max (virtualColumn p + widths byteColumns (now marks) (nodesAt (viewOf (now store)) from to)) ⌝ }
-    ensures { λ r. ⌜ r ≡ trailingCall (pageOf max [] []) (nodesAt (viewOf (now (store .entry))) from mid) (nodesAt (viewOf (now (store .entry))) mid to) (freshRenderer p (now (marks .entry))) ⌝ }
+    requires { ⌜ over ≡ ltb (max .0) (virtualColumn p + widths byteColumns (now marks) (nodesAt (viewOf (now store)) from to)) ⌝ }
+    ensures { λ r. ⌜ r ≡ trailingCall (pageOf (max .0) [] []) (nodesAt (viewOf (now (store .entry))) from mid) (nodesAt (viewOf (now (store .entry))) mid to) (freshRenderer p (now (marks .entry))) ⌝ }
 {
     if !over {
         return false;
@@ -89,5 +89,5 @@ pub(crate) fn trailing_call(
     if must_wrap(store, mid, to) {
         return false;
     }
-    virtual_column(p).0 + width_past(store, marks, from, mid, max).0 + 1 < max
+    virtual_column(p).0 + width_past(store, marks, from, mid, max).0 + 1 < max.0
 }

@@ -41,9 +41,9 @@ pub struct LeafRow {
 }
 
 // A `Line`.
-fn line(p: Writing, out: &mut [u8], limit: usize, wrap: bool) -> Writing
-    requires { ⌜ WritingRoom BEFORE-ROW limit (now out) p ⌝ }
-    ensures { λ r. ⌜ Writes limit (cond wrap (newLine (freshRenderer (p .pen) [])) (freshRenderer (p .pen) [])) (now (out .entry)) p (now (out .exit)) r ⌝ }
+fn line(p: Writing, out: &mut [u8], limit: Bytes, wrap: bool) -> Writing
+    requires { ⌜ WritingRoom BEFORE-ROW (limit .0) (now out) p ⌝ }
+    ensures { λ r. ⌜ Writes (limit .0) (cond wrap (newLine (freshRenderer (p .pen) [])) (freshRenderer (p .pen) [])) (now (out .entry)) p (now (out .exit)) r ⌝ }
 {
     if wrap {
         return new_line(p, out, limit);
@@ -52,9 +52,9 @@ fn line(p: Writing, out: &mut [u8], limit: usize, wrap: bool) -> Writing
 }
 
 // A `LineOrSpace`.
-fn line_or_space(p: Writing, out: &mut [u8], limit: usize, wrap: bool) -> Writing
-    requires { ⌜ WritingRoom BEFORE-ROW limit (now out) p ⌝ }
-    ensures { λ r. ⌜ Writes limit (cond wrap (newLine (freshRenderer (p .pen) [])) (text (0x20 ∷ []) 1 (freshRenderer (p .pen) []))) (now (out .entry)) p (now (out .exit)) r ⌝ }
+fn line_or_space(p: Writing, out: &mut [u8], limit: Bytes, wrap: bool) -> Writing
+    requires { ⌜ WritingRoom BEFORE-ROW (limit .0) (now out) p ⌝ }
+    ensures { λ r. ⌜ Writes (limit .0) (cond wrap (newLine (freshRenderer (p .pen) [])) (text (0x20 ∷ []) 1 (freshRenderer (p .pen) []))) (now (out .entry)) p (now (out .exit)) r ⌝ }
 {
     if wrap {
         return new_line(p, out, limit);
@@ -70,10 +70,10 @@ pub(crate) fn leaf(
     source: &[u8],
     image: &[u8],
     out: &mut [u8],
-    limit: usize,
+    limit: Bytes,
 ) -> Writing
-    requires { ⌜ WritingRoom BEFORE-ROW limit (now out) p × ((l .row * PLACES + WIDTH < length (now store)) × ((l .kind ≡ cell (now store) (l .row) KIND) × ((WRAP-PARENT ≤ l .kind) × (l .kind ≤ LINE-OR-SPACE)))) ⌝ }
-    ensures { λ r. ⌜ ((max : ℕ) → Writes limit (renderNode (pageOf max (now (source .entry)) (now (image .entry))) (nodeAt (viewOf (now (store .entry))) (l .row)) (l .wrap) (freshRenderer (p .pen) [])) (now (out .entry)) p (now (out .exit)) r) ⌝ }
+    requires { ⌜ WritingRoom BEFORE-ROW (limit .0) (now out) p × ((l .row * PLACES + WIDTH < length (now store)) × ((l .kind ≡ cell (now store) (l .row) KIND) × ((WRAP-PARENT ≤ l .kind) × (l .kind ≤ LINE-OR-SPACE)))) ⌝ }
+    ensures { λ r. ⌜ ((max : ℕ) → Writes (limit .0) (renderNode (pageOf max (now (source .entry)) (now (image .entry))) (nodeAt (viewOf (now (store .entry))) (l .row)) (l .wrap) (freshRenderer (p .pen) [])) (now (out .entry)) p (now (out .exit)) r) ⌝ }
 {
     if l.kind == WRAP_PARENT {
         return p;
@@ -110,10 +110,10 @@ fn text_leaf(
     source: &[u8],
     image: &[u8],
     out: &mut [u8],
-    limit: usize,
+    limit: Bytes,
 ) -> Writing
-    requires { ⌜ WritingRoom BEFORE-ROW limit (now out) p × ((l .row * PLACES + WIDTH < length (now store)) × ((l .kind ≡ cell (now store) (l .row) KIND) × ((COMMENT ≤ l .kind) × (l .kind ≤ ASCII)))) ⌝ }
-    ensures { λ r. ⌜ ((max : ℕ) (wrap : Bool) → Writes limit (renderNode (pageOf max (now (source .entry)) (now (image .entry))) (nodeAt (viewOf (now (store .entry))) (l .row)) wrap (freshRenderer (p .pen) [])) (now (out .entry)) p (now (out .exit)) r) ⌝ }
+    requires { ⌜ WritingRoom BEFORE-ROW (limit .0) (now out) p × ((l .row * PLACES + WIDTH < length (now store)) × ((l .kind ≡ cell (now store) (l .row) KIND) × ((COMMENT ≤ l .kind) × (l .kind ≤ ASCII)))) ⌝ }
+    ensures { λ r. ⌜ ((max : ℕ) (wrap : Bool) → Writes (limit .0) (renderNode (pageOf max (now (source .entry)) (now (image .entry))) (nodeAt (viewOf (now (store .entry))) (l .row)) wrap (freshRenderer (p .pen) [])) (now (out .entry)) p (now (out .exit)) r) ⌝ }
 {
     let t = row_text(store, l.row);
     let comment = l.kind == COMMENT;

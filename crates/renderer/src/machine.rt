@@ -81,7 +81,7 @@ fn step(
     bounds: Bounds,
 ) -> Run
     requires { ⌜ Turning (now store) (now source) (now image) bounds (now marks) (now out) (wholeRun (now frames) r) ⌝ }
-    ensures { λ q. ⌜ Follows (bounds .limit) (turn (viewOf (now (store .entry))) (pageOf (bounds .max) (now (source .entry)) (now (image .entry)))) (now (marks .entry)) (now (out .entry)) (wholeRun (now (frames .entry)) r) (now (marks .exit)) (now (out .exit)) (wholeRun (now (frames .exit)) q) ⌝ }
+    ensures { λ q. ⌜ Follows (bounds .limit .0) (turn (viewOf (now (store .entry))) (pageOf (bounds .max .0) (now (source .entry)) (now (image .entry)))) (now (marks .entry)) (now (out .entry)) (wholeRun (now (frames .entry)) r) (now (marks .exit)) (now (out .exit)) (wholeRun (now (frames .exit)) q) ⌝ }
 {
     let f = innermost(frames, r.depth);
     if is_done(store, f, r.depth, r.next) {
@@ -111,8 +111,8 @@ pub fn run_rows(
     out: &mut [u8],
     bounds: Bounds,
 ) -> Writing
-    requires { ⌜ Starting (now store) (bounds .limit) (rows .from) (rows .stop) (now out) w ⌝ }
-    ensures { λ q. ⌜ Ended (bounds .limit) (renderNodes (pageOf (bounds .max) (now (source .entry)) (now (image .entry))) (nodesAt (viewOf (now (store .entry))) (rows .from) (rows .stop)) true (freshRenderer (w .pen) (now (marks .entry)))) (now (out .entry)) (now (marks .exit)) (now (out .exit)) q ⌝ }
+    requires { ⌜ Starting (now store) (bounds .limit .0) (rows .from) (rows .stop) (now out) w ⌝ }
+    ensures { λ q. ⌜ Ended (bounds .limit .0) (renderNodes (pageOf (bounds .max .0) (now (source .entry)) (now (image .entry))) (nodesAt (viewOf (now (store .entry))) (rows .from) (rows .stop)) true (freshRenderer (w .pen) (now (marks .entry)))) (now (out .entry)) (now (marks .exit)) (now (out .exit)) q ⌝ }
 {
     let stop = rows.stop;
     let mut frames = [0u32; MAX_DEPTH];

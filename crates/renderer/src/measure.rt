@@ -27,51 +27,51 @@ enum Measured {
 }
 
 // A width that is past the room is one column past it.
-fn clip(w: Columns, room: usize) -> Columns
-    ensures { λ r. ⌜ r .0 ≡ min (room + 1) (w .0) ⌝ }
+fn clip(w: Columns, room: Columns) -> Columns
+    ensures { λ r. ⌜ r .0 ≡ min (room .0 + 1) (w .0) ⌝ }
 {
-    if room < w.0 {
-        return Columns(room + 1);
+    if room.0 < w.0 {
+        return Columns(room.0 + 1);
     }
     w
 }
 
 // The width of the rows from `from` up to the first `IfWrap` that has wrapped, or up to `to`. No row is read once the room is passed.
-fn until_wrapped(store: &[u32], marks: &[u8], from: usize, to: usize, room: usize) -> Measured
+fn until_wrapped(store: &[u32], marks: &[u8], from: usize, to: usize, room: Columns) -> Measured
     requires { ⌜ Nested (now store) from to ⌝ }
-    ensures { λ r. ⌜ Stopped (now (store .entry)) (now (marks .entry)) from to room r ⌝ }
+    ensures { λ r. ⌜ Stopped (now (store .entry)) (now (marks .entry)) from to (room .0) r ⌝ }
 {
     let mut row = from;
-    let mut sum: usize = 0;
+    let mut sum = Columns(0);
     while row < to {
-        if room < sum {
-            return Measured::Width(Columns(room + 1));
+        if room.0 < sum.0 {
+            return Measured::Width(Columns(room.0 + 1));
         }
         let kind = place(store, row, KIND);
         if kind != IF_WRAP {
-            sum += own_width(store, row, kind).0;
+            sum = Columns(sum.0 + own_width(store, row, kind).0);
             row += 1;
         } else {
             if is_wrapped(marks, place(store, row, NUMBER)) {
-                return Measured::Wrapped(row, Columns(sum));
+                return Measured::Wrapped(row, sum);
             }
             row = place(store, row, SECOND);
         }
     }
-    Measured::Width(clip(Columns(sum), room))
+    Measured::Width(clip(sum, room))
 }
 
 // The same from an `IfWrap` on that has wrapped. Inside its first part, `end` is where that part ends, and `ends` has what `end` was
 // outside it.
-fn wrapped_width(store: &[u32], marks: &[u8], from: usize, to: usize, room: usize) -> Columns
+fn wrapped_width(store: &[u32], marks: &[u8], from: usize, to: usize, room: Columns) -> Columns
     requires { ⌜ Nested (now store) from to × IsWrapped (now store) (now marks) from ⌝ }
-    ensures { λ r. ⌜ Measures (now (store .entry)) (now (marks .entry)) from to room (r .0) ⌝ }
+    ensures { λ r. ⌜ Measures (now (store .entry)) (now (marks .entry)) from to (room .0) (r .0) ⌝ }
 {
     let mut ends = [0u32; MAX_DEPTH];
     let mut depth: usize = 0;
     let mut row = from;
     let mut end = to;
-    let mut sum: usize = 0;
+    let mut sum = Columns(0);
     while row < to {
         if row < end {
             ends[depth] = end as u32;
@@ -83,21 +83,21 @@ fn wrapped_width(store: &[u32], marks: &[u8], from: usize, to: usize, room: usiz
             end = to_usize(ends[depth]);
             row = place(store, row, AFTER);
         }
-        match until_wrapped(store, marks, row, end, room - sum) {
+        match until_wrapped(store, marks, row, end, Columns(room.0 - sum.0)) {
             Measured::Wrapped(at, w) => {
                 row = at;
-                sum += w.0;
+                sum = Columns(sum.0 + w.0);
             }
             Measured::Width(w) => {
-                if room - sum < w.0 {
-                    return Columns(room + 1);
+                if room.0 - sum.0 < w.0 {
+                    return Columns(room.0 + 1);
                 }
                 row = end;
-                sum += w.0;
+                sum = Columns(sum.0 + w.0);
             }
         }
     }
-    Columns(sum)
+    sum
 }
 
 // The width of the rows from `from` up to `to`, or one column more than there is room for. Most rows have no `IfWrap` that has wrapped,
@@ -107,15 +107,15 @@ pub(crate) fn width_past(
     marks: &[u8],
     from: usize,
     to: usize,
-    room: usize,
+    room: Columns,
 ) -> Columns
     requires { ⌜ Nested (now store) from to ⌝ }
-    ensures { λ r. ⌜ (r .0 ≡ min (room + 1) (widths byteColumns (now (marks .entry)) (nodesAt (viewOf (now (store .entry))) from to))) × (r .0 < MEASURED-LIMIT) ⌝ }
+    ensures { λ r. ⌜ (r .0 ≡ min (room .0 + 1) (widths byteColumns (now (marks .entry)) (nodesAt (viewOf (now (store .entry))) from to))) × (r .0 < MEASURED-LIMIT) ⌝ }
 {
     match until_wrapped(store, marks, from, to, room) {
         Measured::Width(w) => w,
         Measured::Wrapped(row, w) => {
-            Columns(w.0 + wrapped_width(store, marks, row, to, room - w.0).0)
+            Columns(w.0 + wrapped_width(store, marks, row, to, Columns(room.0 - w.0)).0)
         }
     }
 }

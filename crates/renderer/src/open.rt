@@ -40,6 +40,7 @@ use rows::places::SECOND;
 use rows::places::SECOND_NUMBER;
 use rows::store::place;
 use rows::store::to_usize;
+use rows::units::Columns;
 use rows::wrap::is_wrapped;
 
 // A row is opened, at one of its parts.
@@ -64,10 +65,10 @@ pub(crate) fn open_row(
     kind: usize,
     store: &[u32],
     marks: &mut [u8],
-    max: usize,
+    max: Columns,
 ) -> Run
-    requires { ⌜ Opening (now store) max (now marks) (wholeRun (now frames) r) × ((wrap ≡ wrapAt (map unpackedFrame (now frames)) (r .depth)) × ((kind ≡ cell (now store) (r .next) KIND) × (WRAP-PARENT ≤ kind → LINE-OR-SPACE < kind))) ⌝ }
-    ensures { λ q. ⌜ ((source image out : List ℕ) (limit : ℕ) → Follows limit (enter (viewOf (now (store .entry))) (pageOf max source image)) (now (marks .entry)) out (wholeRun (now (frames .entry)) r) (now (marks .exit)) out (wholeRun (now (frames .exit)) q)) ⌝ }
+    requires { ⌜ Opening (now store) (max .0) (now marks) (wholeRun (now frames) r) × ((wrap ≡ wrapAt (map unpackedFrame (now frames)) (r .depth)) × ((kind ≡ cell (now store) (r .next) KIND) × (WRAP-PARENT ≤ kind → LINE-OR-SPACE < kind))) ⌝ }
+    ensures { λ q. ⌜ ((source image out : List ℕ) (limit : ℕ) → Follows limit (enter (viewOf (now (store .entry))) (pageOf (max .0) source image)) (now (marks .entry)) out (wholeRun (now (frames .entry)) r) (now (marks .exit)) out (wholeRun (now (frames .exit)) q)) ⌝ }
 {
     if kind == GROUP {
         return enter_group(r, frames, store, marks, max);
@@ -87,10 +88,10 @@ fn enter_group(
     frames: &mut [u32; MAX_DEPTH],
     store: &[u32],
     marks: &mut [u8],
-    max: usize,
+    max: Columns,
 ) -> Run
     requires { ⌜ Enters (now store) r × Nested (now store) (r .next + 1) (cell (now store) (r .next) AFTER) ⌝ }
-    ensures { λ q. ⌜ GroupOpened (now (store .entry)) max (now (marks .entry)) (wholeRun (now (frames .entry)) r) (now (marks .exit)) (wholeRun (now (frames .exit)) q) ⌝ }
+    ensures { λ q. ⌜ GroupOpened (now (store .entry)) (max .0) (now (marks .entry)) (wholeRun (now (frames .entry)) r) (now (marks .exit)) (wholeRun (now (frames .exit)) q) ⌝ }
 {
     let i = r.next;
     let w = r.writing;
@@ -152,10 +153,10 @@ fn enter_call(
     frames: &mut [u32; MAX_DEPTH],
     store: &[u32],
     marks: &mut [u8],
-    max: usize,
+    max: Columns,
 ) -> Run
     requires { ⌜ Enters (now store) r × (Nested (now store) (r .next + 1) (cell (now store) (r .next) SECOND) × Nested (now store) (cell (now store) (r .next) SECOND) (cell (now store) (r .next) AFTER)) ⌝ }
-    ensures { λ q. ⌜ CallOpened (now (store .entry)) max (now (marks .entry)) (wholeRun (now (frames .entry)) r) (now (marks .exit)) (wholeRun (now (frames .exit)) q) ⌝ }
+    ensures { λ q. ⌜ CallOpened (now (store .entry)) (max .0) (now (marks .entry)) (wholeRun (now (frames .entry)) r) (now (marks .exit)) (wholeRun (now (frames .exit)) q) ⌝ }
 {
     let i = r.next;
     let w = r.writing;
@@ -192,10 +193,10 @@ pub(crate) fn enter_arguments(
     f: Frame,
     store: &[u32],
     marks: &mut [u8],
-    max: usize,
+    max: Columns,
 ) -> Run
     requires { ⌜ (0 < r .depth) × ((r .depth ≤ MAX-DEPTH) × ((f .row * PLACES + WIDTH < length (now store)) × ((f .row < MAX-ROWS) × (Nested (now store) (r .next) (cell (now store) (f .row) AFTER) × ((r .writing .pen .indent ≤ MAX-MARGIN) × (r .writing .pen .column .0 < BEFORE-ROW)))))) ⌝ }
-    ensures { λ q. ⌜ ArgumentsOpened (now (store .entry)) max (now (marks .entry)) (wholeRun (now (frames .entry)) r) f (now (marks .exit)) (wholeRun (now (frames .exit)) q) ⌝ }
+    ensures { λ q. ⌜ ArgumentsOpened (now (store .entry)) (max .0) (now (marks .entry)) (wholeRun (now (frames .entry)) r) f (now (marks .exit)) (wholeRun (now (frames .exit)) q) ⌝ }
 {
     let d = r.depth - 1;
     let w = r.writing;

@@ -12,11 +12,11 @@ use rows::units::Bytes;
 use rows::words::WORDS;
 
 // Writes a byte at a place below the limit.
-pub(crate) fn emit(out: &mut [u8], limit: usize, at: usize, b: u8)
-    requires { ⌜ limit ≤ length (now out) ⌝ }
-    ensures { λ r. ⌜ now (out .exit) ≡ writtenOver limit (now (out .entry)) at (b ∷ []) ⌝ }
+pub(crate) fn emit(out: &mut [u8], limit: Bytes, at: usize, b: u8)
+    requires { ⌜ limit .0 ≤ length (now out) ⌝ }
+    ensures { λ r. ⌜ now (out .exit) ≡ writtenOver (limit .0) (now (out .entry)) at (b ∷ []) ⌝ }
 {
-    if at < limit {
+    if at < limit.0 {
         out[at] = b;
         return;
     }
@@ -35,11 +35,11 @@ fn put_blanks(out: &mut [u8], at: usize, n: usize)
 }
 
 // Writes n blanks.
-pub(crate) fn spaces(out: &mut [u8], limit: usize, at: usize, n: Bytes)
-    requires { ⌜ limit ≤ length (now out) ⌝ }
-    ensures { λ r. ⌜ now (out .exit) ≡ writtenOver limit (now (out .entry)) at (replicate (n .0) 0x20) ⌝ }
+pub(crate) fn spaces(out: &mut [u8], limit: Bytes, at: usize, n: Bytes)
+    requires { ⌜ limit .0 ≤ length (now out) ⌝ }
+    ensures { λ r. ⌜ now (out .exit) ≡ writtenOver (limit .0) (now (out .entry)) at (replicate (n .0) 0x20) ⌝ }
 {
-    put_blanks(out, at, clipped(limit, at, n.0));
+    put_blanks(out, at, clipped(limit.0, at, n.0));
 }
 
 // How many of the `size` bytes from `start` on a text of `len` bytes has. (All, in rows that were checked.)
@@ -105,14 +105,14 @@ fn put_origin(
 // Writes the text of a row; how many bytes that is. What lies past the limit is only counted.
 pub(crate) fn copy(
     out: &mut [u8],
-    limit: usize,
+    limit: Bytes,
     at: usize,
     source: &[u8],
     image: &[u8],
     t: RowText,
 ) -> Bytes
-    requires { ⌜ limit ≤ length (now out) ⌝ }
-    ensures { λ r. ⌜ (now (out .exit) ≡ writtenOver limit (now (out .entry)) at (bytesOf (now (source .entry)) (now (image .entry)) t)) × (r .0 ≡ length (bytesOf (now (source .entry)) (now (image .entry)) t)) ⌝ }
+    requires { ⌜ limit .0 ≤ length (now out) ⌝ }
+    ensures { λ r. ⌜ (now (out .exit) ≡ writtenOver (limit .0) (now (out .entry)) at (bytesOf (now (source .entry)) (now (image .entry)) t)) × (r .0 ≡ length (bytesOf (now (source .entry)) (now (image .entry)) t)) ⌝ }
 {
     let n = clipped(origin_size(source, image, t.origin).0, t.start, t.size.0);
     put_origin(
@@ -122,7 +122,7 @@ pub(crate) fn copy(
         image,
         t.origin,
         t.start,
-        clipped(limit, at, n),
+        clipped(limit.0, at, n),
     );
     Bytes(n)
 }

@@ -5,6 +5,8 @@ ghost use Rattle.rows.specs.Limits.{MAX-ROWS};
 ghost use Rattle.renderer.specs.Run.{bareRun, withFrames, passedRun};
 ghost use mathlib.Core.List.{[]};
 use crate::writing::Writing;
+use rows::units::Bytes;
+use rows::units::Columns;
 
 // How many rows are open, the next row, the text so far. The open rows are numbers in an array beside it.
 pub struct Run {
@@ -21,8 +23,8 @@ pub struct RowRange {
 
 // `max` of fmt.rs, in columns; and how many bytes of the output may be written: with 0 nothing is, and the bytes are counted.
 pub struct Bounds {
-    pub max: usize,
-    pub limit: usize,
+    pub max: Columns,
+    pub limit: Bytes,
 }
 
 // A row without parts is passed.

@@ -63,9 +63,9 @@ fn moved_to(w: Writing, column: Columns, at: Bytes) -> Writing
 }
 
 // Writes one byte that takes no column.
-fn push(p: Writing, out: &mut [u8], limit: usize, b: u8) -> Writing
-    requires { ⌜ WritingRoom IN-ROW limit (now out) p ⌝ }
-    ensures { λ r. ⌜ Writes limit (pushStr (b ∷ []) (freshRenderer (p .pen) [])) (now (out .entry)) p (now (out .exit)) r ⌝ }
+fn push(p: Writing, out: &mut [u8], limit: Bytes, b: u8) -> Writing
+    requires { ⌜ WritingRoom IN-ROW (limit .0) (now out) p ⌝ }
+    ensures { λ r. ⌜ Writes (limit .0) (pushStr (b ∷ []) (freshRenderer (p .pen) [])) (now (out .entry)) p (now (out .exit)) r ⌝ }
 {
     let at = p.at.0;
     emit(out, limit, at, b);
@@ -79,9 +79,9 @@ fn push(p: Writing, out: &mut [u8], limit: usize, b: u8) -> Writing
 }
 
 // Writes a blank of one column.
-fn put_blank(p: Writing, out: &mut [u8], limit: usize) -> Writing
-    requires { ⌜ WritingRoom IN-ROW limit (now out) p ⌝ }
-    ensures { λ r. ⌜ Writes limit (atColumn (p .pen .column .0 + 1) (pushStr (0x20 ∷ []) (freshRenderer (p .pen) []))) (now (out .entry)) p (now (out .exit)) r ⌝ }
+fn put_blank(p: Writing, out: &mut [u8], limit: Bytes) -> Writing
+    requires { ⌜ WritingRoom IN-ROW (limit .0) (now out) p ⌝ }
+    ensures { λ r. ⌜ Writes (limit .0) (atColumn (p .pen .column .0 + 1) (pushStr (0x20 ∷ []) (freshRenderer (p .pen) []))) (now (out .entry)) p (now (out .exit)) r ⌝ }
 {
     let at = p.at.0;
     emit(out, limit, at, b' ');
@@ -105,9 +105,9 @@ pub(crate) fn margin_columns(indent: usize) -> Columns
 }
 
 // The indent of a line that starts here.
-fn start_line(p: Writing, out: &mut [u8], limit: usize) -> Writing
-    requires { ⌜ WritingRoom IN-ROW limit (now out) p ⌝ }
-    ensures { λ r. ⌜ Writes limit (margin (freshRenderer (p .pen) [])) (now (out .entry)) p (now (out .exit)) r ⌝ }
+fn start_line(p: Writing, out: &mut [u8], limit: Bytes) -> Writing
+    requires { ⌜ WritingRoom IN-ROW (limit .0) (now out) p ⌝ }
+    ensures { λ r. ⌜ Writes (limit .0) (margin (freshRenderer (p .pen) [])) (now (out .entry)) p (now (out .exit)) r ⌝ }
 {
     let at = p.at.0;
     let n = margin_bytes(p.pen.indent);
@@ -117,9 +117,9 @@ fn start_line(p: Writing, out: &mut [u8], limit: usize) -> Writing
 }
 
 // `new_line`
-pub(crate) fn new_line(p: Writing, out: &mut [u8], limit: usize) -> Writing
-    requires { ⌜ WritingRoom IN-ROW limit (now out) p ⌝ }
-    ensures { λ r. ⌜ Writes limit (newLine (freshRenderer (p .pen) [])) (now (out .entry)) p (now (out .exit)) r ⌝ }
+pub(crate) fn new_line(p: Writing, out: &mut [u8], limit: Bytes) -> Writing
+    requires { ⌜ WritingRoom IN-ROW (limit .0) (now out) p ⌝ }
+    ensures { λ r. ⌜ Writes (limit .0) (newLine (freshRenderer (p .pen) [])) (now (out .entry)) p (now (out .exit)) r ⌝ }
 {
     let pen = on_new_line(p.pen);
     if 0 < p.pen.column.0 {
@@ -129,17 +129,17 @@ pub(crate) fn new_line(p: Writing, out: &mut [u8], limit: usize) -> Writing
 }
 
 // An `EmptyLine`.
-pub(crate) fn empty_line(p: Writing, out: &mut [u8], limit: usize) -> Writing
-    requires { ⌜ WritingRoom BEFORE-ROW limit (now out) p ⌝ }
-    ensures { λ r. ⌜ Writes limit (newLine (pushStr (0x0A ∷ []) (freshRenderer (p .pen) []))) (now (out .entry)) p (now (out .exit)) r ⌝ }
+pub(crate) fn empty_line(p: Writing, out: &mut [u8], limit: Bytes) -> Writing
+    requires { ⌜ WritingRoom BEFORE-ROW (limit .0) (now out) p ⌝ }
+    ensures { λ r. ⌜ Writes (limit .0) (newLine (pushStr (0x0A ∷ []) (freshRenderer (p .pen) []))) (now (out .entry)) p (now (out .exit)) r ⌝ }
 {
     new_line(push(p, out, limit, 0x0A), out, limit)
 }
 
 // What `text` and `comment` write before a text: the indent of a line that starts here, else a blank before a comment.
-pub(crate) fn begin_text(p: Writing, out: &mut [u8], limit: usize, comment: bool) -> Writing
-    requires { ⌜ WritingRoom BEFORE-ROW limit (now out) p ⌝ }
-    ensures { λ r. ⌜ Writes limit (beforeText comment (freshRenderer (p .pen) [])) (now (out .entry)) p (now (out .exit)) r ⌝ }
+pub(crate) fn begin_text(p: Writing, out: &mut [u8], limit: Bytes, comment: bool) -> Writing
+    requires { ⌜ WritingRoom BEFORE-ROW (limit .0) (now out) p ⌝ }
+    ensures { λ r. ⌜ Writes (limit .0) (beforeText comment (freshRenderer (p .pen) [])) (now (out .entry)) p (now (out .exit)) r ⌝ }
 {
     if p.pen.column.0 == 0 {
         return start_line(p, out, limit);
@@ -159,9 +159,9 @@ pub(crate) fn end_text(p: Writing, n: Bytes, w: Columns) -> Writing
 }
 
 // The end of a comment of `n` bytes, and of its line.
-pub(crate) fn end_comment(p: Writing, out: &mut [u8], limit: usize, n: Bytes) -> Writing
-    requires { ⌜ (limit ≤ length (now out)) × ((p .at .0 < IN-ROW) × (n .0 < CELL-LIMIT)) ⌝ }
-    ensures { λ r. ⌜ (r ≡ movedTo 0 (p .at .0 + n .0 + 1) p) × (now (out .exit) ≡ writtenOver limit (now (out .entry)) (p .at .0 + n .0) (0x0A ∷ [])) ⌝ }
+pub(crate) fn end_comment(p: Writing, out: &mut [u8], limit: Bytes, n: Bytes) -> Writing
+    requires { ⌜ (limit .0 ≤ length (now out)) × ((p .at .0 < IN-ROW) × (n .0 < CELL-LIMIT)) ⌝ }
+    ensures { λ r. ⌜ (r ≡ movedTo 0 (p .at .0 + n .0 + 1) p) × (now (out .exit) ≡ writtenOver (limit .0) (now (out .entry)) (p .at .0 + n .0) (0x0A ∷ [])) ⌝ }
 {
     let at = p.at.0 + n.0;
     emit(out, limit, at, 0x0A);
@@ -169,9 +169,9 @@ pub(crate) fn end_comment(p: Writing, out: &mut [u8], limit: usize, n: Bytes) ->
 }
 
 // The blank of a `LineOrSpace`: `text(" ", 1)`.
-pub(crate) fn space(p: Writing, out: &mut [u8], limit: usize) -> Writing
-    requires { ⌜ WritingRoom BEFORE-ROW limit (now out) p ⌝ }
-    ensures { λ r. ⌜ Writes limit (text (0x20 ∷ []) 1 (freshRenderer (p .pen) [])) (now (out .entry)) p (now (out .exit)) r ⌝ }
+pub(crate) fn space(p: Writing, out: &mut [u8], limit: Bytes) -> Writing
+    requires { ⌜ WritingRoom BEFORE-ROW (limit .0) (now out) p ⌝ }
+    ensures { λ r. ⌜ Writes (limit .0) (text (0x20 ∷ []) 1 (freshRenderer (p .pen) [])) (now (out .entry)) p (now (out .exit)) r ⌝ }
 {
     put_blank(begin_text(p, out, limit, false), out, limit)
 }

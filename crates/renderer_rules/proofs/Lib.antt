@@ -4,6 +4,7 @@ pub mod Checked
 pub mod Choices
 pub mod Columns
 pub mod CommentLine
+pub mod Holds
 pub mod Joined
 pub mod Machine
 pub mod Margin

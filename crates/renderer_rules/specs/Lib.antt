@@ -2,6 +2,7 @@ pub mod Call
 pub mod Check
 pub mod CommentLine
 pub mod Frames
+pub mod Holds
 pub mod Limits
 pub mod Machine
 pub mod Most

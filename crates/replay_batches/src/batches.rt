@@ -3,6 +3,7 @@ use crate::calls::calls_found;
 use crate::due::due_at;
 use crate::due::due_end;
 use file::FileChoice;
+use rows::units::Columns;
 use stored_answers::found::Found;
 use stored_answers::numbers::eight;
 use stored_answers::numbers::end;
@@ -29,7 +30,7 @@ fn replay_batch(d: &[u8], at: usize, files: &mut [usize], batches: &mut [usize])
     let from = start(d, at);
     let to = end(d, from, long(d, at));
     let choice = FileChoice {
-        width: eight(d, to),
+        width: Columns(eight(d, to)),
         mode: eight(d, past(to, MODE)),
     };
     let due = due_at(d, past(to, ANSWER));

@@ -13,6 +13,7 @@ use render_call::RenderArgs;
 use render_call::RenderState;
 use render_call::Rendering;
 use render_call::render_call;
+use rows::units::Columns;
 use stored_answers::found::Found;
 use stored_answers::found::first;
 use stored_answers::found::refusal_found;
@@ -201,7 +202,7 @@ fn render(
     let state = run.render;
     let args = RenderArgs {
         stop: long(d, past(run.at, STOP)),
-        width: long(d, past(run.at, CHOICE)),
+        width: Columns(long(d, past(run.at, CHOICE))),
     };
     let answer = render_call(
         source,

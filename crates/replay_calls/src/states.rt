@@ -32,7 +32,7 @@ pub(crate) fn render_state(d: &[u8], at: usize) -> RenderState {
         column: Columns(eight(d, past(at, 8))),
         in_use: long(d, past(at, 16)),
         row: long(d, past(at, 20)),
-        width: long(d, past(at, 24)),
+        width: Columns(long(d, past(at, 24))),
     }
 }
 
@@ -64,6 +64,8 @@ pub(crate) fn same_layout(s: LayoutState, t: LayoutState) -> bool {
 pub(crate) fn same_render(s: RenderState, t: RenderState) -> bool {
     let a = s.column;
     let b = t.column;
+    let w = s.width;
+    let v = t.width;
     if s.indent != t.indent {
         return false;
     }
@@ -79,5 +81,5 @@ pub(crate) fn same_render(s: RenderState, t: RenderState) -> bool {
     if s.row != t.row {
         return false;
     }
-    s.width == t.width
+    w.0 == v.0
 }

@@ -52,7 +52,7 @@ fn render_fresh() -> RenderState {
         column: Columns(0),
         in_use: 0,
         row: 0,
-        width: 0,
+        width: Columns(0),
     }
 }
 
@@ -214,7 +214,7 @@ fn by_declarations(
     let s = l.state;
     let to = RenderArgs {
         stop: s.row,
-        width: REFERENCE_WIDTH,
+        width: Columns(REFERENCE_WIDTH),
     };
     let answer = render_call(source, image, store, marks, out, render_fresh(), to);
     rendered_found(d, at, store, marks, out, l, answer)

@@ -98,10 +98,10 @@ few-called {k} {t} {l} {u} {a} {b} f g =
           record { rows = omega (arith, i .rows, j .rows); numbers = omega (arith, i .numbers, j .numbers) };
     }
 
-pub few-answers : {k t l u : ℕ} {a : Act} (b : Asking) → Few k t a → Few l u (told b) → Few (k + l) (t + u) (told (a ⨟! b))
+pub few-answers : {A : Type 0} {k t l u : ℕ} {a : Act} (b : Asking A) → Few k t a → Few l u (told b) → Few (k + l) (t + u) (told (a ⨟! b))
 unfolding _⨟!_
 few-answers b f g = few-then f g
 
-pub few-asks : {k t l u : ℕ} (a : Asking) (b : Bool → Act) → Few k t (told a) → ((x : Bool) → Few l u (b x)) → Few (k + l) (t + u) (a ⨟? b)
+pub few-asks : {A : Type 0} {k t l u : ℕ} (a : Asking A) (b : A → Act) → Few k t (told a) → ((x : A) → Few l u (b x)) → Few (k + l) (t + u) (a ⨟? b)
 unfolding _⨟?_
 few-asks a b f g = record { at = λ s. few-then f (g (a s .1)) .at s }

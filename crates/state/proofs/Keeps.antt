@@ -94,10 +94,10 @@ module _ {n m : ℕ} where
         pos = λ s h. k .pos (second a s) (j .pos (numbered 2 s) h);
       }
 
-  pub keeps-answers : {a : Act} (b : Asking) → Keeps n m a → Keeps n m (told b) → Keeps n m (told (a ⨟! b))
+  pub keeps-answers : {A : Type 0} {a : Act} (b : Asking A) → Keeps n m a → Keeps n m (told b) → Keeps n m (told (a ⨟! b))
   unfolding _⨟!_
   keeps-answers b j k = keeps-then j k
 
-  pub keeps-asks : (a : Asking) (b : Bool → Act) → Keeps n m (told a) → ((t : Bool) → Keeps n m (b t)) → Keeps n m (a ⨟? b)
+  pub keeps-asks : {A : Type 0} (a : Asking A) (b : A → Act) → Keeps n m (told a) → ((t : A) → Keeps n m (b t)) → Keeps n m (a ⨟? b)
   unfolding _⨟?_
   keeps-asks a b j k = keeps-of (λ s. keeps-at (keeps-then j (k (a s .1))) s)

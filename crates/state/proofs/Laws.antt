@@ -11,9 +11,8 @@ use native.Mathlib.Omega.{arith}
 use lib.Seq.{sets}
 use Rattle.rows.specs.Node.{Text, Node, Nodes, join}
 use Rattle.rows.specs.Rows.{size, sizes, row, rowsOf, rows}
-use Rattle.state.specs.Act.{St, Out, Act, Asking, next, _⨟_, skip, when, push, moveTo, pop, told, answering, _⨟!_, _⨟?_}
+use Rattle.state.specs.Act.{St, Out, Act, Asking, next, _⨟_, skip, when, push, moveTo, pop, told, answering, turning, _⨟!_, _⨟?_}
 use Rattle.state.specs.declared.Cursor.{Cursor}
-use Rattle.state.specs.declared.Asked.{Asked}
 use Rattle.state.specs.Laid.{cursor, st, after, top, Room, Laid, LaidAsking, Written}
 use Rattle.laws.proofs.Stores.{sets-append}
 use Rattle.state.proofs.Joins.{sizes-join, join-assoc, length-rows, rows-join}
@@ -26,10 +25,10 @@ pub lays : {a : Act} {s s′ : List ℕ} {c c′ : Cursor} → Laid a s c s′ c
 lays l = record { does = λ room. l }
 
 -- the same of a step that answers
-pub record LaysAsking (a : Asking) (s : List ℕ) (c : Cursor) (s′ : List ℕ) (r : Asked) : Type 0 where
-  pub does : Room (told a) c → LaidAsking a s c s′ r
+pub record LaysAsking {A : Type 0} (a : Asking A) (s : List ℕ) (c : Cursor) (s′ : List ℕ) (c′ : Cursor) (r : A) : Type 0 where
+  pub does : Room (told a) c → LaidAsking a s c s′ c′ r
 
-pub lays-asking : {a : Asking} {s s′ : List ℕ} {c : Cursor} {r : Asked} → LaidAsking a s c s′ r → LaysAsking a s c s′ r
+pub lays-asking : {A : Type 0} {a : Asking A} {s s′ : List ℕ} {c c′ : Cursor} {r : A} → LaidAsking a s c s′ c′ r → LaysAsking a s c s′ c′ r
 lays-asking l = record { does = λ room. l }
 
 -- only what a step does from the cursor's state counts
@@ -176,50 +175,54 @@ laid-leaf n {kind} {w} {t} {s} {s′} {c} one same p =
 
 -- ---- steps that answer
 -- a step that answers, by what it does from the cursor's state
-pub asking-same : {a b : Asking} {s s′ : List ℕ} {c : Cursor} {r : Asked} → a (st c) ≡ b (st c) → LaidAsking a s c s′ r → LaidAsking b s c s′ r
-asking-same {a} {b} {s} {s′} {c} {r} e l =
+pub asking-same : {A : Type 0} {a b : Asking A} {s s′ : List ℕ} {c c′ : Cursor} {r : A} → a (st c) ≡ b (st c) → LaidAsking a s c s′ c′ r
+    → LaidAsking b s c s′ c′ r
+asking-same {A} {a} {b} {s} {s′} {c} {c′} {r} e l =
     record {
-      laid = laid-same (ap (λ (p : Out × Bool). p .0) e) (l .laid);
-      answers = subst (λ (p : Out × Bool). r .answer ≡ p .1) e (l .answers);
+      laid = laid-same (ap (λ (p : Out × A). p .0) e) (l .laid);
+      answers = subst (λ (p : Out × A). r ≡ p .1) e (l .answers);
     }
 
-pub lays-told : {a : Asking} {s s′ : List ℕ} {c : Cursor} {r : Asked} → LaysAsking a s c s′ r → Lays (told a) s c s′ (r .cursor)
+pub lays-told : {A : Type 0} {a : Asking A} {s s′ : List ℕ} {c c′ : Cursor} {r : A} → LaysAsking a s c s′ c′ r → Lays (told a) s c s′ c′
 lays-told l = record { does = λ room. l .does room .laid }
 
-pub laid-answering : {a : Act} {s s′ : List ℕ} {c c′ : Cursor} {b : Bool} → Laid a s c s′ c′
-    → LaidAsking (answering b a) s c s′ (record { cursor = c′; answer = b })
+pub laid-answering : {A : Type 0} {a : Act} {s s′ : List ℕ} {c c′ : Cursor} {r : A} → Laid a s c s′ c′ → LaidAsking (answering r a) s c s′ c′ r
 laid-answering l = record { laid = l; answers = refl }
 
+pub laid-turning : {A B : Type 0} (f : A → B) {a : Asking A} {s s′ : List ℕ} {c c′ : Cursor} {r : A} → LaidAsking a s c s′ c′ r
+    → LaidAsking (turning f a) s c s′ c′ (f r)
+laid-turning f l = record { laid = l .laid; answers = ap f (l .answers) }
+
 -- a step, and then one that answers
-pub laid-answers : {a : Act} {b : Asking} {s s₁ s₂ : List ℕ} {c c₁ : Cursor} {r : Asked}
-    → Laid a s c s₁ c₁ → LaidAsking b s₁ c₁ s₂ r → LaidAsking (a ⨟! b) s c s₂ r
+pub laid-answers : {A : Type 0} {a : Act} {b : Asking A} {s s₁ s₂ : List ℕ} {c c₁ c₂ : Cursor} {r : A}
+    → Laid a s c s₁ c₁ → LaidAsking b s₁ c₁ s₂ c₂ r → LaidAsking (a ⨟! b) s c s₂ c₂ r
 unfolding _⨟!_
-laid-answers {a} {b} {s} {s₁} {s₂} {c} {c₁} {r} p q =
-    let q′ : LaidAsking b s₁ (after c (a (st c))) s₂ r = subst (λ (x : Cursor). LaidAsking b s₁ x s₂ r) (p .moved) q in
+laid-answers {A} {a} {b} {s} {s₁} {s₂} {c} {c₁} {c₂} {r} p q =
+    let q′ : LaidAsking b s₁ (after c (a (st c))) s₂ c₂ r = subst (λ (x : Cursor). LaidAsking b s₁ x s₂ c₂ r) (p .moved) q in
     record { laid = laid-then p (q .laid); answers = q′ .answers }
 
 -- a step that answers, and then one that goes by the answer
-pub room-asked : (a : Asking) (k : Bool → Act) {c : Cursor} → Room (a ⨟? k) c → Room (told a) c
+pub room-asked : {A : Type 0} (a : Asking A) (k : A → Act) {c : Cursor} → Room (a ⨟? k) c → Room (told a) c
 unfolding _⨟?_
 room-asked a k {c} room = room-first (k (a (st c) .1)) (room-same refl room)
 
-pub room-asks : (k : Bool → Act) {a : Asking} {s s₁ : List ℕ} {c : Cursor} {r : Asked}
-    → Room (a ⨟? k) c → LaysAsking a s c s₁ r → Room (k (r .answer)) (r .cursor)
+pub room-asks : {A : Type 0} (k : A → Act) {a : Asking A} {s s₁ : List ℕ} {c c₁ : Cursor} {r : A}
+    → Room (a ⨟? k) c → LaysAsking a s c s₁ c₁ r → Room (k r) c₁
 unfolding _⨟?_
-room-asks k {a} {c = c} {r = r} room p =
+room-asks {A} k {a} {c = c} {c₁ = c₁} {r = r} room p =
     let l = p .does (room-asked a k room) in
     let both : Room (told a ⨟ k (a (st c) .1)) c = room-same refl room in
-    subst (λ (x : Bool). Room (k x) (r .cursor)) (sym (l .answers)) (room-past both (l .laid))
+    subst (λ (x : A). Room (k x) c₁) (sym (l .answers)) (room-past both (l .laid))
 
-pub lays-asks : (k : Bool → Act) {a : Asking} {s s₁ s₂ : List ℕ} {c c₂ : Cursor} {r : Asked}
-    → LaysAsking a s c s₁ r → Lays (k (r .answer)) s₁ (r .cursor) s₂ c₂ → Lays (a ⨟? k) s c s₂ c₂
+pub lays-asks : {A : Type 0} (k : A → Act) {a : Asking A} {s s₁ s₂ : List ℕ} {c c₁ c₂ : Cursor} {r : A}
+    → LaysAsking a s c s₁ c₁ r → Lays (k r) s₁ c₁ s₂ c₂ → Lays (a ⨟? k) s c s₂ c₂
 unfolding _⨟?_
-lays-asks k {a} {s} {s₁} {s₂} {c} {c₂} {r} p q =
+lays-asks {A} k {a} {s} {s₁} {s₂} {c} {c₁} {c₂} {r} p q =
     record {
       does =
           λ room.
           let l = p .does (room-asked a k room) in
-          let m : Laid (k (r .answer)) s₁ (r .cursor) s₂ c₂ = q .does (room-asks k room p) in
-          let n : Laid (k (a (st c) .1)) s₁ (r .cursor) s₂ c₂ = subst (λ (b : Bool). Laid (k b) s₁ (r .cursor) s₂ c₂) (l .answers) m in
+          let m : Laid (k r) s₁ c₁ s₂ c₂ = q .does (room-asks k room p) in
+          let n : Laid (k (a (st c) .1)) s₁ c₁ s₂ c₂ = subst (λ (x : A). Laid (k x) s₁ c₁ s₂ c₂) (l .answers) m in
           laid-same refl (laid-then (l .laid) n);
     }

@@ -94,22 +94,26 @@ called e a s =
     }
 
 -- A step that answers.
-abbrev pub Asking : Type 0
-Asking = St → Out × Bool
+abbrev pub Asking : Type 0 → Type 0
+Asking A = St → Out × A
 
 -- the step alone
-abbrev pub told : Asking → Act
+abbrev pub told : {A : Type 0} → Asking A → Act
 told a s = a s .0
 
-abbrev pub answering : Bool → Act → Asking
+-- a step with this answer, and a step whose answer is turned into another
+abbrev pub answering : {A : Type 0} → A → Act → Asking A
 answering b a s = (a s, b)
 
+abbrev pub turning : {A B : Type 0} → (A → B) → Asking A → Asking B
+turning f a s = (a s .0, f (a s .1))
+
 -- a step, and then one whose answer counts
-unfoldable pub _⨟!_ : Act → Asking → Asking
+unfoldable pub _⨟!_ : {A : Type 0} → Act → Asking A → Asking A
 _⨟!_ a b s = ((a ⨟ told b) s, b (next s (a s)) .1)
 
 -- a step that answers, and then one that goes by the answer
-unfoldable pub _⨟?_ : Asking → (Bool → Act) → Act
+unfoldable pub _⨟?_ : {A : Type 0} → Asking A → (A → Act) → Act
 _⨟?_ a b s = (told a ⨟ b (a s .1)) s
 
 infixr 50 _⨟!_ _⨟?_

@@ -8,7 +8,6 @@ use Rattle.rows.specs.Node.{Text}
 use Rattle.rows.specs.Rows.{sizes, row, rows, noText}
 use Rattle.state.specs.Act.{St, Out, Act, Asking, told}
 use Rattle.state.specs.declared.Cursor.{Cursor}
-use Rattle.state.specs.declared.Asked.{Asked}
 use Rattle.state.specs.declared.store.Row.{Row}
 
 -- a text by its origin, its start and its length
@@ -46,10 +45,10 @@ pub record Laid (a : Act) (s : List ℕ) (c : Cursor) (s′ : List ℕ) (c′ : 
   pub stored : s′ ≡ sets s (PLACES * c .row) (rows (a (st c) .nodes) (c .row))
   pub moved : c′ ≡ after c (a (st c))
 
--- a step that answers is laid, and r holds its answer
-pub record LaidAsking (a : Asking) (s : List ℕ) (c : Cursor) (s′ : List ℕ) (r : Asked) : Type 0 where
-  pub laid : Laid (told a) s c s′ (r .cursor)
-  pub answers : r .answer ≡ a (st c) .1
+-- a step that answers is laid, and r is its answer
+pub record LaidAsking {A : Type 0} (a : Asking A) (s : List ℕ) (c : Cursor) (s′ : List ℕ) (c′ : Cursor) (r : A) : Type 0 where
+  pub laid : Laid (told a) s c s′ c′
+  pub answers : r ≡ a (st c) .1
 
 -- the nine places of a row as it is written at first
 abbrev pub cellsOf : Row → List ℕ

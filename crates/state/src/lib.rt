@@ -18,12 +18,6 @@ pub struct Cursor {
     pub number: u32,
 }
 
-// What a step that answers leaves: the cursor, and its answer.
-pub struct Asked {
-    pub cursor: Cursor,
-    pub answer: bool,
-}
-
 // `*self.pos = pos`
 pub fn move_to(c: Cursor, pos: u32) -> Cursor
     ensures { λ r. ⌜ r ≡ cursor (c .row) (c .number) pos (c .placed) ⌝ }

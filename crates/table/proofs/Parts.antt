@@ -42,7 +42,7 @@ pub puts-room : {text : List ℕ} {most more : ℕ} {out : List ℕ} {at end : �
     → Puts text more out at end out2
 puts-room h p = record { stands = p .stands; ends = p .ends; within = omega (arith, p .within) }
 
--- what is put from the front on is the line
+-- what is put from the front on is the text
 pub writes : {line : List ℕ} {most : ℕ} {out : List ℕ} {n : ℕ} {out2 : List ℕ} → most ≤ LINE-ROOM → length out ≡ LINE-ROOM → Puts line most out 0 n out2
     → Writes line out n out2
 writes {line} {out = out} h full p =

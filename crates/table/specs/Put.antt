@@ -19,6 +19,14 @@ CELL-ROOM = 20
 abbrev pub FIGURES-ROOM : ℕ
 FIGURES-ROOM = 147
 
--- a line of words with one number or two
+-- a line of columns: the first cell, the figures and the newline
+abbrev pub COLUMNS-ROOM : ℕ
+COLUMNS-ROOM = 168
+
+-- a line of words with one number, or a refusal
 abbrev pub WORDS-ROOM : ℕ
 WORDS-ROOM = 64
+
+-- the line of the fraction: 36 bytes of words and newline, and two numbers
+abbrev pub FRACTION-ROOM : ℕ
+FRACTION-ROOM = 76

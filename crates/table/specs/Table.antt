@@ -9,6 +9,8 @@ use Rattle.rows.specs.Ascii.{bytes}
 use Rattle.cut_rule.specs.Run.{writeFront}
 use Rattle.tallies.specs.declared.Figures.{Figures}
 use Rattle.tallies.specs.declared.Fraction.{Fraction}
+use Rattle.tallies.specs.declared.Tallies.{Tallies}
+use Rattle.tallies.specs.Fraction.{reduced}
 use Rattle.lines.specs.Lines.{decimal, refusedLine}
 
 -- "ten columns"
@@ -76,17 +78,30 @@ totalsLine all = columns (bytes "total") (inOrder all)
 abbrev pub countedLine : ℕ → List ℕ
 countedLine files = bytes "files counted: " ++ decimal files ++ bytes "\n"
 
+-- "`files refused: N`"
+abbrev pub refusedCountLine : ℕ → List ℕ
+refusedCountLine files = bytes "files refused: " ++ decimal files ++ bytes "\n"
+
 -- "`wrapped over given, reduced: A over B`"
 abbrev pub fractionLine : Fraction → List ℕ
 fractionLine q =
     bytes "wrapped over given, reduced: " ++ decimal (q .over) ++ bytes " over " ++ decimal (q .under) ++ bytes "\n"
 
--- the output that is lent for a line: eight cells of 20 digits, the blanks between and the newline are 168 bytes, and no line is longer
-abbrev pub LINE-ROOM : ℕ
-LINE-ROOM = 256
+-- the lines below those of the files, in their order
+unfoldable pub lastLines : Tallies → ℕ → List ℕ
+lastLines t refused =
+    totalsLine (t .all)
+    ++ countedLine (t .files)
+    ++ refusedCountLine refused
+    ++ fractionLine (reduced (t .all .wrapped) (t .all .given))
 
--- n bytes are the line, at the front of the output; behind them it is as it was
-pub record Writes (line out : List ℕ) (n : ℕ) (out2 : List ℕ) : Type 0 where
-  pub bytes-due : n ≡ length line
-  pub output-left : out2 ≡ writeFront line out
+-- The output that is lent for a line: eight cells of 20 digits, the blanks between and the newline are 168 bytes, and no line is longer. The last
+-- lines together are 372 bytes at most.
+abbrev pub LINE-ROOM : ℕ
+LINE-ROOM = 512
+
+-- n bytes are the text, at the front of the output; behind them it is as it was
+pub record Writes (text out : List ℕ) (n : ℕ) (out2 : List ℕ) : Type 0 where
+  pub bytes-due : n ≡ length text
+  pub output-left : out2 ≡ writeFront text out
   pub within : n ≤ LINE-ROOM

@@ -1,4 +1,4 @@
-// The lines of the report, each put at the front of an output that has room for every line.
+// The lines of the report, put at the front of an output that has room for them.
 mod cells;
 
 ghost use lib.ListN.{length};
@@ -6,8 +6,8 @@ ghost use Prim.Native.Nat.{_+_, _≤_};
 ghost use mathlib.Core.List.{_++_};
 ghost use Rattle.rows.specs.Ascii.{bytes};
 ghost use Rattle.lines.specs.Lines.{decimal, refusedLine};
-ghost use Rattle.table.specs.Table.{headsLine, fileLine, refusedFileLine, endsInsideLine, totalsLine, countedLine, fractionLine, Writes};
-ghost use Rattle.table.specs.Put.{Puts, CELL-ROOM, WORDS-ROOM};
+ghost use Rattle.table.specs.Table.{headsLine, fileLine, refusedFileLine, endsInsideLine, totalsLine, fractionLine, lastLines, Writes};
+ghost use Rattle.table.specs.Put.{Puts, CELL-ROOM, COLUMNS-ROOM, WORDS-ROOM, FRACTION-ROOM};
 use crate::cells::put_cell;
 use crate::cells::put_figures;
 use crate::cells::put_number;
@@ -17,9 +17,12 @@ use lines::put_text;
 use lines::refused_line;
 use tallies::Figures;
 use tallies::Fraction;
+use tallies::Tallies;
+use tallies::lowest::reduced;
 
-// Room for every line: eight cells of 20 digits, the blanks between and the newline are 168 bytes.
-pub const LINE_ROOM: usize = 256;
+// Room for every line, and for the last ones together: eight cells of 20 digits, the blanks between and the newline are 168 bytes, and the
+// four last lines 372.
+pub const LINE_ROOM: usize = 512;
 
 // The line of heads.
 pub fn heads_line(out: &mut [u8; LINE_ROOM]) -> usize
@@ -58,12 +61,12 @@ pub fn refused_file_line(out: &mut [u8; LINE_ROOM], file: usize, number: u8, pla
     put_refused(out, b, number, place)
 }
 
-// Puts words, a number and a newline at the front, and answers where they end.
-fn put_count(out: &mut [u8], words: &[u8], n: usize) -> usize
-    requires { ⌜ (length (now words) + (CELL-ROOM + 1) ≤ WORDS-ROOM) × (WORDS-ROOM ≤ length (now out)) ⌝ }
-    ensures { λ r. ⌜ Puts (now (words .entry) ++ decimal n ++ bytes "\n") WORDS-ROOM (now (out .entry)) 0 r (now (out .exit)) ⌝ }
+// Puts words, a number and a newline at a place, and answers where they end.
+fn put_count(out: &mut [u8], at: usize, words: &[u8], n: usize) -> usize
+    requires { ⌜ (length (now words) + (CELL-ROOM + 1) ≤ WORDS-ROOM) × (at + WORDS-ROOM ≤ length (now out)) ⌝ }
+    ensures { λ r. ⌜ Puts (now (words .entry) ++ decimal n ++ bytes "\n") WORDS-ROOM (now (out .entry)) at r (now (out .exit)) ⌝ }
 {
-    let a = put_text(out, 0, words);
+    let a = put_text(out, at, words);
     let b = put_decimal(out, a, n, DIGITS);
     put_text(out, b, b"\n")
 }
@@ -72,32 +75,38 @@ fn put_count(out: &mut [u8], words: &[u8], n: usize) -> usize
 pub fn ends_inside_line(out: &mut [u8; LINE_ROOM], file: usize) -> usize
     ensures { λ r. ⌜ Writes (endsInsideLine file) (now (out .entry)) r (now (out .exit)) ⌝ }
 {
-    put_count(out, b"the input ends inside file ", file)
+    put_count(out, 0, b"the input ends inside file ", file)
 }
 
-// The line of totals.
-pub fn totals_line(out: &mut [u8; LINE_ROOM], all: Figures) -> usize
-    ensures { λ r. ⌜ Writes (totalsLine all) (now (out .entry)) r (now (out .exit)) ⌝ }
+// Puts the line of totals at a place, and answers where it ends.
+fn put_totals(out: &mut [u8], at: usize, all: Figures) -> usize
+    requires { ⌜ at + COLUMNS-ROOM ≤ length (now out) ⌝ }
+    ensures { λ r. ⌜ Puts (totalsLine all) COLUMNS-ROOM (now (out .entry)) at r (now (out .exit)) ⌝ }
 {
-    let a = put_cell(out, 0, b"total");
+    let a = put_cell(out, at, b"total");
     let b = put_figures(out, a, all);
     put_text(out, b, b"\n")
 }
 
-// The line of files counted.
-pub fn counted_line(out: &mut [u8; LINE_ROOM], files: usize) -> usize
-    ensures { λ r. ⌜ Writes (countedLine files) (now (out .entry)) r (now (out .exit)) ⌝ }
+// Puts the line of the fraction at a place, and answers where it ends.
+fn put_fraction(out: &mut [u8], at: usize, q: Fraction) -> usize
+    requires { ⌜ at + FRACTION-ROOM ≤ length (now out) ⌝ }
+    ensures { λ r. ⌜ Puts (fractionLine q) FRACTION-ROOM (now (out .entry)) at r (now (out .exit)) ⌝ }
 {
-    put_count(out, b"files counted: ", files)
-}
-
-// The line of the fraction.
-pub fn fraction_line(out: &mut [u8; LINE_ROOM], q: Fraction) -> usize
-    ensures { λ r. ⌜ Writes (fractionLine q) (now (out .entry)) r (now (out .exit)) ⌝ }
-{
-    let a = put_text(out, 0, b"wrapped over given, reduced: ");
+    let a = put_text(out, at, b"wrapped over given, reduced: ");
     let b = put_decimal(out, a, q.over, DIGITS);
     let c = put_text(out, b, b" over ");
     let d = put_decimal(out, c, q.under, DIGITS);
     put_text(out, d, b"\n")
+}
+
+// The lines below those of the files: totals, files counted, files refused, and the fraction.
+pub fn last_lines(out: &mut [u8; LINE_ROOM], t: Tallies, refused: usize) -> usize
+    ensures { λ r. ⌜ Writes (lastLines t refused) (now (out .entry)) r (now (out .exit)) ⌝ }
+{
+    let all = t.all;
+    let a = put_totals(out, 0, all);
+    let b = put_count(out, a, b"files counted: ", t.files);
+    let c = put_count(out, b, b"files refused: ", refused);
+    put_fraction(out, c, reduced(all.wrapped, all.given))
 }

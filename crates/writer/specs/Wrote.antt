@@ -6,7 +6,8 @@ use lib.ListN.{length}
 use Rattle.image.specs.Limits.{MAX-BODY}
 use Rattle.image.specs.Read.{Read, got, bad}
 use Rattle.steps.specs.Steps.{Contents, imageOf}
-use Rattle.steps.specs.Writer.{contentsFrom, WriterAnswer, refused, wrote}
+use Rattle.steps.specs.Writer.{contentsFrom, WriterAnswer, refused, wrote, writerAnswer, writerOutput}
+use Rattle.steps.specs.OfImage.{stepsOfAnswer, stepsOfOutput}
 use Rattle.writer.specs.declared.Wrote.{Wrote}
 use Rattle.writer.specs.declared.Wrote.the-variants.{Bytes, Refused}
 use Rattle.writer.specs.declared.whole.Measured.{Measured}
@@ -16,6 +17,14 @@ use Rattle.writer.specs.declared.whole.Measured.the-variants.{Image, Fau
 abbrev pub wroteAnswer : Wrote → WriterAnswer
 wroteAnswer (Bytes n) = wrote n
 wroteAnswer (Refused n p) = refused (record { number = n; place = p })
+
+-- what `write_image` promises: of the list l, with the output before and after
+abbrev pub Writes : List ℕ → List ℕ → Wrote → List ℕ → Type 0
+Writes l out r out2 = (wroteAnswer r ≡ writerAnswer l (length out)) × (out2 ≡ writerOutput l out)
+
+-- what `steps_of` promises: of the image b with the source s
+abbrev pub Lists : List ℕ → List ℕ → List ℕ → Wrote → List ℕ → Type 0
+Lists s b out r out2 = (wroteAnswer r ≡ stepsOfAnswer s b (length out)) × (out2 ≡ stepsOfOutput s b out)
 
 -- where the tree's steps start, behind nine bytes for each comment, and how many bytes the image has
 abbrev pub measured : Read Contents → Measured

@@ -7,11 +7,7 @@ mod records;
 mod step;
 mod whole;
 
-ghost use mathlib.Core.Path.{_≡_};
-ghost use lib.ListN.{length};
-ghost use Rattle.steps.specs.OfImage.{stepsOfAnswer, stepsOfOutput};
-ghost use Rattle.steps.specs.Writer.{writerAnswer, writerOutput};
-ghost use Rattle.writer.specs.Wrote.{wroteAnswer};
+ghost use Rattle.writer.specs.Wrote.{Writes, Lists};
 use crate::list::list_image;
 use crate::whole::HEADER;
 use crate::whole::Measured;
@@ -29,7 +25,7 @@ pub enum Wrote {
 
 // Writes the image of a list of steps to the start of the output, or refuses it.
 pub fn write_image(steps: &[u8], out: &mut [u8]) -> Wrote
-    ensures { λ r. ⌜ (wroteAnswer r ≡ writerAnswer (now (steps .entry)) (length (now (out .entry)))) × (now (out .exit) ≡ writerOutput (now (steps .entry)) (now (out .entry))) ⌝ }
+    ensures { λ r. ⌜ Writes (now (steps .entry)) (now (out .entry)) r (now (out .exit)) ⌝ }
 {
     match measure(steps) {
         Measured::Fault(n, q) => Wrote::Refused(n, q),
@@ -48,7 +44,7 @@ pub fn write_image(steps: &[u8], out: &mut [u8]) -> Wrote
 
 // Writes the steps of an image to the start of the output, or refuses it.
 pub fn steps_of(source: &[u8], image: &[u8], out: &mut [u8]) -> Wrote
-    ensures { λ r. ⌜ (wroteAnswer r ≡ stepsOfAnswer (now (source .entry)) (now (image .entry)) (length (now (out .entry)))) × (now (out .exit) ≡ stepsOfOutput (now (source .entry)) (now (image .entry)) (now (out .entry))) ⌝ }
+    ensures { λ r. ⌜ Lists (now (source .entry)) (now (image .entry)) (now (out .entry)) r (now (out .exit)) ⌝ }
 {
     match image::check(source, image) {
         Answer::Refused(n, p) => Wrote::Refused(n, p),

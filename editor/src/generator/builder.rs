@@ -17,12 +17,12 @@ const HEADER: usize = 5;
 /// which holds all others. docs/01-scope.md has the kinds of records and what
 /// each holds.
 ///
-/// A step that is wrong whatever the kinds around it may be is turned down at
+/// A step that can be told to be wrong without the grammar is turned down at
 /// once, and isn't added: a comment that is empty, reversed, too late or one
 /// too many, a reversed span, a record 65 deep, a text or a payload byte that
 /// is missing or has no record of its kind, a step outside the tree. Which
-/// kinds may stand where, and which payload bytes, is for the proved writer to
-/// say, by [`check`](Self::check) at any time and by
+/// kinds there are, where they may stand, and which payload bytes, is for the
+/// proved writer to say, by [`check`](Self::check) at any time and by
 /// [`finish`](Self::finish) in the end.
 #[derive(Clone, Debug)]
 pub struct Builder {
@@ -175,7 +175,8 @@ impl Builder {
         Ok(self)
     }
 
-    /// Whether a step may come next, whatever the kinds around it.
+    /// Whether a step may come next, as far as that is told without the
+    /// grammar.
     fn fits(&self, step: &Step) -> bool {
         let inside = self.depth > 0 && self.due == Due::Nothing;
         match step {

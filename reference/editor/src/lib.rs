@@ -1,11 +1,16 @@
 //! The editor's crate held against the judge: images are read back to that
-//! crate's types for its encoder, and to the original's for its plug.
+//! crate's types for its encoder, and to the original's for its plug. And
+//! what `reference/fmt` does, for files of one's own.
 
 pub mod beside;
 pub mod convert;
 mod declarations;
 mod expressions;
+pub mod own;
 pub mod patched;
+// What `reference/fmt` shares with the examples that write files.
+#[path = "../../../editor/examples/common/mod.rs"]
+pub mod common;
 // The files that are copied into Roto, compiled for its real ast.rs.
 #[path = "../../../editor/plug/mod.rs"]
 pub mod plug;

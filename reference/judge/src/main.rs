@@ -38,8 +38,10 @@ usage: judge run [--true-widths] < frame      what the program must write
        judge replay-batches-counts            what it must write
        judge text-answers                     answers of Rust's text functions
        judge report < files                   what the program report must write
-       judge report-sample                    what report is run on
-       judge report-sample-table              what it must write
+       judge report-sample                    a small input of report
+       judge report-sample-table              its table
+       judge report-input                     what report is run on
+       judge report-table                     what it must write
 CLASS: realistic, wild, edges, damaged or sizes
 ";
 
@@ -116,8 +118,10 @@ fn command(words: &[&str]) -> Result<Pieces, String> {
         ["replay-batches-counts"] => one(answers::replay::batches_output()),
         ["text-answers"] => one(answers::text::answers()),
         ["report"] => one(figures::report::output(&input())),
-        ["report-sample"] => one(answers::report::input()),
-        ["report-sample-table"] => one(answers::report::output()),
+        ["report-sample"] => one(answers::report::sample()),
+        ["report-sample-table"] => one(answers::report::sample_table()),
+        ["report-input"] => one(answers::report::input()),
+        ["report-table"] => one(answers::report::output()),
         ["table", seed, count] => {
             one(table::table(number(seed)?, number(count)?))
         }

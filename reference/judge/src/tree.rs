@@ -153,26 +153,29 @@ impl Builder {
 }
 
 /// A child that must be there.
-fn child<'r, 'i>(record: &'r Record<'i>, place: usize) -> &'r Record<'i> {
+pub(crate) fn child<'r, 'i>(
+    record: &'r Record<'i>,
+    place: usize,
+) -> &'r Record<'i> {
     maybe(record, place).expect("the reader saw to it")
 }
 
 /// A child that may be absent.
-fn maybe<'r, 'i>(
+pub(crate) fn maybe<'r, 'i>(
     record: &'r Record<'i>,
     place: usize,
 ) -> Option<&'r Record<'i>> {
     record.children[place].as_ref()
 }
 
-fn text<'i>(record: &Record<'i>) -> &'i str {
+pub(crate) fn text<'i>(record: &Record<'i>) -> &'i str {
     match record.payload {
         Payload::Text { text, .. } => text,
         _ => unreachable!("the reader saw to it"),
     }
 }
 
-fn byte(record: &Record) -> u8 {
+pub(crate) fn byte(record: &Record) -> u8 {
     match record.payload {
         Payload::Byte(byte) => byte,
         _ => unreachable!("the reader saw to it"),

@@ -252,7 +252,7 @@ const HEADS: &str = "      file      bytes   newlines     column      \
     given    wrapped     placed       left\n";
 const NO_TOTALS: &str = "     total          0          0          0          \
     0          0          0          0\nfiles counted: 0\n\
-    wrapped over given, reduced: 0 over 1\n";
+    files refused: 0\nwrapped over given, reduced: 0 over 1\n";
 
 #[test]
 fn a_report_of_nothing() {
@@ -272,19 +272,21 @@ fn an_input_that_ends_inside_a_file() {
     let second = [&first[..], &first[..8]].concat();
     let lines = output(&second);
     let lines: Vec<&str> = lines.lines().collect();
-    assert_eq!(lines.len(), 6);
+    assert_eq!(lines.len(), 7);
     assert!(lines[1].starts_with("         1         18          1 "));
     assert_eq!(lines[2], "the input ends inside file 2");
     assert_eq!(lines[4], "files counted: 1");
+    // The one that is cut is neither counted nor refused.
+    assert_eq!(lines[5], "files refused: 0");
 }
 
-/// The stored sample of the program has every sort of line, and no tally of
-/// it is 0.
+/// The sample has every sort of line, and no tally of it is 0. It stands in
+/// the top folder, and its table in docs/REPORT.md.
 #[test]
 fn the_sample_of_the_report() {
-    let table = answers::report::output();
+    let table = answers::report::sample_table();
     let lines: Vec<&str> = table.lines().collect();
-    assert_eq!(lines.len(), 1 + 12 + 1 + 3);
+    assert_eq!(lines.len(), 1 + 12 + 1 + 4);
     for refused in [2, 3, 4, 6, 7, 8] {
         let words = format!(" refused {refused} at ");
         assert!(table.contains(&words), "{refused}");
@@ -292,8 +294,34 @@ fn the_sample_of_the_report() {
     let numbers = lines[14].split_whitespace().skip(1);
     assert_eq!(numbers.clone().count(), 7);
     assert!(numbers.into_iter().all(|number| number != "0"));
+    assert_eq!(lines[15..17], ["files counted: 6", "files refused: 6"]);
     let fraction = reduced(18, 92);
     assert!(fraction.under < 92);
     let Fraction { over, under } = fraction;
     assert!(table.ends_with(&format!(": {over} over {under}\n")));
+    let stored = include_bytes!("../../../samples/quarter.files");
+    assert!(answers::report::sample() == stored);
+    let page = include_str!("../../../docs/REPORT.md");
+    assert!(page.contains(&format!("```\n{table}```\n")));
+}
+
+/// What the program is run on: a source that is too long, a file past the
+/// last that is counted, and one that document 01 refuses behind it.
+#[test]
+fn the_stored_run_of_the_report() {
+    let table = answers::report::output();
+    let lines: Vec<&str> = table.lines().collect();
+    let files = 12 + 1 + 4_098 + 1;
+    assert_eq!(lines.len(), 1 + files + 1 + 4);
+    assert_eq!(lines[13], "        13 refused 1 at 0");
+    // Six of the first twelve are counted.
+    let last = 13 + 4_096 - 6;
+    assert!(!lines[last].contains("refused"));
+    for line in &lines[last + 1..files] {
+        assert!(line.ends_with(" refused 14 at 0"), "{line}");
+    }
+    assert!(lines[files].ends_with(" refused 3 at 0"));
+    assert_eq!(lines[files + 1], "the input ends inside file 4113");
+    let counts = ["files counted: 4096", "files refused: 16"];
+    assert_eq!(lines[files + 3..files + 5], counts);
 }

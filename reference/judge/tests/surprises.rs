@@ -126,6 +126,25 @@ const SAID: &[(&str, &str)] = &[
         "fn f() {\n    match a {\n        _ => !b\n        .c,\n    }\n}\n",
     ),
     ("fn f() { g(!b.c); }", "fn f() {\n    g(!b.c);\n}\n"),
+    // Of a chain of operators all break, of another one around it none.
+    (
+        "fn f() { a + b + 1 // c\n + d }",
+        "fn f() {\n    a\n        + b\n        + 1 // c\n        + d\n}\n",
+    ),
+    (
+        "fn f() { a + b * 1 // c\n}",
+        "fn f() {\n    a + b\n        * 1 // c\n}\n",
+    ),
+    (
+        "fn f() { a + b.c // c\n}",
+        "fn f() {\n    a\n        + b.c // c\n}\n",
+    ),
+    ("fn f() { a + b // c\n}", "fn f() {\n    a + b // c\n}\n"),
+    ("fn f() { a + 1; // c\n}", "fn f() {\n    a + 1; // c\n}\n"),
+    (
+        "fn f() { while a.b // c\n{} }",
+        "fn f() {\n    while a.b // c\n     {}\n}\n",
+    ),
 ];
 
 #[test]
@@ -171,6 +190,16 @@ fn edges() {
     assert_eq!(formatted(&call), broken);
     let function = format!("fn {}() {{}}", x(75));
     assert!(formatted(&function).contains("()"));
+    let body = format!("fn {}() {{}}", x(72));
+    assert_eq!(formatted(&body), body.clone() + "\n");
+    let condition = format!("if {} && b {{", x(68));
+    let function = format!("fn f() {{ {condition}}} }}");
+    assert!(formatted(&function).contains(&condition));
+    let f_string = format!("const A: T = f\"{}{{a.b}}\";", x(61));
+    assert_eq!(formatted(&f_string), f_string.clone() + "\n");
+    // A path elsewhere breaks where an import's doesn't.
+    let path = format!("const A: T = {}.b;", x(66));
+    assert!(formatted(&path).contains("\n    .b"));
     let wide = format!("const A: T = [\"{}\"];", "日".repeat(21));
     assert_eq!(formatted(&wide), wide.clone() + "\n");
     let lines = format!("const A: T = [\"{}\n{}\"];", x(31), x(31));
@@ -213,6 +242,7 @@ fn white_space() {
         "const A: u32 = 1;\u{2028}\u{2028}const B: u32 = 2;",
         "// c\t\u{3000}\u{85}\nconst A: u32 = 1;",
         "// c\u{200b}\nconst A: u32 = 1;",
+        "const A: T = 10.0.0.0/8;",
         "//\tc\nconst A:\tT = '\t';",
     ];
     for source in texts {

@@ -7,6 +7,9 @@ pub mod compare;
 mod figures;
 pub mod measure;
 pub mod port;
+pub mod program;
+#[cfg(feature = "calls")]
+mod report;
 #[cfg(feature = "stand-in")]
 pub mod stand_in;
 #[cfg(feature = "calls")]
@@ -17,6 +20,8 @@ pub use batch::{Batched, batch};
 #[cfg(feature = "calls")]
 pub use figures::count;
 use judge::refusal::Refusal;
+#[cfg(feature = "calls")]
+pub use report::report;
 #[cfg(feature = "calls")]
 pub use steps::{steps, write};
 #[cfg(feature = "calls")]

@@ -9,98 +9,15 @@ pub use crate::stand_in::{
 #[cfg(not(feature = "stand-in"))]
 pub use linked::*;
 
+/// The declarations of the editor's crate, which its tests hold to the library.
+#[cfg(not(feature = "stand-in"))]
+#[allow(dead_code)]
+#[path = "../../../editor/src/linked.rs"]
+mod declared;
+
 #[cfg(not(feature = "stand-in"))]
 mod linked {
-    unsafe extern "C" {
-        fn rrufthim_check(
-            source: *const u8,
-            source_len: usize,
-            image: *const u8,
-            image_len: usize,
-            out: *mut [u64; 4],
-        );
-    }
-
-    #[cfg(feature = "calls")]
-    unsafe extern "C" {
-        fn rrufthim_layout(
-            source: *const u8,
-            source_len: usize,
-            image: *const u8,
-            image_len: usize,
-            store: *mut u32,
-            store_len: usize,
-            state: *const [u64; 8],
-            args: *const [u64; 3],
-            out: *mut [u64; 10],
-        );
-        fn rrufthim_render(
-            source: *const u8,
-            source_len: usize,
-            image: *const u8,
-            image_len: usize,
-            store: *mut u32,
-            store_len: usize,
-            marks: *mut u8,
-            marks_len: usize,
-            output: *mut u8,
-            output_len: usize,
-            state: *const [u64; 6],
-            args: *const [u64; 2],
-            out: *mut [u64; 8],
-        );
-        fn rrufthim_format(
-            source: *const u8,
-            source_len: usize,
-            image: *const u8,
-            image_len: usize,
-            choice: *const [u64; 2],
-            output: *mut u8,
-            output_len: usize,
-            out: *mut [u64; 5],
-        );
-        fn rrufthim_newlines(
-            source: *const u8,
-            source_len: usize,
-            start: u64,
-            end: u64,
-            out: *mut [u64; 2],
-        );
-        fn rrufthim_count(
-            source: *const u8,
-            source_len: usize,
-            image: *const u8,
-            image_len: usize,
-            tallies: *const [u64; 8],
-            out: *mut [u64; 18],
-        );
-        fn rrufthim_write(
-            steps: *const u8,
-            steps_len: usize,
-            output: *mut u8,
-            output_len: usize,
-            out: *mut [u64; 2],
-        );
-        fn rrufthim_steps(
-            source: *const u8,
-            source_len: usize,
-            image: *const u8,
-            image_len: usize,
-            output: *mut u8,
-            output_len: usize,
-            out: *mut [u64; 2],
-        );
-        fn rrufthim_batch(
-            frames: *const u8,
-            frames_len: usize,
-            choice: *const [u64; 2],
-            table: *mut u32,
-            table_len: usize,
-            output: *mut u8,
-            output_len: usize,
-            out: *mut [u64; 3],
-        );
-    }
+    use super::declared::*;
 
     /// `out`: 0, comments, the tree's offset, declarations; or number, place.
     pub fn check(source: &[u8], image: &[u8], out: &mut [u64; 4]) {

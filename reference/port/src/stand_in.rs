@@ -3,6 +3,7 @@
 
 mod batch;
 mod steps;
+mod words;
 
 use std::sync::atomic::{AtomicU8, Ordering};
 
@@ -25,6 +26,7 @@ use judge::{
     width,
 };
 pub use steps::{steps, write};
+use words::respoken;
 
 /// What goes wrong.
 #[derive(Clone, Copy, Debug, PartialEq, Eq)]
@@ -141,6 +143,10 @@ pub enum Fault {
     StepsRoomFirst,
     /// The steps are begun before 17.
     StepsBeforeRefusal,
+    /// The line of the last comment that is in a text is taken out of it.
+    CommentLost,
+    /// Two words of a text change places.
+    WordsSwapped,
     /// 18 names the byte after.
     FramePlace,
     /// A 257th file is taken.
@@ -178,7 +184,7 @@ pub enum Fault {
 }
 
 impl Fault {
-    pub const ALL: [Fault; 72] = [
+    pub const ALL: [Fault; 74] = [
         Fault::CheckPlace,
         Fault::Declarations,
         Fault::CommentsLeft,
@@ -234,6 +240,8 @@ impl Fault {
         Fault::StepsNeeded,
         Fault::StepsRoomFirst,
         Fault::StepsBeforeRefusal,
+        Fault::CommentLost,
+        Fault::WordsSwapped,
         Fault::FramePlace,
         Fault::OneMoreSave,
         Fault::LengthsWrap,
@@ -526,22 +534,15 @@ pub fn render(
     let before = world.rendering;
     let given = Given { source, image };
     let [stop, width] = args.map(|number| number as usize);
-    if planted(Fault::WidthNotKept) {
-        world.rendering.width = 0;
-    }
-    let legal = width::check(width, before.width).is_ok();
-    let max = if planted(Fault::Eighty) && legal {
-        world.rendering.width = 0;
-        width::REFERENCE
-    } else {
-        width
-    };
+    let max = spoil_width(&mut world.rendering, width);
     match render_call(given, &mut world, stop, output.len(), max) {
-        Ok(Answer::Written { mut state, bytes }) => {
+        Ok(Answer::Written { mut state, .. }) => {
             state.width = width;
             spoil_marks(&mut world, state.marks_in_use);
             marks.copy_from_slice(&world.marks);
-            output[..bytes].copy_from_slice(&world.text);
+            let text = respoken(given, world.text);
+            let bytes = text.len();
+            output[..bytes].copy_from_slice(&text);
             spoil_text(output, bytes);
             put_written(out, &state, bytes);
         }
@@ -551,6 +552,16 @@ pub fn render(
         }
         _ => unreachable!("a rendering call"),
     }
+}
+
+/// The width that a rendering call really gets.
+fn spoil_width(state: &mut RenderState, width: usize) -> usize {
+    let legal = width::check(width, state.width).is_ok();
+    let eighty = planted(Fault::Eighty) && legal;
+    if planted(Fault::WidthNotKept) || eighty {
+        state.width = 0;
+    }
+    if eighty { width::REFERENCE } else { width }
 }
 
 fn spoil_rendering(

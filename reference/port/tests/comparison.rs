@@ -4,7 +4,7 @@
 
 use judge::rows;
 use port::{
-    compare::{Item, PORT_WORDS, Plan, Tally, one},
+    compare::{Item, PORT_WORDS, Plan, Tally, one, texts},
     measure::inputs,
     stand_in::{Fault, plant},
 };
@@ -16,6 +16,7 @@ const PLAN: Plan = Plan {
     files: 100,
     steps: 300,
     batches: 60,
+    reports: 10,
 };
 
 const SHORT: Plan = Plan {
@@ -25,6 +26,7 @@ const SHORT: Plan = Plan {
     files: 0,
     steps: 0,
     batches: 0,
+    reports: 0,
 };
 
 /// One test, since a planted fault holds for all threads.
@@ -32,11 +34,18 @@ const SHORT: Plan = Plan {
 fn each_planted_fault_is_found() {
     let tally = PLAN.run();
     assert_eq!(tally.differences, 0, "{}", tally.report());
+    texts_of_each_sort_are_tried(&tally);
+    for fault in [Fault::CommentLost, Fault::WordsSwapped] {
+        plant(fault);
+        let tally = PLAN.run();
+        plant(Fault::None);
+        faulty_texts_are_found(&tally, fault);
+    }
     for fault in Fault::ALL {
         plant(fault);
         let mut tally = Tally::default();
         let mut items = PLAN.items();
-        // Batches come last.
+        // Batches come last but for reports.
         if fault as u8 >= Fault::FramePlace as u8 {
             items.reverse();
         }
@@ -53,6 +62,25 @@ fn each_planted_fault_is_found() {
         assert!(tally.differences > 0, "{fault:?} isn't found");
         println!("{fault:?}\n{}", tally.report());
     }
+}
+
+fn texts_of_each_sort_are_tried(tally: &Tally) {
+    for sort in texts::SORTS {
+        let [tried, faulty] = tally.texts_of(sort);
+        assert!(tried > 0 && faulty == 0, "{sort}, {}", tally.report());
+    }
+}
+
+/// By what each text says, the other side aside: all of the port's are wrong,
+/// and none of the judge's.
+fn faulty_texts_are_found(tally: &Tally, fault: Fault) {
+    for sort in texts::SORTS {
+        let [_, faulty] = tally.texts_of(sort);
+        let found = sort.ends_with("the port's");
+        assert_eq!(faulty > 0, found, "{fault:?}, {sort}");
+    }
+    let report = tally.report();
+    assert!(report.contains("not the program, word by word"), "{report}");
 }
 
 /// Rows that no layout made name words by the judge's starts, so the tables
@@ -83,6 +111,7 @@ fn items_are_repeated_by_their_names() {
         Item::from_words("fixed-batch", 2),
         Some(Item::FixedBatch(2))
     );
+    assert_eq!(Item::from_words("report", 3), Some(Item::Report(3)));
     assert_eq!(Item::from_words("other", 4), None);
 }
 

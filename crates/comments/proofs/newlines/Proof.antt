@@ -1,7 +1,5 @@
-use mathlib.Core.Path.{ap}
 use mathlib.Core.List.{[]}
 use borrow.Author.Needs.{needs}
-use Rattle.text.specs.declared.newlines.Newlines.{Newlines}
 use Rattle.comments.proofs.Pops.{room-newlines, laid-newlines}
 use Rattle.comments.specs.Listed.{given}
 use Rattle.comments.proofs.newlines.Statement.{statement}
@@ -11,7 +9,11 @@ break-line-requires : tie.Need-break-line-requires
 break-line-requires c κs = rw (c .before .newlines-from .ensures) (room-newlines (given (c .before .before .before .before .before .args .source .now) []) (c .before .before .before .before .before .args .position) (c .before .before .before .before .before .pre))
 
 returns : tie.Need-returns
-returns c = λ b. laid-newlines (given (c .before .before .before .before .before .before .before .before .before .before .args .source .now) b) (c .before .before .before .before .before .before .before .before .before .before .args .position) _ (ap (λ (n : Newlines). n .count) (c .before .before .before .before .before .before .newlines-from .ensures)) (c .before .before .before .before .break-line .ensures) (c .before .move-to .ensures)
+returns c =
+    let a = c .before .before .before .before .before .before .before .before .before .args in
+    λ b.
+    laid-newlines (given (a .source .now) b) (a .position) _ (c .before .before .before .before .before .newlines-from .ensures)
+    (c .before .before .before .break-line .ensures) (c .move-to .ensures)
 
 pub newlines-spec : {M : Type 1} → statement M
 newlines-spec =

@@ -16,16 +16,38 @@ newlines-requires : tie.Need-newlines-requires
 newlines-requires c κs = any-image (c .before .before .before .before .before .before .before .before .before .before .before .args .source .now) (c .before .before .before .before .before .before .before .before .before .before .before .args .image .now) [] (c .before .before .before .before .before .before .before .before .before .before .before .args .position) (room-trailing (given (c .before .before .before .before .before .before .before .before .before .before .before .args .source .now) (c .before .before .before .before .before .before .before .before .before .before .before .args .image .now)) (c .before .before .before .before .before .before .before .before .before .before .before .args .position) (c .before .before .before .before .before .before .before .before .before .before .before .args .leading) (c .before .before .before .before .before .before .before .before .before .before .before .args .trailing) (c .before .before .before .before .before .before .before .before .before .before .before .args .only) (sym (c .before .before .before .before .before .before .before .is-waiting .ensures (c .before .before .before .before .before .before .before .before .before .before .before .args .source .now)) ∙ c .before .before .if1 .taken) (c .before .if2 .taken) (c .before .before .before .before .before .pop-comments .ensures) (c .before .before .before .before .before .before .before .before .before .before .before .pre .1))
 
 returns : tie.Need-returns
-returns c = laid-trailing (given (c .before .before .before .before .before .before .before .before .before .before .before .before .before .before .before .args .source .now) (c .before .before .before .before .before .before .before .before .before .before .before .before .before .before .before .args .image .now)) (c .before .before .before .before .before .before .before .before .before .before .before .before .before .before .before .args .position) (c .before .before .before .before .before .before .before .before .before .before .before .before .before .before .before .args .leading) (c .before .before .before .before .before .before .before .before .before .before .before .before .before .before .before .args .only) (sym (c .before .before .before .before .before .before .before .before .before .before .before .is-waiting .ensures (c .before .before .before .before .before .before .before .before .before .before .before .before .before .before .before .args .source .now)) ∙ c .before .before .before .before .before .before .if1 .taken) (c .before .before .before .before .before .if2 .taken) (c .before .before .before .before .before .before .before .before .before .pop-comments .ensures) (c .before .before .before .newlines .ensures (c .before .before .before .before .before .before .before .before .before .before .before .before .before .before .before .args .image .now) .laid)
+returns c =
+    let a = c .before .before .before .before .before .before .before .before .before .before .before .before .before .before .before .args in
+    let asked = c .before .before .before .before .before .before .before .before .before .before .before .is-waiting .ensures in
+    let popped = c .before .before .before .before .before .before .before .before .before .pop-comments .ensures in
+    let waits = sym (asked (a .source .now)) ∙ c .before .before .before .before .before .before .if1 .taken in
+    rw (c .gap-of .ensures .0, c .gap-of .ensures .1)
+    (laid-trailing (given (a .source .now) (a .image .now)) (a .position) (a .leading) (a .only) waits
+    (c .before .before .before .before .before .if2 .taken) popped (c .before .before .before .newlines .ensures (a .image .now)))
 
 newlines-requires-2 : tie.Need-newlines-requires-2
 newlines-requires-2 c κs = any-image (c .before .before .before .before .before .before .before .before .before .before .before .args .source .now) (c .before .before .before .before .before .before .before .before .before .before .before .args .image .now) [] (c .before .before .before .before .before .before .before .before .before .before .before .args .position) (room-only (given (c .before .before .before .before .before .before .before .before .before .before .before .args .source .now) (c .before .before .before .before .before .before .before .before .before .before .before .args .image .now)) (c .before .before .before .before .before .before .before .before .before .before .before .args .position) (c .before .before .before .before .before .before .before .before .before .before .before .args .leading) (c .before .before .before .before .before .before .before .before .before .before .before .args .trailing) (c .before .before .before .before .before .before .before .before .before .before .before .args .only) (⊎-elim (λ w. inl (w .1 .left)) (λ w. inr (sym (c .before .before .before .before .before .before .before .is-waiting .ensures (c .before .before .before .before .before .before .before .before .before .before .before .args .source .now)) ∙ w .left)) (c .before .before .if1 .came)) (c .before .if3 .taken) (c .before .before .before .before .before .pop-comments .ensures) (c .before .before .before .before .before .before .before .before .before .before .before .pre .1))
 
 returns-2 : tie.Need-returns-2
-returns-2 c = laid-only (given (c .before .before .before .before .before .before .before .before .before .before .before .before .before .before .args .source .now) (c .before .before .before .before .before .before .before .before .before .before .before .before .before .before .args .image .now)) (c .before .before .before .before .before .before .before .before .before .before .before .before .before .before .args .position) (c .before .before .before .before .before .before .before .before .before .before .before .before .before .before .args .leading) (c .before .before .before .before .before .before .before .before .before .before .before .before .before .before .args .trailing) (⊎-elim (λ w. inl (w .1 .left)) (λ w. inr (sym (c .before .before .before .before .before .before .before .before .before .before .is-waiting .ensures (c .before .before .before .before .before .before .before .before .before .before .before .before .before .before .args .source .now)) ∙ w .left)) (c .before .before .before .before .before .if1 .came)) (c .before .before .before .before .if3 .taken) (c .before .before .before .before .before .before .before .before .pop-comments .ensures) (c .before .before .newlines2 .ensures (c .before .before .before .before .before .before .before .before .before .before .before .before .before .before .args .image .now))
+returns-2 c =
+    let a = c .before .before .before .before .before .before .before .before .before .before .before .before .before .before .before .args in
+    let asked = c .before .before .before .before .before .before .before .before .before .before .before .is-waiting .ensures in
+    let popped = c .before .before .before .before .before .before .before .before .before .pop-comments .ensures in
+    let neither = ⊎-elim (λ w. inl (w .1 .left)) (λ w. inr (sym (asked (a .source .now)) ∙ w .left)) (c .before .before .before .before .before .before .if1 .came) in
+    rw (c .gap-of2 .ensures .0, c .gap-of2 .ensures .1)
+    (laid-only (given (a .source .now) (a .image .now)) (a .position) (a .leading) (a .trailing) neither
+    (c .before .before .before .before .before .if3 .taken) popped (c .before .before .before .newlines2 .ensures (a .image .now)))
 
 returns-3 : tie.Need-returns-3
-returns-3 c = laid-neither (given (c .before .before .before .before .before .before .before .before .before .before .before .args .source .now) (c .before .before .before .before .before .before .before .before .before .before .before .args .image .now)) (c .before .before .before .before .before .before .before .before .before .before .before .args .position) (c .before .before .before .before .before .before .before .before .before .before .before .args .leading) (c .before .before .before .before .before .before .before .before .before .before .before .args .trailing) (⊎-elim (λ w. inl (w .1 .left)) (λ w. inr (sym (c .before .before .before .before .before .before .before .is-waiting .ensures (c .before .before .before .before .before .before .before .before .before .before .before .args .source .now)) ∙ w .left)) (c .before .before .if1 .came)) (c .before .if3 .left) (c .before .before .before .before .before .pop-comments .ensures) (laid-ignored (given (c .before .before .before .before .before .before .before .before .before .before .before .args .source .now) (c .before .before .before .before .before .before .before .before .before .before .before .args .image .now)) (c .before .before .before .before .before .before .before .before .before .before .before .args .position) (c .ignore-newlines .ensures (c .before .before .before .before .before .before .before .before .before .before .before .args .source .now)))
+returns-3 c =
+    let a = c .before .before .before .before .before .before .before .before .before .before .before .before .args in
+    let g = given (a .source .now) (a .image .now) in
+    let asked = c .before .before .before .before .before .before .before .before .is-waiting .ensures in
+    let popped = c .before .before .before .before .before .before .pop-comments .ensures in
+    let neither = ⊎-elim (λ w. inl (w .1 .left)) (λ w. inr (sym (asked (a .source .now)) ∙ w .left)) (c .before .before .before .if1 .came) in
+    rw (c .uncounted .ensures)
+    (laid-neither g (a .position) (a .leading) (a .trailing) neither (c .before .before .if3 .left) popped
+    (laid-ignored g (a .position) (c .before .ignore-newlines .ensures (a .source .now))))
 
 pub place-comments-spec : {M : Type 1} → statement M
 place-comments-spec =
@@ -34,11 +56,14 @@ place-comments-spec =
     (λ c κs. search needs)
     pop-comments-requires
     newlines-requires
+    (λ c κs. search needs)
     (λ c. search needs)
     returns
     newlines-requires-2
+    (λ c κs. search needs)
     (λ c. search needs)
     returns-2
+    (λ c κs. search needs)
     (λ c κs. search needs)
     (λ c. search needs)
     returns-3)

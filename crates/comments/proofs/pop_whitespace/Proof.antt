@@ -8,7 +8,12 @@ use Rattle.comments.proofs.pop_whitespace.Statement.{statement}
 use Rattle.comments.proofs.pop_whitespace.Tie as tie
 
 returns-3 : tie.Need-returns-3
-returns-3 c = laid-quiet (given (c .before .before .before .before .before .before .before .args .source .now) (c .before .before .before .before .before .before .before .args .image .now)) (c .before .before .before .before .before .before .before .args .position) (c .before .before .before .before .before .before .before .args .leading) (c .before .before .before .before .before .before .before .args .trailing) (sym (c .before .before .is-waiting .ensures (c .before .before .before .before .before .before .before .args .source .now)) ∙ c .before .if2 .left) (c .before .before .before .if1 .left) (c .move-to .ensures)
+returns-3 c =
+    let a = c .before .before .before .before .before .before .before .before .args in
+    let waits = sym (c .before .before .before .is-waiting .ensures (a .source .now)) ∙ c .before .before .if2 .left in
+    rw (c .uncounted .ensures)
+    (laid-quiet (given (a .source .now) (a .image .now)) (a .position) (a .leading) (a .trailing) waits (c .before .before .before .before .if1 .left)
+    (c .before .move-to .ensures))
 
 pub pop-whitespace-spec : {M : Type 1} → statement M
 pop-whitespace-spec =
@@ -21,5 +26,6 @@ pop-whitespace-spec =
     (λ c κs. search needs)
     (λ c. search needs)
     (λ c. search needs)
+    (λ c κs. search needs)
     (λ c κs. search needs)
     returns-3)

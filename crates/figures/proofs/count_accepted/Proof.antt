@@ -12,8 +12,8 @@ array-share-prefix-out c = text-inside _ _ _ _ _ (c .before .before .before .bef
 slice-aggregate-occurrences : tie.Need-slice-aggregate-occurrences
 slice-aggregate-occurrences c = sym (length-take-le _ _ (text-inside _ _ _ _ _ (c .before .before .before .before .before .before .before .before .before .before .before .before .before .rows .ensures) (c .before .before .before .before .before .before .before .before .before .before .before .before .marks .ensures) (c .before .before .before .before .before .before .before .before .before .before .before .output .ensures) _ _ _ _ (c .before .before .before .before .before .before .before .run-file .ensures) _ _ _ _ _ (c .before .before .bytes .given .1) _ (c .before .before .before .before .before .before .before .before .before .before .before .before .before .before .before .before .pre)))
 
-sub-t35 : tie.Need-sub-t35
-sub-t35 c = left-fits _ _ _ _ _ (c .before .before .before .before .before .before .before .before .before .before .before .before .before .before .before .before .before .rows .ensures) (c .before .before .before .before .before .before .before .before .before .before .before .before .before .before .before .before .marks .ensures) (c .before .before .before .before .before .before .before .before .before .before .before .before .before .before .before .output .ensures) _ _ _ _ (c .before .before .before .before .before .before .before .before .before .before .before .run-file .ensures) _ _ _ _ _ (c .before .before .before .before .before .before .bytes .given .1) _ (c .before .before .before .before .before .before .before .before .before .before .before .before .before .before .before .before .before .before .before .before .pre)
+sub-t36 : tie.Need-sub-t36
+sub-t36 c = left-fits _ _ _ _ _ (c .before .before .before .before .before .before .before .before .before .before .before .before .before .before .before .before .before .rows .ensures) (c .before .before .before .before .before .before .before .before .before .before .before .before .before .before .before .before .marks .ensures) (c .before .before .before .before .before .before .before .before .before .before .before .before .before .before .before .output .ensures) _ _ _ _ (c .before .before .before .before .before .before .before .before .before .before .before .run-file .ensures) _ _ _ _ _ (c .before .before .before .before .before .before .bytes .given .1) _ (c .before .before .before .before .before .before .before .before .before .before .before .before .before .before .before .before .before .before .before .before .pre)
 
 count-figures-requires : tie.Need-count-figures-requires
 count-figures-requires c κs = figures-within _ _ _ _ _ (c .before .before .before .before .before .before .before .before .before .before .before .before .before .before .before .before .before .rows .ensures) (c .before .before .before .before .before .before .before .before .before .before .before .before .before .before .before .before .marks .ensures) (c .before .before .before .before .before .before .before .before .before .before .before .before .before .before .before .output .ensures) _ _ _ _ (c .before .before .before .before .before .before .before .before .before .before .before .run-file .ensures) _ _ _ _ _ (c .before .before .before .before .before .before .bytes .given .1) _ (c .before .before .before .before .before .before .before .before .before .before .before .before .before .before .before .before .before .before .before .before .pre) _ _ (c .before .before .before .occurrences .ensures) (c .before .occurrences2 .ensures)
@@ -42,7 +42,7 @@ count-accepted-spec =
     (λ c κs. search needs)
     (λ c. search needs)
     (λ c κs. search needs)
-    sub-t35
+    sub-t36
     count-figures-requires
     returns
     returns-2)

@@ -9,7 +9,13 @@ use Rattle.table.proofs.put_count.Tie as tie
 
 returns : tie.Need-returns
 unfolding bytes
-returns c = puts-room (omega (arith, c .before .before .before .before .before .before .before .before .before .before .before .before .before .before .before .pre .0)) (puts-both (puts-both (puts-text (c .before .before .before .before .before .before .before .before .before .before .before .before .before .before .before .args .words .now) (c .before .before .before .before .before .before .before .before .before .before .before .put-text .ensures)) (puts-number (c .before .before .before .before .before .before .before .before .before .before .before .before .before .before .before .args .n) (c .before .before .before .before .before .before .before .put-decimal .ensures))) (puts-text (bytes "\n") (c .before .before .put-text2 .ensures)))
+returns c =
+    let end = c .before .before .put-text2 .ensures in
+    let number = c .before .before .before .before .before .before .before .put-decimal .ensures in
+    let words = c .before .before .before .before .before .before .before .before .before .before .before .put-text .ensures in
+    let given = c .before .before .before .before .before .before .before .before .before .before .before .before .before .before .before in
+    puts-room (omega (arith, given .pre .0))
+    (puts-both (puts-both (puts-text (given .args .words .now) words) (puts-number (given .args .n) number)) (puts-text (bytes "\n") end))
 
 pub put-count-spec : {M : Type 1} → statement M
 put-count-spec =

@@ -18,17 +18,56 @@ fn rates() { [flood.reduced, flood.standard, fire.reduced, fire.standard, theft.
 record Rates { reduced: u32, standard: u32 }
 ";
 
-/// Twelve files, and the first bytes of one more.
-pub fn input() -> Vec<u8> {
+/// A source that 1 refuses, so long that a reader which keeps no more than it
+/// must, and takes 65,536 bytes at once, passes over its rest in two turns.
+const TOO_LONG: usize = 140_000;
+
+/// Small files, some of them past the 4,096th that is counted.
+const SMALL: usize = 4_098;
+const SMALL_ONES: [&str; 4] =
+    ["nothing", "shebang", "comment-alone", "import-nothing"];
+
+/// The sample: twelve files, and the first bytes of one more.
+pub fn sample() -> Vec<u8> {
     let files = files();
     let whole = files.iter().flat_map(|frame| framed(parts(frame)));
-    let cut = framed(parts(&files[0]));
-    whole.chain(cut[..cut.len() - 1].iter().copied()).collect()
+    whole.chain(cut(&files[0])).collect()
 }
 
-/// Their table.
+/// Its table.
+pub fn sample_table() -> String {
+    table(&sample())
+}
+
+/// The sample's files, a source that is too long, small files until no more
+/// are counted, one that 3 refuses behind them, and a file that is cut.
+pub fn input() -> Vec<u8> {
+    let files = files();
+    let long = vec![b' '; TOO_LONG];
+    let nothing = known("nothing");
+    let image = parts(&nothing).image;
+    let long = framed(Frame {
+        source: &long,
+        image,
+    });
+    let small = SMALL_ONES.map(|name| framed(parts(&known(name))));
+    let whole = files.iter().flat_map(|frame| framed(parts(frame)));
+    let small = (0..SMALL).flat_map(|i| small[i % small.len()].clone());
+    let refused = framed(parts(&known("version-2")));
+    let last = refused.into_iter().chain(cut(&files[0]));
+    whole.chain(long).chain(small).chain(last).collect()
+}
+
+/// Its table.
 pub fn output() -> String {
     table(&input())
+}
+
+/// A file without its last byte.
+fn cut(frame: &[u8]) -> Vec<u8> {
+    let mut bytes = framed(parts(frame));
+    bytes.pop();
+    bytes
 }
 
 /// As frames of the program `rotofmt`, whose limit some may pass.

@@ -27,6 +27,7 @@ pub fn output(input: &[u8]) -> String {
     let mut out = String::new();
     put_line(&mut out, HEADS);
     let mut tallies = Tallies::default();
+    let mut refused = 0;
     let mut rest = input;
     let mut file = 0;
     while !rest.is_empty() {
@@ -41,16 +42,21 @@ pub fn output(input: &[u8]) -> String {
                 tallies = counted.tallies;
                 put_figures(&mut out, &file.to_string(), &counted.figures);
             }
-            Err(refusal) => put_refusal(&mut out, file, refusal),
+            Err(refusal) => {
+                refused += 1;
+                put_refusal(&mut out, file, refusal);
+            }
         }
     }
-    put_totals(&mut out, &tallies);
+    put_totals(&mut out, &tallies, refused);
     out
 }
 
-fn put_totals(out: &mut String, tallies: &Tallies) {
+/// The lines below those of the files.
+fn put_totals(out: &mut String, tallies: &Tallies, refused: u64) {
     put_figures(out, "total", &tallies.all);
     writeln!(out, "files counted: {}", tallies.files).unwrap();
+    writeln!(out, "files refused: {refused}").unwrap();
     let fraction = tallies.fraction();
     writeln!(
         out,

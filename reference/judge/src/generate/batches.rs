@@ -73,7 +73,7 @@ fn frames(random: &mut Random, width: usize) -> Vec<Vec<u8>> {
 }
 
 /// A file of any class, the lines of some about as long as the width.
-fn file(random: &mut Random, width: usize) -> Vec<u8> {
+pub(super) fn file(random: &mut Random, width: usize) -> Vec<u8> {
     loop {
         let bytes = match random.below(64) {
             0 => {
@@ -96,7 +96,7 @@ fn file(random: &mut Random, width: usize) -> Vec<u8> {
 }
 
 /// A file of few bytes: of none, which is refused, or of a comment or two.
-fn short(random: &mut Random) -> Vec<u8> {
+pub(super) fn short(random: &mut Random) -> Vec<u8> {
     let none = Frame {
         source: b"",
         image: b"",
@@ -111,7 +111,11 @@ fn short(random: &mut Random) -> Vec<u8> {
 }
 
 /// Cuts the buffer, adds a few bytes, or changes the lengths of a frame.
-fn damage(random: &mut Random, buffer: &mut Vec<u8>, starts: &[usize]) {
+pub(super) fn damage(
+    random: &mut Random,
+    buffer: &mut Vec<u8>,
+    starts: &[usize],
+) {
     let frame = random.below(starts.len());
     let start = starts[frame].min(buffer.len());
     match random.below(6) {

@@ -11,6 +11,7 @@ mod random_rows;
 mod ranges;
 mod realistic;
 mod rendering;
+mod report_inputs;
 mod shape;
 mod sizes;
 mod step_lists;
@@ -34,6 +35,7 @@ pub use lists::{
 };
 pub use ranges::{RangeCase, case as range_case};
 pub use rendering::cases as rendering_cases;
+pub use report_inputs::input as report_input;
 pub use sizes::{
     Case as SizeCase, call_cases as size_call_cases, cases as size_cases,
 };

@@ -170,7 +170,9 @@ impl Reader<'_> {
             "[" => (59, vec![Some(self.list(["[", "]"], Self::expr)?)]),
             "f\"" => (69, vec![Some(self.f_string()?)]),
             "(" => return self.parentheses(),
-            token if is_literal(token) => (51, vec![Some(self.literal())]),
+            token if tokens::is_literal(token) => {
+                (51, vec![Some(self.literal())])
+            }
             _ => {
                 let path = self.path()?;
                 match self.records && self.record_follows() {
@@ -344,9 +346,4 @@ impl Reader<'_> {
             parts.push(Some(node(85, brace..self.at, [Some(inner)])));
         }
     }
-}
-
-fn is_literal(token: &str) -> bool {
-    let starts = |c: char| matches!(c, '"' | '\'' | '0'..='9');
-    token.starts_with(starts) || matches!(token, "true" | "false")
 }

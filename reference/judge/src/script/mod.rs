@@ -49,7 +49,7 @@ struct Reader<'s> {
 
 impl<'s> Reader<'s> {
     fn file(&mut self) -> Read<Tree> {
-        let mut children = vec![self.shebang()];
+        let mut children = vec![self.shebang()?];
         while !self.peek().is_empty() {
             children.push(Some(self.declaration()?));
         }
@@ -58,13 +58,16 @@ impl<'s> Reader<'s> {
         Ok(node(1, 0..0, children))
     }
 
-    fn shebang(&mut self) -> Option<Tree> {
-        let line = self.source.strip_prefix("#!")?;
+    fn shebang(&mut self) -> Read<Option<Tree>> {
+        let line = self.source.strip_prefix("#!");
+        let inked = |c: char| !c.is_whitespace();
+        let Some(line) = line.filter(|line| line.starts_with(inked)) else {
+            return Ok(None);
+        };
         let end = line.find('\n').map_or(line.len(), |length| length + 1);
         let content = &self.source[..end + 2];
         self.at = content.len();
-        let width = unicode_width::true_width(content.trim_end());
-        Some(text(0..0, width, content))
+        wide(0..0, content.trim_end(), content).map(Some)
     }
 
     /// Where the next token starts.
@@ -106,7 +109,7 @@ impl<'s> Reader<'s> {
         }
         let span = self.next();
         let content = &self.source[span.clone()];
-        Ok(text(span, unicode_width::true_width(content), content))
+        wide(span, content, content)
     }
 
     fn path(&mut self) -> Read<Tree> {
@@ -143,5 +146,13 @@ impl<'s> Reader<'s> {
         self.records = records;
         self.next();
         Ok(node(3, start..self.at, elements))
+    }
+}
+
+/// A text record as wide as `shown`; an image has two bytes for a width.
+fn wide(span: Range<usize>, shown: &str, content: &str) -> Read<Tree> {
+    match unicode_width::true_width(shown) {
+        width @ 0..=0xFFFF => Ok(text(span, width, content)),
+        _ => Err(span.start),
     }
 }

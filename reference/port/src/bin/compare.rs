@@ -5,9 +5,10 @@ use std::{env, process::ExitCode, time::Instant};
 use port::compare::{Item, Plan, Tally, one};
 
 const USAGE: &str = "\
-usage: compare SEED FRAMES [LISTS [FILES [STEPS [BATCHES]]]]
+usage: compare SEED FRAMES [LISTS [FILES [STEPS [BATCHES [REPORTS]]]]]
            FRAMES frames of each class, with widths and with comments at the foot, LISTS lists of calls of each sort,
-           FILES files counted, STEPS images to steps and back, and as many lists of steps, BATCHES batches
+           FILES files counted, STEPS images to steps and back, and as many lists of steps, BATCHES batches,
+           REPORTS inputs of the program report
        compare KIND SEED INDEX
            one of them again; KIND as a difference names it
 ";
@@ -25,6 +26,7 @@ fn main() -> ExitCode {
         println!("{notice}");
     }
     println!("{:.1} seconds", start.elapsed().as_secs_f64());
+    println!("{} texts tried word by word", tally.texts());
     println!("{} differences", tally.differences);
     if tally.differences == 0 {
         ExitCode::SUCCESS
@@ -46,17 +48,19 @@ fn compare(words: &[&str]) -> Option<Tally> {
             files: more(1),
             steps: more(2),
             batches: more(3),
+            reports: more(4),
         };
         println!(
             "{} frames of each class, with widths and with comments at the \
              foot, {} lists of each sort, {} files counted, {} images to \
-             steps and back, {} lists of steps, {} batches",
+             steps and back, {} lists of steps, {} batches, {} reports",
             plan.frames,
             plan.lists,
             plan.files,
             plan.steps,
             plan.steps,
-            plan.batches
+            plan.batches,
+            plan.reports
         );
         return Some(plan.run());
     }

@@ -1,28 +1,37 @@
-//! Feeds the program `rotofmt` bytes of all sorts on its standard input and
-//! holds what it writes against the judge.
+//! Feeds the programs `rotofmt` and `report` bytes of all sorts on their
+//! standard input and holds what they write against the judge.
 
 use std::{
     collections::BTreeMap,
     env,
-    io::{self, Write},
-    process::{Command, ExitCode, Output, Stdio},
+    process::ExitCode,
     time::{Duration, Instant},
 };
 
 use judge::{
+    figures::report,
     generate::{self, Class},
     program::{self, Widths},
     random::Random,
 };
+use port::program::written;
 
-const USAGE: &str = "usage: fuzz PROGRAM SECONDS SEED\n";
+const USAGE: &str = "usage: fuzz ROTOFMT REPORT SECONDS SEED\n";
 
 const CLASSES: [Class; 4] =
     [Class::Realistic, Class::Wild, Class::Edges, Class::Damaged];
 
+/// What a program is fed by seed and index, and what it must write, with a
+/// word for it.
+struct Fed<'p> {
+    program: &'p str,
+    input: fn(u64, u64) -> Vec<u8>,
+    due: fn(&[u8]) -> (String, Vec<u8>),
+}
+
 fn main() -> ExitCode {
     let arguments: Vec<String> = env::args().skip(1).collect();
-    let [program, seconds, seed] = arguments.as_slice() else {
+    let [rotofmt, report, seconds, seed] = arguments.as_slice() else {
         eprint!("{USAGE}");
         return ExitCode::FAILURE;
     };
@@ -30,55 +39,87 @@ fn main() -> ExitCode {
         eprint!("{USAGE}");
         return ExitCode::FAILURE;
     };
-    match fuzz(program, Duration::from_secs(seconds), seed) {
-        Ok(0) => ExitCode::SUCCESS,
-        Ok(_) => ExitCode::FAILURE,
-        Err(error) => {
-            eprintln!("{program}: {error}");
-            ExitCode::FAILURE
-        }
+    let frames = Fed {
+        program: rotofmt,
+        input: frame,
+        due: text,
+    };
+    let files = Fed {
+        program: report,
+        input: files,
+        due: table,
+    };
+    let time = Duration::from_secs(seconds);
+    let differences = [frames, files].map(|fed| fed.fuzz(time, seed));
+    match differences {
+        [0, 0] => ExitCode::SUCCESS,
+        _ => ExitCode::FAILURE,
     }
 }
 
-/// Runs until the time is over; the number of differences.
-fn fuzz(program: &str, time: Duration, seed: u64) -> io::Result<u64> {
-    let start = Instant::now();
-    let mut counts: BTreeMap<u8, u64> = BTreeMap::new();
-    let mut differences = 0;
-    let mut index = 0;
-    while start.elapsed() < time {
-        let frame = frame(seed, index);
-        let (number, due) = due(&frame);
-        let written = run(program, &frame)?;
-        *counts.entry(number).or_default() += 1;
-        if !written.status.success() || written.stdout != due {
-            differences += 1;
-            println!("seed {seed}, index {index}: differs");
+impl Fed<'_> {
+    /// Runs until the time is over; the number of differences.
+    fn fuzz(&self, time: Duration, seed: u64) -> u64 {
+        let start = Instant::now();
+        let mut counts: BTreeMap<String, u64> = BTreeMap::new();
+        let mut differences = 0;
+        let mut index = 0;
+        while start.elapsed() < time {
+            let input = (self.input)(seed, index);
+            let (word, due) = (self.due)(&input);
+            *counts.entry(word).or_default() += 1;
+            let got = written(self.program, &input);
+            if got.as_ref() != Ok(&due) {
+                differences += 1;
+                let why = got.err().unwrap_or("differs".into());
+                println!("seed {seed}, index {index}: {why}");
+            }
+            index += 1;
         }
-        index += 1;
-    }
-    for (number, count) in counts {
-        match number {
-            0 => println!("{count} formatted"),
-            number => println!("{count} refused {number}"),
+        for (word, count) in counts {
+            println!("{count} {word}");
         }
+        println!(
+            "{}: {index} inputs in {:.0} seconds, {differences} differences",
+            self.program,
+            start.elapsed().as_secs_f64()
+        );
+        differences
     }
-    println!(
-        "{index} inputs in {:.0} seconds, {differences} differences",
-        start.elapsed().as_secs_f64()
-    );
-    Ok(differences)
 }
 
-/// The refusal's number, 0 for none, and what the program must write.
-fn due(frame: &[u8]) -> (u8, Vec<u8>) {
+/// The text of a frame, or the line that refuses it.
+fn text(frame: &[u8]) -> (String, Vec<u8>) {
     match program::answer(frame, Widths::Supplied) {
-        Ok(run) => (0, run.text.into()),
+        Ok(run) => ("formatted".into(), run.text.into()),
         Err(r) => {
             let line = format!("refused {} at {}\n", r.number, r.place);
-            (r.number, line.into_bytes())
+            (format!("refused {:2}", r.number), line.into_bytes())
         }
     }
+}
+
+/// The table of files.
+fn table(input: &[u8]) -> (String, Vec<u8>) {
+    let table = report::output(input);
+    let word = match table.contains("the input ends inside file ") {
+        true => "cut",
+        false => "whole",
+    };
+    (word.into(), table.into_bytes())
+}
+
+/// Files of all classes, changed or not, or bytes at random.
+fn files(seed: u64, index: u64) -> Vec<u8> {
+    let mut random = Random::new(78, seed, index);
+    if random.once_in(20) {
+        return noise(&mut random, 200);
+    }
+    let mut input = generate::report_input(seed, index);
+    for _ in 0..random.below(3) {
+        change(&mut random, &mut input);
+    }
+    input
 }
 
 /// An input: bytes at random, or a generated frame, whole or changed.
@@ -120,16 +161,4 @@ fn change(random: &mut Random, frame: &mut Vec<u8>) {
             frame.splice(at..at, more);
         }
     }
-}
-
-fn run(program: &str, frame: &[u8]) -> io::Result<Output> {
-    let mut child = Command::new(program)
-        .stdin(Stdio::piped())
-        .stdout(Stdio::piped())
-        .spawn()?;
-    if let Some(mut input) = child.stdin.take() {
-        // A program that reads no further than it must may close its input.
-        let _ = input.write_all(frame);
-    }
-    child.wait_with_output()
 }

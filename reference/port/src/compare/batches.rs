@@ -5,6 +5,7 @@ use judge::{
     batch::{self, Batched, ROW},
     calls::Given,
     choice::Choice,
+    contents::Contents,
     frame::Frame,
     generate::{self, BatchCase},
     refusal::Refusal,
@@ -13,6 +14,7 @@ use judge::{
 use super::{
     Tally,
     buffers::{junk_bytes, junk_cells},
+    texts,
 };
 use crate::Batched as Answer;
 
@@ -40,9 +42,9 @@ fn compare_case(tally: &mut Tally, heading: &str, case: &BatchCase) {
         Ok(files) => {
             let due = due.expect("room for all");
             tally.count(heading, 0);
-            compare_files(tally, heading, &files, *choice, &due);
+            let says = compare_files(tally, heading, &files, *choice, &due);
             for lent in rooms(&due) {
-                compare_room(tally, case, &due, lent);
+                compare_room(tally, case, &due, &says, lent);
             }
         }
         Err(fault) => {
@@ -51,7 +53,7 @@ fn compare_case(tally: &mut Tally, heading: &str, case: &BatchCase) {
             tally.count(&format!("{heading}, {cause}"), refusal.number);
             for size in [0, 2 * ROW * batch::MOST_FILES] {
                 let held = Lent::new(size, size);
-                held.compare(tally, case, Err(refusal), [size; 2]);
+                held.compare(tally, case, Err(refusal), &[], [size; 2]);
             }
         }
     }
@@ -74,15 +76,20 @@ fn rooms(due: &Batched) -> [[usize; 2]; 8] {
     ]
 }
 
-/// Each row and text of the judge's against the port's single calls.
-fn compare_files(
+/// What a file says, and how many comments its single call left.
+type Says<'f> = Option<(Contents<'f>, usize)>;
+
+/// Each row and text of the judge's against the port's single calls, and what
+/// the files say.
+fn compare_files<'f>(
     tally: &mut Tally,
     heading: &str,
-    files: &[Frame],
+    files: &[Frame<'f>],
     choice: Choice,
     due: &Batched,
-) {
+) -> Vec<Says<'f>> {
     let mut texts = &due.texts[..];
+    let mut says = Vec::new();
     for (file, row) in files.iter().zip(due.table.chunks(ROW)) {
         tally.count(&format!("{heading}, files"), row[0] as u8);
         let (text, behind) = texts.split_at(row[2] as usize);
@@ -90,13 +97,44 @@ fn compare_files(
         let Frame { source, image } = *file;
         let mut output = junk_bytes(text.len());
         let given = Given { source, image };
-        let got = match crate::format(given, choice, &mut output) {
+        let answer = crate::format(given, choice, &mut output);
+        let got = match answer {
             Ok(single) => [0, 0, single.bytes],
             Err(Refusal { number, place }) => [number.into(), place, 0],
         };
+        says.push(answer.ok().and_then(|single| {
+            let contents = texts::contents(*file)?;
+            let left = (choice.mode, single.comments_left as usize);
+            let written = &output[..output.len().min(single.bytes as usize)];
+            let (judged, port) = (texts::JUDGED_BATCHES, texts::SINGLES);
+            texts::expect_file(tally, judged, &contents, left, text);
+            texts::expect_file(tally, port, &contents, left, written);
+            Some((contents, left.1))
+        }));
         let due: Vec<u64> = row.iter().map(|n| u64::from(*n)).collect();
         if tally.expect("a single call", &due, &got.to_vec()) && row[0] == 0 {
             tally.expect_bytes("a single call's text", text, &output);
+        }
+    }
+    says
+}
+
+/// The texts of a batch of the port, as its table has them.
+fn expect_texts(
+    tally: &mut Tally,
+    mode: usize,
+    says: &[Says],
+    table: &[u32],
+    output: &[u8],
+) {
+    let mut texts = output;
+    for (says, row) in says.iter().zip(table.chunks(ROW)) {
+        let size = texts.len().min(row[2] as usize);
+        let (text, behind) = texts.split_at(size);
+        texts = behind;
+        if let (Some((contents, left)), 0) = (says, row[0]) {
+            let left = (mode, *left);
+            texts::expect_file(tally, texts::BATCHES, contents, left, text);
         }
     }
 }
@@ -107,6 +145,7 @@ fn compare_room(
     tally: &mut Tally,
     case: &BatchCase,
     due: &Batched,
+    says: &[Says],
     [cells, room]: [usize; 2],
 ) {
     let mut held = Lent::new(cells, room);
@@ -118,7 +157,7 @@ fn compare_room(
             bytes: due.texts.len() as u64,
         }
     });
-    held.compare(tally, case, answer, [cells, room]);
+    held.compare(tally, case, answer, says, [cells, room]);
 }
 
 /// A table and an output with something in them, and more behind.
@@ -142,6 +181,7 @@ impl Lent {
         tally: &mut Tally,
         case: &BatchCase,
         answer: Result<Answer, Refusal>,
+        says: &[Says],
         [cells, room]: [usize; 2],
     ) {
         let Lent {
@@ -155,6 +195,10 @@ impl Lent {
             &mut table[..cells],
             &mut output[..room],
         );
+        if got.is_ok() {
+            let texts = &output[..room];
+            expect_texts(tally, choice.mode, says, &table[..cells], texts);
+        }
         let number = answer.err().map_or(0, |refusal| refusal.number);
         tally.count("batches in rooms", number);
         let what = format!("a table of {cells}, room for {room}");

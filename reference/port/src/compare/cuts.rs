@@ -5,6 +5,7 @@
 use judge::{
     calls::{Answer, Given, LayoutState, RenderState},
     choice::Choice,
+    contents::{Contents, Place},
     driver::{Run, Shown},
     frame::Frame,
     mode::{NEW, OLD},
@@ -16,23 +17,38 @@ use judge::{
 use super::{
     Tally,
     buffers::{first_difference, junk_bytes, junk_cells},
+    texts,
 };
 use crate::Formatted;
 
 /// Compares layout and rendering in pieces, and the whole run.
 pub fn compare(tally: &mut Tally, class: &str, frame: Frame, width: usize) {
+    let Frame { source, image } = frame;
+    let file = File {
+        given: Given { source, image },
+        contents: texts::contents(frame),
+    };
     for mode in [OLD, NEW] {
-        compare_as(tally, class, frame, Choice { width, mode });
+        let choice = Choice { width, mode };
+        let run = program::format_as(frame, Widths::Supplied, choice);
+        compare_as(tally, class, &file, choice, run);
     }
-    compare_illegal(tally, frame);
+    compare_illegal(tally, &file, frame);
 }
 
-fn compare_as(tally: &mut Tally, class: &str, frame: Frame, choice: Choice) {
-    let given = Given {
-        source: frame.source,
-        image: frame.image,
-    };
-    let run = program::format_as(frame, Widths::Supplied, choice);
+/// A file, and what it says, if the reader accepts it.
+struct File<'f> {
+    given: Given<'f>,
+    contents: Option<Contents<'f>>,
+}
+
+fn compare_as(
+    tally: &mut Tally,
+    class: &str,
+    file: &File,
+    choice: Choice,
+    run: Result<Run, Refusal>,
+) {
     let due = run.as_ref().map_err(|refusal| *refusal).and_then(|run| {
         program::fits(run).map(|()| Formatted {
             bytes: run.text.len() as u64,
@@ -44,36 +60,48 @@ fn compare_as(tally: &mut Tally, class: &str, frame: Frame, choice: Choice) {
     let number = due.err().map_or(0, |refusal| refusal.number);
     let way = if choice.mode == OLD { "" } else { ", mode 1" };
     tally.count(&format!("whole run, {class}{way}"), number);
-    compare_whole(tally, given, choice, run.as_ref().ok(), due);
+    compare_whole(tally, file, choice, run.as_ref().ok(), due);
     match run {
         // A layout call has no width.
         Err(Refusal { number: 15, .. }) => {}
-        Err(refusal) => compare_refused(tally, given, choice.mode, refusal),
-        Ok(run) => {
-            let mut cut = Cut {
-                tally,
-                given,
-                choice,
-                run: &run,
-                store: junk_cells((run.rows.len() + 2) * Row::CELLS + 4),
-                marks: junk_bytes(run.marks.len() + 3),
-            };
-            let _ = cut.layout().is_some() && cut.rendering().is_some();
+        Err(refusal) => {
+            compare_refused(tally, file.given, choice.mode, refusal);
         }
+        Ok(run) => compare_pieces(tally, file, choice, &run),
     }
+}
+
+fn compare_pieces(tally: &mut Tally, file: &File, choice: Choice, run: &Run) {
+    let contents = file.contents.as_ref().expect("the reader accepts it");
+    texts::expect_run(tally, contents, choice.mode, run);
+    let mut cut = Cut {
+        tally,
+        given: file.given,
+        contents,
+        choice,
+        run,
+        store: junk_cells((run.rows.len() + 2) * Row::CELLS + 4),
+        marks: junk_bytes(run.marks.len() + 3),
+    };
+    let _ = cut.layout().is_some() && cut.rendering().is_some();
 }
 
 /// The whole run; a refusal leaves the output as it was.
 fn compare_whole(
     tally: &mut Tally,
-    given: Given,
+    file: &File,
     choice: Choice,
     run: Option<&Run>,
     due: Result<Formatted, Refusal>,
 ) {
     let mut output = junk_bytes(OUTPUT);
     let mut due_output = output.clone();
-    let got = crate::format(given, choice, &mut output);
+    let got = crate::format(file.given, choice, &mut output);
+    if let (Ok(said), Some(contents)) = (got, &file.contents) {
+        let left = (choice.mode, said.comments_left as usize);
+        let text = &output[..OUTPUT.min(said.bytes as usize)];
+        texts::expect_file(tally, texts::FILES, contents, left, text);
+    }
     if let Some(run) = run.filter(|_| due.is_ok()) {
         due_output[..run.text.len()].copy_from_slice(run.text.as_bytes());
     }
@@ -83,9 +111,8 @@ fn compare_whole(
 
 /// The whole run with a width or a mode that can't be chosen: 12, then 15,
 /// also where there are too many rows.
-fn compare_illegal(tally: &mut Tally, frame: Frame) {
+fn compare_illegal(tally: &mut Tally, file: &File, frame: Frame) {
     const NARROW: usize = 39;
-    let Frame { source, image } = frame;
     let choice = |width, mode| Choice { width, mode };
     for choice in [
         choice(NARROW, OLD),
@@ -95,7 +122,7 @@ fn compare_illegal(tally: &mut Tally, frame: Frame) {
     ] {
         let run = program::format_as(frame, Widths::Supplied, choice);
         let due = Err(run.expect_err("a choice that isn't legal"));
-        compare_whole(tally, Given { source, image }, choice, None, due);
+        compare_whole(tally, file, choice, None, due);
     }
 }
 
@@ -114,9 +141,19 @@ fn compare_refused(
         && expect_store(tally, "a refused layout", &due_store, &store);
 }
 
+/// What a rendering call to one of the stops gives.
+struct Part<'p> {
+    stop: usize,
+    shown: &'p Shown,
+    text: &'p [u8],
+    /// Those of the pieces at which it starts and ends.
+    places: [Place; 2],
+}
+
 struct Cut<'c> {
     tally: &'c mut Tally,
     given: Given<'c>,
+    contents: &'c Contents<'c>,
     choice: Choice,
     run: &'c Run,
     store: Vec<u32>,
@@ -215,52 +252,62 @@ impl Cut<'_> {
 
     /// Renders to the row of each stop in turn, then to the end.
     fn rendering(&mut self) -> Option<()> {
+        let run = self.run;
         let mut state = RenderState::default();
-        let mut written = 0;
         self.one_mark_short()?;
         let end = Shown {
-            pen: self.run.pen,
-            bytes: self.run.text.len(),
-            marks: self.run.marks.clone(),
+            pen: run.pen,
+            bytes: run.text.len(),
+            marks: run.marks.clone(),
         };
-        let stops = self.run.stops.iter().map(|stop| stop.next_row);
-        let stops = stops.chain([self.run.rows.len()]);
-        for (stop, shown) in stops.zip(self.run.shown.iter().chain([&end])) {
-            let text = &self.run.text.as_bytes()[written..shown.bytes];
-            self.one_byte_short(&state, stop, text)?;
-            self.render(&mut state, stop, shown, text)?;
+        let stops = run.stops.iter().map(|stop| stop.next_row);
+        let stops = stops.chain([run.rows.len()]);
+        let shown = run.shown.iter().chain([&end]);
+        let places = texts::places(self.contents, run);
+        let mut from = (Place::default(), 0);
+        for ((stop, shown), place) in stops.zip(shown).zip(places) {
+            let part = Part {
+                stop,
+                shown,
+                text: &run.text.as_bytes()[from.1..shown.bytes],
+                places: [from.0, place],
+            };
+            self.one_byte_short(&state, &part)?;
+            self.render(&mut state, &part)?;
             self.other_width(&state, stop)?;
-            written = shown.bytes;
+            from = (place, shown.bytes);
         }
         Some(())
     }
 
-    fn render(
-        &mut self,
-        state: &mut RenderState,
-        stop: usize,
-        shown: &Shown,
-        text: &[u8],
-    ) -> Option<()> {
+    fn render(&mut self, state: &mut RenderState, due: &Part) -> Option<()> {
+        let Part {
+            stop, shown, text, ..
+        } = *due;
         // Exactly full, or with bytes to spare.
         let mut output = junk_bytes(text.len() + 3 * (stop % 2));
         let mut due_output = output.clone();
         due_output[..text.len()].copy_from_slice(text);
         let mut due_marks = self.marks.clone();
         due_marks[..shown.marks.len()].copy_from_slice(&shown.marks);
-        let due = RenderState {
+        let after = RenderState {
             pen: shown.pen,
             marks_in_use: shown.marks.len(),
             next_row: stop,
             width: self.choice.width,
         };
         let answer = Answer::Written {
-            state: due,
+            state: after,
             bytes: text.len(),
         };
         let what = format!("rendering from {state:?}");
         let got = self.call(state, stop, &mut output);
-        *state = due;
+        if let Ok(Answer::Written { bytes, .. }) = got {
+            let written = &output[..bytes.min(output.len())];
+            let (sort, all) = (texts::DECLARATIONS, self.contents);
+            texts::expect(self.tally, sort, all, due.places, written);
+        }
+        *state = after;
         let right = self.tally.expect(&what, &Ok(answer), &got)
             && self.tally.expect_bytes(&what, &due_marks, &self.marks)
             && self.tally.expect_bytes(&what, &due_output, &output);
@@ -271,9 +318,9 @@ impl Cut<'_> {
     fn one_byte_short(
         &mut self,
         state: &RenderState,
-        stop: usize,
-        text: &[u8],
+        due: &Part,
     ) -> Option<()> {
+        let Part { stop, text, .. } = *due;
         if text.is_empty() {
             return Some(());
         }

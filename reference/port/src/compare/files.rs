@@ -3,6 +3,7 @@
 
 use judge::{
     calls::Given,
+    choice::Choice,
     figures::{self, Counted, Figures, MOST_FILES, MOST_TALLY, Tallies},
     frame::{self, Frame},
     generate::{self, Class},
@@ -10,7 +11,7 @@ use judge::{
     refusal::Refusal,
 };
 
-use super::{Tally, work::class_name};
+use super::{Tally, buffers::junk_bytes, texts, work::class_name};
 
 /// One of the generated frames, and what repeats it.
 pub(super) struct File {
@@ -32,7 +33,9 @@ pub fn compare(tally: &mut Tally, seed: u64, count: u64) {
     for file in &files {
         let before = tallies(random);
         let heading = "files, tallies of all sorts";
-        let _ = count_one(tally, heading, file, &before);
+        if let Ok(counted) = count_one(tally, heading, file, &before) {
+            expect_text(tally, file, counted.figures);
+        }
     }
     // What comes after the last file that is counted depends on the order.
     let mut numbers = Vec::new();
@@ -60,6 +63,26 @@ fn in_a_row(
         before = answer.map_or(before, |counted| counted.tallies);
     }
     before
+}
+
+/// The port's text of a counted file, by the comments that its figures say
+/// are left.
+fn expect_text(tally: &mut Tally, file: &File, figures: Figures) {
+    let Frame { source, image } = file.frame();
+    let choice = Choice::REFERENCE;
+    let mut output = junk_bytes(figures.bytes as usize);
+    let given = Given { source, image };
+    let got = crate::format(given, choice, &mut output);
+    let bytes = got.map(|formatted| formatted.bytes);
+    let what = format!("the bytes of {}", file.name);
+    tally.expect(&what, &Ok(figures.bytes), &bytes);
+    if let (Ok(bytes), Some(contents)) =
+        (bytes, texts::contents(file.frame()))
+    {
+        let text = &output[..output.len().min(bytes as usize)];
+        let left = (choice.mode, figures.left as usize);
+        texts::expect_file(tally, texts::COUNTED, &contents, left, text);
+    }
 }
 
 /// Both sides on one file; the port's answer.

@@ -10,6 +10,9 @@ const SHOWN: usize = 3;
 pub struct Tally {
     /// How often a refusal number came under a heading, 0 for accepted.
     counts: BTreeMap<(String, u8), u64>,
+    /// How many texts of a sort were tried word by word, and how many of them
+    /// are something else.
+    texts: BTreeMap<&'static str, [u64; 2]>,
     pub differences: u64,
     /// The first ones of each kind of item, by the item's place in the plan.
     first: BTreeMap<String, BTreeMap<(usize, u64), String>>,
@@ -75,9 +78,37 @@ impl Tally {
         false
     }
 
+    /// Counts a text; a difference if it isn't the program.
+    pub fn text(&mut self, sort: &'static str, answer: Result<(), String>) {
+        let [tried, faulty] = self.texts.entry(sort).or_default();
+        *tried += 1;
+        if let Err(fault) = answer {
+            *faulty += 1;
+            self.differ(format!(
+                "{sort}: not the program, word by word\n  {fault}"
+            ));
+        }
+    }
+
+    /// How many texts of a sort were tried, and how many are faulty.
+    pub fn texts_of(&self, sort: &str) -> [u64; 2] {
+        self.texts.get(sort).copied().unwrap_or_default()
+    }
+
+    /// How many were tried of all sorts.
+    pub fn texts(&self) -> u64 {
+        self.texts.values().map(|[tried, _]| tried).sum()
+    }
+
     pub fn join(&mut self, other: Tally) {
         for (key, count) in other.counts {
             *self.counts.entry(key).or_default() += count;
+        }
+        for (sort, others) in other.texts {
+            let counts = self.texts.entry(sort).or_default();
+            for (count, other) in counts.iter_mut().zip(others) {
+                *count += other;
+            }
         }
         self.differences += other.differences;
         for (kind, others) in other.first {
@@ -89,7 +120,8 @@ impl Tally {
         }
     }
 
-    /// A line for each heading, then the first differences.
+    /// A line for each heading and each sort of text, then the first
+    /// differences.
     pub fn report(&self) -> String {
         let mut lines: BTreeMap<&str, Vec<String>> = BTreeMap::new();
         for ((heading, number), count) in &self.counts {
@@ -102,6 +134,13 @@ impl Tally {
         let mut out = String::new();
         for (heading, parts) in lines {
             out += &format!("{heading}: {}\n", parts.join(", "));
+        }
+        for (sort, [tried, faulty]) in &self.texts {
+            out += &format!("texts of {sort}: {tried} tried");
+            if *faulty > 0 {
+                out += &format!(", {faulty} not the program");
+            }
+            out += "\n";
         }
         for what in self.first.values().flat_map(BTreeMap::values) {
             out += &format!("difference, {what}\n");

@@ -65,6 +65,9 @@ pub enum Item {
     /// A batch of the fixed list.
     #[cfg(feature = "calls")]
     FixedBatch(usize),
+    /// An input of the program `report`.
+    #[cfg(feature = "calls")]
+    Report(u64),
 }
 
 /// All items of a run: so many frames of each class but `sizes`, as many
@@ -72,8 +75,8 @@ pub enum Item {
 /// as many texts with ranges, all sizes and rendering answers once, and so
 /// many lists, as many of them on files with such comments. With lists come
 /// the largest stores. Last, so many files to count, so many images to steps
-/// and back with as many lists of steps, and so many batches, with which comes
-/// their fixed list.
+/// and back with as many lists of steps, so many batches, with which comes their
+/// fixed list, and so many inputs of the program `report`.
 #[derive(Clone, Copy, Debug)]
 pub struct Plan {
     pub seed: u64,
@@ -82,6 +85,7 @@ pub struct Plan {
     pub files: u64,
     pub steps: u64,
     pub batches: u64,
+    pub reports: u64,
 }
 
 const CLASSES: [Class; 4] =
@@ -127,6 +131,8 @@ impl Plan {
         items.extend(self.step_items());
         #[cfg(feature = "calls")]
         items.extend(self.batch_items());
+        #[cfg(feature = "calls")]
+        items.extend((0..self.reports).map(Item::Report));
         items
     }
 
@@ -269,6 +275,8 @@ fn compare(tally: &mut Tally, item: Item, seed: u64) {
         Item::FixedBatch(place) => {
             super::batches::compare_fixed(tally, place);
         }
+        #[cfg(feature = "calls")]
+        Item::Report(index) => super::reports::compare(tally, seed, index),
     }
 }
 
@@ -317,6 +325,8 @@ fn name(item: Item, seed: u64) -> String {
         Item::Batch(index) => ("batch", index),
         #[cfg(feature = "calls")]
         Item::FixedBatch(place) => ("fixed-batch", place as u64),
+        #[cfg(feature = "calls")]
+        Item::Report(index) => ("report", index),
     };
     format!("{kind} {seed} {index}")
 }
@@ -354,6 +364,8 @@ impl Item {
             "batch" => Some(Item::Batch(index)),
             #[cfg(feature = "calls")]
             "fixed-batch" => Some(Item::FixedBatch(index as usize)),
+            #[cfg(feature = "calls")]
+            "report" => Some(Item::Report(index)),
             _ => Class::from_name(kind).map(|c| Item::Frame(c, index)),
         }
     }

@@ -6,6 +6,7 @@ use judge::{
     calls::{Answer, Given, LayoutState, RenderState},
     choice::Choice,
     driver::{self, Held, Run},
+    figures::Tallies,
     frame::Frame,
     generate::{self, SizeCase},
     mode::OLD,
@@ -327,7 +328,7 @@ pub struct StackLine {
 pub const MOST_STACK: usize = 256 << 10;
 
 /// The stack that rendering takes on large documents and at every depth, and
-/// the whole run and a batch on trees as deep as trees get.
+/// the whole run, a batch and a count on trees as deep as trees get.
 pub fn stack() -> Vec<StackLine> {
     let largest = documents::growing().into_iter().rev().take(3);
     let sizes = generate::size_cases().iter();
@@ -380,7 +381,7 @@ fn stack_of_rendering(document: Document) -> StackLine {
     }
 }
 
-fn stack_of_runs(case: &SizeCase) -> [StackLine; 2] {
+fn stack_of_runs(case: &SizeCase) -> [StackLine; 3] {
     let file = File {
         source: case.source.clone(),
         image: case.image.clone(),
@@ -392,15 +393,28 @@ fn stack_of_runs(case: &SizeCase) -> [StackLine; 2] {
     let run = program::format(frame, Widths::Supplied).expect("accepted");
     let rows = run.rows.len();
     let mut ported = of_file(&file, &run, rows, roomy(run.text.len()));
-    let whole = StackLine {
-        step: "whole",
+    let line = |step, bytes| StackLine {
+        step,
         input: case.name.replace(',', ""),
         rows,
-        bytes: stack::used(|| {
-            black_box(ported.format());
-        }),
+        bytes,
     };
-    [whole, batches::stack_of(case, rows)]
+    let whole = stack::used(|| {
+        black_box(ported.format());
+    });
+    let given = Given {
+        source: &file.source,
+        image: &file.image,
+    };
+    let count = stack::used(|| {
+        let counted = crate::count(given, &Tallies::default());
+        black_box(counted.expect("room for it"));
+    });
+    [
+        line("whole", whole),
+        batches::stack_of(case, rows),
+        line("count", count),
+    ]
 }
 
 /// The lines as Markdown.

@@ -2,13 +2,14 @@
 
 use judge::{
     batch::{self, Cause, ROW},
+    calls::Given,
     choice::Choice,
     frame::Frame,
     program::OUTPUT,
     refusal::{Refusal, refusal},
 };
 
-use super::{Fault, planted, put, put_refusal};
+use super::{Fault, planted, put, put_refusal, respoken};
 
 /// A batch.
 pub fn batch(
@@ -124,12 +125,15 @@ impl Saves {
     fn of(files: &[Frame], choice: Choice) -> Self {
         let mut saves = Saves::default();
         for file in files {
-            saves.add(batch::single(*file, choice));
+            let Frame { source, image } = *file;
+            let given = Given { source, image };
+            let text = batch::single(*file, choice);
+            saves.add(text.map(|text| respoken(given, text.into())));
         }
         saves
     }
 
-    fn add(&mut self, answer: Result<String, Refusal>) {
+    fn add(&mut self, answer: Result<Vec<u8>, Refusal>) {
         match answer {
             Ok(text) if planted(Fault::TenInARow) && text.len() > OUTPUT => {
                 self.rows.push([10, text.len() as u32, 0]);
@@ -138,11 +142,11 @@ impl Saves {
                 self.rows.push([0, 0, text.len() as u32]);
                 if planted(Fault::NeighbourText)
                     && let Some(last) = self.texts.last_mut()
-                    && let Some(first) = text.bytes().next()
+                    && let Some(first) = text.first()
                 {
-                    *last = first;
+                    *last = *first;
                 }
-                self.texts.extend(text.as_bytes());
+                self.texts.extend(text);
             }
             Err(refusal) => {
                 let more = u32::from(planted(Fault::RowPlace));

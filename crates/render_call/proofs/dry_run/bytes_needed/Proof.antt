@@ -7,16 +7,16 @@ use Rattle.render_call.proofs.dry_run.bytes_needed.Statement.{statement
 use Rattle.render_call.proofs.dry_run.bytes_needed.Tie as tie
 
 put-aside-requires : tie.Need-put-aside-requires
-put-aside-requires c κs = rows-within _ _ _ _ _ _ (c .before .before .before .before .before .before .before .before .pre)
+put-aside-requires c κs = rows-within _ _ _ _ _ _ (c .before .before .before .before .before .before .before .before .before .pre)
 
 run-rows-requires : tie.Need-run-rows-requires
-run-rows-requires c κs = dry-starts _ _ _ _ _ _ (c .before .before .before .before .before .before .before .before .before .before .before .before .before .before .before .before .pre) _ _ (c .before .before .before .before .before .before .before .put-aside .ensures) _ _ (c .before .before .before .before .before .before .before .before .before .before .start-text .ensures)
+run-rows-requires c κs = dry-starts _ _ _ _ _ _ (c .before .before .before .before .before .before .before .before .before .before .before .before .before .before .before .before .before .pre) _ _ (c .before .before .before .before .before .before .before .put-aside .ensures) _ _ (c .before .before .before .before .before .before .before .before .before .before .start-text .ensures)
 
 put-back-requires : tie.Need-put-back-requires
-put-back-requires c κs = let w = back-within _ _ _ _ _ _ (c .before .before .before .before .before .before .before .before .before .before .before .before .before .before .before .before .before .before .before .before .before .before .before .pre) _ _ (c .before .before .before .before .before .before .before .before .before .before .before .before .before .before .put-aside .ensures) in (omega arith, omega arith)
+put-back-requires c κs = let w = back-within _ _ _ _ _ _ (c .before .before .before .before .before .before .before .before .before .before .before .before .before .before .before .before .before .before .before .before .before .before .before .before .pre) _ _ (c .before .before .before .before .before .before .before .before .before .before .before .before .before .before .put-aside .ensures) in (omega arith, omega arith)
 
 returns : tie.Need-returns
-returns c = dry-ends _ _ _ _ _ _ (c .before .before .before .before .before .before .before .before .before .before .before .before .before .before .before .before .before .before .before .before .before .before .before .before .before .before .before .before .before .pre) _ _ (c .before .before .before .before .before .before .before .before .before .before .before .before .before .before .before .before .before .before .before .before .put-aside .ensures) _ _ (c .before .before .before .before .before .before .before .before .before .before .before .before .before .before .before .before .before .before .before .before .before .before .before .start-text .ensures) (λ k. omega (arith, c .before .before .before .before .before .before .before .before .before .before .before .before .before .before .before .before .before .before .before .before .before .before .before .before .before .slice-known2 .given k)) _ _ _ _ _ (c .before .before .before .before .before .before .before .before .before .before .before .before .run-rows .ensures) (c .before .before .before .before .before .put-back .ensures)
+returns c = dry-ends _ _ _ _ _ _ (c .before .before .before .before .before .before .before .before .before .before .before .before .before .before .before .before .before .before .before .before .before .before .before .before .before .before .before .before .before .before .pre) _ _ (c .before .before .before .before .before .before .before .before .before .before .before .before .before .before .before .before .before .before .before .before .put-aside .ensures) _ _ (c .before .before .before .before .before .before .before .before .before .before .before .before .before .before .before .before .before .before .before .before .before .before .before .start-text .ensures) (λ k. omega (arith, c .before .before .before .before .before .before .before .before .before .before .before .before .before .before .before .before .before .before .before .before .before .before .before .before .before .before .slice-known2 .given k)) _ _ _ _ _ (c .before .before .before .before .before .before .before .before .before .before .before .before .run-rows .ensures) (c .before .before .before .before .before .put-back .ensures)
 
 pub bytes-needed-spec : {M : Type 1} → statement M
 bytes-needed-spec =

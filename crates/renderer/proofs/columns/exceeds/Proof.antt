@@ -4,10 +4,10 @@ use Rattle.renderer.proofs.columns.exceeds.Statement.{statement}
 use Rattle.renderer.proofs.columns.exceeds.Tie as tie
 
 returns : tie.Need-returns
-returns c = past-end _ _ _ _ _ (c .if1 .taken) (c .before .virtual-column .ensures)
+returns c = past-end _ _ _ _ _ (c .if1 .taken) (c .before .before .before .virtual-column .ensures)
 
 returns-2 : tie.Need-returns-2
-returns-2 c = in-room _ _ _ _ _ _ (c .before .before .if1 .left) (c .before .before .before .virtual-column .ensures) (c .before .width-past .ensures .0)
+returns-2 c = in-room _ _ _ _ _ _ (c .before .before .before .before .before .if1 .left) (c .before .before .before .before .before .before .before .before .virtual-column .ensures) (c .before .before .width-past .ensures .0)
 
 pub exceeds-spec : {M : Type 1} → statement M
 exceeds-spec = tie.close (tie.spec (λ c κs. search needs) returns (λ c κs. search needs) returns-2)

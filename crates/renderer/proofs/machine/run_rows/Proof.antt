@@ -20,7 +20,7 @@ use Rattle.renderer.proofs.machine.run_rows.Tie as tie
 
 abbrev Inv-loop : tie.InvT-loop
 Inv-loop store source image marks₀ out₀ bounds stop frames₀ r₀ marks out frames r =
-    Going store source image (bounds .max) (bounds .limit) stop (renderNodes (pageOf (bounds .max) source image) (nodesAt (viewOf store) (r₀ .next) stop) true (freshRenderer (r₀ .writing .pen) marks₀)) out₀ marks out (wholeRun frames r)
+    Going store source image (bounds .max .0) (bounds .limit .0) stop (renderNodes (pageOf (bounds .max .0) source image) (nodesAt (viewOf store) (r₀ .next) stop) true (freshRenderer (r₀ .writing .pen) marks₀)) out₀ marks out (wholeRun frames r)
     × (length marks ≡ length marks₀)
 
 abbrev μ-loop : tie.MeasureT-loop
@@ -33,7 +33,7 @@ more c = ⊎-elim (λ w. inl (w .taken)) (λ w. inr (ltb-true _ _ (w .2 .taken))
 loop-holds : tie.Need-loop-holds Inv-loop μ-loop
 loop-holds c = (
   going-start _ _ _ _ _ _ _ _ _ _ _ (map-length (replicate MAX-DEPTH 0))
-      (small-cells (c .before .before .before .before .before .args .bounds .max) (c .before .before .before .before .before .args .source .now) (c .before .before .before .before .before .args .image .now) (c .before .before .before .before .before .args .store .now) (λ k. omega (arith, c .before .before .before .before .shared-slice-known .given k)))
+      (small-cells (c .before .before .before .before .before .args .bounds .max .0) (c .before .before .before .before .before .args .source .now) (c .before .before .before .before .before .args .image .now) (c .before .before .before .before .before .args .store .now) (λ k. omega (arith, c .before .before .before .before .shared-slice-known .given k)))
       (c .before .before .before .before .before .pre),
   refl,
 )

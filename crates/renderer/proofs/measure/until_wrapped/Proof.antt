@@ -9,7 +9,7 @@ use Rattle.renderer.proofs.measure.until_wrapped.Statement.{statement}
 use Rattle.renderer.proofs.measure.until_wrapped.Tie as tie
 
 abbrev Inv-loop : tie.InvT-loop
-Inv-loop store marks from to room row₀ sum₀ row sum = Passed store marks from to row sum
+Inv-loop store marks from to room row₀ sum₀ row sum = Passed store marks from to row (sum .0)
 
 abbrev μ-loop : tie.MeasureT-loop
 μ-loop store marks from to room row₀ sum₀ row sum = to - row
@@ -18,43 +18,43 @@ loop-holds : tie.Need-loop-holds Inv-loop μ-loop
 loop-holds c = begun _ _ _ _
 
 add-t10 : tie.Need-add-t10 Inv-loop μ-loop
-add-t10 c = omega (arith, c .if1 .taken, c .before .before .loop .inv .cap, c .before .loop-test .taken, c .before .before .before .before .before .pre .few)
+add-t10 c = omega (arith, c .before .if1 .taken, c .before .before .before .before .before .loop .inv .cap, c .before .before .before .before .loop-test .taken, c .before .before .before .before .before .before .before .before .pre .few)
 
 returns : tie.Need-returns Inv-loop μ-loop
-returns c = past _ _ _ _ _ _ _ (c .before .before .before .before .before .pre) (c .before .before .loop .inv) (c .if1 .taken)
+returns c = past _ _ _ _ _ _ _ (c .before .before .before .before .before .before .before .before .pre) (c .before .before .before .before .before .loop .inv) (c .before .if1 .taken)
 
 place-requires : tie.Need-place-requires Inv-loop μ-loop
-place-requires c κs = omega (arith, c .before .loop-test .taken, c .before .before .before .before .before .pre .room)
+place-requires c κs = omega (arith, c .before .before .before .loop-test .taken, c .before .before .before .before .before .before .before .pre .room)
 
 own-width-requires : tie.Need-own-width-requires Inv-loop μ-loop
-own-width-requires c κs = omega (arith, c .before .before .before .loop-test .taken, c .before .before .before .before .before .before .before .pre .room)
+own-width-requires c κs = omega (arith, c .before .before .before .before .before .loop-test .taken, c .before .before .before .before .before .before .before .before .before .pre .room)
 
-add-sum : tie.Need-add-sum Inv-loop μ-loop
-add-sum c = omega (arith, c .before .before .before .before .before .before .loop .inv .cap, c .before .own-width .ensures .1, c .before .before .before .before .before .loop-test .taken, c .before .before .before .before .before .before .before .before .before .pre .few)
+add-t13 : tie.Need-add-t13 Inv-loop μ-loop
+add-t13 c = omega (arith, c .before .before .before .before .before .before .before .before .before .loop .inv .cap, c .before .before .own-width .ensures .1, c .before .before .before .before .before .before .before .before .loop-test .taken, c .before .before .before .before .before .before .before .before .before .before .before .before .pre .few)
 
 add-row : tie.Need-add-row Inv-loop μ-loop
-add-row c = omega (arith, c .before .before .before .before .before .loop-test .taken, c .before .before .before .before .before .before .before .before .before .pre .few)
+add-row c = omega (arith, c .before .before .before .before .before .before .before .before .loop-test .taken, c .before .before .before .before .before .before .before .before .before .before .before .before .pre .few)
 
 loop-less : tie.Need-loop-less Inv-loop μ-loop
-loop-less c = omega (arith, c .before .before .before .before .before .loop-test .taken)
+loop-less c = omega (arith, c .before .before .before .before .before .before .before .before .loop-test .taken)
 
 loop-again : tie.Need-loop-again Inv-loop μ-loop
-loop-again c = passed _ _ _ _ _ _ (c .before .before .before .before .before .before .before .before .before .pre) (c .before .before .before .before .before .before .loop .inv) (c .before .before .before .before .before .loop-test .taken) (c .before .before .before .place .result) (c .before .own-width .result .0) (c .before .before .before .place .ensures .0) (c .before .before .if2 .taken) (c .before .own-width .ensures .0) (c .before .own-width .ensures .1)
+loop-again c = passed _ _ _ _ _ _ (c .before .before .before .before .before .before .before .before .before .before .before .before .pre) (c .before .before .before .before .before .before .before .before .before .loop .inv) (c .before .before .before .before .before .before .before .before .loop-test .taken) (c .before .before .before .before .place .result) (c .before .before .own-width .result .0) (c .before .before .before .before .place .ensures .0) (c .before .before .before .if2 .taken) (c .before .before .own-width .ensures .0) (c .before .before .own-width .ensures .1)
 
 place-requires-2 : tie.Need-place-requires-2 Inv-loop μ-loop
-place-requires-2 c κs = omega (arith, c .before .before .before .loop-test .taken, c .before .before .before .before .before .before .before .pre .room)
+place-requires-2 c κs = omega (arith, c .before .before .before .before .before .loop-test .taken, c .before .before .before .before .before .before .before .before .before .pre .room)
 
 returns-2 : tie.Need-returns-2 Inv-loop μ-loop
-returns-2 c = (c .before .before .before .before .before .before .before .loop .inv, (sym (c .before .before .before .before .place .ensures .0) ∙ c .before .before .before .if2 .left, rw (sym (c .before .before .place2 .ensures .0)) (sym (c .before .is-wrapped .ensures) ∙ c .if3 .taken)), c .before .before .before .before .before .before .loop-test .taken, c .before .before .before .before .before .if1 .left)
+returns-2 c = (c .before .before .before .before .before .before .before .before .before .loop .inv, (sym (c .before .before .before .before .place .ensures .0) ∙ c .before .before .before .if2 .left, rw (sym (c .before .before .place2 .ensures .0)) (sym (c .before .is-wrapped .ensures) ∙ c .if3 .taken)), c .before .before .before .before .before .before .before .before .loop-test .taken, c .before .before .before .before .before .if1 .left)
 
 place-requires-3 : tie.Need-place-requires-3 Inv-loop μ-loop
-place-requires-3 c κs = omega (arith, c .before .before .before .before .before .before .loop-test .taken, c .before .before .before .before .before .before .before .before .before .before .pre .room)
+place-requires-3 c κs = omega (arith, c .before .before .before .before .before .before .before .before .loop-test .taken, c .before .before .before .before .before .before .before .before .before .before .before .before .pre .room)
 
 loop-less-2 : tie.Need-loop-less-2 Inv-loop μ-loop
-loop-less-2 c = let x = second-later _ _ _ _ _ _ (c .before .before .before .before .before .before .before .before .before .before .before .pre) (c .before .before .before .before .before .before .before .before .loop .inv) (c .before .before .before .before .before .before .before .loop-test .taken) (c .place3 .result) (sym (c .before .before .before .before .before .place .ensures .0) ∙ c .before .before .before .before .if2 .left) (c .place3 .ensures .0) in omega (arith, x .0, x .1)
+loop-less-2 c = let x = second-later _ _ _ _ _ _ (c .before .before .before .before .before .before .before .before .before .before .before .before .before .pre) (c .before .before .before .before .before .before .before .before .before .before .loop .inv) (c .before .before .before .before .before .before .before .before .before .loop-test .taken) (c .place3 .result) (sym (c .before .before .before .before .before .place .ensures .0) ∙ c .before .before .before .before .if2 .left) (c .place3 .ensures .0) in omega (arith, x .0, x .1)
 
 loop-again-2 : tie.Need-loop-again-2 Inv-loop μ-loop
-loop-again-2 c = second-part _ _ _ _ _ _ (c .before .before .before .before .before .before .before .before .before .before .before .pre) (c .before .before .before .before .before .before .before .before .loop .inv) (c .before .before .before .before .before .before .before .loop-test .taken) (c .before .before .before .place2 .result) (c .place3 .result) (sym (c .before .before .before .before .before .place .ensures .0) ∙ c .before .before .before .before .if2 .left) (c .before .before .before .place2 .ensures .0) (c .place3 .ensures .0) (sym (c .before .before .is-wrapped .ensures) ∙ c .before .if3 .left)
+loop-again-2 c = second-part _ _ _ _ _ _ (c .before .before .before .before .before .before .before .before .before .before .before .before .before .pre) (c .before .before .before .before .before .before .before .before .before .before .loop .inv) (c .before .before .before .before .before .before .before .before .before .loop-test .taken) (c .before .before .before .place2 .result) (c .place3 .result) (sym (c .before .before .before .before .before .place .ensures .0) ∙ c .before .before .before .before .if2 .left) (c .before .before .before .place2 .ensures .0) (c .place3 .ensures .0) (sym (c .before .before .is-wrapped .ensures) ∙ c .before .if3 .left)
 
 returns-3 : tie.Need-returns-3 Inv-loop μ-loop
 returns-3 c = ended _ _ _ _ _ _ _ (c .before .before .before .before .before .pre) (c .before .before .loop .inv) _ (c .before .loop-test .left) (c .clip .ensures)
@@ -70,7 +70,7 @@ until-wrapped-spec =
     returns
     place-requires
     own-width-requires
-    add-sum
+    add-t13
     add-row
     loop-less
     loop-again

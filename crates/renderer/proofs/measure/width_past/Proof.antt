@@ -6,18 +6,18 @@ use Rattle.renderer.proofs.Sums.{onward, joined, measured}
 use Rattle.renderer.proofs.measure.width_past.Statement.{statement}
 use Rattle.renderer.proofs.measure.width_past.Tie as tie
 
-sub-wrapped-width : tie.Need-sub-wrapped-width
-sub-wrapped-width c = (rw (c .before .before .row .given .1) at (c .before .before .before .before .until-wrapped .ensures)) .3
+sub-t12 : tie.Need-sub-t12
+sub-t12 c = (rw (c .before .before .before .row .given .1) at (c .before .before .before .before .before .until-wrapped .ensures)) .3
 
 wrapped-width-requires : tie.Need-wrapped-width-requires
 wrapped-width-requires c κs =
-    let at = rw (c .before .before .row .given .1) at (c .before .before .before .before .until-wrapped .ensures) in
-    (onward _ _ _ _ _ _ 0 (c .before .before .before .before .before .before .before .pre) (at .0), at .1)
+    let at = rw (c .before .before .before .row .given .1) at (c .before .before .before .before .before .until-wrapped .ensures) in
+    (onward _ _ _ _ _ _ 0 (c .before .before .before .before .before .before .before .before .pre) (at .0), at .1)
 
-add-t13 : tie.Need-add-t13
-add-t13 c =
-    let at = rw (c .before .before .before .before .before .row .given .1) at (c .before .before .before .before .before .before .before .until-wrapped .ensures) in
-    omega (arith, measured _ _ _ _ _ _ (c .before .before .before .before .before .before .before .before .before .before .pre) (joined _ _ _ _ _ _ _ (c .before .before .before .before .before .before .before .before .before .before .pre) (at .0) _ (at .3) (c .before .before .wrapped-width .ensures)))
+add-t14 : tie.Need-add-t14
+add-t14 c =
+    let at = rw (c .before .before .before .before .before .before .row .given .1) at (c .before .before .before .before .before .before .before .before .until-wrapped .ensures) in
+    omega (arith, measured _ _ _ _ _ _ (c .before .before .before .before .before .before .before .before .before .before .before .pre) (joined _ _ _ _ _ _ _ (c .before .before .before .before .before .before .before .before .before .before .before .pre) (at .0) _ (at .3) (c .before .before .wrapped-width .ensures)))
 
 returns : tie.Need-returns
 returns c =
@@ -26,11 +26,11 @@ returns c =
 
 returns-2 : tie.Need-returns-2
 returns-2 c =
-    let at = rw (c .before .before .before .before .before .row .given .1) at (c .before .before .before .before .before .before .before .until-wrapped .ensures) in
-    let w = joined _ _ _ _ _ _ _ (c .before .before .before .before .before .before .before .before .before .before .pre) (at .0) _ (at .3) (c .before .before .wrapped-width .ensures) in
-    (w .width, measured _ _ _ _ _ _ (c .before .before .before .before .before .before .before .before .before .before .pre) w)
+    let at = rw (c .before .before .before .before .before .before .row .given .1) at (c .before .before .before .before .before .before .before .before .until-wrapped .ensures) in
+    let w = joined _ _ _ _ _ _ _ (c .before .before .before .before .before .before .before .before .before .before .before .pre) (at .0) _ (at .3) (c .before .before .wrapped-width .ensures) in
+    (w .width, measured _ _ _ _ _ _ (c .before .before .before .before .before .before .before .before .before .before .before .pre) w)
 
 pub width-past-spec : {M : Type 1} → statement M
 width-past-spec =
     tie.close
-    (tie.spec (λ c κs. search needs) (λ c. search needs) (λ c. search needs) sub-wrapped-width wrapped-width-requires add-t13 returns returns-2)
+    (tie.spec (λ c κs. search needs) (λ c. search needs) (λ c. search needs) sub-t12 wrapped-width-requires add-t14 returns returns-2)

@@ -13,7 +13,7 @@ use Rattle.renderer.proofs.measure.wrapped_width.Tie as tie
 
 abbrev Inv-loop : tie.InvT-loop
 Inv-loop store marks from to room ends₀ depth₀ row₀ end₀ sum₀ ends depth row end sum =
-    Open store marks from to ends depth row end sum × (row < end → IsWrapped store marks row) × (sum ≤ room)
+    Open store marks from to ends depth row end (sum .0) × (row < end → IsWrapped store marks row) × (sum .0 ≤ room .0)
 
 abbrev μ-loop : tie.MeasureT-loop
 μ-loop store marks from to room ends₀ depth₀ row₀ end₀ sum₀ ends depth row end sum = to - row
@@ -23,7 +23,7 @@ leave-open : (c : tie.Else1 Inv-loop μ-loop) → 0 < c .before .before .loop .d
 leave-open c = inner _ _ _ _ _ _ _ _ _ (c .before .before .loop .inv .0) (c .if1 .left) (c .before .loop-test .taken)
 
 -- where a part is opened or left, the sum goes on further down
-moved : (c : tie.Joined1 Inv-loop μ-loop) → (c .before .before .loop .row < c .if1 .row) × Open (c .before .before .before .before .before .args .store .now) (c .before .before .before .before .before .args .marks .now) (c .before .before .before .before .before .args .from) (c .before .before .before .before .before .args .to) (c .if1 .ends) (c .if1 .depth) (c .if1 .row) (c .if1 .end) (c .before .before .loop .sum)
+moved : (c : tie.Joined1 Inv-loop μ-loop) → (c .before .before .loop .row < c .if1 .row) × Open (c .before .before .before .before .before .args .store .now) (c .before .before .before .before .before .args .marks .now) (c .before .before .before .before .before .args .from) (c .before .before .before .before .before .args .to) (c .if1 .ends) (c .if1 .depth) (c .if1 .row) (c .if1 .end) (c .before .before .loop .sum .0)
 moved c =
     ⊎-elim
     (λ w. rw (w .2, w .3, w .4, w .5) (omega arith, first-part _ _ _ _ _ _ _ _ _ (c .before .before .loop .inv .0) (w .1 .result) (w .0 .taken) (c .before .before .loop .inv .1 (w .0 .taken)) (w .1 .ensures .0)))
@@ -63,53 +63,53 @@ array-read-to-usize c = omega (arith, leave-open c, c .before .before .loop .inv
 place-requires-2 : tie.Need-place-requires-2 Inv-loop μ-loop
 place-requires-2 c κs = omega (arith, c .before .before .loop-test .taken, c .before .before .before .before .before .before .pre .0 .room)
 
-sub-until-wrapped : tie.Need-sub-until-wrapped Inv-loop μ-loop
-sub-until-wrapped c = c .before .before .loop .inv .2
+sub-t24 : tie.Need-sub-t24 Inv-loop μ-loop
+sub-t24 c = c .before .before .before .before .loop .inv .2
 
 until-wrapped-requires : tie.Need-until-wrapped-requires Inv-loop μ-loop
-until-wrapped-requires c κs = part-nested _ _ _ _ _ _ _ _ _ (moved c .1) (c .before .before .before .before .before .pre .0)
+until-wrapped-requires c κs = part-nested _ _ _ _ _ _ _ _ _ (moved (c .before .before) .1) (c .before .before .before .before .before .before .before .pre .0)
 
-add-sum : tie.Need-add-sum Inv-loop μ-loop
-add-sum c =
-    let at = rw (c .before .before .at .given .1) at (c .before .before .before .before .until-wrapped .ensures) in
-    omega (arith, capped _ _ _ _ _ _ _ _ _ (further _ _ _ _ _ _ _ _ _ (moved (c .before .before .before .before .before) .1) _ _ (at .0)) (c .before .before .before .before .before .before .before .before .before .before .pre .0 .few))
+add-t26 : tie.Need-add-t26 Inv-loop μ-loop
+add-t26 c =
+    let at = rw (c .before .before .before .at .given .1) at (c .before .before .before .before .before .until-wrapped .ensures) in
+    omega (arith, capped _ _ _ _ _ _ _ _ _ (further _ _ _ _ _ _ _ _ _ (moved (c .before .before .before .before .before .before .before .before) .1) _ _ (at .0)) (c .before .before .before .before .before .before .before .before .before .before .before .before .before .pre .0 .few))
 
 loop-less : tie.Need-loop-less Inv-loop μ-loop
 loop-less c =
-    let at = rw (c .before .before .at .given .1) at (c .before .before .before .before .until-wrapped .ensures) in
-    omega (arith, moved (c .before .before .before .before .before) .0, at .0 .cap, c .before .before .before .before .before .before .loop-test .taken)
+    let at = rw (c .before .before .before .at .given .1) at (c .before .before .before .before .before .until-wrapped .ensures) in
+    omega (arith, moved (c .before .before .before .before .before .before .before .before) .0, at .0 .cap, c .before .before .before .before .before .before .before .before .before .loop-test .taken)
 
 loop-again : tie.Need-loop-again Inv-loop μ-loop
 loop-again c =
-    let at = rw (c .before .before .at .given .1) at (c .before .before .before .before .until-wrapped .ensures) in
-    (further _ _ _ _ _ _ _ _ _ (moved (c .before .before .before .before .before) .1) _ _ (at .0), λ h. at .1, omega (arith, at .3, c .before .before .before .before .before .before .before .loop .inv .2))
+    let at = rw (c .before .before .before .at .given .1) at (c .before .before .before .before .before .until-wrapped .ensures) in
+    (further _ _ _ _ _ _ _ _ _ (moved (c .before .before .before .before .before .before .before .before) .1) _ _ (at .0), λ h. at .1, omega (arith, at .3, c .before .before .before .before .before .before .before .before .before .before .loop .inv .2))
 
 sub-if2 : tie.Need-sub-if2 Inv-loop μ-loop
-sub-if2 c = c .before .before .before .before .before .before .loop .inv .2
+sub-if2 c = c .before .before .before .before .before .before .before .before .before .before .loop .inv .2
 
-add-t27 : tie.Need-add-t27 Inv-loop μ-loop
-add-t27 c =
-    let w = rw (c .before .before .before .w .given .1) at (c .before .before .before .before .before .until-wrapped .ensures) in
-    let n = measured _ _ _ _ _ _ (c .before .before .before .before .before .before .before .before .before .before .before .pre .0) (no-room _ _ _ _ _ _ _ _ _ (moved (c .before .before .before .before .before .before) .1) _ _ (c .before .before .before .before .before .before .before .before .loop .inv .2) w (c .if2 .taken)) in
+add-t29 : tie.Need-add-t29 Inv-loop μ-loop
+add-t29 c =
+    let w = rw (c .before .before .before .before .before .before .w .given .1) at (c .before .before .before .before .before .before .before .before .until-wrapped .ensures) in
+    let n = measured _ _ _ _ _ _ (c .before .before .before .before .before .before .before .before .before .before .before .before .before .before .before .before .pre .0) (no-room _ _ _ _ _ _ _ _ _ (moved (c .before .before .before .before .before .before .before .before .before .before .before) .1) _ _ (c .before .before .before .before .before .before .before .before .before .before .before .before .before .loop .inv .2) w (c .before .if2 .taken)) in
     omega (arith, n)
 
 returns : tie.Need-returns Inv-loop μ-loop
-returns c = no-room _ _ _ _ _ _ _ _ _ (moved (c .before .before .before .before .before .before) .1) _ _ (c .before .before .before .before .before .before .before .before .loop .inv .2) (rw (c .before .before .before .w .given .1) at (c .before .before .before .before .before .until-wrapped .ensures)) (c .if2 .taken)
+returns c = no-room _ _ _ _ _ _ _ _ _ (moved (c .before .before .before .before .before .before .before .before .before .before .before) .1) _ _ (c .before .before .before .before .before .before .before .before .before .before .before .before .before .loop .inv .2) (rw (c .before .before .before .before .before .before .w .given .1) at (c .before .before .before .before .before .before .before .before .until-wrapped .ensures)) (c .before .if2 .taken)
 
-add-sum-2 : tie.Need-add-sum-2 Inv-loop μ-loop
-add-sum-2 c =
-    let w = rw (c .before .before .before .before .w .given .1) at (c .before .before .before .before .before .before .until-wrapped .ensures) in
-    omega (arith, capped _ _ _ _ _ _ _ _ _ (part-over _ _ _ _ _ _ _ _ _ (moved (c .before .before .before .before .before .before .before) .1) _ _ (c .before .before .before .before .before .before .before .before .before .loop .inv .2) w (c .before .if2 .left)) (c .before .before .before .before .before .before .before .before .before .before .before .before .pre .0 .few))
+add-t27 : tie.Need-add-t27 Inv-loop μ-loop
+add-t27 c =
+    let w = rw (c .before .before .before .before .before .before .before .w .given .1) at (c .before .before .before .before .before .before .before .before .before .until-wrapped .ensures) in
+    omega (arith, capped _ _ _ _ _ _ _ _ _ (part-over _ _ _ _ _ _ _ _ _ (moved (c .before .before .before .before .before .before .before .before .before .before .before .before) .1) _ _ (c .before .before .before .before .before .before .before .before .before .before .before .before .before .before .loop .inv .2) w (c .before .before .if2 .left)) (c .before .before .before .before .before .before .before .before .before .before .before .before .before .before .before .before .before .pre .0 .few))
 
 loop-less-2 : tie.Need-loop-less-2 Inv-loop μ-loop
 loop-less-2 c =
-    let w = rw (c .before .before .before .before .w .given .1) at (c .before .before .before .before .before .before .until-wrapped .ensures) in
-    omega (arith, moved (c .before .before .before .before .before .before .before) .0, w .cap, c .before .before .before .before .before .before .before .before .loop-test .taken)
+    let w = rw (c .before .before .before .before .before .before .before .w .given .1) at (c .before .before .before .before .before .before .before .before .before .until-wrapped .ensures) in
+    omega (arith, moved (c .before .before .before .before .before .before .before .before .before .before .before .before) .0, w .cap, c .before .before .before .before .before .before .before .before .before .before .before .before .before .loop-test .taken)
 
 loop-again-2 : tie.Need-loop-again-2 Inv-loop μ-loop
 loop-again-2 c =
-    let w = rw (c .before .before .before .before .w .given .1) at (c .before .before .before .before .before .before .until-wrapped .ensures) in
-    (part-over _ _ _ _ _ _ _ _ _ (moved (c .before .before .before .before .before .before .before) .1) _ _ (c .before .before .before .before .before .before .before .before .before .loop .inv .2) w (c .before .if2 .left), λ h. absurd (omega (arith, h)), omega (arith, c .before .if2 .left, c .before .before .before .before .before .before .before .before .before .loop .inv .2))
+    let w = rw (c .before .before .before .before .before .before .before .w .given .1) at (c .before .before .before .before .before .before .before .before .before .until-wrapped .ensures) in
+    (part-over _ _ _ _ _ _ _ _ _ (moved (c .before .before .before .before .before .before .before .before .before .before .before .before) .1) _ _ (c .before .before .before .before .before .before .before .before .before .before .before .before .before .before .loop .inv .2) w (c .before .before .if2 .left), λ h. absurd (omega (arith, h)), omega (arith, c .before .before .if2 .left, c .before .before .before .before .before .before .before .before .before .before .before .before .before .before .loop .inv .2))
 
 returns-2 : tie.Need-returns-2 Inv-loop μ-loop
 returns-2 c = all _ _ _ _ _ _ _ _ _ (c .before .loop .inv .0) _ (c .before .loop .inv .2) (c .loop-test .left)
@@ -132,17 +132,17 @@ wrapped-width-spec =
     array-read-to-usize
     (λ c κs. tt)
     place-requires-2
-    sub-until-wrapped
+    sub-t24
     until-wrapped-requires
     (λ c. search needs)
-    add-sum
+    add-t26
     loop-less
     loop-again
     (λ c. search needs)
     sub-if2
-    add-t27
+    add-t29
     returns
-    add-sum-2
+    add-t27
     loop-less-2
     loop-again-2
     returns-2)

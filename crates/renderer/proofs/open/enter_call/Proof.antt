@@ -19,7 +19,7 @@ opened-requires : tie.Need-opened-requires
 opened-requires c κs = (c .before .before .before .before .before .before .before .before .before .before .before .before .before .before .before .before .before .before .pre .0 .depth, c .before .before .before .before .before .before .before .before .before .before .before .before .before .before .before .before .before .before .pre .0 .few)
 
 returns : tie.Need-returns
-returns c = call-opened _ _ _ _ _ _ (c .before .before .before .before .before .before .before .before .before .before .before .before .before .before .before .place .result) (c .before .before .before .before .before .before .before .before .before .before .before .before .before .before .place2 .result) (c .before .before .before .before .before .before .before .before .before .before .before .before .before .place3 .result) (c .before .before .before .before .before .before .before .before .before .trailing-call .result) (c .before .before .before .before .before .before .before .before .made-up .result) (c .before .before .before .before .before .before .before .before .made-up .result) (c .before .before .indent-next .result) (c .before .set-pen .result) (c .before .before .before .before .before .before .before .before .before .before .before .before .before .before .before .place .ensures .0) (c .before .before .before .before .before .before .before .before .before .before .before .before .before .before .place2 .ensures .0) (c .before .before .before .before .before .before .before .before .before .before .before .before .before .place3 .ensures .0) (c .before .before .before .before .before .before .before .before .before .trailing-call .ensures) (c .before .before .before .before .before .before .before .before .made-up .ensures ∙ callee-way _ _ _ _ _ (c .before .before .before .before .before .before .before .before .before .before .before .exceeds .result) (c .before .before .before .before .before .before .before .before .before .before .before .exceeds .ensures ∙ ap (λ (w : ℕ). ltb (c .before .before .before .before .before .before .before .before .before .before .before .before .before .before .before .before .before .before .before .args .max) (virtualColumn (c .before .before .before .before .before .before .before .before .before .before .before .before .before .before .before .before .before .before .before .args .r .writing .pen) + w)) (widths-both (c .before .before .before .before .before .before .before .before .before .before .before .before .before .before .before .before .before .before .before .args .store .now) (c .before .before .before .before .before .before .before .before .before .before .before .before .before .before .before .before .before .before .before .args .marks .now) _ _ _ (nested-to _ _ _ _ (c .before .before .before .before .before .before .before .before .before .before .before .before .before .before .before .place .ensures .0) (c .before .before .before .before .before .before .before .before .before .before .before .before .before .before .before .before .before .before .before .pre .1 .0)) (nested-at _ _ _ _ _ (c .before .before .before .before .before .before .before .before .before .before .before .before .before .before .before .place .ensures .0) (c .before .before .before .before .before .before .before .before .before .before .before .before .before .before .place2 .ensures .0) (c .before .before .before .before .before .before .before .before .before .before .before .before .before .before .before .before .before .before .before .pre .1 .1)))) (c .before .before .before .before .before .before .before .before .before .trailing-call .result) (c .before .before .before .before .before .before .before .before .before .trailing-call .ensures)) (made-up-once (c .before .before .before .before .before .before .before .before .before .trailing-call .result) (c .before .before .before .before .before .before .before .before .before .before .before .exceeds .result) _ (c .before .before .before .before .before .before .before .before .made-up .ensures)) (c .before .before .indent-next .ensures) (c .before .set-pen .ensures) (c .before .before .before .before .before .before .insert .ensures) (c .opened .ensures)
+returns c = call-opened _ _ _ _ _ _ (c .before .before .before .before .before .before .before .before .before .before .before .before .before .before .before .place .result) (c .before .before .before .before .before .before .before .before .before .before .before .before .before .before .place2 .result) (c .before .before .before .before .before .before .before .before .before .before .before .before .before .place3 .result) (c .before .before .before .before .before .before .before .before .before .trailing-call .result) (c .before .before .before .before .before .before .before .before .made-up .result) (c .before .before .before .before .before .before .before .before .made-up .result) (c .before .before .indent-next .result) (c .before .set-pen .result) (c .before .before .before .before .before .before .before .before .before .before .before .before .before .before .before .place .ensures .0) (c .before .before .before .before .before .before .before .before .before .before .before .before .before .before .place2 .ensures .0) (c .before .before .before .before .before .before .before .before .before .before .before .before .before .place3 .ensures .0) (c .before .before .before .before .before .before .before .before .before .trailing-call .ensures) (c .before .before .before .before .before .before .before .before .made-up .ensures ∙ callee-way _ _ _ _ _ (c .before .before .before .before .before .before .before .before .before .before .before .exceeds .result) (c .before .before .before .before .before .before .before .before .before .before .before .exceeds .ensures ∙ ap (λ (w : ℕ). ltb (c .before .before .before .before .before .before .before .before .before .before .before .before .before .before .before .before .before .before .before .args .max .0) (virtualColumn (c .before .before .before .before .before .before .before .before .before .before .before .before .before .before .before .before .before .before .before .args .r .writing .pen) + w)) (widths-both (c .before .before .before .before .before .before .before .before .before .before .before .before .before .before .before .before .before .before .before .args .store .now) (c .before .before .before .before .before .before .before .before .before .before .before .before .before .before .before .before .before .before .before .args .marks .now) _ _ _ (nested-to _ _ _ _ (c .before .before .before .before .before .before .before .before .before .before .before .before .before .before .before .place .ensures .0) (c .before .before .before .before .before .before .before .before .before .before .before .before .before .before .before .before .before .before .before .pre .1 .0)) (nested-at _ _ _ _ _ (c .before .before .before .before .before .before .before .before .before .before .before .before .before .before .before .place .ensures .0) (c .before .before .before .before .before .before .before .before .before .before .before .before .before .before .place2 .ensures .0) (c .before .before .before .before .before .before .before .before .before .before .before .before .before .before .before .before .before .before .before .pre .1 .1)))) (c .before .before .before .before .before .before .before .before .before .trailing-call .result) (c .before .before .before .before .before .before .before .before .before .trailing-call .ensures)) (made-up-once (c .before .before .before .before .before .before .before .before .before .trailing-call .result) (c .before .before .before .before .before .before .before .before .before .before .before .exceeds .result) _ (c .before .before .before .before .before .before .before .before .made-up .ensures)) (c .before .before .indent-next .ensures) (c .before .set-pen .ensures) (c .before .before .before .before .before .before .insert .ensures) (c .opened .ensures)
 
 pub enter-call-spec : {M : Type 1} → statement M
 enter-call-spec =

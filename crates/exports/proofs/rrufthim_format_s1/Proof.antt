@@ -1,0 +1,29 @@
+-- The answer's numbers are stored one after the other.
+use mathlib.Core.Path.{refl}
+use Rattle.exports.proofs.Told.{formats}
+use borrow.Author.Needs.{needs}
+use Rattle.exports.proofs.rrufthim_format_s1.Statement.{statement}
+use Rattle.exports.proofs.rrufthim_format_s1.Tie as tie
+
+returns : tie.Need-returns
+returns c = formats _ _ _ _ _ _ _ _ _ _ (c .before .before .before .before .before .before .file-choice .ensures) (c .before .before .before .before .before .format-file .ensures) (c .before .n .given .1) refl
+
+returns-2 : tie.Need-returns-2
+returns-2 c = formats _ _ _ _ _ _ _ _ _ _ (c .before .before .before .before .before .before .before .before .file-choice .ensures) (c .before .before .before .before .before .before .before .format-file .ensures) (c .before .before .before .bytes .given .1) (c .put-formatted .ensures)
+
+pub rrufthim-format-s1-spec : {M : Type 1} → statement M
+rrufthim-format-s1-spec =
+    tie.close
+    (tie.spec
+    (λ c κs. search needs)
+    (λ c κs. search needs)
+    (λ c. search needs)
+    (λ c. search needs)
+    (λ c. search needs)
+    (λ c. search needs)
+    (λ c. search needs)
+    (λ c κs. search needs)
+    (λ c. search needs)
+    returns
+    (λ c. search needs)
+    returns-2)
