@@ -19,7 +19,7 @@ module _ (R : Rules) where
 
   -- a rendering call's answer, and marks and output at exit; the store stays
   abbrev pub renderGives : RenderArgs (R .RenderChoice) → R .RenderState → List ℕ → List ℕ → RenderResult (R .RenderState)
-  renderGives q s store marks = R .render (q .choice) s (take (R .in-use s) marks) store (q .stop)
+  renderGives q s store marks = R .render s (q .to) (take (R .in-use s) marks) store
 
   abbrev pub renderAnswer : RenderArgs (R .RenderChoice) → R .RenderState → List ℕ → List ℕ → Answer R
   renderAnswer q s store marks =

@@ -41,7 +41,7 @@ module _ (R : Rules) where
 
   -- what an accepted rendering call gives
   abbrev pub rendered : Carried → RenderArgs (R .RenderChoice) → RenderResult (R .RenderState)
-  rendered w q = R .render (q .choice) (w .render-state) (take (R .in-use (w .render-state)) (w .marks)) (w .store) (q .stop)
+  rendered w q = R .render (w .render-state) (q .to) (take (R .in-use (w .render-state)) (w .marks)) (w .store)
 
   -- what an accepted call leaves
   abbrev pub accepted : Carried → Call → Carried

@@ -122,11 +122,11 @@ module _ (s b : List ℕ) where
       under-first renderNumbers (cut.renderTable (partsOf s b) q z store marks) (
         image-under,
         (
-          under-at renderNumbers (partsOf s b .wrong-row store (z .row) (q .stop)) 11 refl,
+          under-at renderNumbers (partsOf s b .wrong-row (q .to .choice) store (z .row) (q .to .stop)) 11 refl,
           (
             under-if renderNumbers (any (tests.renderTests q z store marks)) 12 0 refl,
             (
-              under-if renderNumbers (any (tests.widthTests (q .choice .width) (z .width))) 15 0 refl,
+              under-if renderNumbers (any (tests.widthTests (q .to .choice .width) (z .width))) 15 0 refl,
               (
                 under-if renderNumbers (ltb (length marks) needed) 9 needed refl,
                 (under-if renderNumbers (ltb (q .room) bytes) 10 bytes refl, tt),

@@ -23,7 +23,7 @@ use Rattle.cut_rule.proofs.Table.{LegalWidth, layout-told, render-told}
 use Rattle.cut_rule.proofs.Answers.{LaidTold, laid-told, written-told}
 use Rattle.plain_run.specs.Parts.{partsOf, readRefusal}
 use Rattle.plain_run.specs.Demands.{rulesOf, Gives, laidTo, stoppingAt, closingAt}
-use Rattle.plain_run.specs.File.{FileChoice, modeLine, drawnDue, laidRefusal, refusalIn, fileRefusal, fileAnswerBy, formatted, storeLeft}
+use Rattle.plain_run.specs.File.{FileChoice, layoutChoice, modeLine, drawnDue, laidRefusal, refusalIn, fileRefusal, fileAnswerBy, formatted, storeLeft}
 use Rattle.plain_run.proofs.Demands.{due-is-fmt-parsed, laid-within-limits}
 use Rattle.plain_run.proofs.Foot.{closing-places-all}
 use Rattle.plain_run.proofs.Reference.{reference-holds}
@@ -78,22 +78,22 @@ module _ (s b store : List ℕ) (q : LayoutArgs) (t : LayoutState) (left : ℕ) 
 at-stop : AtStopDue
 at-stop s b store mode n t left store2 p =
     let w = told s b store _ t left store2 p in
-    let h = layout-told (partsOf s b) (stoppingAt mode n) (layout.toState freshLayout) store (w .passes) in
-    laid-as s b store _ t left store2 p _ (due-is-fmt-parsed (readAll s b) s b .at-stop mode n (h .fits .stop .to))
+    let h = layout-told (partsOf s b) (stoppingAt (record { mode = mode }) n) (layout.toState freshLayout) store (w .passes) in
+    laid-as s b store _ t left store2 p _ (due-is-fmt-parsed (readAll s b) s b .at-stop (record { mode = mode }) n (h .fits .stop .to))
 
 closed : ClosedDue
-closed s b store t left store2 p = laid-as s b store _ t left store2 p _ (due-is-fmt-parsed (readAll s b) s b .closed)
+closed s b store t left store2 p = laid-as s b store _ t left store2 p _ (due-is-fmt-parsed (readAll s b) s b .closed (record { mode = states.OLD-MODE }) refl)
 
 closed-keeping : ClosedKeepingDue
 closed-keeping s b store t left store2 p =
-    let q = closingAt states.NEW-MODE (length (declared s b)) in
+    let q = closingAt (record { mode = states.NEW-MODE }) (length (declared s b)) in
     let z = layout.toState freshLayout in
     let w = told s b store _ t left store2 p in
     let twelve = any (cut.layoutTests (partsOf s b) q z store) in
     let eight = cut.rowsLine (partsOf s b) q z store in
     let h = layout-told (partsOf s b) q z store (w .passes) in
     let tests = not-if twelve 12 0 (passes-line (refuseIf twelve 12 0) eight (passes-others (readRefusal (readAll s b)) (refuseIf twelve 12 0 ∷ eight) (w .passes))) in (
-      laid-as s b store _ t left store2 p _ (due-is-fmt-parsed (readAll s b) s b .closed-in states.NEW-MODE),
+      laid-as s b store _ t left store2 p _ (due-is-fmt-parsed (readAll s b) s b .closed-in (q .choice)),
       w .left ∙ closing-places-all s b store q z (h .image) tests refl refl .left,
     )
 
@@ -113,7 +113,8 @@ rendered s b store mode t left store2 p width marks out u n store3 marks2 out2 q
     let a = written-told (rulesOf s b) (rulesOf s b .render-refusal to (render.toState freshRender) store2 marks) (render.toState u) (n .0) _ _ (q .answer) in
     let legal = width-passes width (render-told (partsOf s b) to (render.toState freshRender) store2 marks (a .passes) .checked .width .legal) in
     let before = told s b store (record { stop = length (declared s b); close = true; mode = mode }) t left store2 p in
-    let moded = mode-passes c (layout-told (partsOf s b) (closingAt mode (length (declared s b))) (layout.toState freshLayout) store (before .passes) .fits .mode .known) in
+    let all = closingAt (layoutChoice c) (length (declared s b)) in
+    let moded = mode-passes c (layout-told (partsOf s b) all (layout.toState freshLayout) store (before .passes) .fits .mode .known) in
     let w = laid-told (rulesOf s b) (laidRefusal s b c (tests.rowsIn store)) (layout.toState t) left (stateDue s b c) _ (p .answer ∙ layout-answer-due s b c moded legal store) in
     let row : t .row ≡ _ = ap (λ (x : states.LayoutState). x .cursor .row) (w .state) in
     let left-store : store2 ≡ storeLeft s b c store = p .store-left ∙ layout-store-due s b c moded legal store in

@@ -22,7 +22,7 @@ use Rattle.layout_facts.proofs.Limits.{closed-within}
 use Rattle.layout_facts.proofs.Numbers.{whole-below}
 use Rattle.cut_rule.specs.Limits.{REFERENCE-WIDTH}
 use Rattle.plain_run.specs.Parts.{acceptedTree, keepsWaiting, page, rendererOf}
-use Rattle.plain_run.specs.File.{referenceChoice, fileRows, fileMarks, built, marksDue, drawnDue, laidRefusal, fileRefusal}
+use Rattle.plain_run.specs.File.{referenceChoice, renderChoice, fileRows, fileMarks, built, marksDue, drawnDue, laidRefusal, fileRefusal}
 use Rattle.plain_run.specs.FileLimits.{AreBytes}
 use Rattle.plain_run.proofs.Past.{renders-length}
 use Rattle.plain_run.proofs.Limits.{stood}
@@ -62,7 +62,8 @@ module _ (s b : List ℕ) where
   -- as many marks as are needed
   marks-many : length (drawnDue s b referenceChoice .marks) ≡ marksDue s b referenceChoice
   marks-many =
-      renders-length (page REFERENCE-WIDTH s b) (built s b referenceChoice .nodes) true (rendererOf (renderFresh .pen) (replicate (marksDue s b referenceChoice) 0))
+      renders-length (page (renderChoice referenceChoice) s b) (built s b referenceChoice .nodes) true
+      (rendererOf (renderFresh .pen) (replicate (marksDue s b referenceChoice) 0))
       ∙ length-replicate (marksDue s b referenceChoice) 0
 
   -- ---- what is known of a tree that stands in its image
@@ -99,7 +100,8 @@ module _ (s b : List ℕ) where
         where
           cleared : (i : ℕ) → built s b referenceChoice .taken ≤ i → getD (drawnDue s b referenceChoice .marks) i 0 ≡ 0
           cleared i h =
-              renders-same i (built s b referenceChoice .nodes) (page REFERENCE-WIDTH s b) true (rendererOf (renderFresh .pen) (replicate (marksDue s b referenceChoice) 0))
+              renders-same i (built s b referenceChoice .nodes) (page (renderChoice referenceChoice) s b) true
+              (rendererOf (renderFresh .pen) (replicate (marksDue s b referenceChoice) 0))
               (whole-below (given s b) (acceptedTree b (readAll s b)) (keepsWaiting OLD-MODE) i h) .mark
               ∙ cleared-at (marksDue s b referenceChoice) i
 

@@ -26,7 +26,8 @@ use Rattle.cut_rule.specs.Parts.{withCleared, widthLine, beforeMarks}
 use Rattle.cut_rule.proofs.Answers.{refused-told, LaidTold, laid-told, written-told}
 use Rattle.plain_run.specs.Parts.{partsOf, widestDrawn}
 use Rattle.plain_run.specs.Demands.{rulesOf, closingAt}
-use Rattle.plain_run.specs.File.{FileChoice, modeLine, renderChoice, fileRows, fileMarks, built, rowsDue, marksDue, drawnDue, columnDue, laidRefusal, refusalIn, fileRefusal, formatted, fileAnswerBy, storeLeft, marksLeft, outputLeft}
+use Rattle.plain_run.specs.File.{FileChoice, layoutChoice, modeLine, renderChoice, fileRows, fileMarks, built, rowsDue, marksDue, drawnDue, columnDue}
+use Rattle.plain_run.specs.File.{laidRefusal, refusalIn, fileRefusal, formatted, fileAnswerBy, storeLeft, marksLeft, outputLeft}
 use Rattle.plain_run.proofs.Refused.{read-refused, read-accepted}
 use Rattle.plain_run.proofs.File.{stateDue, renderedDue, layout-answer-due, layout-store-due, render-early-due, render-answer-due, render-marks-due, render-output-due, render-widest-due}
 use Rattle.layout_call.specs.Calls as layouts
@@ -144,7 +145,7 @@ module _ (s b : List ℕ) (c : FileChoice) where
 
       -- ---- the layout call, where neither refuses
       module _ (x : Bool) (fits : x ≡ not (any (tests.widthTests (c .width) 0))) (passed : not x ≡ false) (state : LayoutState) (q : LayoutArgs) (r : Laying) (store2 : List ℕ) (fresh : layouts.toState state ≡ layoutFresh)
-          (all : layouts.toArgs q ≡ closingAt (c .mode) (length (declared s b))) (call : LayoutCalled s b state q store r store2) where
+          (all : layouts.toArgs q ≡ closingAt (layoutChoice c) (length (declared s b))) (call : LayoutCalled s b state q store r store2) where
         legal : widthLine (renderChoice c) renderFresh ≡ none
         legal = ap (λ (t : Bool). refuseIf t 15 0) (not-true (any (tests.widthTests (c .width) 0)) (sym fits ∙ not-false x passed))
 
@@ -218,7 +219,7 @@ module _ (s b : List ℕ) (c : FileChoice) where
                 drew .widest
                 ∙ same (λ x q rows.
                 unless (rulesOf s b .render-refusal (renders.toArgs q (length out)) x rows marks) 0
-                (widestDrawn s b (q .width .0) (x .pen) (withCleared (partsOf s b) (take (x .in-use) marks) (partsOf s b .needed rows (x .row) (q .stop))) rows (x .row) (q .stop)))
+                (widestDrawn s b x (renders.goesTo q) (withCleared (partsOf s b) (take (x .in-use) marks) (partsOf s b .needed rows (x .row) (q .stop))) rows))
                 ∙ render-widest-due s b c moded legal store marks out (told .passes)
 
             never-written : (x : Refusal) (u : states.RenderState) (l : ℕ) → _≡_ {A = Answer (rulesOf s b)} (refused x) (written u l) → ⊥

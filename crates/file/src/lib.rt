@@ -113,7 +113,7 @@ fn layout_fresh() -> LayoutState
 
 // A call that lays the declarations up to a stop, and closes.
 fn closing_at(mode: usize, stop: usize) -> LayoutArgs
-    ensures { λ r. ⌜ laidArgs r ≡ closingAt mode stop ⌝ }
+    ensures { λ r. ⌜ laidArgs r ≡ closingAt (record { mode = mode }) stop ⌝ }
 {
     LayoutArgs {
         stop: stop,

@@ -58,9 +58,9 @@ pub empty-line-holds : EmptyLineHolds
 unfolding renderNode pushStr newLine
 empty-line-holds = record {
   at-start =
-      λ width s b w r e.
-      ap (λ (c : Bool). (r .buf ++ newline) ++ cond c newline []) (le-ltb 0 (r .pen .column .0) (omega (arith, e))) ∙ append-nil (r .buf ++ newline);
+      λ c s b w r e.
+      ap (λ (d : Bool). (r .buf ++ newline) ++ cond d newline []) (le-ltb 0 (r .pen .column .0) (omega (arith, e))) ∙ append-nil (r .buf ++ newline);
   elsewhere =
-      λ width s b w r h.
-      ap (λ (c : Bool). (r .buf ++ newline) ++ cond c newline []) (lt-ltb 0 (r .pen .column .0) h) ∙ append-assoc (r .buf) newline newline;
+      λ c s b w r h.
+      ap (λ (d : Bool). (r .buf ++ newline) ++ cond d newline []) (lt-ltb 0 (r .pen .column .0) h) ∙ append-assoc (r .buf) newline newline;
 }

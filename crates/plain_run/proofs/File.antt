@@ -30,7 +30,7 @@ use Rattle.renderer_rules.specs.Check.{wrongPlace}
 use Rattle.renderer_rules.specs.Widest.{greatestColumn}
 use Rattle.refusals.specs.Refusals.{Refusal, unless, first, refuseIf, refuseAt, any}
 use Rattle.refusals.proofs.Groups.{none-both, passes-line, passes-others, not-if}
-use Rattle.cut_rule.specs.Rules.{LayoutArgs, RenderArgs, LayoutResult, RenderResult}
+use Rattle.cut_rule.specs.Rules.{LayoutArgs, RenderTo, RenderArgs, LayoutResult, RenderResult}
 use Rattle.cut_rule.specs.Laws.{SameBefore}
 use Rattle.cut_rule.specs.Run.{writeFront, answerBy, laidOut, written}
 use Rattle.cut_rule.specs.Entries.{layoutAnswer, layoutStore, renderGives, renderAnswer, renderMarks, renderOutput}
@@ -39,8 +39,8 @@ use Rattle.cut_rule.specs.Tests.{rowsIn, renderTests, placesTests, limitTests, 
 use Rattle.cut_rule.specs.Parts.{layoutTests, rowsNeeded, withCleared, widthLine, drawnOf, beforeMarks, renderTable}
 use Rattle.plain_run.specs.Parts.{readRefusal, renderImage, acceptedTree, keepsWaiting, page, drawn, widestDrawn, partsOf}
 use Rattle.plain_run.specs.Demands.{rulesOf, laidTo, closingAt}
-use Rattle.plain_run.specs.File.{FileChoice, modeLine, renderChoice, built, rowsDue, marksDue, drawnDue, columnDue, laidRefusal, refusalIn, storeLeft, marksLeft, outputLeft}
-use Rattle.plain_run.specs.File.{formatted, fileAnswerBy, OldModeIsFmtParsed, NewModeLeavesNone}
+use Rattle.plain_run.specs.File.{FileChoice, layoutChoice, modeLine, renderChoice, built, rowsDue, marksDue, drawnDue, columnDue}
+use Rattle.plain_run.specs.File.{laidRefusal, refusalIn, storeLeft, marksLeft, outputLeft, formatted, fileAnswerBy, OldModeIsFmtParsed, NewModeLeavesNone}
 use Rattle.plain_run.proofs.Whole.{fmt-parsed}
 use Rattle.plain_run.proofs.Foot.{closing-places-all}
 use Rattle.plain_run.proofs.Limits.{all-limited}
@@ -78,7 +78,7 @@ module _ (s b : List ℕ) where
   module _ (c : FileChoice) where
     -- ---- the layout call: up to the last declaration, closing
     abbrev pub layoutArgs : LayoutArgs LayoutChoice
-    layoutArgs = closingAt (c .mode) count
+    layoutArgs = closingAt (layoutChoice c) count
 
     -- the state that it answers
     abbrev pub stateDue : LayoutState
@@ -93,7 +93,7 @@ module _ (s b : List ℕ) where
     laid-due : _≡_ {A = LayoutResult LayoutState} (laidTo (readAll s b) s b layoutArgs)
         (record { state = stateDue; rows = rows (built s b c .nodes) 0; left = length (commentsOf b) - built s b c .placed })
     laid-due =
-        let g = fmt-parsed (readAll s b) s b .closed-in (c .mode) in
+        let g = fmt-parsed (readAll s b) s b .closed-in (layoutChoice c) in
         λ t.
         record {
           state = record {
@@ -108,7 +108,7 @@ module _ (s b : List ℕ) where
         }
 
     rows-needed : rowsNeeded (partsOf s b) layoutArgs layoutFresh ≡ rowsDue s b c
-    rows-needed = fmt-parsed (readAll s b) s b .closed-in (c .mode) .row-due
+    rows-needed = fmt-parsed (readAll s b) s b .closed-in (layoutChoice c) .row-due
 
     -- the rows that the layout call leaves
     same-rows : (store : List ℕ) → SameBefore (rowsDue s b c) (rows (built s b c .nodes) 0) (writeFront (rows (built s b c .nodes) 0) store)
@@ -165,8 +165,11 @@ module _ (s b : List ℕ) where
           ap₂ (λ (r : Option Refusal) (l : LayoutResult LayoutState). unless r store (writeFront (l .rows) store)) (layout-refusal-due store) laid-due
 
       -- ---- the rendering call: up to the last row
+      abbrev pub renderTo : RenderTo RenderChoice
+      renderTo = record { stop = rowsDue s b c; choice = renderChoice c }
+
       abbrev pub renderArgs : List ℕ → RenderArgs RenderChoice
-      renderArgs out = record { stop = rowsDue s b c; room = length out; choice = renderChoice c }
+      renderArgs out = record { to = renderTo; room = length out }
 
       -- 12
       render-passes : (store marks out : List ℕ) → any (renderTests (renderArgs out) renderFresh store marks) ≡ false
@@ -182,25 +185,25 @@ module _ (s b : List ℕ) where
         -- 11
         rows-right : wrongPlace s b rowed 0 (rowsDue s b c) ≡ none
         rows-right =
-            let g = fmt-parsed (readAll s b) s b .closed-in (c .mode) in
-            render-parts s b (readAll s b) .right-local (rows (built s b c .nodes) 0) rowed (rowsDue s b c) (same-rows store)
-            (subst₂ (λ (x : List ℕ) (n : ℕ). wrongPlace s b x 0 n ≡ none) (g .rows-due) (g .row-due) (all-limited s b h .closed (c .mode) .right))
+            let g = fmt-parsed (readAll s b) s b .closed-in (layoutChoice c) in
+            render-parts s b (readAll s b) .right-local (renderChoice c) (rows (built s b c .nodes) 0) rowed (rowsDue s b c) (same-rows store)
+            (subst₂ (λ (x : List ℕ) (n : ℕ). wrongPlace s b x 0 n ≡ none) (g .rows-due) (g .row-due) (all-limited s b h .closed (layoutChoice c) .right))
 
         marks-due : marksNeeded (rowsDue s b c - 0) rowed 0 ≡ marksDue s b c
         marks-due =
             sym (render-parts s b (readAll s b) .needed-local (rows (built s b c .nodes) 0) rowed 0 (rowsDue s b c) (same-rows store))
             ∙ ap (λ (n : ℕ). marksNeeded n (rows (built s b c .nodes) 0) 0) (sub-zero (rowsDue s b c))
 
-        drawn-due : drawnOf (partsOf s b) (c .width) renderFresh [] rowed (rowsDue s b c) ≡ drawnDue s b c
+        drawn-due : drawnOf (partsOf s b) renderFresh renderTo [] rowed ≡ drawnDue s b c
         drawn-due =
-            let g = fmt-parsed (readAll s b) s b .closed-in (c .mode) in
-            let z = renderFresh .pen in
+            let g = fmt-parsed (readAll s b) s b .closed-in (layoutChoice c) in
+            let z = renderFresh in
             let m = marksNeeded (rowsDue s b c - 0) rowed 0 in
             let cleared : List ℕ = replicate (marksDue s b c) 0 in
-            sym (render-parts s b (readAll s b) .draw-local (c .width) z (replicate (m - 0) 0) (rows (built s b c .nodes) 0) rowed 0 (rowsDue s b c) (same-rows store))
-            ∙ ap (λ (n : ℕ). drawn s b (c .width) z (replicate n 0) (rows (built s b c .nodes) 0) 0 (rowsDue s b c)) (sub-zero m ∙ marks-due)
-            ∙ ap₂ (λ (x : List ℕ) (n : ℕ). drawn s b (c .width) z cleared x 0 n) (sym (g .rows-due)) (sym (g .row-due))
-            ∙ g .drawn-due (c .width) z cleared
+            sym (render-parts s b (readAll s b) .draw-local z renderTo (replicate (m - 0) 0) (rows (built s b c .nodes) 0) rowed (same-rows store))
+            ∙ ap (λ (n : ℕ). drawn s b z renderTo (replicate n 0) (rows (built s b c .nodes) 0)) (sub-zero m ∙ marks-due)
+            ∙ ap₂ (λ (x : List ℕ) (n : ℕ). drawn s b z (record { stop = n; choice = renderChoice c }) cleared x) (sym (g .rows-due)) (sym (g .row-due))
+            ∙ g .drawn-due (renderChoice c) z cleared refl
 
         -- the rows are read back as the nodes that they are of
         nodes-due : nodesAt (viewOf rowed) 0 (rowsDue s b c) ≡ built s b c .nodes
@@ -209,10 +212,9 @@ module _ (s b : List ℕ) where
             ap (nodesAt (viewOf rowed) 0) (sym (zero-add (rowsDue s b c)))
             ∙ read-back (built s b c .nodes) rowed 0 (holds-part rowed 0 r (take-append-seam r (drop (length r) store)))
 
-        widest-due : widestDrawn s b (c .width) (renderFresh .pen) (withCleared (partsOf s b) [] (marksNeeded (rowsDue s b c - 0) rowed 0)) rowed 0 (rowsDue s b c)
-            ≡ columnDue s b c
+        widest-due : widestDrawn s b renderFresh renderTo (withCleared (partsOf s b) [] (marksNeeded (rowsDue s b c - 0) rowed 0)) rowed ≡ columnDue s b c
         widest-due =
-            ap₂ (λ (ns : Nodes) (m : ℕ). greatestColumn (page (c .width) s b) ns (replicate m 0)) nodes-due
+            ap₂ (λ (ns : Nodes) (m : ℕ). greatestColumn (page (renderChoice c) s b) ns (replicate m 0)) nodes-due
             (sub-zero (marksNeeded (rowsDue s b c - 0) rowed 0) ∙ marks-due)
 
         render-table-due : (marks out : List ℕ)
@@ -303,15 +305,13 @@ module _ (s b : List ℕ) where
 
         -- the greatest column that it tells
         pub render-widest-due : unless (rulesOf s b .render-refusal (renderArgs out) renderFresh (storeLeft s b c store) marks) 0
-            (widestDrawn s b (c .width) (renderFresh .pen) (withCleared (partsOf s b) [] (marksNeeded (rowsDue s b c - 0) (storeLeft s b c store) 0))
-            (storeLeft s b c store)
-            0
-            (rowsDue s b c))
+            (widestDrawn s b renderFresh renderTo (withCleared (partsOf s b) [] (marksNeeded (rowsDue s b c - 0) (storeLeft s b c store) 0))
+            (storeLeft s b c store))
             ≡ unless (refusalIn s b c (rowsIn store) (length marks) (length out)) 0 (columnDue s b c)
         render-widest-due =
             ap₂ (λ (r : Option Refusal) (n : ℕ). unless r 0 n) render-refusal-due
             (ap (λ (x : List ℕ).
-            widestDrawn s b (c .width) (renderFresh .pen) (withCleared (partsOf s b) [] (marksNeeded (rowsDue s b c - 0) x 0)) x 0 (rowsDue s b c))
+            widestDrawn s b renderFresh renderTo (withCleared (partsOf s b) [] (marksNeeded (rowsDue s b c - 0) x 0)) x)
             left-store
             ∙ widest-due store read)
 
@@ -341,4 +341,4 @@ new-mode-leaves-none s b c inRows inMarks room bytes left inAll numbers new e = 
         let read : readRefusal (readAll s b) ≡ none = passes-line (readRefusal (readAll s b)) (modeLine c ∷ eights) laid in
         let moded : modeLine c ≡ none = passes-line (modeLine c) eights (passes-others (readRefusal (readAll s b)) (modeLine c ∷ eights) laid) in
         let all = closing-places-all s b [] (layoutArgs s b c) layoutFresh read (layout-passes s b c moded []) refl new in
-        sym n ∙ sym (fmt-parsed (readAll s b) s b .closed-in (c .mode) .left-due) ∙ all .left
+        sym n ∙ sym (fmt-parsed (readAll s b) s b .closed-in (layoutChoice c) .left-due) ∙ all .left

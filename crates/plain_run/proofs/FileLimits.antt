@@ -41,7 +41,7 @@ use Rattle.cut_rule.specs.States.{renderFresh}
 use Rattle.cut_rule.specs.Parts.{Drawn, widthLine}
 use Rattle.plain_run.specs.Parts.{readRefusal, keepsWaiting, renderImage, rendererOf}
 use Rattle.plain_run.specs.Demands.{laidTo}
-use Rattle.plain_run.specs.File.{FileChoice, modeLine, renderChoice, fileRows, built, rowsDue, marksDue, laidRefusal}
+use Rattle.plain_run.specs.File.{FileChoice, layoutChoice, modeLine, renderChoice, fileRows, built, rowsDue, marksDue, laidRefusal}
 use Rattle.plain_run.specs.FileLimits.{MAX-IMAGE, RowsTextLimited, FileTextLimited, AreBytes, FileColumnLimited}
 use Rattle.plain_run.proofs.Right.{Right, right}
 use Rattle.plain_run.proofs.Whole.{fmt-parsed}
@@ -215,13 +215,13 @@ module _ (s b : List ℕ) (c : FileChoice) (h : laidRefusal s b c fileRows ≡ n
 
 pub file-text-limited : FileTextLimited
 file-text-limited s b c h =
-    let g = fmt-parsed (readAll s b) s b .closed-in (c .mode) in
+    let g = fmt-parsed (readAll s b) s b .closed-in (layoutChoice c) in
     let l = laidTo (readAll s b) s b (layoutArgs s b c) in
     let marks : List ℕ = replicate (marksDue s b c) 0 in
-    let e = ap (λ (d : Drawn). length (d .text)) (g .drawn-due (c .width) (renderFresh .pen) marks) in
+    let e = ap (λ (d : Drawn). length (d .text)) (g .drawn-due (renderChoice c) renderFresh marks refl) in
     let m =
     rows-text-limited (c .width) s b (l .rows) marks (l .state .cursor .row) (omega (arith, g .row-due, few s b c h)) (image-passes s b (laid-read s b c h))
-    (all-limited s b (laid-read s b c h) .closed (c .mode) .right)
+    (all-limited s b (laid-read s b c h) .closed (layoutChoice c) .right)
     in
     omega arith
 

@@ -40,9 +40,9 @@ counts a c =
 
 pub layout-parts : (r : Read Image) (s b : List ℕ) → LayoutPartLaws (partsBy r s b)
 layout-parts r s b = record {
-  shebang-counts = λ e c. counts (shebangRule (given s b) (acceptedTree b r .shebang)) c;
-  declaration-counts = λ e n c l. counts (declarationAct s b n (nth (acceptedTree b r .declarations) n)) c;
-  final-counts = λ e m c. counts (closing (given s b) (acceptedTree b r) (keepsWaiting m)) c;
+  shebang-counts = λ e k c. counts (shebangRule (given s b) (acceptedTree b r .shebang)) c;
+  declaration-counts = λ e k n c l. counts (declarationAct s b n (nth (acceptedTree b r .declarations) n)) c;
+  final-counts = λ e k c. counts (closing (given s b) (acceptedTree b r) (keepsWaiting (k .mode))) c;
 }
 
 -- ---- the comments among the rows of nodes
@@ -120,8 +120,8 @@ module _ (s b : List ℕ) where
       let t = acceptedTree b r in
       record {
         all-listed = sym (length-map (commentsOf b) _);
-        shebang-places = λ e c h. places (shebangRule g (t .shebang)) c (places-shebang g (t .shebang)) h;
+        shebang-places = λ e k c h. places (shebangRule g (t .shebang)) c (places-shebang g (t .shebang)) h;
         declaration-places =
-            λ e n c l h. places (declarationAct s b n (nth (t .declarations) n)) c (places-one n (nth (t .declarations) n)) h;
-        final-places = λ e m c h. places (closing g t (keepsWaiting m)) c (places-closing g t (keepsWaiting m)) h;
+            λ e k n c l h. places (declarationAct s b n (nth (t .declarations) n)) c (places-one n (nth (t .declarations) n)) h;
+        final-places = λ e k c h. places (closing g t (keepsWaiting (k .mode))) c (places-closing g t (keepsWaiting (k .mode))) h;
       }

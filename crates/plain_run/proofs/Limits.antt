@@ -83,10 +83,10 @@ module _ (s b : List ℕ) where
       let f = fmt-parsed r s b in
       record {
         at-stop =
-            λ mode n i.
-            limited r a _ _ (f .at-stop mode n i)
+            λ k n i.
+            limited r a _ _ (f .at-stop k n i)
             (upTo-within (a .stood) (take n (t .declarations)) (drop n (t .declarations)) (take-append-drop n (t .declarations)));
-        closed = λ mode. limited r a _ _ (f .closed-in mode) (closed-within (a .stood) (keepsWaiting mode));
+        closed = λ k. limited r a _ _ (f .closed-in k) (closed-within (a .stood) (keepsWaiting (k .mode)));
       }
 
   pub all-limited : readRefusal (readAll s b) ≡ none → AllLimited (readAll s b) s b (acceptedTree b (readAll s b))

@@ -18,8 +18,7 @@ use Rattle.cut_rule.specs.States.{RenderChoice, RenderState}
 use Rattle.cut_rule.specs.Tests.{renderTests, widthTests}
 use Rattle.cut_rule.specs.Parts.{widthLine}
 use Rattle.plain_run.specs.Parts.{renderImage}
-use Rattle.plain_run.specs.File.{referenceChoice, renderChoice}
-use Rattle.plain_run.specs.Reference.{FileAsBefore, callDrawn, callRefusal, CallAsBefore, ReferenceHolds}
+use Rattle.plain_run.specs.Reference.{atReference, FileAsBefore, callDrawn, callRefusal, CallAsBefore, ReferenceHolds}
 
 -- 15 never refuses 80 where none or 80 is carried
 pub never-15 : (carried : ℕ) → (carried ≡ 0) ⊎ (carried ≡ REFERENCE-WIDTH) → refuseIf (any (widthTests REFERENCE-WIDTH carried)) 15 0 ≡ none
@@ -33,7 +32,7 @@ module _ (s b : List ℕ) where
 
   module _ (stop room : ℕ) (z : RenderState) (store marks : List ℕ) (h : (z .width ≡ 0) ⊎ (z .width ≡ REFERENCE-WIDTH)) where
     abbrev q : RenderArgs RenderChoice
-    q = record { stop = stop; room = room; choice = renderChoice referenceChoice }
+    q = record { to = atReference stop; room = room }
 
     abbrev needed : ℕ
     needed = marksNeeded (stop - z .row) store (z .row)

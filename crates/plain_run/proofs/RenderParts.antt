@@ -16,11 +16,13 @@ use Rattle.marks.specs.Marks.{marksNeeded}
 use Rattle.renderer_rules.specs.Renderer.{Page, Renderer, withBuf, withMarks, withWidest, renderNodes}
 use Rattle.renderer_rules.specs.Check.{wrongPlace}
 use Rattle.renderer_rules.proofs.Joined.{renders-ranges}
-use Rattle.cut_rule.specs.Laws.{SameBefore}
+use Rattle.cut_rule.specs.Rules.{RenderTo}
+use Rattle.cut_rule.specs.Laws.{RenderAfter, SameBefore}
+use Rattle.cut_rule.specs.States.{RenderChoice, RenderState}
 use Rattle.renderer_rules.specs.declared.Pen.{Pen}
 use Rattle.cut_rule.specs.Parts.{Drawn}
-use Rattle.cut_rule.specs.PartLaws.{withPast, thenDrawn, RenderPartLaws}
-use Rattle.plain_run.specs.Parts.{rendererOf, drawnBy, page, drawn, partsBy}
+use Rattle.cut_rule.specs.PartLaws.{withPast, thenDrawn, StoppedAt, RenderPartLaws}
+use Rattle.plain_run.specs.Parts.{rendererOf, drawnBy, page, rendering, drawn, partsBy}
 use Rattle.plain_run.proofs.Local.{nodes-local, cell-same, rows-same}
 use Rattle.plain_run.proofs.Past.{Unders, ext, renders-length, renders-ext}
 use Rattle.plain_run.proofs.Marks.{marks-local, marks-add, nodes-under}
@@ -69,38 +71,59 @@ resumed p ns r u =
     (append-nil (renderNodes p ns true t .marks))
 
 module _ (s b : List ℕ) where
-  draw-local : (w : ℕ) (z : Pen) (marks store other : List ℕ) (i n : ℕ) → SameBefore n store other
-      → drawn s b w z marks store i n ≡ drawn s b w z marks other i n
-  draw-local w z marks store other i n e =
-      ap (λ (ns : Nodes). drawnBy (renderNodes (page w s b) ns true (rendererOf z marks)))
-      (nodes-local (viewOf store) (viewOf other) i n (rows-same n store other e i))
+  draw-local : (z : RenderState) (q : RenderTo RenderChoice) (marks store other : List ℕ) → SameBefore (q .stop) store other
+      → drawn s b z q marks store ≡ drawn s b z q marks other
+  draw-local z q marks store other e =
+      ap (λ (ns : Nodes). drawnBy (renderNodes (page (q .choice) s b) ns true (rendererOf (z .pen) marks)))
+      (nodes-local (viewOf store) (viewOf other) (z .row) (q .stop) (rows-same (q .stop) store other e (z .row)))
 
-  draw-past : (w : ℕ) (z : Pen) (marks past store : List ℕ) (n : ℕ) → needed store 0 n ≤ length marks
-      → drawn s b w z (marks ++ past) store 0 n ≡ withPast (drawn s b w z marks store 0 n) past
-  draw-past w z marks past store n h =
-      ap drawnBy (renders-ext [] past 0 (page w s b) (nodesAt (viewOf store) 0 n) true (rendererOf z marks) (under-marks store marks 0 n h))
+  draw-past : (z : RenderState) (q : RenderTo RenderChoice) (marks past store : List ℕ) → needed store 0 (q .stop) ≤ length marks
+      → drawn s b z q (marks ++ past) store ≡ withPast (drawn s b z q marks store) past
+  draw-past z q marks past store h =
+      ap drawnBy
+      (renders-ext [] past 0 (page (q .choice) s b) (nodesAt (viewOf store) (z .row) (q .stop)) true (rendererOf (z .pen) marks)
+      (under-marks store marks (z .row) (q .stop) h))
 
-  draw-join : (w : ℕ) (z : Pen) (marks store : List ℕ) (n m : ℕ) → n ≤ m → wrongPlace s b store 0 n ≡ none → needed store 0 m ≤ length marks
-      → drawn s b w z marks store 0 m ≡ thenDrawn (drawn s b w z marks store 0 n) (λ y ms. drawn s b w y ms store n m)
-  draw-join w z marks store n m h e g =
+  -- to the stop of p, and on to row m
+  draw-on : (z : RenderState) (p : RenderTo RenderChoice) (m : ℕ) (marks store : List ℕ) → z .row ≤ p .stop → p .stop ≤ m
+      → wrongPlace s b store (z .row) (p .stop) ≡ none → needed store 0 m ≤ length marks
+      → drawn s b z (record { stop = m; choice = p .choice }) marks store
+      ≡ thenDrawn (drawn s b z p marks store) (λ ms.
+      drawnBy (renderNodes (page (p .choice) s b) (nodesAt (viewOf store) (p .stop) m) true (rendererOf (drawn s b z p marks store .pen) ms)))
+  draw-on z p m marks store l h e g =
       let v = viewOf store in
-      let one = renderNodes (page w s b) (nodesAt v 0 n) true (rendererOf z marks) in
-      ap drawnBy (renders-ranges (page w s b) m true (rendererOf z marks) (right s b store 0 n (omega arith) e .nests) h)
-      ∙ resumed (page w s b) (nodesAt v n m) one
-      (subst (λ (k : ℕ). Unders k (nodesAt v n m)) (sym (renders-length (page w s b) (nodesAt v 0 n) true (rendererOf z marks))) (under-marks store marks n m g))
+      let y = page (p .choice) s b in
+      let r = rendererOf (z .pen) marks in
+      let ns = nodesAt v (p .stop) m in
+      ap drawnBy (renders-ranges y m true r (right s b store (z .row) (p .stop) l e .nests) h)
+      ∙ resumed y ns (rendering s b z p marks store)
+      (subst (λ (k : ℕ). Unders k ns) (sym (renders-length y (nodesAt v (z .row) (p .stop)) true r)) (under-marks store marks (p .stop) m g))
+
+  draw-join : (z t : RenderState) (p q : RenderTo RenderChoice) (marks store : List ℕ) → z .row ≡ 0 → RenderAfter p q
+      → wrongPlace s b store 0 (p .stop) ≡ none → needed store 0 (q .stop) ≤ length marks → StoppedAt (p .stop) (drawn s b z p marks store) t
+      → drawn s b z q marks store ≡ thenDrawn (drawn s b z p marks store) (λ ms. drawn s b t q ms store)
+  draw-join z t p q marks store start a e g there =
+      let row = sym (there .row) in
+      let pen = sym (there .pen) in
+      ap (λ (c : RenderChoice). drawn s b z (record { stop = q .stop; choice = c }) marks store) (sym (a .same))
+      ∙ draw-on z p (q .stop) marks store (omega (arith, start)) (a .not-past) (subst (λ (i : ℕ). wrongPlace s b store i (p .stop) ≡ none) (sym start) e) g
+      ∙ (λ i.
+      thenDrawn (drawn s b z p marks store)
+      (λ ms. drawnBy (renderNodes (page (a .same i) s b) (nodesAt (viewOf store) (row i) (q .stop)) true (rendererOf (pen i) ms))))
 
   pub render-parts : (r : Read Image) → RenderPartLaws (partsBy r s b)
   render-parts r = record {
-    none-wrong = λ store. none-found s b store 0 0 (right-none s b store);
+    none-wrong = λ c store. none-found s b store 0 0 (right-none s b store);
     right-join =
-        λ store n m h e f.
+        λ c store n m h e f.
         none-found s b store 0 m (right-both s b store n m (right s b store 0 n (omega arith) e) (right s b store n m h f));
     needed-join = needed-join;
     right-local =
-        λ store other n e f. none-found s b other 0 n (right-same s b store other n e (right s b store 0 n (omega arith) f));
+        λ c store other n e f. none-found s b other 0 n (right-same s b store other n e (right s b store 0 n (omega arith) f));
     needed-local = needed-local;
     draw-local = draw-local;
-    draw-marks = λ w z marks store i n. renders-length (page w s b) (nodesAt (viewOf store) i n) true (rendererOf z marks);
-    draw-past = λ w z marks past store n e h. draw-past w z marks past store n h;
-    draw-join = λ w z marks store n m h e f g. draw-join w z marks store n m h e g;
+    draw-marks =
+        λ z q marks store. renders-length (page (q .choice) s b) (nodesAt (viewOf store) (z .row) (q .stop)) true (rendererOf (z .pen) marks);
+    draw-past = λ z q marks past store start e h. draw-past z q marks past store h;
+    draw-join = λ z t p q marks store start a e f g there. draw-join z t p q marks store start a e g there;
   }

@@ -35,15 +35,16 @@ use Rattle.renderer_rules.specs.Renderer.{renderNodes}
 use Rattle.renderer_rules.specs.Holds.{HoldsInOrder, rest, nothing, anything, Token, Piece as Part, IsLine, commentsAmong, tokensAmong, pieces, CommasChosen, MadeOf}
 use Rattle.renderer_rules.proofs.Holds.{holds-the-comments, writes-pieces}
 use Rattle.refusals.specs.Refusals.{Refusal, unless}
-use Rattle.cut_rule.specs.Rules.{LayoutArgs, LayoutResult, RenderResult}
+use Rattle.cut_rule.specs.Rules.{LayoutArgs, RenderTo, LayoutResult, RenderResult}
 use Rattle.cut_rule.specs.Run.{writeFront, Carried, start, run}
-use Rattle.cut_rule.specs.Plain.{RenderedTo, Progress, atFirst, layoutDue, renderDue, laidDue, renderedDue, due, plain}
+use Rattle.cut_rule.specs.Plain.{Progress, atFirst, layoutDue, renderDue, laidDue, renderedDue, due, plain}
 use Rattle.cut_rule.specs.States.{LayoutChoice, RenderChoice, LayoutState, RenderState, layoutFresh, renderFresh, NEW-MODE}
 use Rattle.cut_rule.specs.Parts.{Piece}
 use Rattle.cut_rule.proofs.Document.{LaidFits, RenderedRight, came-to}
 use Rattle.plain_run.specs.Parts.{readRefusal, listed, keepsWaiting, page, rendererOf, partsOf}
 use Rattle.plain_run.specs.Demands.{rulesOf, Gives, laidTo}
-use Rattle.plain_run.specs.File.{FileChoice, built, rowsDue, marksDue, drawnDue, formatted, fileRefusal, fileOutput, fileAnswerBy, fileAnswer}
+use Rattle.plain_run.specs.File.{FileChoice, renderChoice, built, rowsDue, marksDue, drawnDue}
+use Rattle.plain_run.specs.File.{formatted, fileRefusal, fileOutput, fileAnswerBy, fileAnswer}
 use Rattle.plain_run.specs.Text.{Keeps, IsProgram, program, KeptCommentsHeld, TextIsTheProgram, NewModePlacesAll, OutputIsTheProgram, programTo, piecesBetween}
 use Rattle.plain_run.specs.Text.{SoFar, AllRendered, IsSoFar, IsWhole, CallsKeepTheText}
 use Rattle.plain_run.proofs.Foot.{list, closed-holds-all}
@@ -68,10 +69,10 @@ module _ (s b : List ℕ) where
   listed-size = length-map (commentsOf b) _
 
   -- nodes, rendered from the start
-  drawn-made : (ns : Nodes) → CommasChosen ns → (w : ℕ) (z : Pen) (marks : List ℕ)
-      → MadeOf (textBytes s b) (pieces ns) (renderNodes (page w s b) ns true (rendererOf z marks) .buf)
-  drawn-made ns chosen w z marks =
-      let a = writes-pieces w s b ns chosen true (rendererOf z marks) in
+  drawn-made : (ns : Nodes) → CommasChosen ns → (c : RenderChoice) (z : Pen) (marks : List ℕ)
+      → MadeOf (textBytes s b) (pieces ns) (renderNodes (page c s b) ns true (rendererOf z marks) .buf)
+  drawn-made ns chosen c z marks =
+      let a = writes-pieces (c .width) s b ns chosen true (rendererOf z marks) in
       subst (λ (t : List ℕ). MadeOf (textBytes s b) (pieces ns) t) (sym (a .same)) (a .made)
 
   -- ---- a whole file
@@ -82,7 +83,7 @@ module _ (s b : List ℕ) where
     text-kept : Keeps s b (built s b c .placed) (tokensOf b (program s b)) (drawnDue s b c .text)
     text-kept = record {
       these = pieces (built s b c .nodes);
-      made = drawn-made (built s b c .nodes) (said-whole .chosen) (c .width) (renderFresh .pen) (replicate (marksDue s b c) 0);
+      made = drawn-made (built s b c .nodes) (said-whole .chosen) (renderChoice c) (renderFresh .pen) (replicate (marksDue s b c) 0);
       comments = same-comments (built s b c .nodes) (said-whole .chosen) ∙ in-order (given s b) (program s b) (keepsWaiting (c .mode));
       others = said-whole .same;
     }
@@ -157,7 +158,7 @@ module _ (s b : List ℕ) where
     nests : Nests (viewOf store) 0 (d .state .row) 0
     made : CommasChosen (nodesAt (viewOf store) 0 (d .state .row)) → MadeOf (textBytes s b) (piecesBetween store 0 (d .state .row)) (d .text)
 
-  shown-nodes : (store : List ℕ) (d : Option (RenderedTo RenderChoice))
+  shown-nodes : (store : List ℕ) (d : Option (RenderTo RenderChoice))
       → RenderedRight (partsOf s b) (layout-parts (readAll s b) s b) (render-parts s b (readAll s b)) store d
       → ShownNodes store (renderDue (rulesOf s b) store d)
   unfolding pieces
@@ -169,7 +170,7 @@ module _ (s b : List ℕ) where
   shown-nodes store (some p) k = record {
     room = k .0;
     nests = right s b store 0 (p .stop) (omega arith) (k .1) .nests;
-    made = λ chosen. drawn-made (nodesAt (viewOf store) 0 (p .stop)) chosen (p .choice .width) (renderFresh .pen) _;
+    made = λ chosen. drawn-made (nodesAt (viewOf store) 0 (p .stop)) chosen (p .choice) (renderFresh .pen) _;
   }
 
   -- ---- both, in a store with other rows behind

@@ -1,7 +1,7 @@
 -- Layout from fresh is `fmt_parsed`: the rows of steps in sequence are the rows of each, one after the other, so that the declarations laid one
 -- at a time are the loop over them.
 -- Assumes nothing.
-use mathlib.Core.Path.{_≡_, refl, sym, ap, ap₂, _∙_}
+use mathlib.Core.Path.{_≡_, refl, sym, ap, ap₂, subst, _∙_}
 use mathlib.Core.Bool.{Bool, true, false, not}
 use mathlib.Core.Option.{Option, none as nothing, some}
 use mathlib.Core.List.{List, [], _∷_, _++_, append-assoc, append-nil}
@@ -28,8 +28,7 @@ use Rattle.layout_facts.specs.Accepted.{fresh, upTo, closing, wholeRule, callRu
 use Rattle.renderer_rules.specs.Renderer.{renderNodes}
 use Rattle.cut_rule.specs.Rules.{LayoutArgs}
 use Rattle.cut_rule.specs.Parts as cut
-use Rattle.renderer_rules.specs.declared.Pen.{Pen}
-use Rattle.cut_rule.specs.States.{LayoutChoice, Cursor, LayoutState, layoutFresh, OLD-MODE}
+use Rattle.cut_rule.specs.States.{LayoutChoice, RenderChoice, Cursor, LayoutState, RenderState, layoutFresh}
 use Rattle.cut_rule.specs.Parts.{Piece, still, andThen, begin, several, end}
 use Rattle.plain_run.specs.Parts.{acceptedTree, actPiece, declarationAct, keepsWaiting, rendererOf, drawnBy, page, drawn, partsBy}
 use Rattle.plain_run.specs.Demands.{Gives, laidTo, stoppingAt, closingAt, FmtParsed}
@@ -129,16 +128,16 @@ module _ (r : Read Image) (s b : List ℕ) where
   at-place d n = same-act (d + n) (flag n (eqb d 0)) (nth ds (d + n)) (flag-at d n) ∙ ap (one g (flag n (eqb d 0))) (sym (nth-drop d ds n))
 
   -- n declarations from declaration d on are the loop over these
-  loop : (n d : ℕ) (p : Piece) → d + n ≤ length ds
-      → several (partsBy r s b) n d p ≡ andThen p (actPiece (declarationsRule g (take n (drop d ds)) (eqb d 0)))
+  loop : (k : LayoutChoice) (n d : ℕ) (p : Piece) → d + n ≤ length ds
+      → several (partsBy r s b) k n d p ≡ andThen p (actPiece (declarationsRule g (take n (drop d ds)) (eqb d 0)))
   unfolding declarationsRule
-  loop zero d p h = sym (then-skip p)
-  loop (suc n) d p h =
+  loop k zero d p h = sym (then-skip p)
+  loop k (suc n) d p h =
       let rest = drop d ds in
       let rule = actPiece (declarationsRule g (take n rest) (eqb d 0)) in
       let last = actPiece (one g (flag n (eqb d 0)) (nth rest n)) in
       let l = length-drop d ds in
-      ap (λ (x : Piece). andThen x (actPiece (declarationAct s b (d + n) (nth ds (d + n))))) (loop n d p (omega arith))
+      ap (λ (x : Piece). andThen x (actPiece (declarationAct s b (d + n) (nth ds (d + n))))) (loop k n d p (omega arith))
       ∙ ap (λ (a : Act). andThen (andThen p rule) (actPiece a)) (at-place d n)
       ∙ then-then p rule last
       ∙ then-at p (λ c. andThen (rule c) last) (actPiece (declarationsRule g (take (suc n) rest) (eqb d 0)))
@@ -149,47 +148,50 @@ module _ (r : Read Image) (s b : List ℕ) where
       → cut.callPiece (partsBy r s b) z q
       ≡ actPiece (callRule g tree (not (z .begun)) (take (q .stop - z .declaration) (drop (z .declaration) ds)) (eqb (z .declaration) 0) (q .close)
       (keepsWaiting (q .choice .mode))) (z .cursor)
-  call-piece z q h k =
+  call-piece z q h l =
+      let P = partsBy r s b in
+      let k = q .choice in
       let d = z .declaration in
       let stop = q .stop in
       let close = q .close in
       let a = when (not (z .begun)) (shebangRule g (tree .shebang)) in
       let rule = declarationsRule g (take (stop - d) (drop d ds)) (eqb d 0) in
-      let mode = q .choice .mode in
-      let last = when close (closing g tree (keepsWaiting mode)) in
-      ends close mode (several (partsBy r s b) (stop - d) d (begin (partsBy r s b) (z .begun) (z .cursor)))
-      ∙ ap (λ (p : Piece). andThen p (actPiece last)) (loop (stop - d) d (begin (partsBy r s b) (z .begun) (z .cursor)) (omega arith))
-      ∙ ap (λ (p : Piece). andThen (andThen p (actPiece rule)) (actPiece last)) (begins (z .begun) (z .cursor))
+      let last = when close (closing g tree (keepsWaiting (k .mode))) in
+      ends k close (several P k (stop - d) d (begin P k (z .begun) (z .cursor)))
+      ∙ ap (λ (p : Piece). andThen p (actPiece last)) (loop k (stop - d) d (begin P k (z .begun) (z .cursor)) (omega arith))
+      ∙ ap (λ (p : Piece). andThen (andThen p (actPiece rule)) (actPiece last)) (begins k (z .begun) (z .cursor))
       ∙ then-then (actPiece a (z .cursor)) (actPiece rule) (actPiece last)
       ∙ then-at (actPiece a (z .cursor)) (λ c. andThen (actPiece rule c) (actPiece last)) (actPiece (rule ⨟ last))
       (sym (piece-then rule last (actPiece a (z .cursor) .cursor)))
       ∙ sym (piece-then a (rule ⨟ last) (z .cursor))
     where
-      begins : (begun : Bool) (c : Cursor) → begin (partsBy r s b) begun c ≡ actPiece (when (not begun) (shebangRule g (tree .shebang))) c
-      begins true c = sym (piece-skip c)
-      begins false c = refl
+      begins : (k : LayoutChoice) (begun : Bool) (c : Cursor)
+          → begin (partsBy r s b) k begun c ≡ actPiece (when (not begun) (shebangRule g (tree .shebang))) c
+      begins k true c = sym (piece-skip c)
+      begins k false c = refl
 
-      ends : (close : Bool) (mode : ℕ) (p : Piece)
-          → end (partsBy r s b) close mode p ≡ andThen p (actPiece (when close (closing g tree (keepsWaiting mode))))
-      ends true mode p = refl
-      ends false mode p = sym (then-skip p)
+      ends : (k : LayoutChoice) (close : Bool) (p : Piece)
+          → end (partsBy r s b) k close p ≡ andThen p (actPiece (when close (closing g tree (keepsWaiting (k .mode)))))
+      ends k true p = refl
+      ends k false p = sym (then-skip p)
 
   abbrev start : Cursor
   start = layoutFresh .cursor
 
-  laid : (n : ℕ) → n ≤ length ds → several (partsBy r s b) (n - 0) 0 (partsBy r s b .shebang start) ≡ actPiece (upTo g tree (take n ds)) start
-  laid n h =
+  laid : (k : LayoutChoice) (n : ℕ) → n ≤ length ds
+      → several (partsBy r s b) k (n - 0) 0 (partsBy r s b .shebang k start) ≡ actPiece (upTo g tree (take n ds)) start
+  laid k n h =
       let one = actPiece (shebangRule g (tree .shebang)) start in
-      ap (λ (k : ℕ). several (partsBy r s b) k 0 one) (sub-zero n)
-      ∙ loop n 0 one (omega arith)
+      ap (λ (j : ℕ). several (partsBy r s b) k j 0 one) (sub-zero n)
+      ∙ loop k n 0 one (omega arith)
       ∙ sym (piece-then (shebangRule g (tree .shebang)) (declarationsRule g (take n ds) true) start)
 
   -- rows of nodes render as the nodes do, since they are read back as those
-  read-back : (ns : Nodes) (w : ℕ) (z : Pen) (marks : List ℕ)
-      → drawn s b w z marks (rows ns 0) 0 (sizes ns) ≡ drawnBy (renderNodes (page w s b) ns true (rendererOf z marks))
-  read-back ns w z marks =
-      ap (λ (x : Nodes). drawnBy (renderNodes (page w s b) x true (rendererOf z marks)))
-      (ap (nodesAt (viewOf (rows ns 0)) 0) (sym (zero-add (sizes ns))) ∙ flattened ns (rows ns 0) 0 (take-length (rows ns 0)))
+  read-back : (ns : Nodes) (c : RenderChoice) (z : RenderState) (marks : List ℕ) → z .row ≡ 0
+      → drawn s b z (record { stop = sizes ns; choice = c }) marks (rows ns 0) ≡ drawnBy (renderNodes (page c s b) ns true (rendererOf (z .pen) marks))
+  read-back ns c z marks h =
+      ap (λ (x : Nodes). drawnBy (renderNodes (page c s b) x true (rendererOf (z .pen) marks)))
+      (ap₂ (nodesAt (viewOf (rows ns 0))) h (sym (zero-add (sizes ns))) ∙ flattened ns (rows ns 0) 0 (take-length (rows ns 0)))
 
   -- a piece from the fresh cursor is what its step gives
   pub gives : (q : LayoutArgs LayoutChoice) (a : Act) → laidTo r s b q .rows ≡ actPiece a start .rows
@@ -203,24 +205,26 @@ module _ (r : Read Image) (s b : List ℕ) where
     placed-due = ap (λ (c : Cursor). c .placed) f;
     left-due = ap (λ (c : Cursor). length (commentsOf b) - c .placed) f;
     drawn-due =
-        λ w z marks.
-        ap₂ (λ (x : List ℕ) (k : ℕ). drawn s b w z marks x 0 k) e (ap (λ (c : Cursor). c .row) f ∙ zero-add (sizes (a fresh .nodes)))
-        ∙ read-back (a fresh .nodes) w z marks;
+        λ k z marks h.
+        ap₂ (λ (x : List ℕ) (n : ℕ). drawn s b z (record { stop = n; choice = k }) marks x) e
+        (ap (λ (c : Cursor). c .row) f ∙ zero-add (sizes (a fresh .nodes)))
+        ∙ read-back (a fresh .nodes) k z marks h;
   }
 
-  closed-in : (mode : ℕ) → Gives s b (wholeRule g tree (keepsWaiting mode) fresh) (laidTo r s b (closingAt mode (length ds)))
-  closed-in mode =
-      gives (closingAt mode (length ds)) (wholeRule g tree (keepsWaiting mode)) (ap (λ (p : Piece). p .rows) closes) (ap (λ (p : Piece). p .cursor) closes)
+  closed-in : (k : LayoutChoice) → Gives s b (wholeRule g tree (keepsWaiting (k .mode)) fresh) (laidTo r s b (closingAt k (length ds)))
+  closed-in k =
+      gives (closingAt k (length ds)) (wholeRule g tree (keepsWaiting (k .mode))) (ap (λ (p : Piece). p .rows) closes)
+      (ap (λ (p : Piece). p .cursor) closes)
     where
       last : Act
-      last = closing g tree (keepsWaiting mode)
+      last = closing g tree (keepsWaiting (k .mode))
 
-      closes : andThen (several (partsBy r s b) (length ds - 0) 0 (partsBy r s b .shebang start)) (actPiece last)
-          ≡ actPiece (wholeRule g tree (keepsWaiting mode)) start
+      closes : andThen (several (partsBy r s b) k (length ds - 0) 0 (partsBy r s b .shebang k start)) (actPiece last)
+          ≡ actPiece (wholeRule g tree (keepsWaiting (k .mode))) start
       closes =
           let one = shebangRule g (tree .shebang) in
           let rule = declarationsRule g ds true in
-          ap (λ (p : Piece). andThen p (actPiece last)) (laid (length ds) (omega arith))
+          ap (λ (p : Piece). andThen p (actPiece last)) (laid k (length ds) (omega arith))
           ∙ ap (λ (xs : List Declaration). andThen (actPiece (upTo g tree xs) start) (actPiece last)) (take-length ds)
           ∙ ap (λ (p : Piece). andThen p (actPiece last)) (piece-then one rule start)
           ∙ then-then (actPiece one start) (actPiece rule) (actPiece last)
@@ -232,9 +236,9 @@ module _ (r : Read Image) (s b : List ℕ) where
   unfolding fmtParsed
   fmt-parsed = record {
     at-stop =
-        λ mode n h.
-        let e = laid n h in
-        gives (stoppingAt mode n) (upTo g tree (take n ds)) (ap (λ (p : Piece). p .rows) e) (ap (λ (p : Piece). p .cursor) e);
-    closed = closed-in OLD-MODE;
+        λ k n h.
+        let e = laid k n h in
+        gives (stoppingAt k n) (upTo g tree (take n ds)) (ap (λ (p : Piece). p .rows) e) (ap (λ (p : Piece). p .cursor) e);
+    closed = λ k e. subst (λ (m : ℕ). Gives s b (wholeRule g tree (keepsWaiting m) fresh) (laidTo r s b (closingAt k (length ds)))) e (closed-in k);
     closed-in = closed-in;
   }

@@ -21,8 +21,7 @@ use Rattle.cut_rule.specs.Rules.{LayoutArgs, LayoutResult, Rules}
 use Rattle.cut_rule.specs.Run.{Call, start}
 use Rattle.cut_rule.specs.Plain.{AllReadLaid}
 use Rattle.cut_rule.specs.CutRule.{CutRule}
-use Rattle.renderer_rules.specs.declared.Pen.{Pen}
-use Rattle.cut_rule.specs.States.{LayoutChoice, LayoutState, layoutFresh, OLD-MODE}
+use Rattle.cut_rule.specs.States.{LayoutChoice, RenderChoice, LayoutState, RenderState, layoutFresh, OLD-MODE}
 use Rattle.cut_rule.specs.Parts.{laidOf, rules}
 use Rattle.plain_run.specs.Parts.{readRefusal, acceptedTree, listed, keepsWaiting, rendererOf, drawnBy, page, drawn, partsBy}
 
@@ -44,7 +43,7 @@ RulesCut =
 
 -- ---- what is due at a stop
 -- what layout gives is what a step of the layout rules gives: its nodes as rows, its numbers, its position, the comments that it placed; and
--- these rows render as the nodes do, at every width
+-- these rows render as the nodes do, from every state at row 0, whatever is chosen
 pub record Gives (s b : List ℕ) (o : Out) (l : LayoutResult LayoutState) : Type 0 where
   pub rows-due : l .rows ≡ rows (o .nodes) 0
   pub row-due : l .state .cursor .row ≡ sizes (o .nodes)
@@ -52,29 +51,31 @@ pub record Gives (s b : List ℕ) (o : Out) (l : LayoutResult LayoutState) : Typ
   pub position-due : l .state .cursor .position ≡ o .pos
   pub placed-due : l .state .cursor .placed ≡ o .placed
   pub left-due : l .left ≡ length (commentsOf b) - o .placed
-  pub drawn-due : (width : ℕ) (z : Pen) (marks : List ℕ)
-      → drawn s b width z marks (l .rows) 0 (l .state .cursor .row) ≡ drawnBy (renderNodes (page width s b) (o .nodes) true (rendererOf z marks))
+  pub drawn-due : (c : RenderChoice) (z : RenderState) (marks : List ℕ) → z .row ≡ 0
+      → drawn s b z (record { stop = l .state .cursor .row; choice = c }) marks (l .rows)
+      ≡ drawnBy (renderNodes (page c s b) (o .nodes) true (rendererOf (z .pen) marks))
 
 -- layout from fresh, in one go
 abbrev pub laidTo : Read Image → List ℕ → List ℕ → LayoutArgs LayoutChoice → LayoutResult LayoutState
 laidTo r s b q = laidOf (partsBy r s b) layoutFresh q
 
--- the arguments that name a stop, by the mode, and close there or not
-abbrev pub stoppingAt : ℕ → ℕ → LayoutArgs LayoutChoice
-stoppingAt mode n = record { stop = n; close = false; choice = record { mode = mode } }
+-- the arguments that name a stop, by what is chosen, and close there or not
+abbrev pub stoppingAt : LayoutChoice → ℕ → LayoutArgs LayoutChoice
+stoppingAt k n = record { stop = n; close = false; choice = k }
 
-abbrev pub closingAt : ℕ → ℕ → LayoutArgs LayoutChoice
-closingAt mode n = record { stop = n; close = true; choice = record { mode = mode } }
+abbrev pub closingAt : LayoutChoice → ℕ → LayoutArgs LayoutChoice
+closingAt k n = record { stop = n; close = true; choice = k }
 
 -- "The rows and state due at a stop are those `fmt_parsed` has when its loop reaches that declaration", whatever the mode, and closed in the old
 -- mode, those that it has in the end. Closed in the new mode, the same, with the comments that wait before the final `Line`. (Of an image that
 -- is refused nothing is laid out but what closing adds.)
 pub record FmtParsed (r : Read Image) (s b : List ℕ) (t : SyntaxTree) : Type 0 where
-  pub at-stop : (mode n : ℕ) → n ≤ length (t .declarations)
-      → Gives s b (upTo (given s b) t (take n (t .declarations)) fresh) (laidTo r s b (stoppingAt mode n))
-  pub closed : Gives s b (fmtParsed (given s b) t fresh) (laidTo r s b (closingAt OLD-MODE (length (t .declarations))))
-  pub closed-in : (mode : ℕ)
-      → Gives s b (wholeRule (given s b) t (keepsWaiting mode) fresh) (laidTo r s b (closingAt mode (length (t .declarations))))
+  pub at-stop : (k : LayoutChoice) (n : ℕ) → n ≤ length (t .declarations)
+      → Gives s b (upTo (given s b) t (take n (t .declarations)) fresh) (laidTo r s b (stoppingAt k n))
+  pub closed : (k : LayoutChoice) → k .mode ≡ OLD-MODE
+      → Gives s b (fmtParsed (given s b) t fresh) (laidTo r s b (closingAt k (length (t .declarations))))
+  pub closed-in : (k : LayoutChoice)
+      → Gives s b (wholeRule (given s b) t (keepsWaiting (k .mode)) fresh) (laidTo r s b (closingAt k (length (t .declarations))))
 
 abbrev pub DueIsFmtParsed : Type 0
 DueIsFmtParsed = (r : Read Image) (s b : List ℕ) → FmtParsed r s b (acceptedTree b r)
@@ -90,8 +91,8 @@ pub record Limited (s b : List ℕ) (l : LayoutResult LayoutState) : Type 0 wher
   pub placed-in : l .state .cursor .placed ≤ length (commentsOf b)
 
 pub record AllLimited (r : Read Image) (s b : List ℕ) (t : SyntaxTree) : Type 0 where
-  pub at-stop : (mode n : ℕ) → n ≤ length (t .declarations) → Limited s b (laidTo r s b (stoppingAt mode n))
-  pub closed : (mode : ℕ) → Limited s b (laidTo r s b (closingAt mode (length (t .declarations))))
+  pub at-stop : (k : LayoutChoice) (n : ℕ) → n ≤ length (t .declarations) → Limited s b (laidTo r s b (stoppingAt k n))
+  pub closed : (k : LayoutChoice) → Limited s b (laidTo r s b (closingAt k (length (t .declarations))))
 
 abbrev pub LaidWithinLimits : Type 0
 LaidWithinLimits = (s b : List ℕ) → readRefusal (readAll s b) ≡ none → AllLimited (readAll s b) s b (acceptedTree b (readAll s b))

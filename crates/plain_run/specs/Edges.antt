@@ -16,7 +16,7 @@ use Rattle.rows.specs.View.{cell}
 use Rattle.tree.specs.CommentList.{span}
 use Rattle.cut_rule.specs.Run.{layoutCall, renderCall, Carried, start, run}
 use Rattle.cut_rule.specs.Limits.{REFERENCE-WIDTH}
-use Rattle.cut_rule.specs.States.{layoutFresh, OLD-MODE, NEW-MODE}
+use Rattle.cut_rule.specs.States.{RenderChoice, layoutFresh, OLD-MODE, NEW-MODE}
 use Rattle.renderer_rules.specs.Renderer.{Renderer, renderNode}
 use Rattle.plain_run.specs.Parts.{page}
 use Rattle.plain_run.specs.Demands.{rulesOf, closingAt}
@@ -90,7 +90,7 @@ rendersAt width e =
       text = [];
       left = none;
     } in
-    seen (e .source) noBody (run r w (renderCall (record { stop = sizes (e .nodes); room = 300; choice = record { width = width } }) ∷ []))
+    seen (e .source) noBody (run r w (renderCall (record { to = record { stop = sizes (e .nodes); choice = record { width = width } }; room = 300 }) ∷ []))
 
 -- "two bytes, the number of comments; for each, start and end, four bytes each; one tree record"
 abbrev pub pairs : List Span → List ℕ
@@ -111,8 +111,8 @@ formatsAs f =
     let r = rulesOf (f .source) image in
     seen (f .source) image
     (run r (start r (replicate 216 0) (0 ∷ 0 ∷ []))
-    (layoutCall (closingAt (f .mode) (length (f .declarations)))
-    ∷ renderCall (record { stop = f .rows; room = 200; choice = record { width = REFERENCE-WIDTH } })
+    (layoutCall (closingAt (record { mode = f .mode }) (length (f .declarations)))
+    ∷ renderCall (record { to = record { stop = f .rows; choice = record { width = REFERENCE-WIDTH } }; room = 200 })
     ∷ []))
 
 abbrev pub observed : Edge → Seen
@@ -353,7 +353,7 @@ pub record WidthsHold : Type 0 where
 
 -- ---- "`EmptyLine` at column 0 writes one newline, elsewhere two", at every column and whatever was written before
 pub record EmptyLineHolds : Type 0 where
-  pub at-start : (width : ℕ) (s b : List ℕ) (w : Bool) (r : Renderer) → r .pen .column .0 ≡ 0
-      → renderNode (page width s b) emptyLine w r .buf ≡ r .buf ++ newline
-  pub elsewhere : (width : ℕ) (s b : List ℕ) (w : Bool) (r : Renderer) → 0 < r .pen .column .0
-      → renderNode (page width s b) emptyLine w r .buf ≡ r .buf ++ (newline ++ newline)
+  pub at-start : (c : RenderChoice) (s b : List ℕ) (w : Bool) (r : Renderer) → r .pen .column .0 ≡ 0
+      → renderNode (page c s b) emptyLine w r .buf ≡ r .buf ++ newline
+  pub elsewhere : (c : RenderChoice) (s b : List ℕ) (w : Bool) (r : Renderer) → 0 < r .pen .column .0
+      → renderNode (page c s b) emptyLine w r .buf ≡ r .buf ++ (newline ++ newline)

@@ -68,11 +68,11 @@ module _ (s b : List ℕ) where
 
   -- what `Renderer` makes of it, with the width and that many marks, all cleared
   abbrev pub drawnDue : FileChoice → Drawn
-  drawnDue c = drawnBy (renderNodes (page (c .width) s b) (built c .nodes) true (rendererOf (renderFresh .pen) (replicate (marksDue c) 0)))
+  drawnDue c = drawnBy (renderNodes (page (renderChoice c) s b) (built c .nodes) true (rendererOf (renderFresh .pen) (replicate (marksDue c) 0)))
 
   -- "greatest value `column` takes"
   abbrev pub columnDue : FileChoice → ℕ
-  columnDue c = greatestColumn (page (c .width) s b) (built c .nodes) (replicate (marksDue c) 0)
+  columnDue c = greatestColumn (page (renderChoice c) s b) (built c .nodes) (replicate (marksDue c) 0)
 
   -- 1 to 7, then 12 and 15, a fresh state carrying no width, then 8, in a store of so many rows
   abbrev pub laidRefusal : FileChoice → ℕ → Option Refusal

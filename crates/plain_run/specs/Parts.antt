@@ -25,7 +25,8 @@ use Rattle.renderer_rules.specs.Check.{wrongPlace}
 use Rattle.refusals.specs.Refusals.{Refusal, first, refuseIf}
 use Rattle.rows.specs.Node.{Text}
 use Rattle.renderer_rules.specs.declared.Pen.{Pen}
-use Rattle.cut_rule.specs.States.{Cursor, NEW-MODE}
+use Rattle.cut_rule.specs.Rules.{RenderTo}
+use Rattle.cut_rule.specs.States.{RenderChoice, Cursor, RenderState, NEW-MODE}
 use Rattle.cut_rule.specs.Parts.{Piece, Drawn, RuleParts}
 
 -- ---- source and image
@@ -75,16 +76,19 @@ abbrev pub drawnBy : Renderer → Drawn
 drawnBy r = record { pen = r .pen; marks = r .marks; text = r .buf }
 
 -- "The rules are the Rust's with that number": the width is `max`
-abbrev pub page : ℕ → List ℕ → List ℕ → Page
-page width s b = pageOf width s b
+abbrev pub page : RenderChoice → List ℕ → List ℕ → Page
+page c s b = pageOf (c .width) s b
 
--- the rows from i up to a stop; what is read counts as top rows, so that `wrap` is true
-abbrev pub drawn : List ℕ → List ℕ → ℕ → Pen → List ℕ → List ℕ → ℕ → ℕ → Drawn
-drawn s b width z marks store i stop = drawnBy (renderNodes (page width s b) (nodesAt (viewOf store) i stop) true (rendererOf z marks))
+-- the rows from the state's next row up to the stop; what is read counts as top rows, so that `wrap` is true
+abbrev pub rendering : List ℕ → List ℕ → RenderState → RenderTo RenderChoice → List ℕ → List ℕ → Renderer
+rendering s b z q marks store = renderNodes (page (q .choice) s b) (nodesAt (viewOf store) (z .row) (q .stop)) true (rendererOf (z .pen) marks)
+
+abbrev pub drawn : List ℕ → List ℕ → RenderState → RenderTo RenderChoice → List ℕ → List ℕ → Drawn
+drawn s b z q marks store = drawnBy (rendering s b z q marks store)
 
 -- the greatest value that `column` is set to there
-abbrev pub widestDrawn : List ℕ → List ℕ → ℕ → Pen → List ℕ → List ℕ → ℕ → ℕ → ℕ
-widestDrawn s b width z marks store i stop = renderNodes (page width s b) (nodesAt (viewOf store) i stop) true (rendererOf z marks) .widest
+abbrev pub widestDrawn : List ℕ → List ℕ → RenderState → RenderTo RenderChoice → List ℕ → List ℕ → ℕ
+widestDrawn s b z q marks store = rendering s b z q marks store .widest
 
 -- ---- the whole
 -- by what was read of the image: another way to read is another r
@@ -96,11 +100,11 @@ partsBy r s b =
       declarations = length (tree .declarations);
       comments = length (commentsOf b);
       layout-image = readRefusal r;
-      render-image = renderImage s b;
-      shebang = actPiece (shebangRule (given s b) (tree .shebang));
-      declaration = λ n. actPiece (declarationAct s b n (nth (tree .declarations) n));
-      final = λ mode. actPiece (closing (given s b) tree (keepsWaiting mode));
-      wrong-row = wrongPlace s b;
+      render-image = λ c. renderImage s b;
+      shebang = λ k. actPiece (shebangRule (given s b) (tree .shebang));
+      declaration = λ k n. actPiece (declarationAct s b n (nth (tree .declarations) n));
+      final = λ k. actPiece (closing (given s b) tree (keepsWaiting (k .mode)));
+      wrong-row = λ c. wrongPlace s b;
       needed = λ store i stop. marksNeeded (stop - i) store i;
       draw = drawn s b;
     }

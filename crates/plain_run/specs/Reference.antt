@@ -24,7 +24,7 @@ use Rattle.renderer_rules.specs.Check.{wrongPlace}
 use Rattle.renderer_rules.specs.declared.Pen.{Pen}
 use Rattle.refusals.specs.Refusals.{Refusal, unless, first, refuseIf, refuseAt, any}
 use Rattle.cut_rule.specs.Limits.{REFERENCE-WIDTH}
-use Rattle.cut_rule.specs.Rules.{RenderArgs}
+use Rattle.cut_rule.specs.Rules.{RenderTo, RenderArgs}
 use Rattle.cut_rule.specs.Run.{writeFront}
 use Rattle.cut_rule.specs.States.{RenderChoice, RenderState, renderFresh}
 use Rattle.cut_rule.specs.Tests.{renderTests}
@@ -32,6 +32,10 @@ use Rattle.cut_rule.specs.Parts.{Drawn, withCleared, widthLine, renderTable, re
 use Rattle.plain_run.specs.Parts.{readRefusal, acceptedTree, renderImage, rendererOf, drawnBy, partsOf}
 use Rattle.plain_run.specs.File.{fileRows, fileMarks, referenceChoice, modeLine, renderChoice, built, fileRefusal, fileOutput}
 use Rattle.plain_run.specs.File.{FileAnswer, formatted, fileAnswerBy, fileAnswer}
+
+-- a rendering to a stop that chooses 80
+abbrev pub atReference : ℕ → RenderTo RenderChoice
+atReference stop = record { stop = stop; choice = renderChoice referenceChoice }
 
 module _ (s b : List ℕ) where
   -- ---- a whole file
@@ -85,11 +89,11 @@ module _ (s b : List ℕ) where
   -- 1, 3, 11, 12, 9, 10
   abbrev pub callRefusal : RenderArgs RenderChoice → RenderState → List ℕ → List ℕ → Option Refusal
   callRefusal q z store marks =
-      let needed = marksNeeded (q .stop - z .row) store (z .row) in
-      let bytes = length (callDrawn z (take (z .in-use) marks) store (q .stop) .text) in
+      let needed = marksNeeded (q .to .stop - z .row) store (z .row) in
+      let bytes = length (callDrawn z (take (z .in-use) marks) store (q .to .stop) .text) in
       first
       (renderImage s b
-      ∷ refuseAt (wrongPlace s b store (z .row) (q .stop)) 11
+      ∷ refuseAt (wrongPlace s b store (z .row) (q .to .stop)) 11
       ∷ refuseIf (any (renderTests q z store marks)) 12 0
       ∷ refuseIf (ltb (length marks) needed) 9 needed
       ∷ refuseIf (ltb (q .room) bytes) 10 bytes
@@ -98,9 +102,9 @@ module _ (s b : List ℕ) where
   -- of a call that chooses 80, from a state that carries none yet or 80
   pub record CallAsBefore (stop room : ℕ) (z : RenderState) (store marks : List ℕ) : Type 0 where
     pub refusal :
-        (let q : RenderArgs RenderChoice = record { stop = stop; room = room; choice = renderChoice referenceChoice } in
+        (let q : RenderArgs RenderChoice = record { to = atReference stop; room = room } in
         first (renderTable (partsOf s b) q z store marks) ≡ callRefusal q z store marks)
-    pub rendered : renderedOf (partsOf s b) (renderChoice referenceChoice) z marks store stop ≡ record {
+    pub rendered : renderedOf (partsOf s b) z (atReference stop) marks store ≡ record {
       state = record {
         pen = callDrawn z marks store stop .pen;
         in-use = max (z .in-use) (marksNeeded (stop - z .row) store (z .row));

@@ -18,7 +18,7 @@ use Rattle.marks.specs.Marks.{marksNeeded}
 use Rattle.plain_run.specs.Parts.{partsOf, rendererOf, drawnBy}
 use Rattle.plain_run.proofs.Past.{Unders, ext, renders-ext, renders-length}
 use Rattle.plain_run.proofs.Marks.{nodes-under}
-use Rattle.render_call.specs.Calls.{toState}
+use Rattle.render_call.specs.Calls.{toState, goesTo}
 use Rattle.render_call.specs.Whole.{widestDue}
 use Rattle.render_call.specs.declared.RenderState.{RenderState}
 use Rattle.render_call.specs.declared.RenderArgs.{RenderArgs}
@@ -39,7 +39,7 @@ module _ (source image : List ℕ) (state : RenderState) (args : RenderArgs) (st
   inUse = withCleared (partsOf source image) (take (state .«in_use») marks) needed
 
   abbrev pub gives : Drawn
-  gives = drawnOf (partsOf source image) (args .width .0) (toState state) (take (state .«in_use») marks) store (args .stop)
+  gives = drawnOf (partsOf source image) (toState state) (goesTo args) (take (state .«in_use») marks) store
 
   under : Unders (length inUse) (nodesAt (viewOf store) (state .row) (args .stop))
   under =

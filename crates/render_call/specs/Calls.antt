@@ -28,8 +28,11 @@ toState s = record {
 }
 
 -- "A rendering call names the row to stop before", and chooses a width; `room` is the length of the output that it is lent.
+abbrev pub goesTo : RenderArgs → cut.RenderTo states.RenderChoice
+goesTo args = record { stop = args .stop; choice = record { width = args .width .0 } }
+
 abbrev pub toArgs : RenderArgs → ℕ → cut.RenderArgs states.RenderChoice
-toArgs args room = record { stop = args .stop; room = room; choice = record { width = args .width .0 } }
+toArgs args room = record { to = goesTo args; room = room }
 
 -- A call's answer, case by case: "the new state and the bytes written"; "Number and place are all that comes back."
 abbrev pub renderingAnswer : (s b : List ℕ) → Rendering → Answer (rulesOf s b)
