@@ -15,7 +15,8 @@ use Rattle.rows.specs.Places.{PLACES}
 use Rattle.renderer_rules.specs.Limits.{MAX-INDENT, MAX-COLUMN}
 use Rattle.renderer_rules.specs.declared.Pen.{Pen}
 use Rattle.refusals.specs.Refusals.{any}
-use Rattle.cut_rule.specs.Run.{Call, layoutCall, renderCall, Carried, start, run, Answer, refused, laidOut, written, answers}
+use Rattle.refusals.specs.Answers.{Answer, refused, accepted}
+use Rattle.cut_rule.specs.Run.{Call, layoutCall, renderCall, Carried, start, run, CallResult, laidOut, written, answers}
 use Rattle.cut_rule.specs.Plain.{atFirst, due, plain, AllReadLaid}
 use Rattle.rows.specs.Node.{Text}
 use Rattle.cut_rule.specs.CutRule.{commentsIn, CutRule}
@@ -157,11 +158,11 @@ abbrev renderTo : ℕ → ℕ → Call (rules small)
 renderTo n room = renderAt REFERENCE-WIDTH n room
 
 -- number and place of a refusal; 100 and the comments left; 200 and the bytes written
-abbrev asNumbers : List (Answer (rules small)) → List (List ℕ)
+abbrev asNumbers : List (Answer (CallResult (rules small))) → List (List ℕ)
 asNumbers [] = []
 asNumbers (refused r ∷ rest) = (r .number ∷ r .place ∷ []) ∷ asNumbers rest
-asNumbers (laidOut s n ∷ rest) = (100 ∷ n ∷ []) ∷ asNumbers rest
-asNumbers (written s n ∷ rest) = (200 ∷ n ∷ []) ∷ asNumbers rest
+asNumbers (accepted (laidOut s n) ∷ rest) = (100 ∷ n ∷ []) ∷ asNumbers rest
+asNumbers (accepted (written s n) ∷ rest) = (200 ∷ n ∷ []) ∷ asNumbers rest
 
 -- a store of three rows and two numbers, which held 9s, and two marks, which held 5s
 abbrev nines : List ℕ

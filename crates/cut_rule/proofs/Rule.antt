@@ -9,9 +9,10 @@ use native.Mathlib.Omega.{arith}
 use lib.ListN.{length, drop}
 use Rattle.rows.specs.Places.{PLACES}
 use Rattle.refusals.specs.Refusals.{Refusal, unless}
+use Rattle.refusals.specs.Answers.{Answer}
 use Rattle.cut_rule.specs.Rules.{LayoutArgs, RenderTo, Rules}
 use Rattle.cut_rule.specs.Run.{Call, layoutCall, renderCall, Carried, start, refusal, rendered, accepted, call, run}
-use Rattle.cut_rule.specs.Run.{Answer, answer, answers}
+use Rattle.cut_rule.specs.Run.{CallResult, answer, answers}
 use Rattle.cut_rule.specs.Plain.{Progress, atFirst, layoutDue, leftDue, due, plainCall, plain, answersDue, IsAccepted, AllReadLaid}
 use Rattle.cut_rule.specs.Plain.{AllReadDue}
 use Rattle.rows.specs.Node.{Text}
@@ -55,7 +56,7 @@ module _ (R : Rules) (L : LayoutLaws R) (D : RenderLaws R) where
   answers-from s m [] f k a = refl
   answers-from s m (c ∷ cs) f k a =
       let t = one-call R L D s m f c k (a .0) in
-      ap (λ (rest : List (Answer R)). answer R (due R s m f) c ∷ rest)
+      ap (λ (rest : List (Answer (CallResult R))). answer R (due R s m f) c ∷ rest)
       (ap (λ (w : Carried R). answers R w cs) (t .0)
       ∙ answers-from s m cs (plainCall R s m f c) (t .1) (subst (λ (w : Carried R). AllReadLaid R w cs) (t .0) (a .1)))
 

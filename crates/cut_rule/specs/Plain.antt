@@ -5,7 +5,8 @@ use mathlib.Core.List.{List, [], _∷_}
 use Prim.Native.Nat.{ℕ, _≤_, _<_}
 use Rattle.cut_rule.specs.Rules.{LayoutArgs, RenderTo, LayoutResult, RenderResult, Rules}
 use Rattle.refusals.specs.Refusals.{unless}
-use Rattle.cut_rule.specs.Run.{writeFront, Call, layoutCall, renderCall, Carried, refusal, call, Answer, answer}
+use Rattle.refusals.specs.Answers.{Answer}
+use Rattle.cut_rule.specs.Run.{writeFront, Call, layoutCall, renderCall, Carried, refusal, call, CallResult, answer}
 
 module _ (R : Rules) where
   -- "It keeps how far layout and rendering came", with "what else the accepted calls of a kind chose"; none where no call of the kind was
@@ -65,7 +66,7 @@ module _ (R : Rules) where
   plain store₀ marks₀ f (c ∷ cs) = plain store₀ marks₀ (plainCall store₀ marks₀ f c) cs
 
   -- the answers that the table and the rules give on what is due before each call
-  abbrev pub answersDue : List ℕ → List ℕ → Progress → List (Call R) → List (Answer R)
+  abbrev pub answersDue : List ℕ → List ℕ → Progress → List (Call R) → List (Answer (CallResult R))
   answersDue store₀ marks₀ f [] = []
   answersDue store₀ marks₀ f (c ∷ cs) = answer R (due store₀ marks₀ f) c ∷ answersDue store₀ marks₀ (plainCall store₀ marks₀ f c) cs
 

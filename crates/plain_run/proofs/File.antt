@@ -1,9 +1,9 @@
 -- A whole file laid out and rendered by two calls from fresh. But for the mode 12 refuses neither call, and 11 finds nothing wrong with the rows
--- that the first call leaves. Where 12 refuses the mode or 15 the width, neither is made.
+-- that the first call leaves. Where a line before 8 refuses the file, neither is made.
 -- Assumes nothing.
 use mathlib.Core.Path.{_≡_, refl, sym, ap, ap₂, subst₂, _∙_}
 use mathlib.Core.Bool.{Bool, true, false}
-use mathlib.Core.Option.{Option, none, some}
+use mathlib.Core.Option.{Option, none}
 use mathlib.Core.List.{List, [], _∷_, _++_}
 use Prim.Native.Nat.{ℕ, _+_, _*_, _-_, _≤_, max}
 use native.Mathlib.Omega.{arith}
@@ -14,7 +14,7 @@ use lib.Seq.{take-append-le, take-append-seam}
 use borrow.Author.Tests.{le-ltb, le-leb, eq-eqb}
 use Rattle.rows.specs.Places.{PLACES}
 use Rattle.image.specs.Bytes.{be32}
-use Rattle.image.specs.Read.{Read, got, bad, Image, header, sourceFits, readAll, answerOf}
+use Rattle.image.specs.Read.{Read, got, bad, Image, header, sourceFits, readAll, documentOf, outcome, readRefusal}
 use Rattle.image.proofs.Accepted.{Header, accepted}
 use Rattle.rows.specs.Node.{Nodes}
 use Rattle.rows.specs.Rows.{rows}
@@ -29,21 +29,25 @@ use Rattle.layout_facts.specs.Accepted.{fresh, wholeRule}
 use Rattle.renderer_rules.specs.Check.{wrongPlace}
 use Rattle.renderer_rules.specs.Widest.{greatestColumn}
 use Rattle.refusals.specs.Refusals.{Refusal, unless, first, refuseIf, refuseAt, any}
-use Rattle.refusals.proofs.Groups.{none-both, passes-line, passes-others, not-if}
+use Rattle.refusals.specs.Answers.{answerBy}
+use Rattle.refusals.proofs.Groups.{none-both, left-to, not-if}
+use Rattle.refusals.proofs.Answers.{accepted-by}
 use Rattle.cut_rule.specs.Rules.{LayoutArgs, RenderTo, RenderArgs, LayoutResult, RenderResult}
 use Rattle.cut_rule.specs.Laws.{SameBefore}
-use Rattle.cut_rule.specs.Run.{writeFront, answerBy, laidOut, written}
+use Rattle.cut_rule.specs.Run.{writeFront, CallResult, laidOut, written}
 use Rattle.cut_rule.specs.Entries.{layoutAnswer, layoutStore, renderGives, renderAnswer, renderMarks, renderOutput}
 use Rattle.cut_rule.specs.States.{LayoutState, RenderState, layoutFresh, renderFresh, LayoutChoice, RenderChoice}
 use Rattle.cut_rule.specs.Tests.{rowsIn, renderTests, placesTests, limitTests, begunTests, stopTests, modeTests, rowTests, penTests, markTests}
-use Rattle.cut_rule.specs.Parts.{layoutTests, rowsNeeded, withCleared, widthLine, drawnOf, beforeMarks, renderTable}
-use Rattle.plain_run.specs.Parts.{readRefusal, renderImage, acceptedTree, keepsWaiting, page, drawn, widestDrawn, partsOf}
+use Rattle.cut_rule.specs.Parts.{layoutTests, rowsNeeded, beforeRows, rowsLine, withCleared, drawnOf, beforeMarks, marksLine, textLine, renderTable}
+use Rattle.plain_run.specs.Parts.{renderImage, keepsWaiting, page, drawn, widestDrawn, partsOf}
 use Rattle.plain_run.specs.Demands.{rulesOf, laidTo, closingAt}
-use Rattle.plain_run.specs.File.{FileChoice, layoutChoice, modeLine, renderChoice, built, rowsDue, marksDue, drawnDue, columnDue}
-use Rattle.plain_run.specs.File.{laidRefusal, refusalIn, storeLeft, marksLeft, outputLeft, formatted, fileAnswerBy, OldModeIsFmtParsed, NewModeLeavesNone}
+use Rattle.plain_run.specs.Built.{FileChoice, layoutChoice, renderChoice, tree, declared, built, rowsDue, marksDue, drawnDue, columnDue}
+use Rattle.plain_run.specs.File.{modeLine, fileBeforeRows, fileRowsLine, fileBeforeMarks, fileMarksLine, fileTextLine, laidRefusal, refusalIn}
+use Rattle.plain_run.specs.File.{storeLeft, marksLeft, outputLeft, FileResult, fileResult, OldModeIsFmtParsed, NewModeLeavesNone}
 use Rattle.plain_run.proofs.Whole.{fmt-parsed}
 use Rattle.plain_run.proofs.Foot.{closing-places-all}
 use Rattle.plain_run.proofs.Limits.{all-limited}
+use Rattle.plain_run.proofs.FileTable.{left-to-two, FilePassed, file-passed, laid-passed, before-marks}
 use Rattle.plain_run.proofs.RenderParts.{render-parts}
 
 fits-source : (s : List ℕ) → length s ≤ 65536 → sourceFits s ≡ true
@@ -62,7 +66,7 @@ fits-header b h =
 
 module _ (s b : List ℕ) where
   abbrev count : ℕ
-  count = length (acceptedTree b (readAll s b) .declarations)
+  count = length (declared s b)
 
   -- 1 and 3
   pub image-passes : readRefusal (readAll s b) ≡ none → renderImage s b ≡ none
@@ -71,7 +75,7 @@ module _ (s b : List ℕ) where
       go : (r : Read Image) → readAll s b ≡ r → readRefusal r ≡ none → renderImage s b ≡ none
       go (bad n p) e h = let z : _≡_ {A = ℕ} 0 1 = cc in absurd (omega arith)
       go (got i end) e h =
-          let a = accepted s b (i .comments) (i .at) (ap answerOf e) in
+          let a = accepted s b (documentOf i) (record { answer = ap outcome e }) in
           rw (fits-source s (a .short), fits-header b (a .root .head))
 
   -- ---- as a caller chooses
@@ -135,28 +139,25 @@ module _ (s b : List ℕ) where
         (rw (le-ltb count 0 (omega arith), le-ltb count count (omega arith), eq-eqb count count refl))
         (not-if (any mode) 12 0 moded))))
 
-    -- ---- in a mode that 12 doesn't refuse, at a width that 15 doesn't
-    module _ (moded : modeLine c ≡ none) (legal : widthLine (renderChoice c) renderFresh ≡ none) where
+    -- ---- of a file that no line before 8 refuses
+    module _ (h : first (fileBeforeRows s b c) ≡ none) where
+      layout-early : (store : List ℕ) → first (beforeRows (partsOf s b) layoutArgs layoutFresh store) ≡ none
+      layout-early store =
+          let p = file-passed s b c h in
+          λ t. first (p .read t ∷ refuseIf (layout-passes (p .moded) store t) 12 0 ∷ [])
+
       pub layout-refusal-due : (store : List ℕ) → rulesOf s b .layout-refusal layoutArgs layoutFresh store ≡ laidRefusal s b c (rowsIn store)
       layout-refusal-due store =
-          ap (λ (x : Bool).
-          first
-          (readRefusal (readAll s b)
-          ∷ refuseIf x 12 0
-          ∷ refuseIf (ltb (rowsIn store) (rowsNeeded (partsOf s b) layoutArgs layoutFresh)) 8 (rowsNeeded (partsOf s b) layoutArgs layoutFresh)
-          ∷ []))
-          (layout-passes moded store)
-          ∙ ap (λ (n : ℕ). first (readRefusal (readAll s b) ∷ refuseIf (ltb (rowsIn store) n) 8 n ∷ [])) rows-needed
-          ∙ ap₂ (λ (r w : Option Refusal). first (readRefusal (readAll s b) ∷ r ∷ w ∷ refuseIf (ltb (rowsIn store) (rowsDue s b c)) 8 (rowsDue s b c) ∷ []))
-          (sym moded)
-          (sym legal)
+          left-to (beforeRows (partsOf s b) layoutArgs layoutFresh store) (rowsLine (partsOf s b) layoutArgs layoutFresh store) (layout-early store)
+          ∙ ap (λ (n : ℕ). first (refuseIf (ltb (rowsIn store) n) 8 n ∷ [])) rows-needed
+          ∙ sym (left-to (fileBeforeRows s b c) (fileRowsLine s b c (rowsIn store)) h)
 
       -- what it answers and leaves
       pub layout-answer-due : (store : List ℕ)
           → layoutAnswer (rulesOf s b) layoutArgs layoutFresh store
-          ≡ answerBy (rulesOf s b) (laidRefusal s b c (rowsIn store)) (laidOut stateDue (length (commentsOf b) - built s b c .placed))
+          ≡ answerBy (laidRefusal s b c (rowsIn store)) (laidOut stateDue (length (commentsOf b) - built s b c .placed))
       layout-answer-due store =
-          ap₂ (λ (r : Option Refusal) (l : LayoutResult LayoutState). answerBy (rulesOf s b) r (laidOut (l .state) (l .left)))
+          ap₂ (λ (r : Option Refusal) (l : LayoutResult LayoutState). answerBy {A = CallResult (rulesOf s b)} r (laidOut (l .state) (l .left)))
           (layout-refusal-due store)
           laid-due
 
@@ -164,181 +165,158 @@ module _ (s b : List ℕ) where
       layout-store-due store =
           ap₂ (λ (r : Option Refusal) (l : LayoutResult LayoutState). unless r store (writeFront (l .rows) store)) (layout-refusal-due store) laid-due
 
-      -- ---- the rendering call: up to the last row
-      abbrev pub renderTo : RenderTo RenderChoice
-      renderTo = record { stop = rowsDue s b c; choice = renderChoice c }
+    -- ---- the rendering call: up to the last row
+    abbrev pub renderTo : RenderTo RenderChoice
+    renderTo = record { stop = rowsDue s b c; choice = renderChoice c }
 
-      abbrev pub renderArgs : List ℕ → RenderArgs RenderChoice
-      renderArgs out = record { to = renderTo; room = length out }
+    abbrev pub renderArgs : List ℕ → RenderArgs RenderChoice
+    renderArgs out = record { to = renderTo; room = length out }
 
-      -- 12
-      render-passes : (store marks out : List ℕ) → any (renderTests (renderArgs out) renderFresh store marks) ≡ false
-      render-passes store marks out =
-          none-both (rowTests (rowsIn store) (rowsDue s b c) 0) (penTests (renderFresh .pen) ++ markTests marks 0)
-          (rw (le-ltb (rowsIn store) 0 (omega arith), le-ltb (rowsDue s b c) 0 (omega arith)))
-          (none-both (penTests (renderFresh .pen)) (markTests marks 0) refl (rw (le-ltb (length marks) 0 (omega arith))))
+    -- 12
+    render-passes : (store marks out : List ℕ) → any (renderTests (renderArgs out) renderFresh store marks) ≡ false
+    render-passes store marks out =
+        none-both (rowTests (rowsIn store) (rowsDue s b c) 0) (penTests (renderFresh .pen) ++ markTests marks 0)
+        (rw (le-ltb (rowsIn store) 0 (omega arith), le-ltb (rowsDue s b c) 0 (omega arith)))
+        (none-both (penTests (renderFresh .pen)) (markTests marks 0) refl (rw (le-ltb (length marks) 0 (omega arith))))
 
-      module _ (store : List ℕ) (h : readRefusal (readAll s b) ≡ none) where
-        abbrev rowed : List ℕ
-        rowed = writeFront (rows (built s b c .nodes) 0) store
+    module _ (store : List ℕ) where
+      abbrev rowed : List ℕ
+      rowed = writeFront (rows (built s b c .nodes) 0) store
 
-        -- 11
-        rows-right : wrongPlace s b rowed 0 (rowsDue s b c) ≡ none
-        rows-right =
-            let g = fmt-parsed (readAll s b) s b .closed-in (layoutChoice c) in
-            render-parts s b (readAll s b) .right-local (renderChoice c) (rows (built s b c .nodes) 0) rowed (rowsDue s b c) (same-rows store)
-            (subst₂ (λ (x : List ℕ) (n : ℕ). wrongPlace s b x 0 n ≡ none) (g .rows-due) (g .row-due) (all-limited s b h .closed (layoutChoice c) .right))
+      -- 11
+      rows-right : readRefusal (readAll s b) ≡ none → wrongPlace s b rowed 0 (rowsDue s b c) ≡ none
+      rows-right read =
+          let g = fmt-parsed (readAll s b) s b .closed-in (layoutChoice c) in
+          render-parts s b (readAll s b) .right-local (renderChoice c) (rows (built s b c .nodes) 0) rowed (rowsDue s b c) (same-rows store)
+          (subst₂ (λ (x : List ℕ) (n : ℕ). wrongPlace s b x 0 n ≡ none) (g .rows-due) (g .row-due) (all-limited s b read .closed (layoutChoice c) .right))
 
-        marks-due : marksNeeded (rowsDue s b c - 0) rowed 0 ≡ marksDue s b c
-        marks-due =
-            sym (render-parts s b (readAll s b) .needed-local (rows (built s b c .nodes) 0) rowed 0 (rowsDue s b c) (same-rows store))
-            ∙ ap (λ (n : ℕ). marksNeeded n (rows (built s b c .nodes) 0) 0) (sub-zero (rowsDue s b c))
+      marks-due : marksNeeded (rowsDue s b c - 0) rowed 0 ≡ marksDue s b c
+      marks-due =
+          sym (render-parts s b (readAll s b) .needed-local (rows (built s b c .nodes) 0) rowed 0 (rowsDue s b c) (same-rows store))
+          ∙ ap (λ (n : ℕ). marksNeeded n (rows (built s b c .nodes) 0) 0) (sub-zero (rowsDue s b c))
 
-        drawn-due : drawnOf (partsOf s b) renderFresh renderTo [] rowed ≡ drawnDue s b c
-        drawn-due =
-            let g = fmt-parsed (readAll s b) s b .closed-in (layoutChoice c) in
-            let z = renderFresh in
-            let m = marksNeeded (rowsDue s b c - 0) rowed 0 in
-            let cleared : List ℕ = replicate (marksDue s b c) 0 in
-            sym (render-parts s b (readAll s b) .draw-local z renderTo (replicate (m - 0) 0) (rows (built s b c .nodes) 0) rowed (same-rows store))
-            ∙ ap (λ (n : ℕ). drawn s b z renderTo (replicate n 0) (rows (built s b c .nodes) 0)) (sub-zero m ∙ marks-due)
-            ∙ ap₂ (λ (x : List ℕ) (n : ℕ). drawn s b z (record { stop = n; choice = renderChoice c }) cleared x) (sym (g .rows-due)) (sym (g .row-due))
-            ∙ g .drawn-due (renderChoice c) z cleared refl
+      drawn-due : drawnOf (partsOf s b) renderFresh renderTo [] rowed ≡ drawnDue s b c
+      drawn-due =
+          let g = fmt-parsed (readAll s b) s b .closed-in (layoutChoice c) in
+          let z = renderFresh in
+          let m = marksNeeded (rowsDue s b c - 0) rowed 0 in
+          let cleared : List ℕ = replicate (marksDue s b c) 0 in
+          sym (render-parts s b (readAll s b) .draw-local z renderTo (replicate (m - 0) 0) (rows (built s b c .nodes) 0) rowed (same-rows store))
+          ∙ ap (λ (n : ℕ). drawn s b z renderTo (replicate n 0) (rows (built s b c .nodes) 0)) (sub-zero m ∙ marks-due)
+          ∙ ap₂ (λ (x : List ℕ) (n : ℕ). drawn s b z (record { stop = n; choice = renderChoice c }) cleared x) (sym (g .rows-due)) (sym (g .row-due))
+          ∙ g .drawn-due (renderChoice c) z cleared refl
 
-        -- the rows are read back as the nodes that they are of
-        nodes-due : nodesAt (viewOf rowed) 0 (rowsDue s b c) ≡ built s b c .nodes
-        nodes-due =
-            let r = rows (built s b c .nodes) 0 in
-            ap (nodesAt (viewOf rowed) 0) (sym (zero-add (rowsDue s b c)))
-            ∙ read-back (built s b c .nodes) rowed 0 (holds-part rowed 0 r (take-append-seam r (drop (length r) store)))
+      -- the rows are read back as the nodes that they are of
+      nodes-due : nodesAt (viewOf rowed) 0 (rowsDue s b c) ≡ built s b c .nodes
+      nodes-due =
+          let r = rows (built s b c .nodes) 0 in
+          ap (nodesAt (viewOf rowed) 0) (sym (zero-add (rowsDue s b c)))
+          ∙ read-back (built s b c .nodes) rowed 0 (holds-part rowed 0 r (take-append-seam r (drop (length r) store)))
 
-        widest-due : widestDrawn s b renderFresh renderTo (withCleared (partsOf s b) [] (marksNeeded (rowsDue s b c - 0) rowed 0)) rowed ≡ columnDue s b c
-        widest-due =
-            ap₂ (λ (ns : Nodes) (m : ℕ). greatestColumn (page (renderChoice c) s b) ns (replicate m 0)) nodes-due
-            (sub-zero (marksNeeded (rowsDue s b c - 0) rowed 0) ∙ marks-due)
+      widest-due : widestDrawn s b renderFresh renderTo (withCleared (partsOf s b) [] (marksNeeded (rowsDue s b c - 0) rowed 0)) rowed ≡ columnDue s b c
+      widest-due =
+          ap₂ (λ (ns : Nodes) (m : ℕ). greatestColumn (page (renderChoice c) s b) ns (replicate m 0)) nodes-due
+          (sub-zero (marksNeeded (rowsDue s b c - 0) rowed 0) ∙ marks-due)
 
-        render-table-due : (marks out : List ℕ)
-            → first (renderTable (partsOf s b) (renderArgs out) renderFresh rowed marks)
-            ≡ first
-            (refuseIf (ltb (length marks) (marksDue s b c)) 9 (marksDue s b c)
-            ∷ refuseIf (ltb (length out) (length (drawnDue s b c .text))) 10 (length (drawnDue s b c .text))
-            ∷ [])
-        render-table-due marks out =
-            λ t.
-            first
-            (image-passes h t
-            ∷ refuseAt (rows-right t) 11
-            ∷ refuseIf (render-passes rowed marks out t) 12 0
-            ∷ legal t
-            ∷ refuseIf (ltb (length marks) (marks-due t)) 9 (marks-due t)
-            ∷ refuseIf (ltb (length out) (length (drawn-due t .text))) 10 (length (drawn-due t .text))
-            ∷ [])
+      -- but for marks that are too few and too long a text, nothing refuses
+      early-due : FilePassed s b c → (marks out : List ℕ) → first (beforeMarks (partsOf s b) (renderArgs out) renderFresh rowed marks) ≡ none
+      early-due p marks out =
+          λ t.
+          first
+          (image-passes (p .read) t
+          ∷ refuseAt (rows-right (p .read) t) 11
+          ∷ refuseIf (render-passes rowed marks out t) 12 0
+          ∷ p .legal t
+          ∷ [])
 
-        -- but for marks that are too few and too long a text, nothing refuses
-        early-due : (marks out : List ℕ) → first (beforeMarks (partsOf s b) (renderArgs out) renderFresh rowed marks) ≡ none
-        early-due marks out =
-            λ t. first (image-passes h t ∷ refuseAt (rows-right t) 11 ∷ refuseIf (render-passes rowed marks out t) 12 0 ∷ legal t ∷ [])
+      rendered-due : (marks out : List ℕ)
+          → renderGives (rulesOf s b) (renderArgs out) renderFresh rowed marks
+          ≡ record {
+            state = record { pen = drawnDue s b c .pen; in-use = max 0 (marksDue s b c); row = rowsDue s b c; width = c .width };
+            marks = drawnDue s b c .marks;
+            text = drawnDue s b c .text;
+          }
+      rendered-due marks out =
+          λ t.
+          record {
+            state = record { pen = drawn-due t .pen; in-use = max 0 (marks-due t); row = rowsDue s b c; width = c .width };
+            marks = drawn-due t .marks;
+            text = drawn-due t .text;
+          }
 
-        rendered-due : (marks out : List ℕ)
-            → renderGives (rulesOf s b) (renderArgs out) renderFresh rowed marks
-            ≡ record {
-              state = record { pen = drawnDue s b c .pen; in-use = max 0 (marksDue s b c); row = rowsDue s b c; width = c .width };
-              marks = drawnDue s b c .marks;
-              text = drawnDue s b c .text;
-            }
-        rendered-due marks out =
-            λ t.
-            record {
-              state = record { pen = drawn-due t .pen; in-use = max 0 (marks-due t); row = rowsDue s b c; width = c .width };
-              marks = drawn-due t .marks;
-              text = drawn-due t .text;
-            }
+    -- the state that it answers
+    abbrev pub renderedDue : RenderState
+    renderedDue = record { pen = drawnDue s b c .pen; in-use = max 0 (marksDue s b c); row = rowsDue s b c; width = c .width }
 
-      -- the state that it answers
-      abbrev pub renderedDue : RenderState
-      renderedDue = record { pen = drawnDue s b c .pen; in-use = max 0 (marksDue s b c); row = rowsDue s b c; width = c .width }
+    -- what it answers and leaves, of what the layout call left
+    module _ (store marks out : List ℕ) (h : laidRefusal s b c (rowsIn store) ≡ none) where
+      left-store : storeLeft s b c store ≡ rowed store
+      left-store = ap (λ (r : Option Refusal). unless r store (rowed store)) h
 
-      -- what it answers and leaves, of what the layout call left
-      module _ (store marks out : List ℕ) (h : laidRefusal s b c (rowsIn store) ≡ none) where
-        read : readRefusal (readAll s b) ≡ none
-        read =
-            passes-line (readRefusal (readAll s b)) (modeLine c ∷ widthLine (renderChoice c) renderFresh ∷ refuseIf (ltb (rowsIn store) (rowsDue s b c)) 8 (rowsDue s b c) ∷ []) h
+      early : first (beforeMarks (partsOf s b) (renderArgs out) renderFresh (rowed store) marks) ≡ none
+      early = early-due store (laid-passed s b c (rowsIn store) h) marks out
 
-        left-store : storeLeft s b c store ≡ writeFront (rows (built s b c .nodes) 0) store
-        left-store = ap (λ (r : Option Refusal). unless r store (writeFront (rows (built s b c .nodes) 0) store)) h
+      pub render-refusal-due : rulesOf s b .render-refusal (renderArgs out) renderFresh (storeLeft s b c store) marks
+          ≡ refusalIn s b c (rowsIn store) (length marks) (length out)
+      render-refusal-due =
+          let P = partsOf s b in
+          let q = renderArgs out in
+          ap (λ (x : List ℕ). first (renderTable P q renderFresh x marks)) left-store
+          ∙ left-to-two (beforeMarks P q renderFresh (rowed store) marks) (marksLine P q renderFresh (rowed store) marks)
+          (textLine P q renderFresh (rowed store) marks)
+          early
+          ∙ (λ t.
+          first
+          (refuseIf (ltb (length marks) (marks-due store t)) 9 (marks-due store t)
+          ∷ refuseIf (ltb (length out) (length (drawn-due store t .text))) 10 (length (drawn-due store t .text))
+          ∷ []))
+          ∙ sym
+          (left-to-two (fileBeforeMarks s b c (rowsIn store)) (fileMarksLine s b c (length marks)) (fileTextLine s b c (length out)) h)
 
-        pub render-refusal-due : rulesOf s b .render-refusal (renderArgs out) renderFresh (storeLeft s b c store) marks ≡ refusalIn s b c (rowsIn store) (length marks) (length out)
-        render-refusal-due =
-            ap (λ (x : List ℕ). first (renderTable (partsOf s b) (renderArgs out) renderFresh x marks)) left-store
-            ∙ render-table-due store read marks out
-            ∙ ap (λ (r : Option Refusal).
-            first
-            (r
-            ∷ refuseIf (ltb (length marks) (marksDue s b c)) 9 (marksDue s b c)
-            ∷ refuseIf (ltb (length out) (length (drawnDue s b c .text))) 10 (length (drawnDue s b c .text))
-            ∷ []))
-            (sym h)
+      pub render-early-due : first (beforeMarks (partsOf s b) (renderArgs out) renderFresh (storeLeft s b c store) marks) ≡ none
+      render-early-due =
+          ap (λ (x : List ℕ). first (beforeMarks (partsOf s b) (renderArgs out) renderFresh x marks)) left-store ∙ early
 
-        pub render-early-due : first (beforeMarks (partsOf s b) (renderArgs out) renderFresh (storeLeft s b c store) marks) ≡ none
-        render-early-due =
-            ap (λ (x : List ℕ). first (beforeMarks (partsOf s b) (renderArgs out) renderFresh x marks)) left-store ∙ early-due store read marks out
+      gives-due : renderGives (rulesOf s b) (renderArgs out) renderFresh (storeLeft s b c store) marks
+          ≡ record { state = renderedDue; marks = drawnDue s b c .marks; text = drawnDue s b c .text }
+      gives-due =
+          ap (λ (x : List ℕ). renderGives (rulesOf s b) (renderArgs out) renderFresh x marks) left-store ∙ rendered-due store marks out
 
-        gives-due : renderGives (rulesOf s b) (renderArgs out) renderFresh (storeLeft s b c store) marks
-            ≡ record { state = renderedDue; marks = drawnDue s b c .marks; text = drawnDue s b c .text }
-        gives-due =
-            ap (λ (x : List ℕ). renderGives (rulesOf s b) (renderArgs out) renderFresh x marks) left-store ∙ rendered-due store read marks out
+      pub render-answer-due : renderAnswer (rulesOf s b) (renderArgs out) renderFresh (storeLeft s b c store) marks
+          ≡ answerBy (refusalIn s b c (rowsIn store) (length marks) (length out)) (written renderedDue (length (drawnDue s b c .text)))
+      render-answer-due =
+          ap₂ (λ (r : Option Refusal) (l : RenderResult RenderState). answerBy {A = CallResult (rulesOf s b)} r (written (l .state) (length (l .text))))
+          render-refusal-due
+          gives-due
 
-        pub render-answer-due : renderAnswer (rulesOf s b) (renderArgs out) renderFresh (storeLeft s b c store) marks
-            ≡ answerBy (rulesOf s b) (refusalIn s b c (rowsIn store) (length marks) (length out)) (written renderedDue (length (drawnDue s b c .text)))
-        render-answer-due =
-            ap₂ (λ (r : Option Refusal) (l : RenderResult RenderState). answerBy (rulesOf s b) r (written (l .state) (length (l .text))))
-            render-refusal-due
-            gives-due
+      pub render-marks-due : renderMarks (rulesOf s b) (renderArgs out) renderFresh (storeLeft s b c store) marks ≡ marksLeft s b c store marks out
+      render-marks-due =
+          ap₂ (λ (r : Option Refusal) (l : RenderResult RenderState). unless r marks (writeFront (l .marks) marks)) render-refusal-due gives-due
 
-        pub render-marks-due : renderMarks (rulesOf s b) (renderArgs out) renderFresh (storeLeft s b c store) marks ≡ marksLeft s b c store marks out
-        render-marks-due =
-            ap₂ (λ (r : Option Refusal) (l : RenderResult RenderState). unless r marks (writeFront (l .marks) marks)) render-refusal-due gives-due
+      pub render-output-due : renderOutput (rulesOf s b) (renderArgs out) renderFresh (storeLeft s b c store) marks out ≡ outputLeft s b c store marks out
+      render-output-due =
+          ap₂ (λ (r : Option Refusal) (l : RenderResult RenderState). unless r out (writeFront (l .text) out)) render-refusal-due gives-due
 
-        pub render-output-due : renderOutput (rulesOf s b) (renderArgs out) renderFresh (storeLeft s b c store) marks out ≡ outputLeft s b c store marks out
-        render-output-due =
-            ap₂ (λ (r : Option Refusal) (l : RenderResult RenderState). unless r out (writeFront (l .text) out)) render-refusal-due gives-due
-
-        -- the greatest column that it tells
-        pub render-widest-due : unless (rulesOf s b .render-refusal (renderArgs out) renderFresh (storeLeft s b c store) marks) 0
-            (widestDrawn s b renderFresh renderTo (withCleared (partsOf s b) [] (marksNeeded (rowsDue s b c - 0) (storeLeft s b c store) 0))
-            (storeLeft s b c store))
-            ≡ unless (refusalIn s b c (rowsIn store) (length marks) (length out)) 0 (columnDue s b c)
-        render-widest-due =
-            ap₂ (λ (r : Option Refusal) (n : ℕ). unless r 0 n) render-refusal-due
-            (ap (λ (x : List ℕ).
-            widestDrawn s b renderFresh renderTo (withCleared (partsOf s b) [] (marksNeeded (rowsDue s b c - 0) x 0)) x)
-            left-store
-            ∙ widest-due store read)
+      -- the greatest column that it tells
+      pub render-widest-due : unless (rulesOf s b .render-refusal (renderArgs out) renderFresh (storeLeft s b c store) marks) 0
+          (widestDrawn s b renderFresh renderTo (withCleared (partsOf s b) [] (marksNeeded (rowsDue s b c - 0) (storeLeft s b c store) 0))
+          (storeLeft s b c store))
+          ≡ unless (refusalIn s b c (rowsIn store) (length marks) (length out)) 0 (columnDue s b c)
+      render-widest-due =
+          ap₂ (λ (r : Option Refusal) (n : ℕ). unless r 0 n) render-refusal-due
+          (ap (λ (x : List ℕ).
+          widestDrawn s b renderFresh renderTo (withCleared (partsOf s b) [] (marksNeeded (rowsDue s b c - 0) x 0)) x)
+          left-store
+          ∙ widest-due store)
 
 -- ---- the modes
 pub old-mode-is-fmt-parsed : OldModeIsFmtParsed
 unfolding fmtParsed
-old-mode-is-fmt-parsed s b c e = ap (λ (m : ℕ). wholeRule (given s b) (acceptedTree b (readAll s b)) (keepsWaiting m) fresh) e
+old-mode-is-fmt-parsed s b c e = ap (λ (m : ℕ). wholeRule (given s b) (tree s b) (keepsWaiting m) fresh) e
 
 pub new-mode-leaves-none : NewModeLeavesNone
-new-mode-leaves-none s b c inRows inMarks room bytes left inAll numbers new e = go (refusalIn s b c inRows inMarks room) refl e
-  where
-    eights : List (Option Refusal)
-    eights = widthLine (renderChoice c) renderFresh ∷ refuseIf (ltb inRows (rowsDue s b c)) 8 (rowsDue s b c) ∷ []
-
-    go : (o : Option Refusal) → refusalIn s b c inRows inMarks room ≡ o
-        → fileAnswerBy o (formatted (length (drawnDue s b c .text)) (length (commentsOf b) - built s b c .placed) (rowsDue s b c) (built s b c .taken))
-        ≡ formatted bytes left inAll numbers
-        → left ≡ 0
-    go (some r) h f = let z : _≡_ {A = ℕ} 0 1 = cc in absurd (omega arith)
-    go none h f =
-        let n : length (commentsOf b) - built s b c .placed ≡ left = cc in
-        let laid : laidRefusal s b c inRows ≡ none =
-        passes-line (laidRefusal s b c inRows)
-        (refuseIf (ltb inMarks (marksDue s b c)) 9 (marksDue s b c) ∷ refuseIf (ltb room (length (drawnDue s b c .text))) 10 (length (drawnDue s b c .text)) ∷ [])
-        h
-        in
-        let read : readRefusal (readAll s b) ≡ none = passes-line (readRefusal (readAll s b)) (modeLine c ∷ eights) laid in
-        let moded : modeLine c ≡ none = passes-line (modeLine c) eights (passes-others (readRefusal (readAll s b)) (modeLine c ∷ eights) laid) in
-        let all = closing-places-all s b [] (layoutArgs s b c) layoutFresh read (layout-passes s b c moded []) refl new in
-        sym n ∙ sym (fmt-parsed (readAll s b) s b .closed-in (layoutChoice c) .left-due) ∙ all .left
+new-mode-leaves-none s b c inRows inMarks room r new e =
+    let a = accepted-by (refusalIn s b c inRows inMarks room) r (fileResult s b c) (sym e) in
+    let p = laid-passed s b c inRows (before-marks s b c inRows inMarks room (a .passes)) in
+    let all = closing-places-all s b [] (layoutArgs s b c) layoutFresh (p .read) (layout-passes s b c (p .moded) []) refl new in
+    ap (λ (x : FileResult). x .left) (a .is) ∙ sym (fmt-parsed (readAll s b) s b .closed-in (layoutChoice c) .left-due) ∙ all .left

@@ -3,7 +3,7 @@
 -- Assumes nothing.
 use mathlib.Core.Path.{_≡_, refl, ap}
 use mathlib.Core.Bool.{Bool, true, false, cond, not, _&&_, _||_}
-use mathlib.Core.Option.{Option, none}
+use mathlib.Core.Option.{none}
 use mathlib.Core.List.{List, [], _∷_}
 use Prim.Native.Nat.{ℕ, zero, suc, _+_, _*_, _-_, _≤_, _<_}
 use native.Mathlib.Omega.{arith}
@@ -35,17 +35,19 @@ use Rattle.renderer_rules.specs.Most.{rowMost, rowsMost}
 use Rattle.renderer_rules.specs.Page.{pageOf}
 use Rattle.renderer_rules.proofs.Most.{text-most}
 use Rattle.renderer_rules.proofs.Columns.{measure, measures, column-most}
-use Rattle.refusals.specs.Refusals.{Refusal, refuseIf}
+use Rattle.refusals.specs.Refusals.{refuseIf}
 use Rattle.refusals.proofs.Groups.{passes-line, passes-others, not-if}
 use Rattle.cut_rule.specs.States.{renderFresh}
-use Rattle.cut_rule.specs.Parts.{Drawn, widthLine}
-use Rattle.plain_run.specs.Parts.{readRefusal, keepsWaiting, renderImage, rendererOf}
+use Rattle.cut_rule.specs.Parts.{Drawn}
+use Rattle.plain_run.specs.Parts.{keepsWaiting, renderImage, rendererOf}
 use Rattle.plain_run.specs.Demands.{laidTo}
-use Rattle.plain_run.specs.File.{FileChoice, layoutChoice, modeLine, renderChoice, fileRows, built, rowsDue, marksDue, laidRefusal}
+use Rattle.plain_run.specs.File.{fileRows}
 use Rattle.plain_run.specs.FileLimits.{MAX-IMAGE, RowsTextLimited, FileTextLimited, AreBytes, FileColumnLimited}
+use Rattle.plain_run.specs.Built.{layoutChoice, renderChoice, built, marksDue}
 use Rattle.plain_run.proofs.Right.{Right, right}
 use Rattle.plain_run.proofs.Whole.{fmt-parsed}
 use Rattle.plain_run.proofs.Limits.{stood, all-limited}
+use Rattle.plain_run.proofs.FileTable.{laid-passed, rows-fit}
 use Rattle.plain_run.proofs.File.{image-passes, layoutArgs}
 
 -- ---- each row of rows that nest ends by their end
@@ -192,41 +194,22 @@ rows-text-limited max s b store marks n few image e =
     omega arith
 
 -- ---- a file
-module _ (s b : List ℕ) (c : FileChoice) (h : laidRefusal s b c fileRows ≡ none) where
-  abbrev eights : List (Option Refusal)
-  eights = refuseIf (ltb fileRows (rowsDue s b c)) 8 (rowsDue s b c) ∷ []
-
-  abbrev widths : List (Option Refusal)
-  widths = widthLine (renderChoice c) renderFresh ∷ eights
-
-  abbrev modes : List (Option Refusal)
-  modes = modeLine c ∷ widths
-
-  pub laid-read : readRefusal (readAll s b) ≡ none
-  laid-read = passes-line (readRefusal (readAll s b)) modes h
-
-  few : rowsDue s b c ≤ fileRows
-  few =
-      ltb-false fileRows (rowsDue s b c)
-      (not-if (ltb fileRows (rowsDue s b c)) 8 (rowsDue s b c)
-      (passes-line _ []
-      (passes-others (widthLine (renderChoice c) renderFresh) eights
-      (passes-others (modeLine c) widths (passes-others (readRefusal (readAll s b)) modes h)))))
-
 pub file-text-limited : FileTextLimited
 file-text-limited s b c h =
     let g = fmt-parsed (readAll s b) s b .closed-in (layoutChoice c) in
     let l = laidTo (readAll s b) s b (layoutArgs s b c) in
     let marks : List ℕ = replicate (marksDue s b c) 0 in
     let e = ap (λ (d : Drawn). length (d .text)) (g .drawn-due (renderChoice c) renderFresh marks refl) in
+    let read = laid-passed s b c fileRows h .read in
     let m =
-    rows-text-limited (c .width) s b (l .rows) marks (l .state .cursor .row) (omega (arith, g .row-due, few s b c h)) (image-passes s b (laid-read s b c h))
-    (all-limited s b (laid-read s b c h) .closed (layoutChoice c) .right)
+    rows-text-limited (c .width) s b (l .rows) marks (l .state .cursor .row) (omega (arith, g .row-due, rows-fit s b c fileRows h)) (image-passes s b read)
+    (all-limited s b read .closed (layoutChoice c) .right)
     in
     omega arith
 
 pub file-column-limited : FileColumnLimited
 file-column-limited max s b marks c bytes h =
-    let z = sized s b (image-passes s b (laid-read s b c h)) in
-    let m = nodes-measure z bytes max (built s b c .nodes) (closed-within (stood s b (laid-read s b c h) .stood) (keepsWaiting (c .mode)) .texts) in
-    omega (arith, column-most (pageOf max s b) (built s b c .nodes) marks, few s b c h)
+    let read = laid-passed s b c fileRows h .read in
+    let z = sized s b (image-passes s b read) in
+    let m = nodes-measure z bytes max (built s b c .nodes) (closed-within (stood s b read .stood) (keepsWaiting (c .mode)) .texts) in
+    omega (arith, column-most (pageOf max s b) (built s b c .nodes) marks, rows-fit s b c fileRows h)

@@ -10,7 +10,7 @@ use lib.Dec.{eqb}
 use lib.ListN.{length, take, drop, length-map, length-drop}
 use lib.Seq.{take-all}
 use Rattle.laws.proofs.Booleans.{false-true}
-use Rattle.image.specs.Read.{Read, got, bad, Image, readAll, answerOf}
+use Rattle.image.specs.Read.{Read, got, bad, Image, readAll, documentOf, outcome, readRefusal}
 use Rattle.ast.specs.Syntax.{Declaration}
 use Rattle.state.specs.Act.{St, Act}
 use Rattle.tree.specs.CommentList.{commentsOf}
@@ -27,7 +27,7 @@ use Rattle.cut_rule.specs.Tests.{rowsIn}
 use Rattle.cut_rule.specs.Parts.{Piece, laidOf}
 use Rattle.cut_rule.proofs.Table.{LayoutFits, layout-fits, layout-told}
 use Rattle.cut_rule.proofs.LayoutOnly.{layouts, layout-only, none-read}
-use Rattle.plain_run.specs.Parts.{readRefusal, acceptedTree, listed, keepsWaiting, partsOf}
+use Rattle.plain_run.specs.Parts.{acceptedTree, listed, keepsWaiting, partsOf}
 use Rattle.plain_run.specs.Demands.{rulesOf}
 use Rattle.plain_run.specs.Foot.{AllPlaced, ClosingPlacesAll, ClosedHoldsAll}
 use Rattle.plain_run.proofs.Demands.{rules-cut}
@@ -42,7 +42,7 @@ module _ (s b : List ℕ) where
     where
       go : (r : Read Image) → readAll s b ≡ r → readRefusal r ≡ none → Listed s b
       go (bad n p) e h = let z : _≡_ {A = ℕ} 0 1 = cc in absurd (omega arith)
-      go (got i end) e h = accepted-listed s b (i .comments) (i .at) (ap answerOf e)
+      go (got i end) e h = accepted-listed s b (documentOf i) (record { answer = ap outcome e })
 
   -- ---- one call
   placed-all : (rows : ℕ) (q : LayoutArgs LayoutChoice) (z : LayoutState) → readRefusal (readAll s b) ≡ none

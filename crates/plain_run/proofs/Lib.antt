@@ -9,8 +9,8 @@ pub mod Limits
 pub mod Demands
 pub mod Foot
 pub mod Edges
+pub mod FileTable
 pub mod File
 pub mod FileLimits
 pub mod Text
-pub mod Refused
 pub mod Reference

@@ -11,8 +11,8 @@ use native.Mathlib.Nat.{zero-add}
 use lib.ListN.{length, getD, take, drop, take-append-drop}
 use borrow.Author.Tests.{le-leb}
 use Rattle.text.specs.Utf8.{wellFormed}
-use Rattle.image.specs.Read.{Read, got, bad, Image, sourceFits, readImage, readAll, answerOf}
-use Rattle.image.specs.declared.Answer.the-variants.{Accepted}
+use Rattle.image.specs.Read.{Read, got, bad, Image, sourceFits, readImage, readAll, documentOf, outcome, readRefusal, Accepts}
+use Rattle.image.specs.declared.Document.{Document}
 use Rattle.image.proofs.Accepted.{accepted}
 use Rattle.ast.specs.Syntax.{SyntaxTree}
 use Rattle.rows.specs.Places.{PLACES}
@@ -26,7 +26,7 @@ use Rattle.layout_facts.proofs.Limits.{stands, closed-within, upTo-within, due-
 use Rattle.renderer_rules.specs.Check.{wrongPlace}
 use Rattle.cut_rule.specs.Rules.{LayoutResult}
 use Rattle.cut_rule.specs.States.{LayoutState}
-use Rattle.plain_run.specs.Parts.{readRefusal, acceptedTree, keepsWaiting}
+use Rattle.plain_run.specs.Parts.{acceptedTree, keepsWaiting}
 use Rattle.plain_run.specs.Demands.{Gives, Limited, AllLimited}
 use Rattle.plain_run.proofs.Whole.{fmt-parsed}
 
@@ -40,10 +40,12 @@ module _ (s b : List ℕ) where
   reads-image h w = rw (le-leb (length s) 65536 h, w)
 
   -- an accepted source and image have the tree at the answered offset
-  pub standing : (n at : ℕ) → answerOf (readAll s b) ≡ Accepted n at → Stands g (acceptedTree b (readAll s b)) at
-  standing n at h =
-      let a = accepted s b n at h in
+  pub standing : (d : Document) → Accepts s b d → Stands g (acceptedTree b (readAll s b)) (d .tree)
+  standing d h =
+      let a = accepted s b d h in
       let c = a .root in
+      let n = d .comments in
+      let at = d .tree in
       let same : readAll s b ≡ got (record { comments = n; tree = c .tree; at = at }) (length b) = reads-image (a .short) (a .well) ∙ c .whole in
       subst (λ (t : SyntaxTree). Stands g t at) (sym (ap (acceptedTree b) same)) (stands false s b n at c)
 
@@ -57,7 +59,7 @@ module _ (s b : List ℕ) where
     where
       go : (r : Read Image) → readAll s b ≡ r → readRefusal r ≡ none → Stood (readAll s b)
       go (bad n p) e h = let z : _≡_ {A = ℕ} 0 1 = cc in absurd (omega arith)
-      go (got i end) e h = record { at = i .at; stood = standing (i .comments) (i .at) (ap answerOf e) }
+      go (got i end) e h = record { at = i .at; stood = standing (documentOf i) (record { answer = ap outcome e }) }
 
   -- ---- limits
   held : (l : List ℕ) → Holds l 0 l

@@ -19,6 +19,7 @@ use Rattle.cut_rule.specs.Tests.{renderTests, widthTests}
 use Rattle.cut_rule.specs.Parts.{widthLine}
 use Rattle.plain_run.specs.Parts.{renderImage}
 use Rattle.plain_run.specs.Reference.{atReference, FileAsBefore, callDrawn, callRefusal, CallAsBefore, ReferenceHolds}
+use Rattle.plain_run.specs.Built.{referenceChoice, renderChoice}
 
 -- 15 never refuses 80 where none or 80 is carried
 pub never-15 : (carried : ℕ) → (carried ≡ 0) ⊎ (carried ≡ REFERENCE-WIDTH) → refuseIf (any (widthTests REFERENCE-WIDTH carried)) 15 0 ≡ none

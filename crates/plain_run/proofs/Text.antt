@@ -9,7 +9,7 @@ use native.Mathlib.Omega.{arith}
 use native.Mathlib.Nat.{zero-add}
 use lib.ListN.{length, take, drop, replicate, length-map, length-drop}
 use lib.Seq.{take-all, take-length, take-append-seam}
-use Rattle.image.specs.Read.{readAll}
+use Rattle.image.specs.Read.{readAll, readRefusal}
 use Rattle.ast.specs.Syntax.{Declaration}
 use Rattle.rows.specs.Places.{PLACES}
 use Rattle.rows.specs.Node.{Text, Nodes, none as noNodes, join}
@@ -35,17 +35,18 @@ use Rattle.renderer_rules.specs.Renderer.{renderNodes}
 use Rattle.renderer_rules.specs.Holds.{HoldsInOrder, rest, nothing, anything, Token, Piece as Part, IsLine, commentsAmong, tokensAmong, pieces, CommasChosen, MadeOf}
 use Rattle.renderer_rules.proofs.Holds.{holds-the-comments, writes-pieces}
 use Rattle.refusals.specs.Refusals.{Refusal, unless}
+use Rattle.refusals.proofs.Answers.{accepted-by}
 use Rattle.cut_rule.specs.Rules.{LayoutArgs, RenderTo, LayoutResult, RenderResult}
 use Rattle.cut_rule.specs.Run.{writeFront, Carried, start, run}
 use Rattle.cut_rule.specs.Plain.{Progress, atFirst, layoutDue, renderDue, laidDue, renderedDue, due, plain}
 use Rattle.cut_rule.specs.States.{LayoutChoice, RenderChoice, LayoutState, RenderState, layoutFresh, renderFresh, NEW-MODE}
 use Rattle.cut_rule.specs.Parts.{Piece}
 use Rattle.cut_rule.proofs.Document.{LaidFits, RenderedRight, came-to}
-use Rattle.plain_run.specs.Parts.{readRefusal, listed, keepsWaiting, page, rendererOf, partsOf}
+use Rattle.plain_run.specs.Parts.{listed, keepsWaiting, page, rendererOf, partsOf}
 use Rattle.plain_run.specs.Demands.{rulesOf, Gives, laidTo}
-use Rattle.plain_run.specs.File.{FileChoice, renderChoice, built, rowsDue, marksDue, drawnDue}
-use Rattle.plain_run.specs.File.{formatted, fileRefusal, fileOutput, fileAnswerBy, fileAnswer}
-use Rattle.plain_run.specs.Text.{Keeps, IsProgram, program, KeptCommentsHeld, TextIsTheProgram, NewModePlacesAll, OutputIsTheProgram, programTo, piecesBetween}
+use Rattle.plain_run.specs.Built.{FileChoice, renderChoice, tree, declared, built, marksDue, drawnDue}
+use Rattle.plain_run.specs.File.{fileRefusal, fileResult, FileResult, fileOutput}
+use Rattle.plain_run.specs.Text.{Keeps, IsProgram, KeptCommentsHeld, TextIsTheProgram, NewModePlacesAll, OutputIsTheProgram, programTo, piecesBetween}
 use Rattle.plain_run.specs.Text.{SoFar, AllRendered, IsSoFar, IsWhole, CallsKeepTheText}
 use Rattle.plain_run.proofs.Foot.{list, closed-holds-all}
 use Rattle.plain_run.proofs.Demands.{rules-cut}
@@ -63,7 +64,7 @@ kept-comments-held s b placed tokens text k =
 
 module _ (s b : List ℕ) where
   abbrev ds : List Declaration
-  ds = program s b .declarations
+  ds = declared s b
 
   listed-size : length (listed s b) ≡ length (commentsOf b)
   listed-size = length-map (commentsOf b) _
@@ -77,24 +78,24 @@ module _ (s b : List ℕ) where
 
   -- ---- a whole file
   module _ (c : FileChoice) where
-    said-whole : Says (built s b c) (tokensOf b (program s b))
-    said-whole = says-the-program (given s b) (program s b) (keepsWaiting (c .mode)) fresh
+    said-whole : Says (built s b c) (tokensOf b (tree s b))
+    said-whole = says-the-program (given s b) (tree s b) (keepsWaiting (c .mode)) fresh
 
-    text-kept : Keeps s b (built s b c .placed) (tokensOf b (program s b)) (drawnDue s b c .text)
+    text-kept : Keeps s b (built s b c .placed) (tokensOf b (tree s b)) (drawnDue s b c .text)
     text-kept = record {
       these = pieces (built s b c .nodes);
       made = drawn-made (built s b c .nodes) (said-whole .chosen) (renderChoice c) (renderFresh .pen) (replicate (marksDue s b c) 0);
-      comments = same-comments (built s b c .nodes) (said-whole .chosen) ∙ in-order (given s b) (program s b) (keepsWaiting (c .mode));
+      comments = same-comments (built s b c .nodes) (said-whole .chosen) ∙ in-order (given s b) (tree s b) (keepsWaiting (c .mode));
       others = said-whole .same;
     }
 
     within : built s b c .placed ≤ length (commentsOf b)
-    within = places-whole (given s b) (program s b) (keepsWaiting (c .mode)) .from fresh (omega arith) .within
+    within = places-whole (given s b) (tree s b) (keepsWaiting (c .mode)) .from fresh (omega arith) .within
 
     all-placed : readRefusal (readAll s b) ≡ none → c .mode ≡ NEW-MODE → built s b c .placed ≡ length (listed s b)
     all-placed h new =
         ap (λ (m : ℕ). built s b (record { width = c .width; mode = m }) .placed) new
-        ∙ call-places (list s b h) (program s b) true ds true fresh (omega arith) .placed
+        ∙ call-places (list s b h) (tree s b) true ds true fresh (omega arith) .placed
         ∙ sym listed-size
 
   -- ---- the rows laid out
@@ -112,7 +113,7 @@ module _ (s b : List ℕ) where
     part = take (q .stop - 0) (drop 0 ds)
 
     abbrev act : Act
-    act = callRule (given s b) (program s b) true part true (q .close) (keepsWaiting (q .choice .mode))
+    act = callRule (given s b) (tree s b) true part true (q .close) (keepsWaiting (q .choice .mode))
 
     abbrev laid : Out
     laid = act fresh
@@ -122,13 +123,13 @@ module _ (s b : List ℕ) where
         let e = call-piece (readAll s b) s b layoutFresh q (omega arith) k in
         gives (readAll s b) s b q act (ap (λ (p : Piece). p .rows) e) (ap (λ (p : Piece). p .cursor) e)
 
-    said : Says laid (shebangTokens b (program s b .shebang) & declarationsTokens part)
-    said = call-says-its-part (given s b) (program s b) true part true (q .close) (keepsWaiting (q .choice .mode)) fresh
+    said : Says laid (shebangTokens b (tree s b .shebang) & declarationsTokens part)
+    said = call-says-its-part (given s b) (tree s b) true part true (q .close) (keepsWaiting (q .choice .mode)) fresh
 
     placed : commentsInNodes (laid .nodes) ≡ take (laid .placed) (listed s b)
     placed =
         let m : laid .placed - 0 ≡ laid .placed = omega arith in
-        places-call (given s b) (program s b) true part true (q .close) (keepsWaiting (q .choice .mode)) .from fresh (omega arith) .same
+        places-call (given s b) (tree s b) true part true (q .close) (keepsWaiting (q .choice .mode)) .from fresh (omega arith) .same
         ∙ ap (λ (i : ℕ). take i (listed s b)) m
 
     laid-nodes : LaidNodes (laidTo (readAll s b) s b q)
@@ -143,7 +144,7 @@ module _ (s b : List ℕ) where
           size = omega (arith, given-due .row-due, ap (λ (x : List ℕ). length x) (given-due .rows-due), length-rows ns 0);
           chosen = said .chosen;
           comments = same-comments ns (said .chosen) ∙ placed ∙ ap (λ (n : ℕ). take n (listed s b)) (sym (given-due .placed-due));
-          others = said .same ∙ ap (λ (n : ℕ). shebangTokens b (program s b .shebang) & declarationsTokens (take n ds)) stop;
+          others = said .same ∙ ap (λ (n : ℕ). shebangTokens b (tree s b .shebang) & declarationsTokens (take n ds)) stop;
         }
 
   due-nodes : (o : Option (LayoutArgs LayoutChoice)) → LaidFits (partsOf s b) (layout-parts (readAll s b) s b) (render-parts s b (readAll s b)) o → LaidNodes (layoutDue (rulesOf s b) o)
@@ -231,11 +232,11 @@ module _ (s b : List ℕ) where
   -- closed, the program so far is the whole
   all-said : (o : Option (LayoutArgs LayoutChoice)) → LaidFits (partsOf s b) (layout-parts (readAll s b) s b) (render-parts s b (readAll s b)) o
       → layoutDue (rulesOf s b) o .state .closed ≡ true
-      → programTo s b (layoutDue (rulesOf s b) o .state) ≡ tokensOf b (program s b)
+      → programTo s b (layoutDue (rulesOf s b) o .state) ≡ tokensOf b (tree s b)
   all-said none k h = let z : _≡_ {A = ℕ} 0 1 = cc in absurd (omega arith)
   all-said (some q) k h =
-      ap (λ (n : ℕ). shebangTokens b (program s b .shebang) & declarationsTokens (take n ds)) (k .closes-at-end h)
-      ∙ ap (λ (l : List Declaration). shebangTokens b (program s b .shebang) & declarationsTokens l) (take-all (length ds) ds (omega arith))
+      ap (λ (n : ℕ). shebangTokens b (tree s b .shebang) & declarationsTokens (take n ds)) (k .closes-at-end h)
+      ∙ ap (λ (l : List Declaration). shebangTokens b (tree s b .shebang) & declarationsTokens l) (take-all (length ds) ds (omega arith))
 
 pub text-is-the-program : TextIsTheProgram
 text-is-the-program = text-kept
@@ -244,23 +245,17 @@ pub new-mode-places-all : NewModePlacesAll
 new-mode-places-all = all-placed
 
 pub output-is-the-program : OutputIsTheProgram
-output-is-the-program s b c out bytes left inAll numbers e = go (fileRefusal s b c (length out)) e
-  where
-    text : List ℕ
-    text = drawnDue s b c .text
-
-    go : (o : Option Refusal)
-        → fileAnswerBy o (formatted (length text) (length (commentsOf b) - built s b c .placed) (rowsDue s b c) (built s b c .taken))
-        ≡ formatted bytes left inAll numbers
-        → IsProgram s b (length (listed s b) - left) (take bytes (unless o out (writeFront text out)))
-    go (some r) f = let z : _≡_ {A = ℕ} 0 1 = cc in absurd (omega arith)
-    go none f =
-        let size : length text ≡ bytes = cc in
-        let n : length (commentsOf b) - built s b c .placed ≡ left = cc in
-        let same : text ≡ take bytes (writeFront text out) =
-        sym (ap (λ (k : ℕ). take k (writeFront text out)) (sym size) ∙ take-append-seam text (drop (length text) out))
-        in
-        subst₂ (λ (k : ℕ) (t : List ℕ). IsProgram s b k t) (omega (arith, n, within s b c, listed-size s b)) same (text-kept s b c)
+output-is-the-program s b c out r e =
+    let text = drawnDue s b c .text in
+    let a = accepted-by (fileRefusal s b c (length out)) r (fileResult s b c) (sym e) in
+    let size : r .bytes ≡ length text = ap (λ (x : FileResult). x .bytes) (a .is) in
+    let n : r .left ≡ length (commentsOf b) - built s b c .placed = ap (λ (x : FileResult). x .left) (a .is) in
+    let same : text ≡ take (r .bytes) (fileOutput s b c out) =
+    sym
+    (ap₂ (λ (k : ℕ) (o : Option Refusal). take k (unless o out (writeFront text out))) size (a .passes)
+    ∙ take-append-seam text (drop (length text) out))
+    in
+    subst₂ (λ (k : ℕ) (t : List ℕ). IsProgram s b k t) (omega (arith, n, within s b c, listed-size s b)) same (text-kept s b c)
 
 pub calls-keep-the-text : CallsKeepTheText
 calls-keep-the-text s b store₀ marks₀ calls h =
@@ -275,7 +270,7 @@ calls-keep-the-text s b store₀ marks₀ calls h =
     in
     let whole : AllRendered s b w → w .layout-state .closed ≡ true → IsWhole s b w =
     λ e closed.
-    let all : programTo s b (w .layout-state) ≡ tokensOf b (program s b) =
+    let all : programTo s b (w .layout-state) ≡ tokensOf b (tree s b) =
     ap (λ (v : Carried R). programTo s b (v .layout-state)) (cut .same)
     ∙ all-said s b (f .laid-to) (k .laid) (ap (λ (v : Carried R). v .layout-state .closed) (sym (cut .same)) ∙ closed)
     in

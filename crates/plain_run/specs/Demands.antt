@@ -6,7 +6,7 @@ use mathlib.Core.List.{List}
 use mathlib.Core.Option.{none}
 use Prim.Native.Nat.{ℕ, _-_, _≤_}
 use lib.ListN.{length, take}
-use Rattle.image.specs.Read.{Read, Image, readAll}
+use Rattle.image.specs.Read.{Read, Image, readAll, readRefusal}
 use Rattle.ast.specs.Syntax.{SyntaxTree}
 use Rattle.rows.specs.Limits.{MAX-ROWS, MAX-NUMBER}
 use Rattle.rows.specs.Rows.{sizes, rows}
@@ -23,7 +23,7 @@ use Rattle.cut_rule.specs.Plain.{AllReadLaid}
 use Rattle.cut_rule.specs.CutRule.{CutRule}
 use Rattle.cut_rule.specs.States.{LayoutChoice, RenderChoice, LayoutState, RenderState, layoutFresh, OLD-MODE}
 use Rattle.cut_rule.specs.Parts.{laidOf, rules}
-use Rattle.plain_run.specs.Parts.{readRefusal, acceptedTree, listed, keepsWaiting, rendererOf, drawnBy, page, drawn, partsBy}
+use Rattle.plain_run.specs.Parts.{acceptedTree, listed, keepsWaiting, rendererOf, drawnBy, page, drawn, partsBy}
 
 -- the rules and the table for one source s and one image b, by what was read of the image
 abbrev pub rulesBy : Read Image → List ℕ → List ℕ → Rules

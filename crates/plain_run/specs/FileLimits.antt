@@ -14,7 +14,8 @@ use Rattle.renderer_rules.specs.Check.{wrongPlace}
 use Rattle.renderer_rules.specs.Widest.{greatestColumn}
 use Rattle.cut_rule.specs.States.{renderFresh}
 use Rattle.plain_run.specs.Parts.{renderImage, rendererOf}
-use Rattle.plain_run.specs.File.{FileChoice, fileRows, built, drawnDue, laidRefusal}
+use Rattle.plain_run.specs.File.{fileRows, laidRefusal}
+use Rattle.plain_run.specs.Built.{FileChoice, built, drawnDue}
 
 -- the longest image, 1,048,581 bytes: no text of a row is longer
 abbrev pub MAX-IMAGE : ℕ

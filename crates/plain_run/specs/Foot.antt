@@ -5,14 +5,14 @@ use mathlib.Core.Option.{none, some}
 use mathlib.Core.List.{List}
 use Prim.Native.Nat.{ℕ}
 use lib.ListN.{length}
-use Rattle.image.specs.Read.{readAll}
+use Rattle.image.specs.Read.{readAll, readRefusal}
 use Rattle.refusals.specs.Refusals.{any}
 use Rattle.cut_rule.specs.Rules.{LayoutArgs, LayoutResult}
 use Rattle.cut_rule.specs.Run.{Call, Carried, start, run}
 use Rattle.cut_rule.specs.CutRule.{commentsIn}
 use Rattle.cut_rule.specs.States.{LayoutChoice, LayoutState, NEW-MODE}
 use Rattle.cut_rule.specs.Parts.{laidOf, layoutTests}
-use Rattle.plain_run.specs.Parts.{readRefusal, listed, partsOf}
+use Rattle.plain_run.specs.Parts.{listed, partsOf}
 use Rattle.plain_run.specs.Demands.{rulesOf}
 
 -- all comments of the list are placed, the position is the source's end, and none is left

@@ -1,4 +1,5 @@
 pub mod Parts
+pub mod Built
 pub mod Demands
 pub mod Foot
 pub mod Edges

@@ -7,7 +7,7 @@ use Prim.Native.Nat.{ℕ, _+_, _-_}
 use lib.Dec.{eqb}
 use lib.ListN.{length}
 use Rattle.text.specs.Space.{trimEnd}
-use Rattle.image.specs.Read.{Read, got, bad, Image, header, sourceFits, readAll}
+use Rattle.image.specs.Read.{Read, got, bad, Image, header, sourceFits, readAll, readRefusal}
 use Rattle.ast.specs.Syntax.{Declaration, SyntaxTree}
 use Rattle.tree.specs.Records.{syntaxTree}
 use Rattle.rows.specs.Rows.{sizes, rows}
@@ -30,11 +30,6 @@ use Rattle.cut_rule.specs.States.{RenderChoice, Cursor, RenderState, NEW-MODE}
 use Rattle.cut_rule.specs.Parts.{Piece, Drawn, RuleParts}
 
 -- ---- source and image
--- 1 to 7
-abbrev pub readRefusal : Read Image → Option Refusal
-readRefusal (got i end) = none
-readRefusal (bad n p) = some (record { number = n; place = p })
-
 -- the syntax tree of an accepted image; nothing is laid out of another
 abbrev pub acceptedTree : List ℕ → Read Image → SyntaxTree
 acceptedTree b (got i end) = syntaxTree b (i .tree)

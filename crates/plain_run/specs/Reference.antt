@@ -9,7 +9,7 @@ use mathlib.Core.List.{List, [], _∷_}
 use Prim.Native.Nat.{ℕ, _-_, max}
 use lib.Dec.{ltb}
 use lib.ListN.{length, take, replicate}
-use Rattle.image.specs.Read.{readAll}
+use Rattle.image.specs.Read.{readAll, readRefusal}
 use Rattle.rows.specs.View.{viewOf, nodesAt}
 use Rattle.rows.specs.Rows.{sizes, rows}
 use Rattle.state.specs.Act.{Out}
@@ -23,15 +23,16 @@ use Rattle.renderer_rules.specs.Page.{pageOf}
 use Rattle.renderer_rules.specs.Check.{wrongPlace}
 use Rattle.renderer_rules.specs.declared.Pen.{Pen}
 use Rattle.refusals.specs.Refusals.{Refusal, unless, first, refuseIf, refuseAt, any}
+use Rattle.refusals.specs.Answers.{Answer, answerBy}
 use Rattle.cut_rule.specs.Limits.{REFERENCE-WIDTH}
 use Rattle.cut_rule.specs.Rules.{RenderTo, RenderArgs}
 use Rattle.cut_rule.specs.Run.{writeFront}
 use Rattle.cut_rule.specs.States.{RenderChoice, RenderState, renderFresh}
 use Rattle.cut_rule.specs.Tests.{renderTests}
 use Rattle.cut_rule.specs.Parts.{Drawn, withCleared, widthLine, renderTable, renderedOf}
-use Rattle.plain_run.specs.Parts.{readRefusal, acceptedTree, renderImage, rendererOf, drawnBy, partsOf}
-use Rattle.plain_run.specs.File.{fileRows, fileMarks, referenceChoice, modeLine, renderChoice, built, fileRefusal, fileOutput}
-use Rattle.plain_run.specs.File.{FileAnswer, formatted, fileAnswerBy, fileAnswer}
+use Rattle.plain_run.specs.Parts.{renderImage, rendererOf, drawnBy, partsOf}
+use Rattle.plain_run.specs.Built.{referenceChoice, renderChoice, tree, built}
+use Rattle.plain_run.specs.File.{fileRows, fileMarks, modeLine, fileRefusal, FileResult, fileAnswer, fileOutput}
 
 -- a rendering to a stop that chooses 80
 abbrev pub atReference : ℕ → RenderTo RenderChoice
@@ -41,7 +42,7 @@ module _ (s b : List ℕ) where
   -- ---- a whole file
   -- what `fmt_parsed` builds, its rows and its marks
   abbrev pub builtThen : Out
-  builtThen = fmtParsed (given s b) (acceptedTree b (readAll s b)) fresh
+  builtThen = fmtParsed (given s b) (tree s b) fresh
 
   abbrev pub rowsThen : ℕ
   rowsThen = sizes (builtThen .nodes)
@@ -57,15 +58,20 @@ module _ (s b : List ℕ) where
   abbrev pub refusalThen : ℕ → Option Refusal
   refusalThen room =
       first
-      (first (readRefusal (readAll s b) ∷ refuseIf (ltb fileRows rowsThen) 8 rowsThen ∷ [])
+      (readRefusal (readAll s b)
+      ∷ refuseIf (ltb fileRows rowsThen) 8 rowsThen
       ∷ refuseIf (ltb fileMarks marksThen) 9 marksThen
       ∷ refuseIf (ltb room (length (drawnThen .text))) 10 (length (drawnThen .text))
       ∷ [])
 
-  abbrev pub answerThen : ℕ → FileAnswer
+  abbrev pub answerThen : ℕ → Answer FileResult
   answerThen room =
-      fileAnswerBy (refusalThen room)
-      (formatted (length (drawnThen .text)) (length (commentsOf b) - builtThen .placed) rowsThen (builtThen .taken))
+      answerBy (refusalThen room) (record {
+        bytes = length (drawnThen .text);
+        left = length (commentsOf b) - builtThen .placed;
+        rows = rowsThen;
+        numbers = builtThen .taken;
+      })
 
   abbrev pub outputThen : List ℕ → List ℕ
   outputThen out = unless (refusalThen (length out)) out (writeFront (drawnThen .text) out)

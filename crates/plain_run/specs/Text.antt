@@ -7,18 +7,19 @@ use mathlib.Core.Option.{none}
 use mathlib.Core.List.{List, [], _++_}
 use Prim.Native.Nat.{ℕ, _-_}
 use lib.ListN.{length, take}
-use Rattle.image.specs.Read.{readAll}
-use Rattle.ast.specs.Syntax.{SyntaxTree}
+use Rattle.image.specs.Read.{readAll, readRefusal}
 use Rattle.rows.specs.View.{viewOf, nodesAt}
 use Rattle.layout_facts.specs.Tokens.{_&_, shebangTokens, declarationsTokens, tokensOf}
 use Rattle.renderer_rules.specs.Page.{textBytes}
 use Rattle.renderer_rules.specs.Holds.{HoldsInOrder, anything, Token, Piece, IsLine, commentsAmong, tokensAmong, pieces, MadeOf}
+use Rattle.refusals.specs.Answers.{accepted}
 use Rattle.cut_rule.specs.Run.{Call, Carried, start, run}
 use Rattle.cut_rule.specs.Plain.{AllReadLaid}
 use Rattle.cut_rule.specs.States.{LayoutState, NEW-MODE}
-use Rattle.plain_run.specs.Parts.{readRefusal, acceptedTree, listed}
+use Rattle.plain_run.specs.Parts.{listed}
+use Rattle.plain_run.specs.Built.{FileChoice, tree, declared, built, drawnDue}
 use Rattle.plain_run.specs.Demands.{rulesOf}
-use Rattle.plain_run.specs.File.{FileChoice, built, drawnDue, formatted, fileAnswer, fileOutput}
+use Rattle.plain_run.specs.File.{FileResult, fileAnswer, fileOutput}
 
 -- ---- what is said of a text
 -- It holds the first so many comments of the list, in order: of each its bytes in the source, white space at the end cut, and a newline. What else is in the text
@@ -33,13 +34,9 @@ pub record Keeps (s b : List ℕ) (placed : ℕ) (tokens : List Token) (text : L
   pub comments : commentsAmong these ≡ take placed (listed s b)
   pub others : tokensAmong these ≡ tokens
 
--- the tree that was read of the image
-abbrev pub program : List ℕ → List ℕ → SyntaxTree
-program s b = acceptedTree b (readAll s b)
-
 -- it is the first so many comments, and the program
 abbrev pub IsProgram : List ℕ → List ℕ → ℕ → List ℕ → Type 0
-IsProgram s b placed text = Keeps s b placed (tokensOf b (program s b)) text
+IsProgram s b placed text = Keeps s b placed (tokensOf b (tree s b)) text
 
 -- the second says more than the first
 abbrev pub KeptCommentsHeld : Type 0
@@ -58,14 +55,13 @@ NewModePlacesAll = (s b : List ℕ) (c : FileChoice) → readRefusal (readAll s 
 -- left.
 abbrev pub OutputIsTheProgram : Type 0
 OutputIsTheProgram =
-    (s b : List ℕ) (c : FileChoice) (out : List ℕ) (bytes left rows numbers : ℕ)
-    → fileAnswer s b c (length out) ≡ formatted bytes left rows numbers
-    → IsProgram s b (length (listed s b) - left) (take bytes (fileOutput s b c out))
+    (s b : List ℕ) (c : FileChoice) (out : List ℕ) (r : FileResult) → fileAnswer s b c (length out) ≡ accepted r
+    → IsProgram s b (length (listed s b) - r .left) (take (r .bytes) (fileOutput s b c out))
 
 -- ---- a list of calls
 -- the tokens of the tree as far as layout came: of the shebang, once the document is begun, and of the declarations before the next
 abbrev pub programTo : List ℕ → List ℕ → LayoutState → List Token
-programTo s b l = cond (l .begun) (shebangTokens b (program s b .shebang)) [] & declarationsTokens (take (l .declaration) (program s b .declarations))
+programTo s b l = cond (l .begun) (shebangTokens b (tree s b .shebang)) [] & declarationsTokens (take (l .declaration) (declared s b))
 
 -- the pieces of the rows of a store from one up to another
 abbrev pub piecesBetween : List ℕ → ℕ → ℕ → List Piece
