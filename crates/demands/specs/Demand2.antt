@@ -16,7 +16,7 @@ use Rattle.state.specs.Act.{Out}
 use Rattle.tree.specs.CommentList.{commentsOf}
 use Rattle.comments.specs.Listed.{given}
 use Rattle.layout.specs.Layout.{fmtParsed}
-use Rattle.layout_facts.specs.Accepted.{fresh, upTo, wholeRule}
+use Rattle.layout.specs.Closing.{fresh, upTo, wholeRule}
 use Rattle.cut_rule.specs.Run.{writeFront}
 use Rattle.cut_rule.specs.States.{OLD-MODE, NEW-MODE}
 use Rattle.plain_run.specs.Demands.{LaidWithinLimits}

@@ -15,7 +15,7 @@ use Rattle.state.specs.Act.{Out}
 use Rattle.tree.specs.CommentList.{commentsOf}
 use Rattle.comments.specs.Listed.{given}
 use Rattle.layout.specs.Layout.{fmtParsed}
-use Rattle.layout_facts.specs.Accepted.{fresh, wholeRule}
+use Rattle.layout.specs.Closing.{fresh, wholeRule}
 use Rattle.renderer_rules.specs.Renderer.{renderNodes}
 use Rattle.renderer_rules.specs.Widest.{greatestColumn}
 use Rattle.refusals.specs.Refusals.{Refusal, unless, first, refuseIf, any}
