@@ -4,6 +4,7 @@ use Rattle.image.proofs.Numbers.{read-numbers}
 use Rattle.rows.proofs.Table.{words-there}
 use Rattle.renderer_rules.proofs.Call.{call-as-rust}
 use Rattle.renderer_rules.proofs.Holds.{writes-pieces, no-slash-around}
+use Rattle.layout_facts.proofs.Binop.{binop-as-rust}
 use Rattle.layout_facts.proofs.Limits.{few-rows, words-due}
 use Rattle.layout_facts.proofs.Tokens.{says-the-program, fmt-parsed-says-the-program, slash-words}
 use Rattle.plain_run.proofs.Demands.{rules-cut, due-is-fmt-parsed, laid-within-limits}
@@ -38,6 +39,7 @@ claims = record {
   };
   rules = record {
     call-as-rust = call-as-rust;
+    binop-as-rust = binop-as-rust;
     due-is-fmt-parsed = due-is-fmt-parsed;
     cut-rule = rules-cut;
     within-limits = laid-within-limits;

@@ -5,6 +5,7 @@ use Rattle.rows.specs.Words.{WordsThere}
 use Rattle.renderer_rules.specs.Call.{CallAsRust}
 use Rattle.renderer_rules.specs.Holds.{WritesPieces, NoSlashAround}
 use Rattle.layout_facts.specs.Accepted.{FewRows, WordsDue}
+use Rattle.layout_facts.specs.Binop.{BinopAsRust}
 use Rattle.layout_facts.specs.Tokens.{SaysTheProgram, FmtParsedSaysTheProgram, SlashWords}
 use Rattle.plain_run.specs.Demands.{RulesCut, DueIsFmtParsed, LaidWithinLimits}
 use Rattle.plain_run.specs.Edges.{EdgesHold, WidthsHold, EmptyLineHolds}
@@ -42,6 +43,8 @@ pub record TheDemands : Type 0 where
 pub record TheRules : Type 0 where
   -- "`Call`'s made-up group: a function over its two row ranges": the rule is that of fmt.rs
   pub call-as-rust : CallAsRust
+  -- the rule for operators is `binop` of fmt.rs, with its stack and its two loops
+  pub binop-as-rust : BinopAsRust
   -- "The rows and state due at a stop are those `fmt_parsed` has when its loop reaches that declaration."
   pub due-is-fmt-parsed : DueIsFmtParsed
   pub cut-rule : RulesCut

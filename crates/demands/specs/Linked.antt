@@ -16,7 +16,7 @@ use Rattle.rows.specs.Rows.{sizes}
 use Rattle.tree.specs.CommentList.{commentsOf}
 use Rattle.comments.specs.Listed.{given}
 use Rattle.layout.specs.Layout.{fmtParsed}
-use Rattle.layout_facts.specs.Accepted.{fresh, upTo, wholeRule}
+use Rattle.layout.specs.Closing.{fresh, upTo, wholeRule}
 use Rattle.cut_rule.specs.Run.{Call, layoutCall, renderCall, Carried, start}
 use Rattle.cut_rule.specs.Plain.{atFirst, answersDue, AllReadLaid}
 use Rattle.cut_rule.specs.Callers.{afterAll, AllKept}

@@ -39,7 +39,7 @@ fn binop_precedence(op: usize) -> usize
     if op < 14 { PRECEDENCES[op] } else { 0 }
 }
 
-// The place among the words of an operator's symbol. The minus is a word that stands elsewhere too, so it is not listed with the others.
+// The place among the words of an operator's symbol. The minus is a word that is used elsewhere too, so it is not listed with the others.
 fn symbol(op: usize) -> usize
     requires { ⌜ op < 14 ⌝ }
     ensures { λ r. ⌜ getD table r "" ≡ symbol op ⌝ }

@@ -26,7 +26,7 @@ use state::words::COMMA;
 use state::words::if_wrap;
 use state::words::word;
 
-// `pop_whitespace` where its answer isn't looked at.
+// `pop_whitespace` where what it returns isn't looked at.
 pub(crate) fn gap(
     store: &mut [u32],
     c: Cursor,

@@ -12,7 +12,7 @@ use Rattle.ast.specs.Syntax.{Declaration, SyntaxTree}
 use Rattle.tree.specs.Walk.{walked}
 use Rattle.state.specs.Act.{Act}
 use Rattle.comments.specs.Listed.{given}
-use Rattle.layout_facts.specs.Accepted.{callRule}
+use Rattle.layout.specs.Closing.{callRule}
 use Rattle.state.specs.declared.Cursor.{Cursor}
 use Rattle.refusals.specs.Refusals.{any}
 use Rattle.cut_rule.specs.Tests.{rowsIn}

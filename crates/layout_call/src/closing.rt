@@ -4,7 +4,7 @@ ghost use lib.Dec.{ltb};
 ghost use lib.ListN.{length};
 ghost use Rattle.state.specs.Laid.{Room, Laid};
 ghost use Rattle.comments.specs.Listed.{given};
-ghost use Rattle.layout_facts.specs.Accepted.{placeWaiting, closing};
+ghost use Rattle.layout.specs.Closing.{placeWaiting, closing};
 ghost use Rattle.plain_run.specs.Parts.{keepsWaiting};
 ghost use Rattle.layout_call.specs.Steps.{Accepts, tree, declared};
 use crate::Document;

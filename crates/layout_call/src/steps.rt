@@ -7,7 +7,7 @@ ghost use Rattle.state.specs.Act.{when};
 ghost use Rattle.state.specs.Laid.{Room, Laid};
 ghost use Rattle.comments.specs.Listed.{given};
 ghost use Rattle.layout.specs.Layout.{shebangRule};
-ghost use Rattle.layout_facts.specs.Accepted.{closing};
+ghost use Rattle.layout.specs.Closing.{closing};
 ghost use Rattle.plain_run.specs.Parts.{keepsWaiting};
 ghost use Rattle.layout_call.specs.Steps.{Accepts, tree, declared, startOf, callAct};
 use crate::Document;

@@ -19,7 +19,7 @@ use Rattle.layout.specs.declared.forms.WrapStyle.the-variants.{Tight, Wrap}
 use Rattle.layout.specs.Layout.{someTypeParams, Bottom, params, typeParams, identElems, fieldElems, opening, variantElems, declaration, declares, shebangRule}
 use Rattle.layout.specs.Layout.{declarationsRule, importSpan, unlessEmpty}
 use Rattle.layout_facts.specs.Sound.{Ranged, Commented, BYTE-GIVES, ROW-TAKES, Sounds}
-use Rattle.layout_facts.specs.Accepted.{closing, wholeRule}
+use Rattle.layout.specs.Closing.{closing, wholeRule}
 use Rattle.layout_facts.specs.Height.{fieldsHeight, variantsHeight, declarationHeight, declarationsHeight, treeHeight}
 use Rattle.layout_facts.proofs.Steps.{_⨾_, fewer, sound-skip, sound-line, sound-emptyLine, sound-str, sound-when, sound-asks}
 use Rattle.layout_facts.proofs.Gaps.{sound-gap}

@@ -19,14 +19,14 @@ use Rattle.ast.specs.Syntax.{SyntaxTree}
 use Rattle.rows.specs.Node.{Text, Node, ascii, str, line, emptyLine, lineOrSpace, wrapParent, ifWrap}
 use Rattle.rows.specs.Words.{word}
 use Rattle.renderer_rules.specs.Holds.{Token, aWord, lastComma}
-use Rattle.state.specs.Act.{Given, Act, Asking, _⨟_, _⨟?_, skip, when, push, told, grouped, indented, indentedNext, called, says, content}
+use Rattle.state.specs.Act.{Given, Act, Asking, _⨟_, _⨟?_, skip, when, push, stepAlone, grouped, indented, indentedNext, called, says, content}
 use Rattle.comments.specs.Comments.{whitespace, popWhitespace, popTrailingComment}
 use Rattle.comments.specs.declared.Gap.{Gap}
 use Rattle.layout.specs.declared.forms.WrapStyle.{WrapStyle}
 use Rattle.layout.specs.declared.forms.WrapStyle.the-variants.{Tight, Spaced, Wrap}
-use Rattle.layout.specs.Layout.{edge, isWrap, opens, ends, inside, beforeElem, pathNext, operator, maybeExpr, placeholder, clause, blockStart, beforeStmt, afterStmt, leftmost, pickOperands, popped, someTypeParams, Elem, Operands, Bottom, Chain, Unit′, binopPrecedence, symbol, assignSymbol, returnWord, elements, separated, pathMore, pathRule, identElems, typeExpr, typeForm, typeArgs, typeElems, fieldElems, params, typeParams, importPath, importGroup, importItems, importElems, pattern, binop, literalRule, exprWithPrecedence, exprForm, operands, operandsForm, otherwise, exprElems, groupedElems, entryElems, armElems, partsRule, blockRule, stmtsRule, lastRule, stmtRule, stmtForm, opening, variantElems, declaration, declares, shebangRule, declarationsRule, importSpan, noneOf, isEmpty, isBlock, isBraced, unlessEmpty, oneOr, ident, letType, returnType, importFirst, isSome, isGroup}
+use Rattle.layout.specs.Layout.{edge, isWrap, opens, ends, inside, beforeElem, pathNext, operator, maybeExpr, placeholder, clause, blockStart, beforeStmt, afterStmt, leftmost, popped, someTypeParams, Elem, Operands, Bottom, Chain, Unit′, binopPrecedence, symbol, assignSymbol, returnWord, elements, separated, pathMore, pathRule, identElems, typeExpr, typeForm, typeArgs, typeElems, fieldElems, params, typeParams, importPath, importGroup, importItems, importElems, pattern, binop, literalRule, exprWithPrecedence, exprForm, operands, operandsForm, otherwise, exprElems, groupedElems, entryElems, armElems, partsRule, blockRule, stmtsRule, lastRule, stmtRule, stmtForm, opening, variantElems, declaration, declares, shebangRule, declarationsRule, importSpan, noneOf, isEmpty, isBlock, isBraced, unlessEmpty, oneOr, ident, letType, returnType, importFirst, isSome, isGroup}
 use Rattle.layout.specs.Elems.{mark}
-use Rattle.layout_facts.specs.Accepted.{closing, wholeRule, callRule}
+use Rattle.layout.specs.Closing.{closing, wholeRule, callRule}
 use Rattle.layout_facts.specs.Tokens.{say, sayIf, name, shebangTokens, quote, furtherTokens, lastCommaIf, listTokens, dottedTokens, pathTokens, maybePathTokens, typeTokens, typeFormTokens, typeArgsTokens, typesTokens, fieldsTokens, oneOrMore, importTokens, importGroupTokens, importItemsTokens, importsTokens}
 use Rattle.layout_facts.specs.Tokens.{patternTokens, literalTokens, letTypeTokens, exprTokens, formTokens, exprsTokens, maybeTokens, lastTokens, entriesTokens, armsTokens, partsTokens, blockTokens, elseTokens, stmtsTokens, stmtTokens, stmtFormTokens, someNames, typeParamsTokens, variantsTokens, returnTypeTokens}
 use Rattle.layout_facts.specs.Tokens.{declarationTokens, declarationsTokens, tokensOf}
@@ -50,8 +50,8 @@ pub record Joining (g : Given) (P : ℕ → List Token → Act → Type 0) : Typ
   pub indents : {k : ℕ} {ts : List Token} {a : Act} → P k ts a → P k ts (indented a)
   pub indents-next : {k : ℕ} {ts : List Token} {a : Act} → P k ts a → P k ts (indentedNext a)
   pub calls : {k : ℕ} {ts us : List Token} {e a : Act} → P k ts e → P k us a → P k (ts ++ us) (called e a)
-  pub asks : {k : ℕ} {ts us : List Token} (a : Asking Gap) {b : Gap → Act} → P k ts (told a) → ((answer : Gap) → P k us (b answer)) → P k (ts ++ us) (a ⨟? b)
-  pub gaps : {k : ℕ} (position : ℕ) (leading trailing only : Bool) → P k [] (told (popWhitespace g position leading trailing only))
+  pub asks : {k : ℕ} {ts us : List Token} (a : Asking Gap) {b : Gap → Act} → P k ts (stepAlone a) → ((answer : Gap) → P k us (b answer)) → P k (ts ++ us) (a ⨟? b)
+  pub gaps : {k : ℕ} (position : ℕ) (leading trailing only : Bool) → P k [] (stepAlone (popWhitespace g position leading trailing only))
   pub trails : {k : ℕ} → P k [] (popTrailingComment g)
 
 module _ {g : Given} {P : ℕ → List Token → Act → Type 0} (J : Joining g P) where
@@ -121,10 +121,10 @@ module _ {g : Given} {P : ℕ → List Token → Act → Type 0} (J : Joining g 
   every-called : {ts us : List Token} {e a : Act} → Every ts e → Every us a → Every (ts ++ us) (called e a)
   every-called p q k = J .calls (p k) (q k)
 
-  every-asks : {ts us : List Token} (a : Asking Gap) {b : Gap → Act} → Every ts (told a) → ((answer : Gap) → Every us (b answer)) → Every (ts ++ us) (a ⨟? b)
+  every-asks : {ts us : List Token} (a : Asking Gap) {b : Gap → Act} → Every ts (stepAlone a) → ((answer : Gap) → Every us (b answer)) → Every (ts ++ us) (a ⨟? b)
   every-asks a p q k = J .asks a (p k) (λ answer. q answer k)
 
-  gapped : (position : ℕ) (leading trailing only : Bool) → EveryNone (told (popWhitespace g position leading trailing only))
+  gapped : (position : ℕ) (leading trailing only : Bool) → EveryNone (stepAlone (popWhitespace g position leading trailing only))
   gapped position leading trailing only k = J .gaps position leading trailing only
 
   trailed : EveryNone (popTrailingComment g)
@@ -312,7 +312,7 @@ module _ {g : Given} {P : ℕ → List Token → Act → Type 0} (J : Joining g 
         same = sym (append-assoc (p .front) (p .back) these) ∙ ap (λ (l : List Token). l ++ these) (p .same);
       }
 
-  every-pick : {ts : List Token} (t : Bool) {a b : Operands} → EveryOperands ts a → EveryOperands ts b → EveryOperands ts (pickOperands t a b)
+  every-pick : {ts : List Token} (t : Bool) {a b : Operands} → EveryOperands ts a → EveryOperands ts b → EveryOperands ts (cond t a b)
   every-pick true p q = p
   every-pick false p q = q
 

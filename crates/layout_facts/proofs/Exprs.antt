@@ -23,7 +23,7 @@ use Rattle.rows.specs.Words.{among, isWord}
 use Rattle.state.specs.Act.{Given, Act, _⨟_, push, grouped, content, indentedNext, called}
 use Rattle.comments.specs.Comments.{whitespace, popWhitespace, popTrailingComment}
 use Rattle.layout.specs.declared.forms.WrapStyle.the-variants.{Tight, Spaced, Wrap}
-use Rattle.layout.specs.Layout.{operator, maybeExpr, placeholder, clause, blockStart, beforeStmt, afterStmt, leftmost, pickOperands, popped}
+use Rattle.layout.specs.Layout.{operator, maybeExpr, placeholder, clause, blockStart, beforeStmt, afterStmt, leftmost, popped}
 use Rattle.layout.specs.Layout.{Operands, Bottom, Chain, Unit′, binopPrecedence, symbol, assignSymbol, returnWord, binop, literalRule, exprWithPrecedence}
 use Rattle.layout.specs.Layout.{exprForm, operands, operandsForm, otherwise, exprElems, groupedElems, entryElems, armElems, partsRule, blockRule, stmtsRule, lastRule}
 use Rattle.layout.specs.Layout.{stmtRule, stmtForm, exprSpan, stmtSpan, noneOf, isEmpty, isBlock, isBraced}
@@ -114,7 +114,7 @@ module _ {g : Given} (commented : Commented g) where
       (λ id. deeper (p .left) (omega arith) ⨾ sound-lineOrSpace ⨾ sound-indented {c = e} (omega arith) (p .ops)))
       (omega (arith, p .both))
 
-  sound-pick : (t : Bool) {a b : Operands} {m n d : ℕ} → SoundOperands m d a → SoundOperands n d b → m ≤ n → SoundOperands n d (pickOperands t a b)
+  sound-pick : (t : Bool) {a b : Operands} {m n d : ℕ} → SoundOperands m d a → SoundOperands n d b → m ≤ n → SoundOperands n d (cond t a b)
   sound-pick true p q h =
       record { first = p .first; rest = p .rest; left = p .left; ops = p .ops; both = omega (arith, p .both) }
   sound-pick false p q h = q

@@ -31,7 +31,8 @@ use Rattle.layout.specs.Layout.{fmtParsed}
 use Rattle.layout_facts.specs.Placing.{Places}
 use Rattle.layout_facts.specs.Sound.{Commented, Sounds}
 use Rattle.layout_facts.specs.Height.{declarationsHeight, treeHeight}
-use Rattle.layout_facts.specs.Accepted.{WordsDue, Few, FewRows, Stands, fresh, upTo, wholeRule, callRule, Within}
+use Rattle.layout.specs.Closing.{fresh, upTo, wholeRule, callRule}
+use Rattle.layout_facts.specs.Accepted.{WordsDue, Few, FewRows, Stands, Within}
 use Rattle.layout_facts.proofs.Placing.{places-then}
 use Rattle.layout_facts.proofs.InOrder.{places-shebang, places-declarations, places-whole, places-call}
 use Rattle.layout_facts.proofs.Steps.{_⨾_, fewer, sound-when}

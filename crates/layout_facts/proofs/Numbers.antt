@@ -13,7 +13,7 @@ use Rattle.state.specs.Act.{Given, St, Out, Act, next, _⨟_, _⨟?_, skip, pus
 use Rattle.state.specs.Act.{indentedNext, called}
 use Rattle.comments.specs.Comments.{ignoreNewlines}
 use Rattle.layout.specs.Layout.{fmtParsed}
-use Rattle.layout_facts.specs.Accepted.{fresh, wholeRule}
+use Rattle.layout.specs.Closing.{fresh, wholeRule}
 use Rattle.layout_facts.proofs.GapRule.{GapSteps, every-gap, every-trailing}
 use Rattle.layout_facts.proofs.EveryRule.{Break, line-break, emptyLine-break, lineOrSpace-break, wrapParent-break, Joining, every-whole}
 

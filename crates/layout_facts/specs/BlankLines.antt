@@ -45,7 +45,7 @@ module _ (g : Given) where
   beforeName false from [] name = cond (ltb 1 (countNewlines (g .source) from name .count)) (emptyLine then none) (line then none)
   beforeName false from (c ∷ cs) name = withGaps from (c ∷ cs) name
 
-  -- the comments that stand before the name, of those that are still to be placed
+  -- the comments before the name, of those that are still to be placed
   abbrev pub standing : ℕ → St → List Span
   standing name s = startingBefore name (drop (s .placed) (g .comments))
 

@@ -1,4 +1,4 @@
--- What it is that a step places comments: each that it takes from the list, once and in order.
+-- A step that places comments: each that it takes from the list, once and in order.
 use Prim.Native.Nat.{ℕ, _-_, _≤_}
 use mathlib.Core.Path.{_≡_}
 use mathlib.Core.List.{List, [], _∷_, _++_, map}

@@ -16,7 +16,7 @@ use Rattle.state.specs.Act.{St, Act}
 use Rattle.tree.specs.CommentList.{commentsOf}
 use Rattle.comments.specs.Listed.{given, Listed}
 use Rattle.comments.proofs.Accepted.{accepted-listed}
-use Rattle.layout_facts.specs.Accepted.{callRule}
+use Rattle.layout.specs.Closing.{callRule}
 use Rattle.layout_facts.proofs.Foot.{AtFoot, call-places}
 use Rattle.refusals.specs.Refusals.{Refusal, unless}
 use Rattle.cut_rule.specs.Rules.{LayoutArgs}

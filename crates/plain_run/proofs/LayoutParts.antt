@@ -22,7 +22,7 @@ use Rattle.comments.specs.Comments.{nth}
 use Rattle.tree.specs.CommentList.{commentsOf}
 use Rattle.comments.specs.Listed.{given}
 use Rattle.layout.specs.Layout.{shebangRule}
-use Rattle.layout_facts.specs.Accepted.{closing}
+use Rattle.layout.specs.Closing.{closing}
 use Rattle.layout_facts.specs.Placing.{commentsOfNode, commentsInNodes, Places as StepPlaces}
 use Rattle.layout_facts.proofs.Placing.{places-skip}
 use Rattle.layout_facts.proofs.InOrder.{places-shebang, places-declaration, places-closing}

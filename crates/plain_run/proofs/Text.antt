@@ -23,7 +23,7 @@ use Rattle.tree.specs.CommentList.{commentsOf}
 use Rattle.state.specs.Act.{Act, Out}
 use Rattle.state.proofs.Joins.{length-rows}
 use Rattle.comments.specs.Listed.{given}
-use Rattle.layout_facts.specs.Accepted.{fresh, callRule}
+use Rattle.layout.specs.Closing.{fresh, callRule}
 use Rattle.layout_facts.specs.Placing.{commentsInNodes}
 use Rattle.layout_facts.specs.Tokens.{_&_, shebangTokens, declarationsTokens, tokensOf, Says}
 use Rattle.layout_facts.proofs.Tokens.{says-the-program, call-says-its-part, same-comments, chosen-before, tokens-in-parts, comments-in-parts}

@@ -24,7 +24,7 @@ use Rattle.comments.specs.Comments.{nth}
 use Rattle.tree.specs.CommentList.{commentsOf}
 use Rattle.comments.specs.Listed.{given}
 use Rattle.layout.specs.Layout.{shebangRule, declaration, declarationsRule, fmtParsed}
-use Rattle.layout_facts.specs.Accepted.{fresh, upTo, closing, wholeRule, callRule}
+use Rattle.layout.specs.Closing.{fresh, upTo, closing, wholeRule, callRule}
 use Rattle.renderer_rules.specs.Renderer.{renderNodes}
 use Rattle.cut_rule.specs.Rules.{LayoutArgs}
 use Rattle.cut_rule.specs.Parts as cut

@@ -9,7 +9,7 @@ use Rattle.rows.specs.Rows.{sizes, rows}
 use Rattle.marks.specs.Marks.{marksNeeded}
 use Rattle.state.specs.Act.{Out}
 use Rattle.comments.specs.Listed.{given}
-use Rattle.layout_facts.specs.Accepted.{fresh, wholeRule}
+use Rattle.layout.specs.Closing.{fresh, wholeRule}
 use Rattle.renderer_rules.specs.Renderer.{renderNodes}
 use Rattle.renderer_rules.specs.Widest.{greatestColumn}
 use Rattle.cut_rule.specs.Limits.{REFERENCE-WIDTH}

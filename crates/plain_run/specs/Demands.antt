@@ -14,7 +14,7 @@ use Rattle.state.specs.Act.{Out}
 use Rattle.tree.specs.CommentList.{commentsOf}
 use Rattle.comments.specs.Listed.{given}
 use Rattle.layout.specs.Layout.{fmtParsed}
-use Rattle.layout_facts.specs.Accepted.{fresh, upTo, wholeRule}
+use Rattle.layout.specs.Closing.{fresh, upTo, wholeRule}
 use Rattle.renderer_rules.specs.Renderer.{renderNodes}
 use Rattle.renderer_rules.specs.Check.{wrongPlace}
 use Rattle.cut_rule.specs.Rules.{LayoutArgs, LayoutResult, Rules}

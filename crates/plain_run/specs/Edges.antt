@@ -171,9 +171,9 @@ abbrev pub nodesOf : List Node → Nodes
 nodesOf [] = nothing
 nodesOf (n ∷ ns) = n then nodesOf ns
 
--- a node from an indent and a column
+-- a node from an indent and a column, and the text that is due
 abbrev pub from : ℕ → ℕ → Node → List ℕ → Edge
-from steps column n edgeDue = rendering (record { source = sample; indent = steps; column = column; nodes = n then nothing; text = edgeDue })
+from steps column n due = rendering (record { source = sample; indent = steps; column = column; nodes = n then nothing; text = due })
 
 -- a group of two words with `LineOrSpace` between
 abbrev pub pair : ℕ → ℕ → Node

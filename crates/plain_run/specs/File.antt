@@ -12,7 +12,7 @@ use Rattle.rows.specs.Rows.{rows}
 use Rattle.tree.specs.CommentList.{commentsOf}
 use Rattle.comments.specs.Listed.{given}
 use Rattle.layout.specs.Layout.{fmtParsed}
-use Rattle.layout_facts.specs.Accepted.{fresh}
+use Rattle.layout.specs.Closing.{fresh}
 use Rattle.refusals.specs.Refusals.{Refusal, unless, first, refuseIf, any}
 use Rattle.refusals.specs.Answers.{Answer, accepted, answerBy}
 use Rattle.cut_rule.specs.Run.{writeFront}

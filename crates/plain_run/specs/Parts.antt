@@ -18,7 +18,7 @@ use Rattle.comments.specs.Comments.{nth}
 use Rattle.tree.specs.CommentList.{commentsOf}
 use Rattle.comments.specs.Listed.{given}
 use Rattle.layout.specs.Layout.{shebangRule, declaration}
-use Rattle.layout_facts.specs.Accepted.{closing}
+use Rattle.layout.specs.Closing.{closing}
 use Rattle.renderer_rules.specs.Renderer.{Page, Renderer, freshRenderer, renderNodes}
 use Rattle.renderer_rules.specs.Page.{pageOf}
 use Rattle.renderer_rules.specs.Check.{wrongPlace}

@@ -16,7 +16,7 @@ use Rattle.state.specs.Act.{Out}
 use Rattle.tree.specs.CommentList.{commentsOf}
 use Rattle.comments.specs.Listed.{given}
 use Rattle.layout.specs.Layout.{fmtParsed}
-use Rattle.layout_facts.specs.Accepted.{fresh}
+use Rattle.layout.specs.Closing.{fresh}
 use Rattle.marks.specs.Marks.{marksNeeded}
 use Rattle.renderer_rules.specs.Renderer.{renderNodes}
 use Rattle.renderer_rules.specs.Page.{pageOf}

@@ -1,1 +1,1 @@
-// The whole: so far its rules and what is proved of them, in specs/ and proofs/.
+// Theory only: whole runs by the rules, and what is proved of them.

@@ -256,7 +256,7 @@ module _ (store source image : List ℕ) (max limit : ℕ) (marks out : List ℕ
     unfolding machineOf
     turned b n = turn-leave v pg (machineOf r marks b n) (r .depth - 1) deep (z ∙ ap (partEnd v) i)
 
-    on-goes : (marks2 : List ℕ) (q : Running) → cell store (f .row) KIND ≡ CALL → f .early ≡ true → ArgumentsOpened store max marks r f marks2 q
+    on-goes : (marks2 : List ℕ) (q : Running) → cell store (f .row) KIND ≡ CALL → f .first ≡ true → ArgumentsOpened store max marks r f marks2 q
         → (o b : List ℕ) (n : ℕ) → Wrote limit o out (r .writing .at .0) b
         → Shows limit o marks2 out q (leave v pg (machineOf r marks b n) (r .depth - 1))
     unfolding leave machineOf viewOf insert
@@ -268,18 +268,18 @@ module _ (store source image : List ℕ) (max limit : ℕ) (marks out : List ℕ
           same =
               ap
               (λ (d : ℕ).
-              closedTo (reopened (machineOf r marks b n) (r .depth - 1) (frameOf (f .row) (g .wraps) false (f .deep)) (stateOf (r .writing) (inserted (g .wraps) (cell store (f .row) SECOND-NUMBER) marks) b)) d (r .next)
+              closedTo (reopened (machineOf r marks b n) (r .depth - 1) (frameOf (f .row) (g .wraps) false (f .deeper)) (stateOf (r .writing) (inserted (g .wraps) (cell store (f .row) SECOND-NUMBER) marks) b)) d (r .next)
               (stateOf (r .writing) (inserted (g .wraps) (cell store (f .row) SECOND-NUMBER) marks) b))
               (sym deep);
           wrote = w;
         })
 
-    pub arguments-follows : (marks2 : List ℕ) (q : Running) → cell store (f .row) KIND ≡ CALL → f .early ≡ true → ArgumentsOpened store max marks r f marks2 q
+    pub arguments-follows : (marks2 : List ℕ) (q : Running) → cell store (f .row) KIND ≡ CALL → f .first ≡ true → ArgumentsOpened store max marks r f marks2 q
         → Follows limit (turn v pg) marks out r marks2 out q
     arguments-follows marks2 q k y g = record { goes = λ o b n w. shows-as limit o marks2 out q _ _ (turned b n) (on-goes marks2 q k y g o b n w) }
 
     -- the row is closed, its last step being s
-    off-goes : (s : Pen → Pen) (q : Running) → (eqb (v .kind (f .row)) CALL && f .early) ≡ false
+    off-goes : (s : Pen → Pen) (q : Running) → (eqb (v .kind (f .row)) CALL && f .first) ≡ false
         → ((t : Renderer) → closing v pg f t ≡ onPen s t)
         → q ≡ withFrames (r .frames) (closedAt (bareRun r) (v .after (f .row)) (s (r .writing .pen)))
         → (o b : List ℕ) (n : ℕ) → Wrote limit o out (r .writing .at .0) b
@@ -287,7 +287,7 @@ module _ (store source image : List ℕ) (max limit : ℕ) (marks out : List ℕ
     unfolding leave machineOf
     off-goes s q e c g o b n w = rw (← i, e, c (stateOf (r .writing) marks b), g) (record { same = refl; wrote = w })
 
-    pub closed-follows : (s : Pen → Pen) (q : Running) → (eqb (v .kind (f .row)) CALL && f .early) ≡ false
+    pub closed-follows : (s : Pen → Pen) (q : Running) → (eqb (v .kind (f .row)) CALL && f .first) ≡ false
         → ((t : Renderer) → closing v pg f t ≡ onPen s t)
         → q ≡ withFrames (r .frames) (closedAt (bareRun r) (v .after (f .row)) (s (r .writing .pen)))
         → Follows limit (turn v pg) marks out r marks out q

@@ -57,16 +57,16 @@ pub one-low : (b : Bool) (n : ℕ) → n ≡ cond b 1 0 → n < 2
 one-low true n e = omega arith
 one-low false n e = omega arith
 
-pub packed : (f : Frame) (n w e d : ℕ) → w ≡ one (f .wrap) → e ≡ one (f .early) → d ≡ one (f .deep)
+pub packed : (f : Frame) (n w e d : ℕ) → w ≡ one (f .wrap) → e ≡ one (f .first) → d ≡ one (f .deeper)
     → n ≡ f .row * 8 + w * 4 + e * 2 + d
     → unpackedFrame n ≡ f
 unfolding unpackedFrame
 packed f n w e d a b c h =
     let x = one-low (f .wrap) w a in
-    let y = one-low (f .early) e b in
-    let z = one-low (f .deep) d c in
+    let y = one-low (f .first) e b in
+    let z = one-low (f .deeper) d c in
     let i : n / 8 ≡ f .row = omega arith in
     let j = flag (f .wrap) (n / 4 % 2) (omega arith) in
-    let k = flag (f .early) (n / 2 % 2) (omega arith) in
-    let l = flag (f .deep) (n % 2) (omega arith) in
+    let k = flag (f .first) (n / 2 % 2) (omega arith) in
+    let l = flag (f .deeper) (n % 2) (omega arith) in
     rw (i, j, k, l)

@@ -1,4 +1,4 @@
--- The loop writtenOver rows: each turn keeps what is still to be rendered, so that in the end the state is that of the rules.
+-- The loop over rows: each turn keeps what is still to be rendered, so that in the end the state is that of the rules.
 -- Assumes nothing.
 use mathlib.Core.Path.{_≡_, refl, ap, sym, _∙_, subst}
 use mathlib.Core.Logic.{_⊎_, inl, inr}

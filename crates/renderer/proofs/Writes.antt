@@ -1,4 +1,4 @@
--- Laws of `Writes`: what a pen draws is what the rules renderNode, one thing behind another.
+-- Laws of `Writes`: what the code writes is what the rules render, one text behind another.
 -- Assumes nothing.
 use mathlib.Core.Path.{_≡_, refl, ap, ap₂, sym, _∙_, subst}
 use Prim.Native.Nat.{ℕ, _+_, _*_, _≤_, _<_, max}

@@ -73,7 +73,7 @@ over-below limit room out at (b ∷ t) (suc k) r e =
 pub over-one : (limit : ℕ) (out : List ℕ) (at b : ℕ) (t : List ℕ) → writtenOver limit (writtenOver limit out at (b ∷ [])) (at + 1) t ≡ writtenOver limit out at (b ∷ t)
 over-one limit out at b t = over-join limit out at (b ∷ []) t
 
--- What the loops keep: going on from here gives the wholeRun.
+-- What the loops keep: going on from here gives the whole.
 pub record Copied (limit : ℕ) (out0 : List ℕ) (at : ℕ) (t out : List ℕ) (j : ℕ) : Type 0 where
   pub high : j ≤ length t
   pub size : length out ≡ length out0

@@ -53,8 +53,8 @@ fn innermost(frames: &[u32; MAX_DEPTH], depth: usize) -> Frame
     Frame {
         row: 0,
         wrap: true,
-        early: false,
-        deep: false,
+        first: false,
+        deeper: false,
     }
 }
 

@@ -1,4 +1,4 @@
-// A rendering on its way, and what it is given.
+// The state of a rendering loop, and what it is given.
 ghost use mathlib.Core.Path.{_≡_};
 ghost use Prim.Native.Nat.{_<_};
 ghost use Rattle.rows.specs.Limits.{MAX-ROWS};

@@ -1,4 +1,4 @@
--- The machine: one turn closes the innermost open row or enters the next row. Turned to its end, it renderNodes as the rules do, since each turn
+-- The machine: one turn closes the innermost open row or enters the next row. Turned to its end, it renders as the rules do, since each turn
 -- keeps what the open rows mean, and less is left.
 -- Assumes nothing.
 use mathlib.Core.Path.{_≡_, refl, ap, ap₂, sym, _∙_, subst}
@@ -31,7 +31,7 @@ use Rattle.renderer_rules.proofs.Opened.{at-leaf, at-block, at-pop-suc,
 -- how many turns the open rows can still take
 unfoldable pub weight : List Frame → ℕ → ℕ
 weight fs zero = 0
-weight fs (suc d) = suc (oneIf (frameAt fs d .early)) + weight fs d
+weight fs (suc d) = suc (oneIf (frameAt fs d .first)) + weight fs d
 
 weight-ge : (fs : List Frame) (d : ℕ) → d ≤ weight fs d
 unfolding weight
@@ -41,13 +41,13 @@ weight-ge fs (suc d) = let a = weight-ge fs d in omega arith
 weight-set : (v : View) (pg : Page) (stop : ℕ) (fs : List Frame) (k d : ℕ) (f : Frame) → d ≤ k → weight (set fs k f) d ≡ weight fs d
 unfolding weight
 weight-set v pg stop fs k zero f h = refl
-weight-set v pg stop fs k (suc d) f h = ap₂ (λ (x : Frame) (n : ℕ). suc (oneIf (x .early)) + n) (frame-other v pg stop fs k d f h) (weight-set v pg stop fs k d f (omega arith))
+weight-set v pg stop fs k (suc d) f h = ap₂ (λ (x : Frame) (n : ℕ). suc (oneIf (x .first)) + n) (frame-other v pg stop fs k d f h) (weight-set v pg stop fs k d f (omega arith))
 
-weight-top : (v : View) (pg : Page) (stop : ℕ) (fs : List Frame) (d : ℕ) (f : Frame) → d < length fs → weight (set fs d f) (suc d) ≡ suc (oneIf (f .early)) + weight fs d
+weight-top : (v : View) (pg : Page) (stop : ℕ) (fs : List Frame) (d : ℕ) (f : Frame) → d < length fs → weight (set fs d f) (suc d) ≡ suc (oneIf (f .first)) + weight fs d
 unfolding weight
-weight-top v pg stop fs d f h = ap₂ (λ (x : Frame) (n : ℕ). suc (oneIf (x .early)) + n) (frame-same v pg stop fs d f h) (weight-set v pg stop fs d d f (omega arith))
+weight-top v pg stop fs d f h = ap₂ (λ (x : Frame) (n : ℕ). suc (oneIf (x .first)) + n) (frame-same v pg stop fs d f h) (weight-set v pg stop fs d d f (omega arith))
 
-weight-suc : (fs : List Frame) (d : ℕ) → weight fs (suc d) ≡ suc (oneIf (frameAt fs d .early)) + weight fs d
+weight-suc : (fs : List Frame) (d : ℕ) → weight fs (suc d) ≡ suc (oneIf (frameAt fs d .first)) + weight fs d
 unfolding weight
 weight-suc fs d = refl
 
@@ -117,14 +117,14 @@ module _ (v : View) (pg : Page) (stop : ℕ) where
     less-open : (f : Frame) (k : ℕ) → m .next < k → left stop (opened m f k (m .state)) < left stop m
     less-open f k j =
         let w = weight-top v pg stop (m .frames) (m .depth) f roomy in
-        let b = bit-le2 (f .early) in
+        let b = bit-le2 (f .first) in
         let l = a .low in
         omega arith
 
     Kept : Machine → Type 0
     Kept n = Fine n × (left stop n < left stop m)
 
-    block-fine : (f : Frame) (t : Renderer) → v .kind (m .next) ≤ INDENT-NEXT → f .row ≡ m .next → f .early ≡ false → Fine (opened m f (suc (m .next)) t) × (left stop (opened m f (suc (m .next)) t) < left stop m)
+    block-fine : (f : Frame) (t : Renderer) → v .kind (m .next) ≤ INDENT-NEXT → f .row ≡ m .next → f .first ≡ false → Fine (opened m f (suc (m .next)) t) × (left stop (opened m f (suc (m .next)) t) < left stop m)
     block-fine f t k e y =
         let x = at-block v pg stop (m .frames) (m .depth) (m .next) f a h k e y in
         (subst (λ (n : ℕ). At v stop (set (m .frames) (m .depth) f) n (suc (m .next))) (add-one (m .depth)) (subst (λ (n : ℕ). At v stop (set (m .frames) (m .depth) f) (m .depth + 1) n) (add-one (m .next)) x), less-open f (suc (m .next)) (omega arith))
@@ -187,43 +187,43 @@ module _ (v : View) (pg : Page) (stop : ℕ) where
 
     leave-same : means (leave v pg m k) ≡ meaning v pg stop (m .frames) (suc k) (m .next) (m .state)
     unfolding leave partEnd
-    leave-same = go (eqb (v .kind (frameAt (m .frames) k .row)) CALL && frameAt (m .frames) k .early) refl
+    leave-same = go (eqb (v .kind (frameAt (m .frames) k .row)) CALL && frameAt (m .frames) k .first) refl
       where
         c : Bool
         c = groupWraps pg (nodesAt v (m .next) (v .after (frameAt (m .frames) k .row))) (m .state)
 
         on : Machine
-        on = reopened m k (frameOf (frameAt (m .frames) k .row) c false (frameAt (m .frames) k .deep)) (insert c (v .number2 (frameAt (m .frames) k .row)) (m .state))
+        on = reopened m k (frameOf (frameAt (m .frames) k .row) c false (frameAt (m .frames) k .deeper)) (insert c (v .number2 (frameAt (m .frames) k .row)) (m .state))
 
         off : Machine
         off = closedTo m k (v .after (frameAt (m .frames) k .row)) (closing v pg (frameAt (m .frames) k) (m .state))
 
-        go : (b : Bool) → (eqb (v .kind (frameAt (m .frames) k .row)) CALL && frameAt (m .frames) k .early) ≡ b → means (cond b on off) ≡ meaning v pg stop (m .frames) (suc k) (m .next) (m .state)
+        go : (b : Bool) → (eqb (v .kind (frameAt (m .frames) k .row)) CALL && frameAt (m .frames) k .first) ≡ b → means (cond b on off) ≡ meaning v pg stop (m .frames) (suc k) (m .next) (m .state)
         go true q =
-            let x = both (eqb (v .kind (frameAt (m .frames) k .row)) CALL) (frameAt (m .frames) k .early) q in
+            let x = both (eqb (v .kind (frameAt (m .frames) k .row)) CALL) (frameAt (m .frames) k .first) q in
             call-on v pg stop (m .frames) k (m .next) (m .state) c roomy-top (eqb-true (v .kind (frameAt (m .frames) k .row)) 11 (x .0)) (x .1) (e ∙ rw (x .1)) refl
         go false q = sym (pop v pg stop (m .frames) k (m .next) (m .state) (omega arith))
 
     leave-fine : Fine (leave v pg m k) × (left stop (leave v pg m k) < (stop - m .next) * 3 + weight (m .frames) (suc k))
     unfolding leave partEnd
-    leave-fine = go (eqb (v .kind (frameAt (m .frames) k .row)) CALL && frameAt (m .frames) k .early) refl
+    leave-fine = go (eqb (v .kind (frameAt (m .frames) k .row)) CALL && frameAt (m .frames) k .first) refl
       where
         c : Bool
         c = groupWraps pg (nodesAt v (m .next) (v .after (frameAt (m .frames) k .row))) (m .state)
 
         on : Machine
-        on = reopened m k (frameOf (frameAt (m .frames) k .row) c false (frameAt (m .frames) k .deep)) (insert c (v .number2 (frameAt (m .frames) k .row)) (m .state))
+        on = reopened m k (frameOf (frameAt (m .frames) k .row) c false (frameAt (m .frames) k .deeper)) (insert c (v .number2 (frameAt (m .frames) k .row)) (m .state))
 
         off : Machine
         off = closedTo m k (v .after (frameAt (m .frames) k .row)) (closing v pg (frameAt (m .frames) k) (m .state))
 
-        go : (b : Bool) → (eqb (v .kind (frameAt (m .frames) k .row)) CALL && frameAt (m .frames) k .early) ≡ b → Fine (cond b on off) × (left stop (cond b on off) < (stop - m .next) * 3 + weight (m .frames) (suc k))
+        go : (b : Bool) → (eqb (v .kind (frameAt (m .frames) k .row)) CALL && frameAt (m .frames) k .first) ≡ b → Fine (cond b on off) × (left stop (cond b on off) < (stop - m .next) * 3 + weight (m .frames) (suc k))
         go true q =
-            let x = both (eqb (v .kind (frameAt (m .frames) k .row)) CALL) (frameAt (m .frames) k .early) q in
-            let y : oneIf (frameAt (m .frames) k .early) ≡ 1 = ap oneIf (x .1) in
-            let w = weight-top v pg stop (m .frames) k (frameOf (frameAt (m .frames) k .row) c false (frameAt (m .frames) k .deep)) roomy-top in
+            let x = both (eqb (v .kind (frameAt (m .frames) k .row)) CALL) (frameAt (m .frames) k .first) q in
+            let y : oneIf (frameAt (m .frames) k .first) ≡ 1 = ap oneIf (x .1) in
+            let w = weight-top v pg stop (m .frames) k (frameOf (frameAt (m .frames) k .row) c false (frameAt (m .frames) k .deeper)) roomy-top in
             let u = weight-suc (m .frames) k in
-            (at-on v pg stop (m .frames) k (m .next) (frameOf (frameAt (m .frames) k .row) c false (frameAt (m .frames) k .deep)) a e refl refl, omega arith)
+            (at-on v pg stop (m .frames) k (m .next) (frameOf (frameAt (m .frames) k .row) c false (frameAt (m .frames) k .deeper)) a e refl refl, omega arith)
         go false q =
             let u = weight-suc (m .frames) k in
             let g = nests-le (at-top-suc v pg stop (m .frames) k (m .next) a .later) in

@@ -143,11 +143,11 @@ module _ (v : View) (pg : Page) (stop : ℕ) where
       (rw (node-call v i k p, k, q, e))
 
   -- the callee is done: the arguments' group is opened
-  pub call-on : (fs : List Frame) (d i : ℕ) (s : Renderer) (c : Bool) → d < length fs → v .kind (frameAt fs d .row) ≡ CALL → frameAt fs d .early ≡ true
+  pub call-on : (fs : List Frame) (d i : ℕ) (s : Renderer) (c : Bool) → d < length fs → v .kind (frameAt fs d .row) ≡ CALL → frameAt fs d .first ≡ true
       → i ≡ v .second (frameAt fs d .row)
       → c ≡ groupWraps pg (nodesAt v i (v .after (frameAt fs d .row))) s
-      → meaning (set fs d (frameOf (frameAt fs d .row) c false (frameAt fs d .deep))) (suc d) i (insert c (v .number2 (frameAt fs d .row)) s) ≡ meaning fs (suc d) i s
+      → meaning (set fs d (frameOf (frameAt fs d .row) c false (frameAt fs d .deeper))) (suc d) i (insert c (v .number2 (frameAt fs d .row)) s) ≡ meaning fs (suc d) i s
   unfolding closing partEnd renderNode
   call-on fs d i s c h k y e q =
-      opened fs d i (frameOf (frameAt fs d .row) c false (frameAt fs d .deep)) (insert c (v .number2 (frameAt fs d .row)) s) h
+      opened fs d i (frameOf (frameAt fs d .row) c false (frameAt fs d .deeper)) (insert c (v .number2 (frameAt fs d .row)) s) h
       ∙ sym (pop fs d i s (rw (y, e) (omega arith)) ∙ rw (k, y, q, e))

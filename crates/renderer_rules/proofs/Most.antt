@@ -1,4 +1,4 @@
--- Rows that nest renderNode to no more bytes than their sum, and the start of the first line.
+-- Rows that nest are rendered to no more bytes than their sum, and the start of the first line.
 -- Assumes nothing.
 use mathlib.Core.Path.{_≡_, refl, ap, _∙_}
 use Prim.Native.Nat.{ℕ, zero, suc, _+_, _*_, _-_, _≤_, _<_}

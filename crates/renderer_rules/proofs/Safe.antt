@@ -1,5 +1,5 @@
--- What keeps the machine's numbers in range: `indent` and `next_indent` together are what they were at firstPart and the steps of the open rows,
--- so that each step back finds a step to take; the column and the bytes grow by less than 2 ^ 34 a row.
+-- What keeps the machine's numbers in range: `indent` and `next_indent` together are what they were at first and the steps of the open rows,
+-- so that no step back goes under 0; the column and the bytes grow by less than 2 ^ 34 a row.
 -- Assumes nothing.
 use mathlib.Core.Path.{_≡_, refl, ap, ap₂, sym, _∙_, subst}
 use Prim.Native.Nat.{ℕ, zero, suc, _+_, _*_, _-_, _≤_, _<_}
@@ -34,7 +34,7 @@ bit-le false = omega arith
 step-le : (v : View) (f : Frame) → stepsBack v f ≤ 1
 unfolding stepsBack
 step-le v f =
-    bit-le ((eqb (v .kind (f .row)) INDENT && f .wrap) || ((eqb (v .kind (f .row)) INDENT-NEXT && f .wrap) || (eqb (v .kind (f .row)) CALL && f .deep)))
+    bit-le ((eqb (v .kind (f .row)) INDENT && f .wrap) || ((eqb (v .kind (f .row)) INDENT-NEXT && f .wrap) || (eqb (v .kind (f .row)) CALL && f .deeper)))
 
 or-ge : (a b : Bool) → oneIf a ≤ oneIf (a || b)
 or-ge true b = omega arith
@@ -43,7 +43,7 @@ or-ge false false = omega arith
 
 in-le : (v : View) (f : Frame) → insOf v f ≤ stepsBack v f
 unfolding insOf stepsBack
-in-le v f = or-ge (eqb (v .kind (f .row)) INDENT && f .wrap) ((eqb (v .kind (f .row)) INDENT-NEXT && f .wrap) || (eqb (v .kind (f .row)) CALL && f .deep))
+in-le v f = or-ge (eqb (v .kind (f .row)) INDENT && f .wrap) ((eqb (v .kind (f .row)) INDENT-NEXT && f .wrap) || (eqb (v .kind (f .row)) CALL && f .deeper))
 
 pub steps-le : (v : View) (fs : List Frame) (d : ℕ) → steps v fs d ≤ d
 unfolding steps
@@ -81,7 +81,7 @@ pub closing-next : (v : View) (pg : Page) (f : Frame) (s : Renderer) → v .kind
 unfolding closing
 closing-next v pg f s k = rw k
 
-pub closing-call : (v : View) (pg : Page) (f : Frame) (s : Renderer) → v .kind (f .row) ≡ CALL → f .early ≡ false → closing v pg f s ≡ onPen (nextIndentLess (f .deep)) s
+pub closing-call : (v : View) (pg : Page) (f : Frame) (s : Renderer) → v .kind (f .row) ≡ CALL → f .first ≡ false → closing v pg f s ≡ onPen (nextIndentLess (f .deeper)) s
 unfolding closing
 closing-call v pg f s k e = rw (k, e)
 
@@ -99,7 +99,7 @@ unfolding stepsBack insOf
 next-steps v f true k e = (rw (k, e), rw k)
 next-steps v f false k e = (rw (k, e), rw k)
 
-pub call-steps : (v : View) (f : Frame) (b : Bool) → v .kind (f .row) ≡ CALL → f .deep ≡ b → (stepsBack v f ≡ oneIf b) × (insOf v f ≡ 0)
+pub call-steps : (v : View) (f : Frame) (b : Bool) → v .kind (f .row) ≡ CALL → f .deeper ≡ b → (stepsBack v f ≡ oneIf b) × (insOf v f ≡ 0)
 unfolding stepsBack insOf
 call-steps v f true k e = (rw (k, e), rw k)
 call-steps v f false k e = (rw (k, e), rw k)
@@ -515,19 +515,19 @@ module _ (v : View) (pg : Page) (stop : ℕ) where
           later
           (next-steps v (frameAt (m .frames) k) (frameAt (m .frames) k .wrap) q refl))
 
-      off-call : v .kind (frameAt (m .frames) k .row) ≡ CALL → frameAt (m .frames) k .early ≡ false
+      off-call : v .kind (frameAt (m .frames) k .row) ≡ CALL → frameAt (m .frames) k .first ≡ false
           → Safe v base
           (closedTo m k (v .after (frameAt (m .frames) k .row)) (closing v pg (frameAt (m .frames) k) (m .state)))
       off-call q y =
           rw (closing-call v pg (frameAt (m .frames) k) (m .state) q y)
-          (nextIndentLess-safe base k m (frameAt (m .frames) k .deep) s
+          (nextIndentLess-safe base k m (frameAt (m .frames) k .deeper) s
           (v .after (frameAt (m .frames) k .row))
           later
-          (call-steps v (frameAt (m .frames) k) (frameAt (m .frames) k .deep) q refl))
+          (call-steps v (frameAt (m .frames) k) (frameAt (m .frames) k .deeper) q refl))
 
       off-safe : (x y z : Bool) → eqb (v .kind (frameAt (m .frames) k .row)) INDENT ≡ x → eqb (v .kind (frameAt (m .frames) k .row)) INDENT-NEXT ≡ y
           → eqb (v .kind (frameAt (m .frames) k .row)) CALL ≡ z
-          → (z && frameAt (m .frames) k .early) ≡ false
+          → (z && frameAt (m .frames) k .first) ≡ false
           → Safe v base
           (closedTo m k (v .after (frameAt (m .frames) k .row)) (closing v pg (frameAt (m .frames) k) (m .state)))
       off-safe true y z p q r g = off-indent (eqb-true _ 1 p)
@@ -539,16 +539,16 @@ module _ (v : View) (pg : Page) (stop : ℕ) where
       -- the arguments of a `Call` are opened: the same steps
       on-safe : (c : Bool) → v .kind (frameAt (m .frames) k .row) ≡ CALL
           → Safe v base
-          (reopened m k (frameOf (frameAt (m .frames) k .row) c false (frameAt (m .frames) k .deep)) (insert c (v .number2 (frameAt (m .frames) k .row)) (m .state)))
+          (reopened m k (frameOf (frameAt (m .frames) k .row) c false (frameAt (m .frames) k .deeper)) (insert c (v .number2 (frameAt (m .frames) k .row)) (m .state)))
       unfolding insert
       on-safe c q =
           let deep = a .deep in
           let h : k < length (m .frames) = rw (a .size) (omega arith) in
-          let new = frameOf (frameAt (m .frames) k .row) c false (frameAt (m .frames) k .deep) in
+          let new = frameOf (frameAt (m .frames) k .row) c false (frameAt (m .frames) k .deeper) in
           let u = steps-top (m .frames) k new h in
           let w = ins-top (m .frames) k new h in
-          let x = call-steps v new (frameAt (m .frames) k .deep) q refl in
-          let y = call-steps v (frameAt (m .frames) k) (frameAt (m .frames) k .deep) q refl in
+          let x = call-steps v new (frameAt (m .frames) k .deeper) q refl in
+          let y = call-steps v (frameAt (m .frames) k) (frameAt (m .frames) k .deeper) q refl in
           let x0 = x .0 in
           let x1 = x .1 in
           let y0 = y .0 in
@@ -561,19 +561,19 @@ module _ (v : View) (pg : Page) (stop : ℕ) where
 
       leave-safe : Safe v base (leave v pg m k)
       unfolding leave
-      leave-safe = go (eqb (v .kind (frameAt (m .frames) k .row)) CALL && frameAt (m .frames) k .early) refl
+      leave-safe = go (eqb (v .kind (frameAt (m .frames) k .row)) CALL && frameAt (m .frames) k .first) refl
         where
           c : Bool
           c = groupWraps pg (nodesAt v (m .next) (v .after (frameAt (m .frames) k .row))) (m .state)
 
           on : Machine
-          on = reopened m k (frameOf (frameAt (m .frames) k .row) c false (frameAt (m .frames) k .deep)) (insert c (v .number2 (frameAt (m .frames) k .row)) (m .state))
+          on = reopened m k (frameOf (frameAt (m .frames) k .row) c false (frameAt (m .frames) k .deeper)) (insert c (v .number2 (frameAt (m .frames) k .row)) (m .state))
 
           off : Machine
           off = closedTo m k (v .after (frameAt (m .frames) k .row)) (closing v pg (frameAt (m .frames) k) (m .state))
 
-          go : (b : Bool) → (eqb (v .kind (frameAt (m .frames) k .row)) CALL && frameAt (m .frames) k .early) ≡ b → Safe v base (cond b on off)
-          go true q = on-safe c (eqb-true _ 11 (both (eqb (v .kind (frameAt (m .frames) k .row)) CALL) (frameAt (m .frames) k .early) q .0))
+          go : (b : Bool) → (eqb (v .kind (frameAt (m .frames) k .row)) CALL && frameAt (m .frames) k .first) ≡ b → Safe v base (cond b on off)
+          go true q = on-safe c (eqb-true _ 11 (both (eqb (v .kind (frameAt (m .frames) k .row)) CALL) (frameAt (m .frames) k .first) q .0))
           go false q = off-safe _ _ _ refl refl refl q
 
   turn-safe-at : (base d : ℕ) (m : Machine) → m .depth ≡ d → Fine v pg stop m → isDone v pg stop m ≡ false → SmallTexts v pg → base ≤ 128 → Safe v base m

@@ -6,9 +6,9 @@ use Prim.Native.Nat.{ℕ, zero, suc, _+_, _≤_, _<_}
 use native.Mathlib.Omega.{arith}
 use native.Mathlib.Numerals.{add-one}
 use mathlib.Core.Bool.{true, false, cond}
-use mathlib.Core.List.{List, [], _∷_}
-use lib.ListN.{getD}
-use Rattle.rows.specs.Kinds.{INDENT-NEXT, WRAP-PARENT, LINE-OR-SPACE, IF-WRAP, CALL}
+use mathlib.Core.List.{List}
+use lib.Dec.{eqb}
+use Rattle.rows.specs.Kinds.{INDENT-NEXT, WRAP-PARENT, STR, ASCII, LINE-OR-SPACE, IF-WRAP, CALL}
 use Rattle.rows.specs.Node.{Text, Node, Nodes, none, _then_, join, wrapped, width, widths}
 use Rattle.rows.specs.View.{View, nodesAt, nodeOf, firstOf, nodeAt}
 use Rattle.rows.specs.Nesting.{RangeIn, Split, TwoParts, Nests}
@@ -86,7 +86,7 @@ module _ (v : View) (columns : Text → ℕ) (m : List ℕ) where
 
   -- a leaf's own width
   abbrev pub ownOf : ℕ → ℕ → ℕ
-  ownOf k i = getD (0 ∷ 0 ∷ 0 ∷ 0 ∷ 0 ∷ v .width i ∷ columns (v .text i) ∷ 0 ∷ 0 ∷ 1 ∷ []) k 0
+  ownOf k i = cond (eqb k STR) (v .width i) (cond (eqb k ASCII) (columns (v .text i)) (cond (eqb k LINE-OR-SPACE) 1 0))
 
   width-own : (i : ℕ) → WRAP-PARENT ≤ v .kind i → v .kind i ≤ LINE-OR-SPACE → width columns m (nodeAt v i) ≡ ownOf (v .kind i) i
   unfolding nodeAt width nodeOf

@@ -6,7 +6,7 @@ use Prim.Native.Nat.{ℕ, _+_, _*_, _≤_}
 use native.Mathlib.Omega.{arith}
 use Rattle.rows.specs.Node.{Node, join}
 use Rattle.rows.specs.Rows.{size, sizes}
-use Rattle.state.specs.Act.{St, Out, Act, Asking, next, _⨟_, skip, when, push, moveTo, pop, grouped, indented, indentedNext, called, told, _⨟!_, _⨟?_}
+use Rattle.state.specs.Act.{St, Out, Act, Asking, next, _⨟_, skip, when, push, moveTo, pop, grouped, indented, indentedNext, called, stepAlone, _⨟!_, _⨟?_}
 use Rattle.state.specs.declared.Cursor.{Cursor}
 use Rattle.state.specs.Laid.{st, top, Room}
 use Rattle.state.proofs.Joins.{sizes-join}
@@ -98,10 +98,10 @@ few-called {k} {t} {l} {u} {a} {b} f g =
           record { rows = omega (arith, i .rows, j .rows); numbers = omega (arith, i .numbers, j .numbers) };
     }
 
-pub few-answers : {A : Type 0} {k t l u : ℕ} {a : Act} (b : Asking A) → Few k t a → Few l u (told b) → Few (k + l) (t + u) (told (a ⨟! b))
+pub few-answers : {A : Type 0} {k t l u : ℕ} {a : Act} (b : Asking A) → Few k t a → Few l u (stepAlone b) → Few (k + l) (t + u) (stepAlone (a ⨟! b))
 unfolding _⨟!_
 few-answers b f g = few-then f g
 
-pub few-asks : {A : Type 0} {k t l u : ℕ} (a : Asking A) (b : A → Act) → Few k t (told a) → ((x : A) → Few l u (b x)) → Few (k + l) (t + u) (a ⨟? b)
+pub few-asks : {A : Type 0} {k t l u : ℕ} (a : Asking A) (b : A → Act) → Few k t (stepAlone a) → ((x : A) → Few l u (b x)) → Few (k + l) (t + u) (a ⨟? b)
 unfolding _⨟?_
 few-asks a b f g = record { at = λ s. few-then f (g (a s .1)) .at s }

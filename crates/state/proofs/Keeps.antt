@@ -5,7 +5,7 @@ use mathlib.Core.Bool.{Bool, true, false, cond}
 use Prim.Native.Nat.{ℕ, _+_, _≤_}
 use native.Mathlib.Omega.{arith}
 use Rattle.rows.specs.Node.{Node}
-use Rattle.state.specs.Act.{St, Out, Act, Asking, next, _⨟_, skip, when, push, moveTo, grouped, indented, indentedNext, called, told, _⨟!_, _⨟?_}
+use Rattle.state.specs.Act.{St, Out, Act, Asking, next, _⨟_, skip, when, push, moveTo, grouped, indented, indentedNext, called, stepAlone, _⨟!_, _⨟?_}
 
 pub record Keeps (n m : ℕ) (a : Act) : Type 0 where
   pub grows : (s : St) → s .placed ≤ a s .placed
@@ -94,10 +94,10 @@ module _ {n m : ℕ} where
         pos = λ s h. k .pos (second a s) (j .pos (numbered 2 s) h);
       }
 
-  pub keeps-answers : {A : Type 0} {a : Act} (b : Asking A) → Keeps n m a → Keeps n m (told b) → Keeps n m (told (a ⨟! b))
+  pub keeps-answers : {A : Type 0} {a : Act} (b : Asking A) → Keeps n m a → Keeps n m (stepAlone b) → Keeps n m (stepAlone (a ⨟! b))
   unfolding _⨟!_
   keeps-answers b j k = keeps-then j k
 
-  pub keeps-asks : {A : Type 0} (a : Asking A) (b : A → Act) → Keeps n m (told a) → ((t : A) → Keeps n m (b t)) → Keeps n m (a ⨟? b)
+  pub keeps-asks : {A : Type 0} (a : Asking A) (b : A → Act) → Keeps n m (stepAlone a) → ((t : A) → Keeps n m (b t)) → Keeps n m (a ⨟? b)
   unfolding _⨟?_
   keeps-asks a b j k = keeps-of (λ s. keeps-at (keeps-then j (k (a s .1))) s)

@@ -11,7 +11,7 @@ use native.Mathlib.Omega.{arith}
 use lib.Seq.{sets}
 use Rattle.rows.specs.Node.{Text, Node, Nodes, join}
 use Rattle.rows.specs.Rows.{size, sizes, row, rowsOf, rows}
-use Rattle.state.specs.Act.{St, Out, Act, Asking, next, _⨟_, skip, when, push, moveTo, pop, told, answering, turning, _⨟!_, _⨟?_}
+use Rattle.state.specs.Act.{St, Out, Act, Asking, next, _⨟_, skip, when, push, moveTo, pop, stepAlone, answering, turning, _⨟!_, _⨟?_}
 use Rattle.state.specs.declared.Cursor.{Cursor}
 use Rattle.state.specs.Laid.{cursor, st, after, top, Room, Laid, LaidAsking, Written}
 use Rattle.laws.proofs.Stores.{sets-append}
@@ -26,7 +26,7 @@ lays l = record { does = λ room. l }
 
 -- the same of a step that answers
 pub record LaysAsking {A : Type 0} (a : Asking A) (s : List ℕ) (c : Cursor) (s′ : List ℕ) (c′ : Cursor) (r : A) : Type 0 where
-  pub does : Room (told a) c → LaidAsking a s c s′ c′ r
+  pub does : Room (stepAlone a) c → LaidAsking a s c s′ c′ r
 
 pub lays-asking : {A : Type 0} {a : Asking A} {s s′ : List ℕ} {c c′ : Cursor} {r : A} → LaidAsking a s c s′ c′ r → LaysAsking a s c s′ c′ r
 lays-asking l = record { does = λ room. l }
@@ -93,7 +93,7 @@ pub lays-then : {a b : Act} {s s₁ s₂ : List ℕ} {c c₁ c₂ : Cursor} → 
 lays-then {b = b} p q =
     record { does = λ room. let l = p .does (room-first b room) in laid-then l (q .does (room-past room l)) }
 
-then-assoc : (a b d : Act) (s : St) → ((a ⨟ b) ⨟ d) s ≡ (a ⨟ b ⨟ d) s
+pub then-assoc : (a b d : Act) (s : St) → ((a ⨟ b) ⨟ d) s ≡ (a ⨟ b ⨟ d) s
 unfolding _⨟_
 then-assoc a b d s =
     let o : Out = b (next s (a s)) in
@@ -183,9 +183,6 @@ asking-same {A} {a} {b} {s} {s′} {c} {c′} {r} e l =
       answers = subst (λ (p : Out × A). r ≡ p .1) e (l .answers);
     }
 
-pub lays-told : {A : Type 0} {a : Asking A} {s s′ : List ℕ} {c c′ : Cursor} {r : A} → LaysAsking a s c s′ c′ r → Lays (told a) s c s′ c′
-lays-told l = record { does = λ room. l .does room .laid }
-
 pub laid-answering : {A : Type 0} {a : Act} {s s′ : List ℕ} {c c′ : Cursor} {r : A} → Laid a s c s′ c′ → LaidAsking (answering r a) s c s′ c′ r
 laid-answering l = record { laid = l; answers = refl }
 
@@ -202,7 +199,7 @@ laid-answers {A} {a} {b} {s} {s₁} {s₂} {c} {c₁} {c₂} {r} p q =
     record { laid = laid-then p (q .laid); answers = q′ .answers }
 
 -- a step that answers, and then one that goes by the answer
-pub room-asked : {A : Type 0} (a : Asking A) (k : A → Act) {c : Cursor} → Room (a ⨟? k) c → Room (told a) c
+pub room-asked : {A : Type 0} (a : Asking A) (k : A → Act) {c : Cursor} → Room (a ⨟? k) c → Room (stepAlone a) c
 unfolding _⨟?_
 room-asked a k {c} room = room-first (k (a (st c) .1)) (room-same refl room)
 
@@ -211,7 +208,7 @@ pub room-asks : {A : Type 0} (k : A → Act) {a : Asking A} {s s₁ : List ℕ} 
 unfolding _⨟?_
 room-asks {A} k {a} {c = c} {c₁ = c₁} {r = r} room p =
     let l = p .does (room-asked a k room) in
-    let both : Room (told a ⨟ k (a (st c) .1)) c = room-same refl room in
+    let both : Room (stepAlone a ⨟ k (a (st c) .1)) c = room-same refl room in
     subst (λ (x : A). Room (k x) c₁) (sym (l .answers)) (room-past both (l .laid))
 
 pub lays-asks : {A : Type 0} (k : A → Act) {a : Asking A} {s s₁ s₂ : List ℕ} {c c₁ c₂ : Cursor} {r : A}

@@ -93,28 +93,28 @@ called e a s =
       placed = p .placed;
     }
 
--- A step that answers.
+-- A step that returns something.
 abbrev pub Asking : Type 0 → Type 0
 Asking A = St → Out × A
 
--- the step alone
-abbrev pub told : {A : Type 0} → Asking A → Act
-told a s = a s .0
+-- the step, where what it returns is not looked at
+abbrev pub stepAlone : {A : Type 0} → Asking A → Act
+stepAlone a s = a s .0
 
--- a step with this answer, and a step whose answer is turned into another
+-- a step that returns this, and a step whose value is turned into another
 abbrev pub answering : {A : Type 0} → A → Act → Asking A
 answering b a s = (a s, b)
 
 abbrev pub turning : {A B : Type 0} → (A → B) → Asking A → Asking B
 turning f a s = (a s .0, f (a s .1))
 
--- a step, and then one whose answer counts
+-- a step, and then one whose value is returned
 unfoldable pub _⨟!_ : {A : Type 0} → Act → Asking A → Asking A
-_⨟!_ a b s = ((a ⨟ told b) s, b (next s (a s)) .1)
+_⨟!_ a b s = ((a ⨟ stepAlone b) s, b (next s (a s)) .1)
 
--- a step that answers, and then one that goes by the answer
+-- a step that returns something, and then one that depends on it
 unfoldable pub _⨟?_ : {A : Type 0} → Asking A → (A → Act) → Act
-_⨟?_ a b s = (told a ⨟ b (a s .1)) s
+_⨟?_ a b s = (stepAlone a ⨟ b (a s .1)) s
 
 infixr 50 _⨟!_ _⨟?_
 -- `Node::Ascii` of a fixed word

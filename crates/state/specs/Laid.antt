@@ -6,7 +6,7 @@ use lib.Seq.{sets}
 use Rattle.rows.specs.Places.{PLACES}
 use Rattle.rows.specs.Node.{Text}
 use Rattle.rows.specs.Rows.{sizes, row, rows, noText}
-use Rattle.state.specs.Act.{St, Out, Act, Asking, told}
+use Rattle.state.specs.Act.{St, Out, Act, Asking, stepAlone}
 use Rattle.state.specs.declared.Cursor.{Cursor}
 use Rattle.state.specs.declared.store.Row.{Row}
 
@@ -45,9 +45,9 @@ pub record Laid (a : Act) (s : List ℕ) (c : Cursor) (s′ : List ℕ) (c′ : 
   pub stored : s′ ≡ sets s (PLACES * c .row) (rows (a (st c) .nodes) (c .row))
   pub moved : c′ ≡ after c (a (st c))
 
--- a step that answers is laid, and r is its answer
+-- a step that returns something is laid, and returned r
 pub record LaidAsking {A : Type 0} (a : Asking A) (s : List ℕ) (c : Cursor) (s′ : List ℕ) (c′ : Cursor) (r : A) : Type 0 where
-  pub laid : Laid (told a) s c s′ c′
+  pub laid : Laid (stepAlone a) s c s′ c′
   pub answers : r ≡ a (st c) .1
 
 -- the nine places of a row as it is written at first

@@ -1,4 +1,4 @@
--- The steps of an image, for who wants to look at it: 1 to 7 by the reader, then 17 where they are longer than the output.
+-- The steps of an image: refused by 1 to 7 where the reader refuses it, then by 17 where they are longer than the output.
 use mathlib.Core.Option.{Option, none, some}
 use mathlib.Core.List.{List, [], _∷_}
 use Prim.Native.Nat.{ℕ}

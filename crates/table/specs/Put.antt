@@ -1,4 +1,4 @@
--- What the parts of a line promise.
+-- The contract of the functions that put a part of a line, and how much room each part takes.
 use mathlib.Core.Path.{_≡_}
 use mathlib.Core.List.{List}
 use Prim.Native.Nat.{ℕ, _+_, _≤_}

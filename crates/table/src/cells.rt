@@ -13,7 +13,7 @@ use tallies::Figures;
 
 const COLUMNS: usize = 10;
 
-// How many blanks stand before a text of a size.
+// How many blanks are before a text of a size.
 fn blanks_before(size: usize) -> usize
     ensures { λ r. ⌜ r ≡ Table·COLUMNS - size ⌝ }
 {
@@ -23,7 +23,7 @@ fn blanks_before(size: usize) -> usize
     0
 }
 
-// Puts a text in ten columns, and answers where it ends. No text of a cell is longer than a number of 64 bits.
+// Puts a text in ten columns, and returns where it ends. No text of a cell is longer than a number of 64 bits.
 pub(crate) fn put_cell(out: &mut [u8], at: usize, text: &[u8]) -> usize
     requires { ⌜ (length (now text) ≤ CELL-ROOM) × (at + CELL-ROOM ≤ length (now out)) ⌝ }
     ensures { λ r. ⌜ Puts (cell (now (text .entry))) CELL-ROOM (now (out .entry)) at r (now (out .exit)) ⌝ }
@@ -34,7 +34,7 @@ pub(crate) fn put_cell(out: &mut [u8], at: usize, text: &[u8]) -> usize
     put_text(out, from, text)
 }
 
-// Puts a number in ten columns, and answers where it ends.
+// Puts a number in ten columns, and returns where it ends.
 pub(crate) fn put_number(out: &mut [u8], at: usize, n: usize) -> usize
     requires { ⌜ at + CELL-ROOM ≤ length (now out) ⌝ }
     ensures { λ r. ⌜ Puts (cell (decimal n)) CELL-ROOM (now (out .entry)) at r (now (out .exit)) ⌝ }
@@ -44,7 +44,7 @@ pub(crate) fn put_number(out: &mut [u8], at: usize, n: usize) -> usize
     put_cell(out, at, &digits[..k])
 }
 
-// Puts a blank and a number in ten columns, and answers where it ends.
+// Puts a blank and a number in ten columns, and returns where it ends.
 fn put_next(out: &mut [u8], at: usize, n: usize) -> usize
     requires { ⌜ at + (CELL-ROOM + 1) ≤ length (now out) ⌝ }
     ensures { λ r. ⌜ Puts (BLANK ∷ cell (decimal n)) (CELL-ROOM + 1) (now (out .entry)) at r (now (out .exit)) ⌝ }
@@ -53,7 +53,7 @@ fn put_next(out: &mut [u8], at: usize, n: usize) -> usize
     put_number(out, from, n)
 }
 
-// Puts seven figures behind the first cell of a line, and answers where they end.
+// Puts seven figures behind the first cell of a line, and returns where they end.
 pub(crate) fn put_figures(out: &mut [u8], at: usize, f: Figures) -> usize
     requires { ⌜ at + FIGURES-ROOM ≤ length (now out) ⌝ }
     ensures { λ r. ⌜ Puts (cells (inOrder f)) FIGURES-ROOM (now (out .entry)) at r (now (out .exit)) ⌝ }

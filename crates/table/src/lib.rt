@@ -44,7 +44,7 @@ pub fn file_line(out: &mut [u8; LINE_ROOM], file: usize, f: Figures) -> usize
     put_text(out, b, b"\n")
 }
 
-// Puts the line of a refusal behind what stands before a place, and answers where it ends.
+// Puts the line of a refusal behind what is before a place, and returns where it ends.
 fn put_refused(out: &mut [u8], at: usize, number: u8, place: usize) -> usize
     requires { ⌜ at + WORDS-ROOM ≤ length (now out) ⌝ }
     ensures { λ r. ⌜ Puts (refusedLine (record { number = number; place = place })) WORDS-ROOM (now (out .entry)) at r (now (out .exit)) ⌝ }
@@ -61,7 +61,7 @@ pub fn refused_file_line(out: &mut [u8; LINE_ROOM], file: usize, number: u8, pla
     put_refused(out, b, number, place)
 }
 
-// Puts words, a number and a newline at a place, and answers where they end.
+// Puts words, a number and a newline at a place, and returns where they end.
 fn put_count(out: &mut [u8], at: usize, words: &[u8], n: usize) -> usize
     requires { ⌜ (length (now words) + (CELL-ROOM + 1) ≤ WORDS-ROOM) × (at + WORDS-ROOM ≤ length (now out)) ⌝ }
     ensures { λ r. ⌜ Puts (now (words .entry) ++ decimal n ++ bytes "\n") WORDS-ROOM (now (out .entry)) at r (now (out .exit)) ⌝ }
@@ -78,7 +78,7 @@ pub fn ends_inside_line(out: &mut [u8; LINE_ROOM], file: usize) -> usize
     put_count(out, 0, b"the input ends inside file ", file)
 }
 
-// Puts the line of totals at a place, and answers where it ends.
+// Puts the line of totals at a place, and returns where it ends.
 fn put_totals(out: &mut [u8], at: usize, all: Figures) -> usize
     requires { ⌜ at + COLUMNS-ROOM ≤ length (now out) ⌝ }
     ensures { λ r. ⌜ Puts (totalsLine all) COLUMNS-ROOM (now (out .entry)) at r (now (out .exit)) ⌝ }
@@ -88,7 +88,7 @@ fn put_totals(out: &mut [u8], at: usize, all: Figures) -> usize
     put_text(out, b, b"\n")
 }
 
-// Puts the line of the fraction at a place, and answers where it ends.
+// Puts the line of the fraction at a place, and returns where it ends.
 fn put_fraction(out: &mut [u8], at: usize, q: Fraction) -> usize
     requires { ⌜ at + FRACTION-ROOM ≤ length (now out) ⌝ }
     ensures { λ r. ⌜ Puts (fractionLine q) FRACTION-ROOM (now (out .entry)) at r (now (out .exit)) ⌝ }
