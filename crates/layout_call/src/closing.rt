@@ -2,14 +2,15 @@
 ghost use mathlib.Core.Path.{_≡_};
 ghost use lib.Dec.{ltb};
 ghost use lib.ListN.{length};
+ghost use Rattle.image.specs.Read.{Accepts};
 ghost use Rattle.state.specs.Laid.{Room, Laid};
 ghost use Rattle.comments.specs.Listed.{given};
 ghost use Rattle.layout.specs.Closing.{placeWaiting, closing};
 ghost use Rattle.plain_run.specs.Parts.{keepsWaiting};
-ghost use Rattle.layout_call.specs.Steps.{Accepts, tree, declared};
-use crate::Document;
+ghost use Rattle.plain_run.specs.Built.{tree, declared};
 use crate::modes::NEW_MODE;
 use comments::pop_whitespace;
+use image::Document;
 use layout::numbers::past;
 use layout::numbers::second;
 use state::Cursor;

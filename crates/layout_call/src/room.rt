@@ -2,13 +2,15 @@
 ghost use mathlib.Core.Path.{_≡_};
 ghost use Prim.Native.Nat.{_+_, _≤_};
 ghost use lib.ListN.{length};
+ghost use Rattle.image.specs.Read.{Accepts};
 ghost use Rattle.rows.specs.Rows.{sizes};
 ghost use Rattle.state.specs.Laid.{st};
-ghost use Rattle.layout_call.specs.Steps.{Accepts, SmallCursor, Wanted, declared, callAct};
-use crate::Document;
+ghost use Rattle.plain_run.specs.Built.{declared};
+ghost use Rattle.layout_call.specs.Steps.{SmallCursor, Wanted, callAct};
 use crate::LayoutArgs;
 use crate::LayoutState;
 use crate::steps::lay;
+use image::Document;
 use rows::store::to_usize;
 use state::Cursor;
 

@@ -1,6 +1,6 @@
 use Prim.Native.Nat.{ℕ}
 use Rattle.layout_call.proofs.Standing.{first-in, tree-in, starts-first, another, no-more, record-in, goes-on, few-declarations}
-use Rattle.layout_call.specs.Steps.{declared, startOf}
+use Rattle.layout_call.specs.Steps.{startOf}
 use Rattle.image.specs.Read.{stopAt}
 use lib.ListN.{length}
 use native.Mathlib.Omega.{arith}
@@ -8,6 +8,7 @@ use mathlib.Core.Path.{_≡_, sym, ap, _∙_}
 use Prim.Native.Nat.{_-_, _≤_}
 use Rattle.layout_call.proofs.steps.count_declarations.Statement.{statement}
 use Rattle.layout_call.proofs.steps.count_declarations.Tie as tie
+use Rattle.plain_run.specs.Built.{declared}
 
 abbrev Inv-loop : tie.InvT-loop
 Inv-loop s b at end p₀ count₀ p count = (count ≤ length (declared s b)) × (_≡_ {A = ℕ} p (startOf s b at count)) × (_≡_ {A = ℕ} end (stopAt b at))
