@@ -310,6 +310,7 @@ module _ (g : Given) where
   trailing-one s place p e f h = rw (e, popTrailingComment) (rw (f, popTrailingComment) (rw (eq-eqb (p .start) place h)))
 
 -- the image counts for nothing in `newlines`
-pub any-image : (s b b′ : List ℕ) (position : ℕ) {c : Cursor} → Room (stepAlone (newlines (given s b) position)) c → Room (stepAlone (newlines (given s b′) position)) c
+pub any-image : (s b b′ : List ℕ) (position : ℕ) {c : Cursor}
+    → Room (stepAlone (newlines (given s b) position)) c → Room (stepAlone (newlines (given s b′) position)) c
 unfolding newlines
 any-image s b b′ position room = room-same refl room

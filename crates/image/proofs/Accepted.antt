@@ -12,7 +12,8 @@ use Rattle.text.specs.Utf8.{wellFormed, prefix}
 use Rattle.laws.proofs.Booleans.{and-left, and-right}
 use Rattle.refusals.specs.Answers.{accepted as given}
 use Rattle.image.specs.Bytes.{be16, be32}
-use Rattle.image.specs.Read.{Read, got, bad, bind, Tree, Image, header, comments, recordAt, treeAt, readTree, readImage, sourceFits, readAll, stepOf, documentOf, outcome, Accepts}
+use Rattle.image.specs.Read.{Read, got, bad, bind, Tree, Image, header, comments, recordAt, treeAt, readTree}
+use Rattle.image.specs.Read.{readImage, sourceFits, readAll, stepOf, documentOf, outcome, Accepts}
 use Rattle.image.specs.declared.records.Step.the-variants.{Next}
 use Rattle.image.specs.declared.Document.{Document}
 use Rattle.image.proofs.Shapes.{isGot}

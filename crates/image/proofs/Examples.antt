@@ -9,7 +9,8 @@ use Rattle.text.specs.Utf8.{within, rowIn, followed, sequence, run, prefix, wel
 use Rattle.text.specs.Newlines.{isRange}
 use Rattle.image.specs.Bytes.{be16, be32}
 use Rattle.image.specs.Grammar.{rowOf, rowUnder, kindFits, payloadFits, firstChild}
-use Rattle.image.specs.Read.{header, commentFits, commentsFrom, comments, shape, opens, childrenAt, skips, recordAt, treeAt, readTree, readImage, sourceFits, readAll, outcome}
+use Rattle.image.specs.Read.{header, commentFits, commentsFrom, comments, shape, opens, childrenAt}
+use Rattle.image.specs.Read.{skips, recordAt, treeAt, readTree, readImage, sourceFits, readAll, outcome}
 use Rattle.image.specs.Write.{Plain, Plains, without, plainly, done, _next_, bytes4, written}
 use Rattle.image.specs.declared.Document.{Document}
 

@@ -40,7 +40,8 @@ last-spare : (b : List ℕ) (at q : ℕ) (r : Read Tree) → stepOf r ≡ Next q
 last-spare b at q (got t k) e h = let same : k ≡ q = cc in rw (same, lt-ltb q (length b) h)
 last-spare b at q (bad k p) e h = let z : _≡_ {A = ℕ} 0 1 = cc in absurd (omega arith)
 
-last-whole : (b : List ℕ) (at q : ℕ) (r : Read Tree) → stepOf r ≡ Next q → length b ≤ q → outcome (last b at r) ≡ accepted (record { comments = be16 b 5; tree = at })
+last-whole : (b : List ℕ) (at q : ℕ) (r : Read Tree) → stepOf r ≡ Next q → length b ≤ q
+    → outcome (last b at r) ≡ accepted (record { comments = be16 b 5; tree = at })
 last-whole b at q (got t k) e h = let same : k ≡ q = cc in rw (same, le-ltb q (length b) h)
 last-whole b at q (bad k p) e h = let z : _≡_ {A = ℕ} 0 1 = cc in absurd (omega arith)
 

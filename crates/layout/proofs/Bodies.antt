@@ -11,8 +11,9 @@ use lib.Dec.{eqb, leb}
 use borrow.Author.Tests.{eq-eqb, ne-eqb}
 use Rattle.image.specs.Bytes.{be32}
 use Rattle.image.specs.Read.{stopAt, kindAt}
-use Rattle.ast.specs.Syntax.{Span, Ident, TypeExpr, Import, Expr, expr, MaybeExpr, noExpr, someExpr, Block, braces, Stmts, noStmts, _∷ˢ_, Stmt, stmt, StmtForm, let′, importStmt, does, Parts, noParts, string, value}
-use Rattle.ast.specs.Syntax.{Form, return′, literal, block, match′, functionCall, access, path, record′, typedRecord, list, not′, assign, compoundAssign, binOp, negate, ifElse, while, for, questionMark, fString, parentheses}
+use Rattle.ast.specs.Syntax.{Span, Ident, TypeExpr, Import, Expr, expr, MaybeExpr, noExpr, someExpr, Block, braces, Stmts, noStmts, _∷ˢ_, Stmt, stmt, StmtForm}
+use Rattle.ast.specs.Syntax.{let′, importStmt, does, Parts, noParts, string, value, Form, return′, literal, block, match′, functionCall, access, path, record′}
+use Rattle.ast.specs.Syntax.{typedRecord, list, not′, assign, compoundAssign, binOp, negate, ifElse, while, for, questionMark, fString, parentheses}
 use Rattle.ast.specs.Kinds.{formKind}
 use Rattle.tree.specs.At.{Head, Record, Done, Before, Ends, ImportAt, ExprAt, MaybeExprAt, BlockAt, StmtsAt, StmtAt, PartsAt}
 use Rattle.rows.specs.Node.{line}
@@ -22,7 +23,8 @@ use Rattle.state.specs.declared.Cursor.{Cursor}
 use Rattle.state.proofs.Laws.{Lays, lays-then, lays-skip, room-first, room-next}
 use Rattle.state.proofs.Nested.{lays-group, lays-indent}
 use Rattle.comments.specs.Listed.{given}
-use Rattle.layout.specs.Layout.{importPath, isBraced, noneOf, isEmpty, gap, stmtsRule, stmtRule, stmtForm, beforeStmt, afterStmt, blockStart, blockRule, partsRule, placeholder}
+use Rattle.layout.specs.Layout.{importPath, isBraced, noneOf, isEmpty, gap, stmtsRule, stmtRule, stmtForm}
+use Rattle.layout.specs.Layout.{beforeStmt, afterStmt, blockStart, blockRule, partsRule, placeholder}
 use Rattle.layout.specs.Contracts.{Has, HasAll, InImage, Whole, Readable}
 use Rattle.layout.specs.Forms.{exprWith, stmtsFrom, lastFrom, LetAt, letRule, SpanAt, contentRule, Part, text, PartAt, partRule}
 use Rattle.layout.specs.Forms as forms

@@ -22,7 +22,8 @@ use Rattle.comments.specs.Listed.{given}
 use Rattle.layout.specs.Layout.{typeExpr, unlessEmpty, someTypeParams, returnType, declaration, shebangRule, declarationsRule}
 use Rattle.layout.specs.Contracts.{Has, HasAll, Whole, Readable}
 use Rattle.layout.specs.Elems.{typeParamsRule}
-use Rattle.layout.specs.Forms.{two, three, four, five, OfDeclaration, declarationRule, anyDeclaration, MaybeListAt, MaybeTypeAt, MaybeIdentAt, declarationsFrom}
+use Rattle.layout.specs.Forms.{two, three, four, five, OfDeclaration, declarationRule, anyDeclaration}
+use Rattle.layout.specs.Forms.{MaybeListAt, MaybeTypeAt, MaybeIdentAt, declarationsFrom}
 use Rattle.layout.proofs.Places.{head-whole, type-whole, import-whole}
 use Rattle.layout.proofs.Lays.{LaysAll, LaysAs}
 

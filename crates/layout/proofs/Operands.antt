@@ -12,7 +12,8 @@ use lib.ListN.{getD, length, set}
 use lib.Seq.{getD-set-same, getD-set-other}
 use Rattle.image.specs.Bytes.{be32}
 use Rattle.image.specs.Read.{stopAt, kindAt}
-use Rattle.ast.specs.Syntax.{Span, Expr, expr, Form, return′, literal, block, match′, functionCall, access, path, record′, typedRecord, list, not′, assign, compoundAssign, binOp, negate, ifElse, while, for, questionMark, fString, parentheses}
+use Rattle.ast.specs.Syntax.{Span, Expr, expr, Form, return′, literal, block, match′, functionCall, access, path, record′, typedRecord}
+use Rattle.ast.specs.Syntax.{list, not′, assign, compoundAssign, binOp, negate, ifElse, while, for, questionMark, fString, parentheses}
 use Rattle.tree.specs.At.{Head, ByteAt, ExprAt, leftDepth}
 use Rattle.rows.specs.Node.{lineOrSpace}
 use Rattle.state.specs.Act.{Given, Act, push, grouped, indented, _⨟_}

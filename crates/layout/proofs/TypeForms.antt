@@ -9,7 +9,8 @@ use lib.ListN.{length}
 use lib.Dec.{eqb}
 use Rattle.image.specs.Bytes.{be32}
 use Rattle.image.specs.Read.{stopAt, kindAt}
-use Rattle.ast.specs.Syntax.{Span, Path, TypeExpr, type, TypeForm, option, typePath, never, unit, recordType, TypeArgs, noArgs, args, Types, noTypes, _∷ᵗ_, Fields}
+use Rattle.ast.specs.Syntax.{Span, Path, TypeExpr, type, TypeForm, option, typePath, never, unit}
+use Rattle.ast.specs.Syntax.{recordType, TypeArgs, noArgs, args, Types, noTypes, _∷ᵗ_, Fields}
 use Rattle.tree.specs.At.{Head, TypeAt, TypeArgsAt, TypesAt}
 use Rattle.state.specs.Act.{Given, Act}
 use Rattle.state.specs.Laid.{Room}

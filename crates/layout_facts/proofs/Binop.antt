@@ -105,5 +105,6 @@ binop-as-rust g span s left right op outer =
     laid : (d : Descent) → binop (laidFrom g (binopPrecedence op) d)
         ≡ grouped (λ id. exprWithPrecedence g (d .left) (binopPrecedence op) ⨟ push lineOrSpace ⨟ indented (popOps g true (d .ops)))
     laid d =
-        ap₂ (λ (a b : Act). grouped (λ id. a ⨟ push lineOrSpace ⨟ indented b)) (keeps-left g (d .ops) (leftmost (exprWithPrecedence g (d .left) (binopPrecedence op))))
+        ap₂ (λ (a b : Act). grouped (λ id. a ⨟ push lineOrSpace ⨟ indented b))
+        (keeps-left g (d .ops) (leftmost (exprWithPrecedence g (d .left) (binopPrecedence op))))
         (pops-in-order g (d .ops) (leftmost (exprWithPrecedence g (d .left) (binopPrecedence op))) ∙ skip-then (popOps g true (d .ops)))

@@ -23,8 +23,8 @@ use Rattle.layout.specs.Closing.{closing, wholeRule}
 use Rattle.layout_facts.specs.Height.{fieldsHeight, variantsHeight, declarationHeight, declarationsHeight, treeHeight}
 use Rattle.layout_facts.proofs.Steps.{_⨾_, fewer, sound-skip, sound-line, sound-emptyLine, sound-str, sound-when, sound-asks}
 use Rattle.layout_facts.proofs.Gaps.{sound-gap}
-use Rattle.layout_facts.proofs.Parts.{no-word, sound-says, ranged, from-start, supplied, sound-ident, points, All, none, also, sound-separated, sound-idents, sound-type}
-use Rattle.layout_facts.proofs.Parts.{all-types, all-fields, last-ranged, import-ranged, import-long, sound-import}
+use Rattle.layout_facts.proofs.Parts.{no-word, sound-says, ranged, from-start, supplied, sound-ident, points, All, none, also, sound-separated}
+use Rattle.layout_facts.proofs.Parts.{sound-idents, sound-type, all-types, all-fields, last-ranged, import-ranged, import-long, sound-import}
 use Rattle.layout_facts.proofs.Exprs.{sound-expr, sound-block}
 
 module _ {g : Given} (commented : Commented g) where

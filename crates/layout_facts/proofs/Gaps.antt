@@ -204,7 +204,9 @@ module _ {g : Given} (commented : Commented g) where
       taken : (s : St) (c : Span) → Ranged (g .source) c → (t : Bool) → Sound g 0 d s (cond t (pop ⨟ pushComment g c ⨟ moveTo (c .end)) skip s)
       taken s c r true =
           let s′ : St = next s (pop s) in
-          let one : Sounds g ROW-TAKES d (pushComment g c ⨟ moveTo (c .end)) = fewer (sound-comment (inside-comment r) ⨾ sound-moveTo (r .fits)) (omega arith) in
+          let one : Sounds g ROW-TAKES d (pushComment g c ⨟ moveTo (c .end)) =
+          fewer (sound-comment (inside-comment r) ⨾ sound-moveTo (r .fits)) (omega arith)
+          in
           let x : Sound g ROW-TAKES d s′ ((pushComment g c ⨟ moveTo (c .end)) s′) = one .from s′ in
           record {
             more = omega (arith, x .more);

@@ -17,11 +17,13 @@ use Rattle.rows.proofs.Nested.{nests-le, nests-two, nests-kind, nests-deep}
 use Rattle.laws.proofs.Booleans.{both}
 use Rattle.renderer_rules.specs.declared.Frame.{Frame}
 use Rattle.renderer_rules.specs.declared.Pen.{Pen}
-use Rattle.renderer_rules.specs.Renderer.{Page, Renderer, withBuf, withNextIndent, onPen, onNewLine, pushStr, atColumn, newLine, margin, comment, text, insert, indentMore, indentLess, nextIndentMore}
+use Rattle.renderer_rules.specs.Renderer.{Page, Renderer, withBuf, withNextIndent, onPen, onNewLine, pushStr, atColumn}
+use Rattle.renderer_rules.specs.Renderer.{newLine, margin, comment, text, insert, indentMore, indentLess, nextIndentMore}
 use Rattle.renderer_rules.specs.Renderer.{nextIndentLess, groupWraps, trailingCall, calleeWraps, renderNode}
 use Rattle.renderer_rules.proofs.Margin.{render-kept}
 use Rattle.renderer_rules.specs.Frames.{frameAt, partEnd, partLimit, wrapAt, At}
-use Rattle.renderer_rules.specs.Machine.{Machine, opened, reopened, closedTo, frameOf, closing, firstPart, secondPart, enterGroup, enterIndent, enterNext, enterLeaf, enterIf, enterCall, enter, leave, turnAt, turn}
+use Rattle.renderer_rules.specs.Machine.{Machine, opened, reopened, closedTo, frameOf, closing, firstPart, secondPart, enterGroup}
+use Rattle.renderer_rules.specs.Machine.{enterIndent, enterNext, enterLeaf, enterIf, enterCall, enter, leave, turnAt, turn}
 use Rattle.renderer_rules.specs.Safe.{oneIf, stepsBack, insOf, steps, ins, SmallTexts, Safe}
 use Rattle.renderer_rules.proofs.Meaning.{frame-other, frame-same}
 use Rattle.renderer_rules.proofs.Opened.{at-top-suc}
@@ -81,7 +83,8 @@ pub closing-next : (v : View) (pg : Page) (f : Frame) (s : Renderer) → v .kind
 unfolding closing
 closing-next v pg f s k = rw k
 
-pub closing-call : (v : View) (pg : Page) (f : Frame) (s : Renderer) → v .kind (f .row) ≡ CALL → f .first ≡ false → closing v pg f s ≡ onPen (nextIndentLess (f .deeper)) s
+pub closing-call : (v : View) (pg : Page) (f : Frame) (s : Renderer) → v .kind (f .row) ≡ CALL
+    → f .first ≡ false → closing v pg f s ≡ onPen (nextIndentLess (f .deeper)) s
 unfolding closing
 closing-call v pg f s k e = rw (k, e)
 
@@ -335,7 +338,8 @@ module _ (v : View) (pg : Page) (stop : ℕ) where
 
         go : (b : Bool)
             → Safe v base
-            (cond b (opened m (frameOf (m .next) w true false) (suc (m .next)) (m .state)) (opened m (frameOf (m .next) w false false) (v .second (m .next)) (m .state)))
+            (cond b (opened m (frameOf (m .next) w true false) (suc (m .next)) (m .state))
+            (opened m (frameOf (m .next) w false false) (v .second (m .next)) (m .state)))
         go true =
             opened-safe base m (frameOf (m .next) w true false) (suc (m .next)) (m .state) 0 0 s roomy (if-step w true k)
             (no-ins (frameOf (m .next) w true false) refl (λ e. omega arith))
@@ -359,7 +363,8 @@ module _ (v : View) (pg : Page) (stop : ℕ) where
     call-safe k =
         let t = trailingCall pg (firstPart v (m .next)) (secondPart v (m .next)) (m .state) in
         let b = calleeWraps pg t (firstPart v (m .next)) (secondPart v (m .next)) (m .state) in
-        opened-safe base m (frameOf (m .next) b true (not t && b)) (suc (m .next)) (onPen (nextIndentMore (not t && b)) (insert b (v .number (m .next)) (m .state))) (oneIf (not t && b)) 0 s roomy
+        opened-safe base m (frameOf (m .next) b true (not t && b)) (suc (m .next))
+        (onPen (nextIndentMore (not t && b)) (insert b (v .number (m .next)) (m .state))) (oneIf (not t && b)) 0 s roomy
         (call-step b (not t && b) k)
         (no-ins (frameOf (m .next) b true (not t && b)) refl (λ e. omega arith))
         (omega arith)
@@ -539,7 +544,8 @@ module _ (v : View) (pg : Page) (stop : ℕ) where
       -- the arguments of a `Call` are opened: the same steps
       on-safe : (c : Bool) → v .kind (frameAt (m .frames) k .row) ≡ CALL
           → Safe v base
-          (reopened m k (frameOf (frameAt (m .frames) k .row) c false (frameAt (m .frames) k .deeper)) (insert c (v .number2 (frameAt (m .frames) k .row)) (m .state)))
+          (reopened m k (frameOf (frameAt (m .frames) k .row) c false (frameAt (m .frames) k .deeper))
+          (insert c (v .number2 (frameAt (m .frames) k .row)) (m .state)))
       unfolding insert
       on-safe c q =
           let deep = a .deep in
@@ -567,7 +573,9 @@ module _ (v : View) (pg : Page) (stop : ℕ) where
           c = groupWraps pg (nodesAt v (m .next) (v .after (frameAt (m .frames) k .row))) (m .state)
 
           on : Machine
-          on = reopened m k (frameOf (frameAt (m .frames) k .row) c false (frameAt (m .frames) k .deeper)) (insert c (v .number2 (frameAt (m .frames) k .row)) (m .state))
+          on =
+              reopened m k (frameOf (frameAt (m .frames) k .row) c false (frameAt (m .frames) k .deeper))
+              (insert c (v .number2 (frameAt (m .frames) k .row)) (m .state))
 
           off : Machine
           off = closedTo m k (v .after (frameAt (m .frames) k .row)) (closing v pg (frameAt (m .frames) k) (m .state))
@@ -585,7 +593,12 @@ module _ (v : View) (pg : Page) (stop : ℕ) where
       go : (b : Bool) → eqb (m .next) (partEnd v (frameAt (m .frames) k)) ≡ b → Safe v base (cond b (leave v pg m k) (enter v pg m))
       go true q =
           leave-safe base m k (subst (λ (d : ℕ). At v stop (m .frames) d (m .next)) e a) (eqb-true (m .next) _ q)
-          (record { sum = subst (λ (d : ℕ). m .state .pen .indent + m .state .pen .«next_indent» ≡ base + steps v (m .frames) d) e (s .sum); low = subst (λ (d : ℕ). ins v (m .frames) d ≤ m .state .pen .indent) e (s .low); column = s .column; bytes = s .bytes })
+          (record {
+            sum = subst (λ (d : ℕ). m .state .pen .indent + m .state .pen .«next_indent» ≡ base + steps v (m .frames) d) e (s .sum);
+            low = subst (λ (d : ℕ). ins v (m .frames) d ≤ m .state .pen .indent) e (s .low);
+            column = s .column;
+            bytes = s .bytes;
+          })
       go false q = enter-safe base m a (in-part v pg stop m k e a (eqb-false (m .next) _ q)) s z y (v .kind (m .next)) refl
 
   -- a turn keeps the numbers in range

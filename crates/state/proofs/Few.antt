@@ -6,7 +6,8 @@ use Prim.Native.Nat.{ℕ, _+_, _*_, _≤_}
 use native.Mathlib.Omega.{arith}
 use Rattle.rows.specs.Node.{Node, join}
 use Rattle.rows.specs.Rows.{size, sizes}
-use Rattle.state.specs.Act.{St, Out, Act, Asking, next, _⨟_, skip, when, push, moveTo, pop, grouped, indented, indentedNext, called, stepAlone, _⨟!_, _⨟?_}
+use Rattle.state.specs.Act.{St, Out, Act, Asking, next, _⨟_, skip, when, push, moveTo, pop}
+use Rattle.state.specs.Act.{grouped, indented, indentedNext, called, stepAlone, _⨟!_, _⨟?_}
 use Rattle.state.specs.declared.Cursor.{Cursor}
 use Rattle.state.specs.Laid.{st, top, Room}
 use Rattle.state.proofs.Joins.{sizes-join}

@@ -5,7 +5,8 @@ use mathlib.Core.List.{List, _++_, append-assoc}
 use Prim.Native.Nat.{ℕ, _+_, _*_}
 use native.Mathlib.Omega.{arith}
 use lib.ListN.{length, length-append}
-use Rattle.rows.specs.Node.{Node, Nodes, group, indent, indentNext, wrapParent, comment, str, ascii, line, emptyLine, lineOrSpace, ifWrap, call, none, _then_, join}
+use Rattle.rows.specs.Node.{Node, Nodes, group, indent, indentNext, wrapParent, comment, str, ascii}
+use Rattle.rows.specs.Node.{line, emptyLine, lineOrSpace, ifWrap, call, none, _then_, join}
 use Rattle.rows.specs.Rows.{size, sizes, rowsOf, rows}
 
 pub sizes-join : (ns ms : Nodes) → sizes (join ns ms) ≡ sizes ns + sizes ms

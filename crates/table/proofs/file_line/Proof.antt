@@ -9,7 +9,11 @@ use Rattle.table.proofs.file_line.Tie as tie
 
 returns : tie.Need-returns
 unfolding bytes
-returns c = writes (omega arith) (omega arith) (puts-both (puts-both (c .before .before .before .before .before .put-number .ensures) (c .before .before .before .put-figures .ensures)) (puts-text (bytes "\n") (c .put-text .ensures)))
+returns c =
+    let at-put-figures = c .before .before .before in
+    let at-put-number = at-put-figures .before .before in
+    writes (omega arith) (omega arith)
+    (puts-both (puts-both (at-put-number .put-number .ensures) (at-put-figures .put-figures .ensures)) (puts-text (bytes "\n") (c .put-text .ensures)))
 
 pub file-line-spec : {M : Type 1} → statement M
 file-line-spec =

@@ -9,7 +9,9 @@ use Rattle.table.proofs.put_refused.Statement.{statement}
 use Rattle.table.proofs.put_refused.Tie as tie
 
 add-result : tie.Need-add-result
-add-result c = omega (arith, c .before .before .refused-line .ensures .1, line-short (record { number = c .before .before .before .before .before .args .number; place = c .before .before .before .before .before .args .place }))
+add-result c =
+    let start = c .before .before .before .before .before in
+    omega (arith, c .before .before .refused-line .ensures .1, line-short (record { number = start .args .number; place = start .args .place }))
 
 returns : tie.Need-returns
 returns c = puts-part _ 64 _ _ _ _ _ (line-short _) (c .before .before .before .before .before .pre) refl (c .before .before .refused-line .ensures)

@@ -9,7 +9,10 @@ use Rattle.table.proofs.refused_file_line.Tie as tie
 
 returns : tie.Need-returns
 unfolding bytes
-returns c = writes (omega arith) (omega arith) (puts-both (puts-both (c .before .before .before .before .before .put-number .ensures) (puts-text (bytes " ") (c .before .before .put-text .ensures))) (c .put-refused .ensures))
+returns c =
+    let at-put-number = c .before .before .before .before .before in
+    writes (omega arith) (omega arith)
+    (puts-both (puts-both (at-put-number .put-number .ensures) (puts-text (bytes " ") (c .before .before .put-text .ensures))) (c .put-refused .ensures))
 
 pub refused-file-line-spec : {M : Type 1} → statement M
 refused-file-line-spec =

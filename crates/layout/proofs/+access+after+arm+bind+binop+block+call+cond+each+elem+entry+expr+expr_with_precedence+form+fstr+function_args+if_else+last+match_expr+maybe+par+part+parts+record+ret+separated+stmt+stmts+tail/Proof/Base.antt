@@ -415,37 +415,172 @@ abbrev pub tail-below : ℕ → In 4 tail-kinds.ps
 tail-below t = and 4 tail-kinds.ps (falls 4 tail-kinds.ps _<_ μ-tail t) tail.Pre
 
 abbrev pub access-calls : ℕ → access-lts.Claims
-access-calls t = (second-reads.Asked, second-reads.Learnt, open-group-reads.Asked, open-group-reads.Learnt, open-indent-next-reads.Asked, open-indent-next-reads.Learnt, expr-with-precedence-below t, expr-with-precedence.Post, field-name-reads.Asked, field-name-reads.Learnt, close-reads.Asked, close-reads.Learnt)
+access-calls t = (
+  second-reads.Asked,
+  second-reads.Learnt,
+  open-group-reads.Asked,
+  open-group-reads.Learnt,
+  open-indent-next-reads.Asked,
+  open-indent-next-reads.Learnt,
+  expr-with-precedence-below t,
+  expr-with-precedence.Post,
+  field-name-reads.Asked,
+  field-name-reads.Learnt,
+  close-reads.Asked,
+  close-reads.Learnt,
+)
 
 abbrev pub after-calls : ℕ → after-lts.Claims
 after-calls t = (word-reads.Asked, word-reads.Learnt, expr-with-precedence-below t, expr-with-precedence.Post)
 
 abbrev pub if-else-calls : ℕ → if-else-lts.Claims
-if-else-calls t = (third-reads.Asked, third-reads.Learnt, cond-below t, cond.Post, is-absent-reads.Asked, is-absent-reads.Learnt, word-reads.Asked, word-reads.Learnt, block-below t, block.Post)
+if-else-calls t = (
+  third-reads.Asked,
+  third-reads.Learnt,
+  cond-below t,
+  cond.Post,
+  is-absent-reads.Asked,
+  is-absent-reads.Learnt,
+  word-reads.Asked,
+  word-reads.Learnt,
+  block-below t,
+  block.Post,
+)
 
 abbrev pub arm-calls : ℕ → arm-lts.Claims
-arm-calls t = (second-reads.Asked, second-reads.Learnt, third-reads.Asked, third-reads.Learnt, pattern-reads.Asked, pattern-reads.Learnt, maybe-below t, maybe.Post, word-reads.Asked, word-reads.Learnt, expr-below t, expr.Post, arm-comma-reads.Asked, arm-comma-reads.Learnt)
+arm-calls t = (
+  second-reads.Asked,
+  second-reads.Learnt,
+  third-reads.Asked,
+  third-reads.Learnt,
+  pattern-reads.Asked,
+  pattern-reads.Learnt,
+  maybe-below t,
+  maybe.Post,
+  word-reads.Asked,
+  word-reads.Learnt,
+  expr-below t,
+  expr.Post,
+  arm-comma-reads.Asked,
+  arm-comma-reads.Learnt,
+)
 
 abbrev pub bind-calls : ℕ → bind-lts.Claims
-bind-calls t = (second-reads.Asked, second-reads.Learnt, third-reads.Asked, third-reads.Learnt, word-reads.Asked, word-reads.Learnt, ident-reads.Asked, ident-reads.Learnt, let-type-reads.Asked, let-type-reads.Learnt, expr-below t, expr.Post)
+bind-calls t = (
+  second-reads.Asked,
+  second-reads.Learnt,
+  third-reads.Asked,
+  third-reads.Learnt,
+  word-reads.Asked,
+  word-reads.Learnt,
+  ident-reads.Asked,
+  ident-reads.Learnt,
+  let-type-reads.Asked,
+  let-type-reads.Learnt,
+  expr-below t,
+  expr.Post,
+)
 
 abbrev pub binop-calls : ℕ → binop-lts.Claims
-binop-calls t = (precedence-reads.Asked, precedence-reads.Learnt, leftmost-reads.Asked, leftmost-reads.Learnt, open-group-reads.Asked, open-group-reads.Learnt, expr-with-precedence-below t, expr-with-precedence.Post, line-or-space-reads.Asked, line-or-space-reads.Learnt, open-indent-reads.Asked, open-indent-reads.Learnt, tail-below t, tail.Post, close-reads.Asked, close-reads.Learnt)
+binop-calls t = (
+  precedence-reads.Asked,
+  precedence-reads.Learnt,
+  leftmost-reads.Asked,
+  leftmost-reads.Learnt,
+  open-group-reads.Asked,
+  open-group-reads.Learnt,
+  expr-with-precedence-below t,
+  expr-with-precedence.Post,
+  line-or-space-reads.Asked,
+  line-or-space-reads.Learnt,
+  open-indent-reads.Asked,
+  open-indent-reads.Learnt,
+  tail-below t,
+  tail.Post,
+  close-reads.Asked,
+  close-reads.Learnt,
+)
 
 abbrev pub block-calls : ℕ → block-lts.Claims
-block-calls t = (second-reads.Asked, second-reads.Learnt, no-stmts-reads.Asked, no-stmts-reads.Learnt, is-empty-reads.Asked, is-empty-reads.Learnt, open-group-reads.Asked, open-group-reads.Learnt, block-start-reads.Asked, block-start-reads.Learnt, open-indent-reads.Asked, open-indent-reads.Learnt, stmts-below t, stmts.Post, last-below t, last.Post, end-reads.Asked, end-reads.Learnt, gap-reads.Asked, gap-reads.Learnt, close-reads.Asked, close-reads.Learnt, line-reads.Asked, line-reads.Learnt, word-reads.Asked, word-reads.Learnt)
+block-calls t = (
+  second-reads.Asked,
+  second-reads.Learnt,
+  no-stmts-reads.Asked,
+  no-stmts-reads.Learnt,
+  is-empty-reads.Asked,
+  is-empty-reads.Learnt,
+  open-group-reads.Asked,
+  open-group-reads.Learnt,
+  block-start-reads.Asked,
+  block-start-reads.Learnt,
+  open-indent-reads.Asked,
+  open-indent-reads.Learnt,
+  stmts-below t,
+  stmts.Post,
+  last-below t,
+  last.Post,
+  end-reads.Asked,
+  end-reads.Learnt,
+  gap-reads.Asked,
+  gap-reads.Learnt,
+  close-reads.Asked,
+  close-reads.Learnt,
+  line-reads.Asked,
+  line-reads.Learnt,
+  word-reads.Asked,
+  word-reads.Learnt,
+)
 
 abbrev pub call-calls : ℕ → call-lts.Claims
-call-calls t = (second-reads.Asked, second-reads.Learnt, open-call-reads.Asked, open-call-reads.Learnt, expr-with-precedence-below t, expr-with-precedence.Post, function-args-below t, function-args.Post, set-second-reads.Asked, set-second-reads.Learnt, close-reads.Asked, close-reads.Learnt)
+call-calls t = (
+  second-reads.Asked,
+  second-reads.Learnt,
+  open-call-reads.Asked,
+  open-call-reads.Learnt,
+  expr-with-precedence-below t,
+  expr-with-precedence.Post,
+  function-args-below t,
+  function-args.Post,
+  set-second-reads.Asked,
+  set-second-reads.Learnt,
+  close-reads.Asked,
+  close-reads.Learnt,
+)
 
 abbrev pub cond-calls : ℕ → cond-lts.Claims
-cond-calls t = (word-reads.Asked, word-reads.Learnt, open-group-reads.Asked, open-group-reads.Learnt, open-indent-reads.Asked, open-indent-reads.Learnt, expr-below t, expr.Post, close-reads.Asked, close-reads.Learnt, past-reads.Asked, past-reads.Learnt, block-below t, block.Post)
+cond-calls t = (
+  word-reads.Asked,
+  word-reads.Learnt,
+  open-group-reads.Asked,
+  open-group-reads.Learnt,
+  open-indent-reads.Asked,
+  open-indent-reads.Learnt,
+  expr-below t,
+  expr.Post,
+  close-reads.Asked,
+  close-reads.Learnt,
+  past-reads.Asked,
+  past-reads.Learnt,
+  block-below t,
+  block.Post,
+)
 
 abbrev pub each-calls : ℕ → each-lts.Claims
 each-calls t = (second-reads.Asked, second-reads.Learnt, word-reads.Asked, word-reads.Learnt, ident-reads.Asked, ident-reads.Learnt, cond-below t, cond.Post)
 
 abbrev pub elem-calls : ℕ → elem-lts.Claims
-elem-calls t = (expr-below t, expr.Post, open-group-reads.Asked, open-group-reads.Learnt, close-reads.Asked, close-reads.Learnt, entry-below t, entry.Post, arm-below t, arm.Post)
+elem-calls t = (
+  expr-below t,
+  expr.Post,
+  open-group-reads.Asked,
+  open-group-reads.Learnt,
+  close-reads.Asked,
+  close-reads.Learnt,
+  entry-below t,
+  entry.Post,
+  arm-below t,
+  arm.Post,
+)
 
 abbrev pub entry-calls : ℕ → entry-lts.Claims
 entry-calls t = (second-reads.Asked, second-reads.Learnt, ident-reads.Asked, ident-reads.Learnt, word-reads.Asked, word-reads.Learnt, expr-below t, expr.Post)
@@ -457,19 +592,99 @@ abbrev pub expr-with-precedence-calls : ℕ → expr-with-precedence-lts.Claims
 expr-with-precedence-calls t = (form-below t, form.Post, pop-trailing-comment-reads.Asked, pop-trailing-comment-reads.Learnt)
 
 abbrev pub form-calls : ℕ → form-lts.Claims
-form-calls t = (kind-reads.Asked, kind-reads.Learnt, ret-below t, ret.Post, literal-reads.Asked, literal-reads.Learnt, block-below t, block.Post, match-expr-below t, match-expr.Post, call-below t, call.Post, access-below t, access.Post, path-reads.Asked, path-reads.Learnt, record-below t, record.Post, word-reads.Asked, word-reads.Learnt, second-reads.Asked, second-reads.Learnt, end-reads.Asked, end-reads.Learnt, separated-below t, separated.Post, after-below t, after.Post, third-reads.Asked, third-reads.Learnt, assign-word-reads.Asked, assign-word-reads.Learnt, binop-below t, binop.Post, if-else-below t, if-else.Post, cond-below t, cond.Post, each-below t, each.Post, expr-with-precedence-below t, expr-with-precedence.Post, fstr-below t, fstr.Post, par-below t, par.Post)
+form-calls t = (
+  kind-reads.Asked,
+  kind-reads.Learnt,
+  ret-below t,
+  ret.Post,
+  literal-reads.Asked,
+  literal-reads.Learnt,
+  block-below t,
+  block.Post,
+  match-expr-below t,
+  match-expr.Post,
+  call-below t,
+  call.Post,
+  access-below t,
+  access.Post,
+  path-reads.Asked,
+  path-reads.Learnt,
+  record-below t,
+  record.Post,
+  word-reads.Asked,
+  word-reads.Learnt,
+  second-reads.Asked,
+  second-reads.Learnt,
+  end-reads.Asked,
+  end-reads.Learnt,
+  separated-below t,
+  separated.Post,
+  after-below t,
+  after.Post,
+  third-reads.Asked,
+  third-reads.Learnt,
+  assign-word-reads.Asked,
+  assign-word-reads.Learnt,
+  binop-below t,
+  binop.Post,
+  if-else-below t,
+  if-else.Post,
+  cond-below t,
+  cond.Post,
+  each-below t,
+  each.Post,
+  expr-with-precedence-below t,
+  expr-with-precedence.Post,
+  fstr-below t,
+  fstr.Post,
+  par-below t,
+  par.Post,
+)
 
 abbrev pub fstr-calls : ℕ → fstr-lts.Claims
-fstr-calls t = (start-reads.Asked, start-reads.Learnt, gap-reads.Asked, gap-reads.Learnt, word-reads.Asked, word-reads.Learnt, second-reads.Asked, second-reads.Learnt, parts-below t, parts.Post)
+fstr-calls t = (
+  start-reads.Asked,
+  start-reads.Learnt,
+  gap-reads.Asked,
+  gap-reads.Learnt,
+  word-reads.Asked,
+  word-reads.Learnt,
+  second-reads.Asked,
+  second-reads.Learnt,
+  parts-below t,
+  parts.Post,
+)
 
 abbrev pub function-args-calls : ℕ → function-args-lts.Claims
 function-args-calls t = (end-reads.Asked, end-reads.Learnt, separated-below t, separated.Post)
 
 abbrev pub last-calls : ℕ → last-lts.Claims
-last-calls t = (is-absent-reads.Asked, is-absent-reads.Learnt, start-reads.Asked, start-reads.Learnt, before-stmt-reads.Asked, before-stmt-reads.Learnt, expr-below t, expr.Post, pop-trailing-comment-reads.Asked, pop-trailing-comment-reads.Learnt)
+last-calls t = (
+  is-absent-reads.Asked,
+  is-absent-reads.Learnt,
+  start-reads.Asked,
+  start-reads.Learnt,
+  before-stmt-reads.Asked,
+  before-stmt-reads.Learnt,
+  expr-below t,
+  expr.Post,
+  pop-trailing-comment-reads.Asked,
+  pop-trailing-comment-reads.Learnt,
+)
 
 abbrev pub match-expr-calls : ℕ → match-expr-lts.Claims
-match-expr-calls t = (second-reads.Asked, second-reads.Learnt, word-reads.Asked, word-reads.Learnt, expr-below t, expr.Post, end-reads.Asked, end-reads.Learnt, separated-below t, separated.Post)
+match-expr-calls t = (
+  second-reads.Asked,
+  second-reads.Learnt,
+  word-reads.Asked,
+  word-reads.Learnt,
+  expr-below t,
+  expr.Post,
+  end-reads.Asked,
+  end-reads.Learnt,
+  separated-below t,
+  separated.Post,
+)
 
 abbrev pub maybe-calls : ℕ → maybe-lts.Claims
 maybe-calls t = (is-absent-reads.Asked, is-absent-reads.Learnt, after-below t, after.Post)
@@ -490,13 +705,59 @@ abbrev pub ret-calls : ℕ → ret-lts.Claims
 ret-calls t = (payload-reads.Asked, payload-reads.Learnt, word-reads.Asked, word-reads.Learnt, maybe-below t, maybe.Post)
 
 abbrev pub separated-calls : ℕ → separated-lts.Claims
-separated-calls t = (past-reads.Asked, past-reads.Learnt, empty-list-reads.Asked, empty-list-reads.Learnt, begin-list-reads.Asked, begin-list-reads.Learnt, start-reads.Asked, start-reads.Learnt, before-elem-reads.Asked, before-elem-reads.Learnt, elem-below t, elem.Post, finish-list-reads.Asked, finish-list-reads.Learnt)
+separated-calls t = (
+  past-reads.Asked,
+  past-reads.Learnt,
+  empty-list-reads.Asked,
+  empty-list-reads.Learnt,
+  begin-list-reads.Asked,
+  begin-list-reads.Learnt,
+  start-reads.Asked,
+  start-reads.Learnt,
+  before-elem-reads.Asked,
+  before-elem-reads.Learnt,
+  elem-below t,
+  elem.Post,
+  finish-list-reads.Asked,
+  finish-list-reads.Learnt,
+)
 
 abbrev pub stmt-calls : ℕ → stmt-lts.Claims
-stmt-calls t = (kind-reads.Asked, kind-reads.Learnt, bind-below t, bind.Post, word-reads.Asked, word-reads.Learnt, import-path-reads.Asked, import-path-reads.Learnt, open-group-reads.Asked, open-group-reads.Learnt, expr-below t, expr.Post, semicolon-reads.Asked, semicolon-reads.Learnt, close-reads.Asked, close-reads.Learnt)
+stmt-calls t = (
+  kind-reads.Asked,
+  kind-reads.Learnt,
+  bind-below t,
+  bind.Post,
+  word-reads.Asked,
+  word-reads.Learnt,
+  import-path-reads.Asked,
+  import-path-reads.Learnt,
+  open-group-reads.Asked,
+  open-group-reads.Learnt,
+  expr-below t,
+  expr.Post,
+  semicolon-reads.Asked,
+  semicolon-reads.Learnt,
+  close-reads.Asked,
+  close-reads.Learnt,
+)
 
 abbrev pub stmts-calls : ℕ → stmts-lts.Claims
-stmts-calls t = (start-reads.Asked, start-reads.Learnt, before-stmt-reads.Asked, before-stmt-reads.Learnt, stmt-below t, stmt.Post, end-reads.Asked, end-reads.Learnt, after-stmt-reads.Asked, after-stmt-reads.Learnt, past-reads.Asked, past-reads.Learnt)
+stmts-calls t = (
+  start-reads.Asked,
+  start-reads.Learnt,
+  before-stmt-reads.Asked,
+  before-stmt-reads.Learnt,
+  stmt-below t,
+  stmt.Post,
+  end-reads.Asked,
+  end-reads.Learnt,
+  after-stmt-reads.Asked,
+  after-stmt-reads.Learnt,
+  past-reads.Asked,
+  past-reads.Learnt,
+)
 
 abbrev pub tail-calls : ℕ → tail-lts.Claims
-tail-calls t = (second-reads.Asked, second-reads.Learnt, operator-reads.Asked, operator-reads.Learnt, third-reads.Asked, third-reads.Learnt, expr-below t, expr.Post)
+tail-calls t =
+    (second-reads.Asked, second-reads.Learnt, operator-reads.Asked, operator-reads.Learnt, third-reads.Asked, third-reads.Learnt, expr-below t, expr.Post)

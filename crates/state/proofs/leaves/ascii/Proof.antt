@@ -10,11 +10,16 @@ use Rattle.state.proofs.leaves.ascii.Tie as tie
 
 text-row-requires : tie.Need-text-row-requires
 unfolding size
-text-row-requires c κs = (room-leaf (ascii (text 0 (c .before .before .args .start) (c .before .before .args .size .0))) refl (c .before .before .pre .0), (c .before .before .pre .1, omega arith))
+text-row-requires c κs = (
+  room-leaf (ascii (text 0 (c .before .before .args .start) (c .before .before .args .size .0))) refl (c .before .before .pre .0),
+  (c .before .before .pre .1, omega arith),
+)
 
 returns : tie.Need-returns
 unfolding size rowsOf
-returns c = laid-leaf (ascii (text 0 (c .before .before .before .before .before .args .start) (c .before .before .before .before .before .args .size .0))) refl refl (c .before .before .text-row .ensures)
+returns c =
+    let start = c .before .before .before .before .before in
+    laid-leaf (ascii (text 0 (start .args .start) (start .args .size .0))) refl refl (c .before .before .text-row .ensures)
 
 pub ascii-spec : {M : Type 1} → statement M
 ascii-spec = tie.close (tie.spec text-row-requires (λ c. search needs) returns)

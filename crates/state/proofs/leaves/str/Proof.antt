@@ -10,11 +10,17 @@ use Rattle.state.proofs.leaves.str.Tie as tie
 
 text-row-requires : tie.Need-text-row-requires
 unfolding size
-text-row-requires c κs = (room-leaf (str (c .before .before .args .width .0) (text 1 (c .before .before .args .start) (c .before .before .args .size .0))) refl (c .before .before .pre .0), (c .before .before .pre .1 .0, c .before .before .pre .1 .1))
+text-row-requires c κs = (
+  room-leaf (str (c .before .before .args .width .0) (text 1 (c .before .before .args .start) (c .before .before .args .size .0)))
+      refl (c .before .before .pre .0),
+  (c .before .before .pre .1 .0, c .before .before .pre .1 .1),
+)
 
 returns : tie.Need-returns
 unfolding size rowsOf
-returns c = laid-leaf (str (c .before .before .before .before .before .args .width .0) (text 1 (c .before .before .before .before .before .args .start) (c .before .before .before .before .before .args .size .0))) refl refl (c .before .before .text-row .ensures)
+returns c =
+    let start = c .before .before .before .before .before in
+    laid-leaf (str (start .args .width .0) (text 1 (start .args .start) (start .args .size .0))) refl refl (c .before .before .text-row .ensures)
 
 pub str-spec : {M : Type 1} → statement M
 str-spec = tie.close (tie.spec text-row-requires (λ c. search needs) returns)

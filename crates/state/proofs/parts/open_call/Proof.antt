@@ -7,7 +7,14 @@ use Rattle.state.proofs.parts.open_call.Statement.{statement}
 use Rattle.state.proofs.parts.open_call.Tie as tie
 
 returns : tie.Need-returns
-returns c = record { stored = c .before .before .plain-row .ensures .stored; moved = ap₂ (λ (n m : ℕ). cursor n m (c .before .before .before .before .before .before .args .c .pos) (c .before .before .before .before .before .before .args .c .placed)) (ap (λ d. d .row) (c .before .before .plain-row .ensures .moved)) (omega arith) }
+returns c =
+    let start = c .before .before .before .before .before .before in
+    record {
+      stored = c .before .before .plain-row .ensures .stored;
+      moved =
+          ap₂ (λ (n m : ℕ). cursor n m (start .args .c .pos) (start .args .c .placed))
+          (ap (λ d. d .row) (c .before .before .plain-row .ensures .moved)) (omega arith);
+    }
 
 pub open-call-spec : {M : Type 1} → statement M
 open-call-spec = tie.close (tie.spec (λ c. search needs) (λ c κs. search needs) (λ c. search needs) (λ c. search needs) returns)

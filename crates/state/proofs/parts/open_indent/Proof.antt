@@ -7,7 +7,14 @@ use Rattle.state.proofs.parts.open_indent.Statement.{statement}
 use Rattle.state.proofs.parts.open_indent.Tie as tie
 
 returns : tie.Need-returns
-returns c = record { stored = c .before .before .plain-row .ensures .stored; moved = c .before .before .plain-row .ensures .moved ∙ ap (λ (n : ℕ). cursor (c .before .before .before .before .before .args .c .row + 1) n (c .before .before .before .before .before .args .c .pos) (c .before .before .before .before .before .args .c .placed)) (sym (add-zero (c .before .before .before .before .before .args .c .number))) }
+returns c =
+    let start = c .before .before .before .before .before in
+    record {
+      stored = c .before .before .plain-row .ensures .stored;
+      moved =
+          c .before .before .plain-row .ensures .moved
+          ∙ ap (λ (n : ℕ). cursor (start .args .c .row + 1) n (start .args .c .pos) (start .args .c .placed)) (sym (add-zero (start .args .c .number)));
+    }
 
 pub open-indent-spec : {M : Type 1} → statement M
 open-indent-spec = tie.close (tie.spec (λ c κs. search needs) (λ c. search needs) returns)

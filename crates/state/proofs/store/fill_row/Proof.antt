@@ -32,7 +32,9 @@ slice-write-store-9 : tie.Need-slice-write-store-9
 slice-write-store-9 c = simp length-set (omega arith)
 
 returns : tie.Need-returns
-returns c = nine (c .args .store .now) _ _ _ _ _ _ _ _ _ (c .args .i) (c .args .r .kind) (c .args .r .number) (c .args .r .number2) 0 (c .args .r .after) (c .args .r .origin) (c .args .r .start) (c .args .r .size) (c .args .r .width) refl refl refl refl refl refl refl refl refl
+returns c =
+    nine (c .args .store .now) _ _ _ _ _ _ _ _ _ (c .args .i) (c .args .r .kind) (c .args .r .number) (c .args .r .number2) 0 (c .args .r .after)
+    (c .args .r .origin) (c .args .r .start) (c .args .r .size) (c .args .r .width) refl refl refl refl refl refl refl refl refl
 
 pub fill-row-spec : {M : Type 1} → statement M
 fill-row-spec =

@@ -13,11 +13,18 @@ use Rattle.state.proofs.words.word.Tie as tie
 
 text-row-requires : tie.Need-text-row-requires
 unfolding size
-text-row-requires c κs = (room-leaf (ascii (word (getD table (c .before .before .before .args .k) ""))) refl (c .before .before .before .pre), (omega arith, omega arith))
+text-row-requires c κs =
+    let start = c .before .before .before in
+    (room-leaf (ascii (word (getD table (start .args .k) ""))) refl (start .pre), (omega arith, omega arith))
 
 returns : tie.Need-returns
 unfolding size rowsOf word
-returns c = laid-leaf (ascii (word (getD table (c .before .before .before .before .before .before .args .k) ""))) refl (ap₂ (λ (a n : ℕ). row 6 0 0 0 (c .before .before .before .before .before .before .args .c .row + 1) (text 2 a n) 0) (sym (c .before .before .before .before .place-of .ensures .start)) (sym (c .before .before .before .before .place-of .ensures .size))) (c .before .before .text-row .ensures)
+returns c =
+    let at-place-of = c .before .before .before .before in
+    let start = at-place-of .before .before in
+    laid-leaf (ascii (word (getD table (start .args .k) ""))) refl (ap₂ (λ (a n : ℕ). row 6 0 0 0 (start .args .c .row + 1) (text 2 a n) 0)
+    (sym (at-place-of .place-of .ensures .start)) (sym (at-place-of .place-of .ensures .size)))
+    (c .before .before .text-row .ensures)
 
 pub word-spec : {M : Type 1} → statement M
 word-spec = tie.close (tie.spec (λ c κs. search needs) (λ c. search needs) text-row-requires (λ c. search needs) returns)

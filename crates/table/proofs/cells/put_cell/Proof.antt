@@ -12,13 +12,27 @@ slice-aggregate-put-text : tie.Need-slice-aggregate-put-text
 slice-aggregate-put-text c = simp length-take (omega (arith, c .before .before .blanks-before .ensures))
 
 put-text-requires : tie.Need-put-text-requires
-put-text-requires c κs = omega (arith, c .before .before .blanks-before .ensures, length-take (c .before .before .blanks-before .result) (replicate COLUMNS BLANK))
+put-text-requires c κs = omega
+    (arith, c .before .before .blanks-before .ensures, length-take (c .before .before .blanks-before .result) (replicate COLUMNS BLANK))
 
 put-text-requires-2 : tie.Need-put-text-requires-2
-put-text-requires-2 c κs = omega (arith, c .before .before .before .before .before .before .blanks-before .ensures, c .before .before .before .put-text .ensures .1, length-take (c .before .before .before .before .before .before .blanks-before .result) (replicate COLUMNS BLANK))
+put-text-requires-2 c κs =
+    let at-put-text = c .before .before .before in
+    let at-blanks-before = at-put-text .before .before .before in
+    omega (
+      arith,
+      at-blanks-before .blanks-before .ensures,
+      at-put-text .put-text .ensures .1,
+      length-take (at-blanks-before .blanks-before .result) (replicate COLUMNS BLANK),
+    )
 
 returns : tie.Need-returns
-returns c = puts-cell _ (c .before .before .before .before .before .before .before .before .before .blanks-before .result) _ _ _ _ _ _ (c .before .before .before .before .before .before .before .before .before .before .before .before .pre .0) (c .before .before .before .before .before .before .before .before .before .blanks-before .ensures) (c .before .before .before .before .before .before .put-text .ensures) (c .before .before .put-text2 .ensures)
+returns c =
+    let at-put-text = c .before .before .before .before .before .before in
+    let at-blanks-before = at-put-text .before .before .before in
+    let start = at-blanks-before .before .before .before in
+    puts-cell _ (at-blanks-before .blanks-before .result) _ _ _ _ _ _ (start .pre .0)
+    (at-blanks-before .blanks-before .ensures) (at-put-text .put-text .ensures) (c .before .before .put-text2 .ensures)
 
 pub put-cell-spec : {M : Type 1} → statement M
 put-cell-spec =

@@ -6,7 +6,16 @@ use Rattle.table.proofs.cells.put_figures.Statement.{statement}
 use Rattle.table.proofs.cells.put_figures.Tie as tie
 
 returns : tie.Need-returns
-returns c = puts-figures (c .before .before .before .before .before .before .before .before .before .before .before .before .before .before .before .before .before .before .before .before .before .before .before .before .before .before .before .before .before .args .f) (c .before .before .before .before .before .before .before .before .before .before .before .before .before .before .before .before .before .before .before .before .before .before .before .before .before .before .put-next .ensures) (c .before .before .before .before .before .before .before .before .before .before .before .before .before .before .before .before .before .before .before .before .before .before .put-next2 .ensures) (c .before .before .before .before .before .before .before .before .before .before .before .before .before .before .before .before .before .before .put-next3 .ensures) (c .before .before .before .before .before .before .before .before .before .before .before .before .before .before .put-next4 .ensures) (c .before .before .before .before .before .before .before .before .before .before .put-next5 .ensures) (c .before .before .before .before .before .before .put-next6 .ensures) (c .before .before .put-next7 .ensures)
+returns c =
+    let at-put-next6 = c .before .before .before .before .before .before in
+    let at-put-next5 = at-put-next6 .before .before .before .before in
+    let at-put-next4 = at-put-next5 .before .before .before .before in
+    let at-put-next3 = at-put-next4 .before .before .before .before in
+    let at-put-next2 = at-put-next3 .before .before .before .before in
+    let at-put-next = at-put-next2 .before .before .before .before in
+    let start = at-put-next .before .before .before in
+    puts-figures (start .args .f) (at-put-next .put-next .ensures) (at-put-next2 .put-next2 .ensures) (at-put-next3 .put-next3 .ensures)
+    (at-put-next4 .put-next4 .ensures) (at-put-next5 .put-next5 .ensures) (at-put-next6 .put-next6 .ensures) (c .before .before .put-next7 .ensures)
 
 pub put-figures-spec : {M : Type 1} → statement M
 put-figures-spec =

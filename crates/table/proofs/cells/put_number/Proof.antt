@@ -9,13 +9,32 @@ use Rattle.table.proofs.cells.put_number.Statement.{statement}
 use Rattle.table.proofs.cells.put_number.Tie as tie
 
 slice-aggregate-put-cell : tie.Need-slice-aggregate-put-cell
-slice-aggregate-put-cell c = omega (arith, c .before .before .before .put-decimal .ensures .1 .0, ap length (digits (c .before .before .before .before .before .before .args .n) _ _ (c .before .before .before .put-decimal .result) refl (c .before .before .before .put-decimal .ensures)))
+slice-aggregate-put-cell c =
+    let at-put-decimal = c .before .before .before in
+    let start = at-put-decimal .before .before .before in
+    omega (
+      arith,
+      at-put-decimal .put-decimal .ensures .1 .0,
+      ap length (digits (start .args .n) _ _ (at-put-decimal .put-decimal .result) refl (at-put-decimal .put-decimal .ensures)),
+    )
 
 put-cell-requires : tie.Need-put-cell-requires
-put-cell-requires c κs = (omega (arith, c .before .before .before .put-decimal .ensures .1, ap length (digits (c .before .before .before .before .before .before .args .n) _ _ (c .before .before .before .put-decimal .result) refl (c .before .before .before .put-decimal .ensures))), omega (arith, c .before .before .before .before .before .before .pre))
+put-cell-requires c κs =
+    let at-put-decimal = c .before .before .before in
+    let start = at-put-decimal .before .before .before in (
+      omega (
+        arith,
+        at-put-decimal .put-decimal .ensures .1,
+        ap length (digits (start .args .n) _ _ (at-put-decimal .put-decimal .result) refl (at-put-decimal .put-decimal .ensures)),
+      ),
+      omega (arith, start .pre),
+    )
 
 returns : tie.Need-returns
-returns c = rw (digits (c .before .before .before .before .before .before .before .before .before .args .n) _ _ (c .before .before .before .before .before .before .put-decimal .result) refl (c .before .before .before .before .before .before .put-decimal .ensures)) at (c .before .before .put-cell .ensures)
+returns c =
+    let at-put-decimal = c .before .before .before .before .before .before in
+    let start = at-put-decimal .before .before .before in
+    rw (digits (start .args .n) _ _ (at-put-decimal .put-decimal .result) refl (at-put-decimal .put-decimal .ensures)) at (c .before .before .put-cell .ensures)
 
 pub put-number-spec : {M : Type 1} → statement M
 put-number-spec =
