@@ -11,7 +11,7 @@ use lib.Dec.{eqb}
 use lib.ListN.{length}
 use lib.Seq.{take-all}
 use borrow.Author.Tests.{eqb-false}
-use Rattle.image.specs.Read.{readAll}
+use Rattle.image.specs.Read.{readAll, readRefusal}
 use Rattle.rows.specs.Kinds.{GROUP, INDENT, INDENT-NEXT, WRAP-PARENT, COMMENT, STR, ASCII, LINE, EMPTY-LINE, LINE-OR-SPACE, IF-WRAP, CALL}
 use Rattle.rows.specs.Limits.{MAX-NUMBER}
 use Rattle.rows.specs.Node.{Text, Node, Nodes, group, indent, indentNext, wrapParent, comment, str, ascii, line, emptyLine, lineOrSpace, ifWrap, call, _then_}
@@ -26,8 +26,8 @@ use Rattle.renderer_rules.proofs.Names.{names, namesIn, neither}
 use Rattle.comments.specs.Listed.{given}
 use Rattle.layout_facts.proofs.Limits.{closed-within}
 use Rattle.layout_facts.proofs.Numbers.{whole-below}
-use Rattle.plain_run.specs.Parts.{readRefusal, acceptedTree, keepsWaiting}
-use Rattle.plain_run.specs.File.{FileChoice, built, marksDue}
+use Rattle.plain_run.specs.Parts.{acceptedTree, keepsWaiting}
+use Rattle.plain_run.specs.Built.{FileChoice, built, marksDue}
 use Rattle.plain_run.proofs.Limits.{stood}
 use Rattle.plain_run.proofs.Marks.{marks-add}
 

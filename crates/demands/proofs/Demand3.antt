@@ -4,21 +4,21 @@ use mathlib.Core.Path.{_≡_, refl, sym, ap, ap₂, subst, _∙_}
 use mathlib.Core.List.{List, [], _∷_, map, append-nil}
 use Prim.Native.Nat.{ℕ}
 use lib.ListN.{length}
-use Rattle.image.specs.Read.{readAll}
-use Rattle.cut_rule.specs.Run.{Call, Carried, Answer, layoutCall, renderCall, start, call, run, answer, answers}
+use Rattle.refusals.specs.Answers.{Answer}
+use Rattle.image.specs.Read.{readAll, readRefusal}
+use Rattle.cut_rule.specs.Run.{Call, Carried, CallResult, layoutCall, renderCall, start, call, run, answer, answers}
 use Rattle.cut_rule.specs.Entries.{entryCall}
 use Rattle.cut_rule.specs.CutRule.{CommentsKept, CutRule}
 use Rattle.cut_rule.specs.Callers.{afterAll, AllKept}
 use Rattle.cut_rule.proofs.Entries.{entries-are-calls}
-use Rattle.cut_rule.proofs.Answers.{all-held}
+use Rattle.cut_rule.proofs.Answers.{laid-by, all-held}
 use mathlib.Core.Bool.{false}
 use mathlib.Core.Option.{none}
 use Rattle.refusals.specs.Refusals.{any, refuseIf}
 use Rattle.refusals.proofs.Groups.{passes-left, passes-line, passes-others, not-if}
 use Rattle.cut_rule.specs.States as states
 use Rattle.cut_rule.specs.Parts.{layoutTests, beforeRows, rowsLine, laidOf}
-use Rattle.cut_rule.proofs.Answers.{laid-told}
-use Rattle.plain_run.specs.Parts.{readRefusal, listed, partsOf}
+use Rattle.plain_run.specs.Parts.{listed, partsOf}
 use Rattle.plain_run.specs.Demands.{rulesOf}
 use Rattle.plain_run.specs.Foot.{HoldsAll}
 use Rattle.plain_run.proofs.Demands.{rules-cut}
@@ -66,7 +66,7 @@ module _ (s b : List ℕ) where
   all-answers : (w : Caller) (ms : List Made) → AllKept afterMade (Promised s b) w ms → map (answerMade s b) ms ≡ answers (rulesOf s b) (held s b w) (map (callMade s b) ms)
   all-answers w [] p = refl
   all-answers w (m ∷ ms) p =
-      ap₂ (λ (x : Answer (rulesOf s b)) (xs : List (Answer (rulesOf s b))). x ∷ xs) (one-answer w m (p .0))
+      ap₂ (λ (x : Answer (CallResult (rulesOf s b))) (xs : List (Answer (CallResult (rulesOf s b)))). x ∷ xs) (one-answer w m (p .0))
       (all-answers (afterMade w m) ms (p .1) ∙ ap (λ (v : Carried (rulesOf s b)). answers (rulesOf s b) v (map (callMade s b) ms)) (one-held w m (p .0)))
 
 -- the cut rule, of what is held after calls that make the run
@@ -111,8 +111,8 @@ closing-leaves-none s b state args store t left store2 p closes new =
     let z = layout.toState state in
     let P = partsOf s b in
     let given = laidOf P z q in
-    let told = laid-told (rulesOf s b) (rulesOf s b .layout-refusal q z store) (layout.toState t) left (given .state) (given .left) (p .answer) in
-    let lines = passes-left (beforeRows P q z store) (rowsLine P q z store) (told .passes) in
+    let laid-out = laid-by (rulesOf s b) (rulesOf s b .layout-refusal q z store) (layout.toState t) left (given .state) (given .left) (p .answer) in
+    let lines = passes-left (beforeRows P q z store) (rowsLine P q z store) (laid-out .passes) in
     let twelve = refuseIf (any (layoutTests P q z store)) 12 0 in
     let read : readRefusal (readAll s b) ≡ none = passes-line (P .layout-image) (twelve ∷ []) lines in
     let tests : any (layoutTests P q z store) ≡ false =
@@ -120,7 +120,7 @@ closing-leaves-none s b state args store t left store2 p closes new =
     in
     let all = closing-places-all s b store q z read tests closes new in
     record {
-      none-left = told .left ∙ all .left;
-      placed = ap (λ (x : states.LayoutState). x .cursor .placed) (told .state) ∙ all .placed;
-      position = ap (λ (x : states.LayoutState). x .cursor .position) (told .state) ∙ all .position;
+      none-left = laid-out .left ∙ all .left;
+      placed = ap (λ (x : states.LayoutState). x .cursor .placed) (laid-out .state) ∙ all .placed;
+      position = ap (λ (x : states.LayoutState). x .cursor .position) (laid-out .state) ∙ all .position;
     }

@@ -8,7 +8,8 @@ use mathlib.Core.Option.{Option, none, some}
 use mathlib.Core.List.{List, [], _++_, map}
 use Prim.Native.Nat.{ℕ}
 use lib.ListN.{length, take}
-use Rattle.cut_rule.specs.Run.{Call, layoutCall, renderCall, Carried, Answer, start}
+use Rattle.refusals.specs.Answers.{Answer}
+use Rattle.cut_rule.specs.Run.{Call, layoutCall, renderCall, Carried, CallResult, start}
 use Rattle.cut_rule.specs.Plain.{AllReadLaid, atFirst, due, plain, answersDue}
 use Rattle.cut_rule.specs.CutRule.{CommentsKept}
 use Rattle.cut_rule.specs.Callers.{afterAll, AllKept}
@@ -99,7 +100,7 @@ abbrev pub callMade : (s b : List ℕ) → Made → Call (rulesOf s b)
 callMade s b (laid args r store2) = layoutCall (layout.toArgs args)
 callMade s b (rendered args out r store2 marks2 out2) = renderCall (render.toArgs args (length out))
 
-abbrev pub answerMade : (s b : List ℕ) → Made → Answer (rulesOf s b)
+abbrev pub answerMade : (s b : List ℕ) → Made → Answer (CallResult (rulesOf s b))
 answerMade s b (laid args r store2) = layout.layingAnswer s b r
 answerMade s b (rendered args out r store2 marks2 out2) = render.renderingAnswer s b r
 

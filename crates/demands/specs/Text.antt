@@ -9,14 +9,15 @@ use Prim.Native.Nat.{ℕ, _*_, _-_}
 use lib.ListN.{length, getD, take}
 use Rattle.rows.specs.declared.units.Bytes.{Bytes}
 use Rattle.refusals.specs.Refusals.{Refusal}
+use Rattle.refusals.specs.Answers.{refused}
 use Rattle.cut_rule.specs.Run.{Carried, start}
 use Rattle.cut_rule.specs.Plain.{AllReadLaid}
 use Rattle.cut_rule.specs.Callers.{afterAll, AllKept}
 use Rattle.cut_rule.specs.States.{NEW-MODE}
 use Rattle.plain_run.specs.Parts.{listed}
 use Rattle.plain_run.specs.Demands.{rulesOf}
-use Rattle.plain_run.specs.File.{FileChoice, refused, referenceChoice, built}
 use Rattle.plain_run.specs.Text.{HoldsFirst, IsProgram, AllRendered, TextKept}
+use Rattle.plain_run.specs.Built.{FileChoice, referenceChoice, built}
 use Rattle.file.specs.declared.Formatted.the-variants as answer
 use Rattle.file.specs.Whole.{Formats, toChoice, sourceOf, imageOf}
 use Rattle.reply.specs.Reply.{programRefusal, Replies}

@@ -7,21 +7,22 @@ use mathlib.Core.List.{List, [], _∷_, _++_}
 use Prim.Native.Nat.{ℕ, _+_, _*_, _-_, _/_, _≤_}
 use native.Mathlib.Nat.{add-zero}
 use native.Mathlib.Omega.{arith}
-use lib.Dec.{ltb}
 use lib.ListN.{length, take, drop, replicate, length-append, length-replicate}
 use lib.Seq.{take-at}
-use Rattle.image.specs.Read.{readAll, answerOf}
-use Rattle.image.specs.declared.Answer.the-variants as checked
+use Rattle.image.specs.Read.{readAll, outcome, Accepts}
+use Rattle.image.specs.declared.Document.{Document}
+use Rattle.image.proofs.Answers.{read-refusal}
 use Rattle.rows.specs.Places.{PLACES}
 use Rattle.rows.specs.declared.units.Bytes.{Bytes}
 use Rattle.rows.specs.declared.units.Columns.{Columns}
 use Rattle.tree.specs.CommentList.{commentsOf}
 use Rattle.refusals.specs.Refusals.{Refusal, any, unless, orElse, first, refuseIf}
+use Rattle.refusals.specs.Answers.{Answer, refused, accepted, answerBy, refusalOf}
+use Rattle.refusals.proofs.Answers.{refused-by, AcceptedBy, accepted-by}
 use Rattle.cut_rule.specs.Run.{writeFront}
-use Rattle.plain_run.specs.File.{referenceChoice, fileRows, fileMarks, built, rowsDue, drawnDue, columnDue, refusalIn, fileRefusal, refused, formatted, fileAnswerBy, fileAnswer}
-use Rattle.plain_run.proofs.Refused.{read-refused}
-use Rattle.layout_call.specs.Steps.{Accepts}
-use Rattle.layout_call.specs.declared.Document.{Document}
+use Rattle.plain_run.specs.Built.{referenceChoice, built, drawnDue, columnDue}
+use Rattle.plain_run.specs.File.{fileRows, fileMarks, refusalIn, fileRefusal, FileResult, fileResult, fileAnswer}
+use Rattle.plain_run.proofs.FileTable.{stops-laid, stops-whole}
 use Rattle.layout_call.proofs.Standing.{stands, comments-count}
 use Rattle.file.specs.Whole.{RunsFile, formattedAnswer, formattedOf, widestOf}
 use Rattle.file.specs.declared.FileRun.{FileRun}
@@ -31,18 +32,18 @@ use Rattle.tallies.specs.declared.Tallies.{Tallies}
 use Rattle.tallies.specs.declared.Fraction.{Fraction}
 use Rattle.tallies.specs.Tallies.{Within, added, tallyTests, tallyRefusal}
 use Rattle.tallies.specs.Fraction.{reduced}
-use Rattle.figures.specs.Figures.{FILE-OUTPUT, occurs, figuresOf, counted, countAnswerBy, countAnswer, countedAnswer, CountAnswer}
+use Rattle.figures.specs.Figures.{FILE-OUTPUT, occurs, figuresOf, CountResult, countResult, countAnswer, countedAnswer}
 use Rattle.figures.specs.declared.Counted.the-variants as answer
 use Rattle.figures.proofs.Occurring.{occurs-append, occurs-cleared}
-use Rattle.figures.proofs.Bounds.{nines, placed-in, within}
+use Rattle.figures.proofs.Bounds.{placed-in, within}
 
 abbrev at : ℕ → ℕ → Refusal
 at n p = record { number = n; place = p }
 
 -- ---- 14
 pub tallies-refused : (t : Tallies) (f : Figures) (x : Bool) → x ≡ not (any (tallyTests t)) → not x ≡ true
-    → countedAnswer (answer.Refused 14 0) ≡ countAnswerBy (tallyRefusal t) f t
-tallies-refused t f x e h = sym (ap (λ (b : Bool). countAnswerBy (refuseIf b 14 0) f t) (go (any (tallyTests t)) x e h))
+    → countedAnswer (answer.Refused 14 0) ≡ answerBy (tallyRefusal t) (countResult f t)
+tallies-refused t f x e h = sym (ap (λ (b : Bool). answerBy (refuseIf b 14 0) (countResult f t)) (go (any (tallyTests t)) x e h))
   where
     go : (b x : Bool) → x ≡ not b → not x ≡ true → b ≡ true
     go true x e h = refl
@@ -57,27 +58,11 @@ tallies-pass t x e h = go (any (tallyTests t)) x e h
 
 pub figures-counted : (t new : Tallies) (f : Figures) (q : Fraction) → any (tallyTests t) ≡ false → new ≡ added f t
     → q ≡ reduced (new .all .wrapped) (new .all .given)
-    → countedAnswer (answer.File f new q) ≡ countAnswerBy (tallyRefusal t) f t
+    → countedAnswer (answer.File f new q) ≡ answerBy (tallyRefusal t) (countResult f t)
 figures-counted t new f q e g h =
-    (λ i. counted f (g i) (h i))
-    ∙ (λ i. counted f (added f t) (reduced (g i .all .wrapped) (g i .all .given)))
-    ∙ sym (ap (λ (b : Bool). countAnswerBy (refuseIf b 14 0) f t) e)
-
--- ---- an answer taken apart
-refusal-told : (o : Option Refusal) (a b c d : ℕ) (r : Refusal) → refused r ≡ fileAnswerBy o (formatted a b c d) → o ≡ some r
-refusal-told (some q) a b c d r e = cc
-refusal-told none a b c d r e = let z : _≡_ {A = ℕ} 0 1 = cc in absurd (omega arith)
-
-record TextTold (o : Option Refusal) (a b c d x y z w : ℕ) : Type 0 where
-  passes : o ≡ none
-  bytes : x ≡ a
-  left : y ≡ b
-  rows : z ≡ c
-  numbers : w ≡ d
-
-text-told : (o : Option Refusal) (a b c d x y z w : ℕ) → formatted x y z w ≡ fileAnswerBy o (formatted a b c d) → TextTold o a b c d x y z w
-text-told (some q) a b c d x y z w e = let z : _≡_ {A = ℕ} 0 1 = cc in absurd (omega arith)
-text-told none a b c d x y z w e = record { passes = refl; bytes = cc; left = cc; rows = cc; numbers = cc }
+    (λ i. accepted (record { figures = f; tallies = g i; fraction = h i }))
+    ∙ (λ i. accepted (record { figures = f; tallies = added f t; fraction = reduced (g i .all .wrapped) (g i .all .given) }))
+    ∙ sym (ap (λ (b : Bool). answerBy (refuseIf b 14 0) (countResult f t)) e)
 
 or-nothing : (o : Option Refusal) → orElse o none ≡ o
 or-nothing (some r) = refl
@@ -92,14 +77,15 @@ module _ (s b : List ℕ) where
 
   -- a file that document 01 refuses is not counted, whatever the tallies are
   file-refused : (t : Tallies) (n p : ℕ) → fileRefusal s b referenceChoice FILE-OUTPUT ≡ some (at n p) → countedAnswer (answer.Refused n p) ≡ countAnswer s b t
-  file-refused t n p e = sym (ap (λ (x : Option Refusal). countAnswerBy (first (x ∷ tallyRefusal t ∷ [])) (figuresOf s b) t) e)
+  file-refused t n p e = sym (ap (λ (x : Option Refusal). answerBy (first (x ∷ tallyRefusal t ∷ [])) (countResult (figuresOf s b) t)) e)
 
   -- 1 to 7
-  pub check-refused : (t : Tallies) (n p : ℕ) → answerOf (readAll s b) ≡ checked.Refused n p → countedAnswer (answer.Refused n p) ≡ countAnswer s b t
+  pub check-refused : (t : Tallies) (n p : ℕ) → outcome (readAll s b) ≡ refused (at n p) → countedAnswer (answer.Refused n p) ≡ countAnswer s b t
   check-refused t n p e =
       file-refused t n p
-      (ap (λ (x : Option Refusal). first (first (x ∷ refuseIf (ltb fileRows (rowsDue s b referenceChoice)) 8 (rowsDue s b referenceChoice) ∷ []) ∷ nines s b))
-      (read-refused (readAll s b) n p e))
+      (stops-whole s b referenceChoice (at n p) fileRows fileMarks FILE-OUTPUT
+      (stops-laid s b referenceChoice (at n p) fileRows
+      (ap (λ (x : Option Refusal). first (x ∷ [])) (sym (read-refusal (readAll s b)) ∙ ap refusalOf e))))
 
   -- ---- the run in cleared rows and marks
   module _ (store marks out : List ℕ) (rowed : store ≡ replicate (fileRows * PLACES) 0) (marked : marks ≡ replicate fileMarks 0) (room : FILE-OUTPUT ≡ length out)
@@ -113,29 +99,30 @@ module _ (s b : List ℕ) where
     table-same : refusalIn s b referenceChoice (length store / PLACES) (length marks) (length out) ≡ fileRefusal s b referenceChoice FILE-OUTPUT
     table-same = λ i. refusalIn s b referenceChoice (rows-many i) (marks-many i) (sym room i)
 
-    told : formattedAnswer (formattedOf r) ≡ fileAnswer s b referenceChoice FILE-OUTPUT
-    told = ran .answer ∙ ap (λ (o : Option Refusal). fileAnswerBy o (formatted textDue leftDue (rowsDue s b referenceChoice) (built s b referenceChoice .taken))) table-same
+    answered : formattedAnswer (formattedOf r) ≡ fileAnswer s b referenceChoice FILE-OUTPUT
+    answered = ran .answer ∙ ap (λ (o : Option Refusal). answerBy o (fileResult s b referenceChoice)) table-same
 
     -- 8 to 10
     pub run-refused : (t : Tallies) (n p : ℕ) → r ≡ run.Stopped n p → countedAnswer (answer.Refused n p) ≡ countAnswer s b t
     run-refused t n p e =
         file-refused t n p
-        (refusal-told (fileRefusal s b referenceChoice FILE-OUTPUT) textDue leftDue (rowsDue s b referenceChoice) (built s b referenceChoice .taken) (at n p) (ap (λ (x : FileRun). formattedAnswer (formattedOf x)) (sym e) ∙ told))
+        (refused-by (fileRefusal s b referenceChoice FILE-OUTPUT) _ (at n p) (ap (λ (x : FileRun). formattedAnswer (formattedOf x)) (sym e) ∙ answered))
 
     module _ (bytes : Bytes) (left rows′ numbers : ℕ) (widest : Columns) (is : r ≡ run.Text bytes left rows′ numbers widest) where
-      known : TextTold (fileRefusal s b referenceChoice FILE-OUTPUT) textDue leftDue (rowsDue s b referenceChoice) (built s b referenceChoice .taken) (bytes .0) left rows′ numbers
+      known : AcceptedBy (fileRefusal s b referenceChoice FILE-OUTPUT) (record { bytes = bytes .0; left = left; rows = rows′; numbers = numbers })
+          (fileResult s b referenceChoice)
       known =
-          text-told (fileRefusal s b referenceChoice FILE-OUTPUT) textDue leftDue (rowsDue s b referenceChoice) (built s b referenceChoice .taken) (bytes .0) left rows′ numbers
-          (ap (λ (x : FileRun). formattedAnswer (formattedOf x)) (sym is) ∙ told)
+          accepted-by (fileRefusal s b referenceChoice FILE-OUTPUT) _ (fileResult s b referenceChoice)
+          (ap (λ (x : FileRun). formattedAnswer (formattedOf x)) (sym is) ∙ answered)
 
       bytes-due : bytes .0 ≡ textDue
-      bytes-due = known .bytes
+      bytes-due = ap (λ (x : FileResult). x .bytes) (known .is)
 
       left-due : left ≡ leftDue
-      left-due = known .left
+      left-due = ap (λ (x : FileResult). x .left) (known .is)
 
       numbers-due : numbers ≡ built s b referenceChoice .taken
-      numbers-due = known .numbers
+      numbers-due = ap (λ (x : FileResult). x .numbers) (known .is)
 
       -- nothing refuses
       passes-in : {A : Type 0} (f : Option Refusal → A) → f (fileRefusal s b referenceChoice FILE-OUTPUT) ≡ f none
@@ -211,9 +198,9 @@ module _ (s b : List ℕ) where
           pub figures-within : Within figures
           figures-within = subst Within (sym figures-due) (within s b (d .tree) (stands a) (known .passes))
 
-          pub file-counted : (t : Tallies) (x : CountAnswer) → x ≡ countAnswerBy (tallyRefusal t) figures t → x ≡ countAnswer s b t
+          pub file-counted : (t : Tallies) (x : Answer CountResult) → x ≡ answerBy (tallyRefusal t) (countResult figures t) → x ≡ countAnswer s b t
           file-counted t x h =
               h
-              ∙ ap (λ (g : Figures). countAnswerBy (tallyRefusal t) g t) figures-due
-              ∙ ap (λ (o : Option Refusal). countAnswerBy o (figuresOf s b) t) (sym (or-nothing (tallyRefusal t)))
-              ∙ sym (passes-in (λ o. countAnswerBy (first (o ∷ tallyRefusal t ∷ [])) (figuresOf s b) t))
+              ∙ ap (λ (g : Figures). answerBy (tallyRefusal t) (countResult g t)) figures-due
+              ∙ ap (λ (o : Option Refusal). answerBy o (countResult (figuresOf s b) t)) (sym (or-nothing (tallyRefusal t)))
+              ∙ sym (passes-in (λ o. answerBy (first (o ∷ tallyRefusal t ∷ [])) (countResult (figuresOf s b) t)))

@@ -1,22 +1,18 @@
 -- What the program writes for the frame that it reads: "It writes the text alone, or one line `refused N at P`, both decimal."
 use mathlib.Core.Path.{_≡_}
 use mathlib.Core.Option.{Option, none, some}
-use mathlib.Core.List.{List, [], _∷_}
+use mathlib.Core.List.{List}
 use Prim.Native.Nat.{ℕ}
 use lib.ListN.{length}
-use Rattle.refusals.specs.Refusals.{Refusal, first}
+use Rattle.refusals.specs.Refusals.{Refusal}
 use Rattle.lines.specs.Lines.{refusedLine}
 use Rattle.cut_rule.specs.Run.{writeFront}
-use Rattle.plain_run.specs.File.{referenceChoice, drawnDue, fileRefusal}
-use Rattle.file.specs.Whole.{sourceOf, imageOf, frameRefusal}
+use Rattle.plain_run.specs.Built.{referenceChoice, drawnDue}
+use Rattle.file.specs.Whole.{sourceOf, imageOf, frameTable}
 
 -- "65,536 output bytes"
 abbrev pub programRoom : ℕ
 programRoom = 65536
-
--- 13 before all else, then what refuses the frame's file
-abbrev pub frameTable : List ℕ → ℕ → Option Refusal
-frameTable frame room = first (frameRefusal frame ∷ fileRefusal (sourceOf frame) (imageOf frame) referenceChoice room ∷ [])
 
 abbrev pub programRefusal : List ℕ → Option Refusal
 programRefusal frame = frameTable frame programRoom

@@ -1,7 +1,7 @@
 -- The run of the file, and what is counted of what it leaves.
 use mathlib.Core.Path.{sym}
 use lib.Seq.{length-take-le}
-use Rattle.figures.proofs.Told.{run-refused, text-inside, left-fits, figures-within, file-counted}
+use Rattle.figures.proofs.Counting.{run-refused, text-inside, left-fits, figures-within, file-counted}
 use borrow.Author.Needs.{needs}
 use Rattle.figures.proofs.count_accepted.Statement.{statement}
 use Rattle.figures.proofs.count_accepted.Tie as tie

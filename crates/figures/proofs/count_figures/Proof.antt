@@ -1,5 +1,5 @@
 -- 14, and then the sums.
-use Rattle.figures.proofs.Told.{tallies-refused, tallies-pass, figures-counted}
+use Rattle.figures.proofs.Counting.{tallies-refused, tallies-pass, figures-counted}
 use borrow.Author.Needs.{needs}
 use Rattle.figures.proofs.count_figures.Statement.{statement}
 use Rattle.figures.proofs.count_figures.Tie as tie
