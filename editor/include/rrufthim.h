@@ -101,8 +101,8 @@ typedef char rrufthim_lengths_have_64_bits[sizeof(size_t) == 8 ? 1 : -1];
  * the major is 0, the minor is raised for both. Another shape is always another version too.
  */
 #define RRUFTHIM_SHAPE 1
-#define RRUFTHIM_VERSION "0.1"
-#define RRUFTHIM_VERSION_NUMBER 1
+#define RRUFTHIM_VERSION "0.2"
+#define RRUFTHIM_VERSION_NUMBER 2
 
 #define RRUFTHIM_JOIN_AS_IT_IS(name, number) name##number
 #define RRUFTHIM_JOIN(name, number) RRUFTHIM_JOIN_AS_IT_IS(name, number)

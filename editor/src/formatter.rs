@@ -94,7 +94,7 @@ impl Formatter {
     }
 
     /// The bytes that a text may have.
-    pub fn max_output(&self) -> usize {
+    pub(crate) fn max_output(&self) -> usize {
         self.buffers.max_output
     }
 

@@ -9,7 +9,7 @@
 //! A file by the two calls, in buffers that are enough for it:
 //!
 //! ```
-//! use rrufthim::{calls::*, *};
+//! use rrufthim::{File, Options, calls::*, encode};
 //!
 //! # let image = encode(&Default::default(), &[])?;
 //! let (file, options) = (File::new("", &image), Options::default());
