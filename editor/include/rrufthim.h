@@ -43,7 +43,7 @@ typedef char rrufthim_lengths_have_64_bits[sizeof(size_t) == 8 ? 1 : -1];
 #define RRUFTHIM_MORE_ROWS 8        /* the store has too few rows: rows needed in all */
 #define RRUFTHIM_MORE_MARKS 9       /* there are too few marks: marks needed */
 #define RRUFTHIM_MORE_OUTPUT 10     /* the output is too short: bytes needed */
-#define RRUFTHIM_BAD_ROW 11         /* a row of the store can't be rendered, or the stop is past the store or 2,097,152: row; 0 for the stop */
+#define RRUFTHIM_BAD_ROW 11         /* a row of the store can't be rendered, or the stop is past the store or 2,097,152: row, or 0 for the stop */
 #define RRUFTHIM_BAD_STATE 12       /* the state, the marks in use or the stop doesn't fit, or the mode (comments at the foot) is over 1 or not
                                        that of the calls before: 0 */
 #define RRUFTHIM_BAD_TALLIES 14     /* the tallies count 4,096 files, one of them is over 4,294,967,296, or more groups are wrapped than given: 0 */

@@ -24,9 +24,9 @@
 //!   them, which a plug writes by an [`ImageWriter`] (README.md, "Plugging
 //!   in"). What a caller may choose is [`Options`]; by default every comment
 //!   is kept.
-//! - **Many files.** A [`Formatter`] keeps its buffers from file to file; a
-//!   [`Batch`] formats lists of files by few calls; [`InParts`] formats a
-//!   file a part at a time.
+//! - **File after file.** A [`Formatter`] keeps its buffers for the next file;
+//!   a [`Batch`] formats lists of files by few calls. [`InParts`] gives the
+//!   text of a long file a part at a time.
 //! - **Images.** What all calls read is a [`File`]: a source, and its tree as
 //!   an image. [`encode`] gives that of a tree, [`encode_written`] that of
 //!   what a plug writes, and a [`generator`] builds one from steps.

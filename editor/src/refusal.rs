@@ -131,7 +131,7 @@ refusals! {
         needed: "bytes needed";
     11 BadRow "a row of the store can't be rendered, or the stop is past the \
         store or 2,097,152",
-        row: "row; 0 for the stop";
+        row: "row, or 0 for the stop";
     12 BadState "the state, the marks in use or the stop doesn't fit, or the \
         mode (comments at the foot) is over 1 or not that of the calls \
         before";
