@@ -106,18 +106,21 @@ impl Step {
     pub fn append(&self, list: &mut Vec<u8>) {
         match self {
             Step::Comment { span } => {
+                let span = span_bytes(span);
                 list.push(1);
-                put_span(list, span);
+                list.extend(span.as_flattened());
             }
             Step::Open { kind, span } => {
+                let span = span_bytes(span);
                 list.extend([2, *kind]);
-                put_span(list, span);
+                list.extend(span.as_flattened());
             }
             Step::Text { width, text } => {
                 let width = u16::try_from(*width).expect("two bytes");
+                let length = four_bytes(text.len());
                 list.push(3);
                 list.extend(width.to_be_bytes());
-                put_four(list, text.len());
+                list.extend(length);
                 list.extend(text.as_bytes());
             }
             Step::Payload(byte) => list.extend([4, *byte]),
@@ -132,14 +135,13 @@ fn four(bytes: &[u8], at: usize) -> Option<usize> {
     Some(u32::from_be_bytes(*four) as usize)
 }
 
-fn put_four(list: &mut Vec<u8>, number: usize) {
+fn four_bytes(number: usize) -> [u8; 4] {
     let number = u32::try_from(number).expect("four bytes");
-    list.extend(number.to_be_bytes());
+    number.to_be_bytes()
 }
 
-fn put_span(list: &mut Vec<u8>, span: &Span) {
-    put_four(list, span.start);
-    put_four(list, span.end);
+fn span_bytes(span: &Span) -> [[u8; 4]; 2] {
+    [span.start, span.end].map(four_bytes)
 }
 
 /// In one line: `open 11 (CONST) at 0..17`.
