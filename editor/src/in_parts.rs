@@ -2,86 +2,79 @@
 
 use crate::{
     ast::Span,
-    buffers::{Buffers, File},
-    calls::check,
+    buffers::Buffers,
+    calls::{LayoutArgs, LayoutState, RenderArgs, RenderState, check},
     error::FormatError,
-    formatter::MAX_OUTPUT,
+    file::File,
     image::{comments_from, name_start},
+    limits::MAX_OUTPUT,
     options::Options,
-    states::{LayoutState, RenderState},
 };
 
 /// A file that is laid out and rendered a part at a time: what
-/// [`layout`](crate::layout) and [`render`](crate::render) carry from call to
-/// call, states and buffers of both.
+/// [`layout`](crate::calls::layout) and [`render`](crate::calls::render)
+/// carry from call to call, states and buffers of both.
 ///
 /// The joined texts are those of one run. For an editor that must answer
 /// while a long file is formatted:
 ///
 /// ```
+/// use rrufthim::{File, InParts};
+///
 /// # let source = "const A: u32 = 1;\n";
 /// # let image = rrufthim::encode(&Default::default(), &[])?;
-/// let mut steps = rrufthim::Steps::new(source.as_bytes(), &image)?;
+/// let mut parts = InParts::new(File::new(source, &image))?;
 /// let mut text = String::new();
-/// while let Some(part) = steps.advance(100)? {
+/// while let Some(part) = parts.advance(100)? {
 ///     text.push_str(part);
 /// }
-/// let left = steps.comments_left();
+/// let left = parts.comments_left();
 /// # assert!(text.is_empty() && left.is_empty());
 /// # Ok::<(), Box<dyn std::error::Error>>(())
 /// ```
 #[derive(Debug)]
-pub struct Steps<'f> {
+pub struct InParts<'f> {
     file: File<'f>,
-    declarations: u64,
+    declarations: usize,
     buffers: Buffers,
     layout: LayoutState,
     rendering: RenderState,
     options: Options,
 }
 
-impl<'f> Steps<'f> {
-    /// A file of which nothing is laid out yet.
+impl<'f> InParts<'f> {
+    /// A file of which nothing is laid out yet, with the default options.
     ///
     /// # Errors
     ///
     /// Refusals 1 to 7.
-    pub fn new(
-        source: &'f [u8],
-        image: &'f [u8],
-    ) -> Result<Self, FormatError> {
-        Steps::with_options(source, image, Options::default())
-    }
-
-    /// The same, with what the caller chooses for all of it.
-    ///
-    /// # Errors
-    ///
-    /// Refusals 1 to 7. A width that isn't legal is refused by the first
-    /// part that is rendered.
-    pub fn with_options(
-        source: &'f [u8],
-        image: &'f [u8],
-        options: Options,
-    ) -> Result<Self, FormatError> {
-        let file = File { source, image };
-        let accepted = check(source, image);
+    pub fn new(file: File<'f>) -> Result<Self, FormatError> {
+        let accepted = check(file);
         let accepted = accepted.map_err(|refusal| file.error(refusal))?;
         let mut buffers = Buffers::new(MAX_OUTPUT);
-        // Once more for the rows of the steps before.
+        // Once more for the rows of the parts before.
         buffers.prepare(file, 2);
-        Ok(Steps {
+        Ok(InParts {
             file,
             declarations: accepted.declarations,
             buffers,
             layout: LayoutState::default(),
             rendering: RenderState::default(),
-            options,
+            options: Options::default(),
         })
     }
 
+    /// The same with other options, for all of it: once a part is laid out
+    /// or rendered, another choice is refused by 12 or 15. A width that isn't
+    /// legal is refused by the first part that is rendered.
+    #[must_use]
+    pub fn with_options(mut self, options: Options) -> Self {
+        self.options = options;
+        self
+    }
+
     /// How many declarations the file has.
-    pub fn declarations(&self) -> u64 {
+    pub fn declarations(&self) -> usize {
         self.declarations
     }
 
@@ -105,8 +98,8 @@ impl<'f> Steps<'f> {
     /// The gaps before the next declaration: the ranges of the source in
     /// which layout counts newlines there, one before each comment that still
     /// stands in front of it and one before its name, or an import's path.
-    /// Where [`newlines`](crate::newlines) counts two or more in a gap, that
-    /// gap makes a blank line, and else it makes none.
+    /// Where [`newlines`](crate::calls::newlines) counts two or more in a
+    /// gap, that gap makes a blank line, and else it makes none.
     ///
     /// A gap starts where layout last looked at the source, which may be long
     /// before the declaration in front of it ends. Up to the first comment of
@@ -117,7 +110,7 @@ impl<'f> Steps<'f> {
         let Some(name) = name_start(self.file.image, next) else {
             return Vec::new();
         };
-        let mut from = self.layout.position as usize;
+        let mut from = self.layout.position;
         let mut gaps = Vec::new();
         for comment in self.comments_left() {
             if comment.start >= name {
@@ -143,7 +136,7 @@ impl<'f> Steps<'f> {
     /// As [`lay_out`](Self::lay_out) and [`render`](Self::render).
     pub fn advance(
         &mut self,
-        declarations: u64,
+        declarations: usize,
     ) -> Result<Option<&str>, FormatError> {
         if !self.layout.closed {
             let next = self.layout.next_declaration;
@@ -164,10 +157,11 @@ impl<'f> Steps<'f> {
     /// Refusal 12 if the stop lies before the next declaration or past their
     /// number, or if the layout is closed; 8 if there is no memory for what
     /// it asks. What was laid out stays.
-    pub fn lay_out(&mut self, stop: u64) -> Result<(), FormatError> {
+    pub fn lay_out(&mut self, stop: usize) -> Result<(), FormatError> {
         let (file, close) = (self.file, stop == self.declarations);
+        let args = LayoutArgs::up_to(stop).with_close(close);
         let (state, options) = (&self.layout, &self.options);
-        let laid = self.buffers.lay_out(file, state, stop, close, options);
+        let laid = self.buffers.lay_out(file, state, &args, options);
         self.layout = laid.map_err(|refusal| file.error(refusal))?.state;
         Ok(())
     }
@@ -180,9 +174,10 @@ impl<'f> Steps<'f> {
     /// [`MAX_OUTPUT`] bytes, 9 or 10 if there is no memory for what they ask.
     /// What was rendered stays.
     pub fn render(&mut self) -> Result<&str, FormatError> {
-        let (file, rows) = (self.file, self.layout.next_row);
-        let (state, options) = (&self.rendering, &self.options);
-        let written = self.buffers.render(file, state, rows, options);
+        let args = RenderArgs::up_to(self.layout.next_row);
+        let (file, state) = (self.file, &self.rendering);
+        let options = &self.options;
+        let written = self.buffers.render(file, state, &args, options);
         let written = written.map_err(|refusal| file.error(refusal))?;
         self.rendering = written.state;
         self.buffers.text(written.bytes)

@@ -1,30 +1,36 @@
 //! What calls carry from one to the next. A fresh state is the default one.
 
-/// How far layout came.
-#[derive(Clone, Copy, Debug, Default, PartialEq, Eq, Hash)]
+/// How far layout came. The default is fresh.
+///
+/// ```
+/// let mut state = rrufthim::calls::LayoutState::default();
+/// state.next_row = 7; // as it was kept elsewhere
+/// ```
+#[derive(Clone, Debug, Default, PartialEq, Eq, Hash)]
+#[non_exhaustive]
 pub struct LayoutState {
     /// Whether a call was made, and so the shebang laid.
     pub begun: bool,
     /// Whether the final line was added.
     pub closed: bool,
     /// The declaration that comes next.
-    pub next_declaration: u64,
+    pub next_declaration: usize,
     /// The row of the store that is written next.
-    pub next_row: u64,
+    pub next_row: usize,
     /// The number that the next group gets.
-    pub next_number: u64,
+    pub next_number: usize,
     /// How many comments are in rows.
-    pub comments_placed: u64,
+    pub comments_placed: usize,
     /// How far the source was looked through for comments and empty lines.
-    pub position: u64,
+    pub position: usize,
     /// What the calls so far chose for the comments at the foot: 0 for
     /// [`Comments::AsRoto`](crate::Comments::AsRoto), 1 for
     /// [`Comments::All`](crate::Comments::All); 0 if there was no call yet.
-    pub mode: u64,
+    pub mode: usize,
 }
 
 impl LayoutState {
-    pub(crate) fn numbers(&self) -> [u64; 8] {
+    pub(super) fn numbers(&self) -> [usize; 8] {
         [
             self.begun.into(),
             self.closed.into(),
@@ -37,7 +43,7 @@ impl LayoutState {
         ]
     }
 
-    pub(crate) fn from_numbers(numbers: [u64; 8]) -> Self {
+    pub(super) fn from_numbers(numbers: [usize; 8]) -> Self {
         let [begun, closed, declaration, row, at @ ..] = numbers;
         let [number, placed, position, mode] = at;
         LayoutState {
@@ -53,25 +59,26 @@ impl LayoutState {
     }
 }
 
-/// How far rendering came.
-#[derive(Clone, Copy, Debug, Default, PartialEq, Eq, Hash)]
+/// How far rendering came. The default is fresh.
+#[derive(Clone, Debug, Default, PartialEq, Eq, Hash)]
+#[non_exhaustive]
 pub struct RenderState {
     /// How many steps of four columns lines start in.
-    pub indent: u64,
+    pub indent: usize,
     /// How many more the lines after this one do.
-    pub next_indent: u64,
+    pub next_indent: usize,
     /// The column that was reached.
-    pub column: u64,
+    pub column: usize,
     /// How many marks are in use.
-    pub marks_in_use: u64,
+    pub marks_in_use: usize,
     /// The row of the store that is rendered next.
-    pub next_row: u64,
+    pub next_row: usize,
     /// The width that the calls so far chose, 0 if there was none yet.
-    pub width: u64,
+    pub width: usize,
 }
 
 impl RenderState {
-    pub(crate) fn numbers(&self) -> [u64; 6] {
+    pub(super) fn numbers(&self) -> [usize; 6] {
         [
             self.indent,
             self.next_indent,
@@ -82,7 +89,7 @@ impl RenderState {
         ]
     }
 
-    pub(crate) fn from_numbers(numbers: [u64; 6]) -> Self {
+    pub(super) fn from_numbers(numbers: [usize; 6]) -> Self {
         let [indent, next_indent, column, marks_in_use, next_row, width] =
             numbers;
         RenderState {
