@@ -23,7 +23,7 @@ use Rattle.plain_run.specs.File.{FileChoice, referenceChoice, layoutChoice, mod
 use Rattle.file.specs.Whole.{sourceOf, imageOf, frameFits, frameRefusal}
 use Rattle.layout_call.specs.Calls as layout
 use Rattle.render_call.specs.Calls as render
-use Rattle.reply.specs.Reply.{frameTable, programRoom, replyBy, reply}
+use Rattle.file.specs.Reply.{frameTable, programRoom, replyBy, reply}
 use Rattle.cut_rule.proofs.Memory.{take-front}
 use Rattle.demands.specs.Demand1.{layoutNumbers, renderNumbers, fileNumbers, referenceNumbers, frameNumbers, countNumbers, readTold, callTold, fileTold, countTold, Answered, CheckAnswered, LayoutAnswered, RenderAnswered, FileAnswered, FrameAnswered, ProgramAnswered, CountAnswered, Demand1}
 use Rattle.tallies.specs.declared.Figures.{Figures}
