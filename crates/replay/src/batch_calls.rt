@@ -32,7 +32,22 @@ fn call_found(
     first(answer_found(answer, due), left)
 }
 
-// The call with more room, whose answers are counted.
+// A call whose answers are counted.
+fn counted(
+    frames: &[u8],
+    table: &mut [u32],
+    output: &mut [u8],
+    choice: FileChoice,
+    files: &mut [usize],
+    batches: &mut [usize],
+) -> Batch {
+    let answer = format_batch(frames, table, output, choice);
+    count(batches, number_of(answer));
+    count_files(files, table);
+    answer
+}
+
+// The call with more room.
 fn ample_found(
     d: &[u8],
     frames: &[u8],
@@ -43,9 +58,7 @@ fn ample_found(
 ) -> Found {
     let mut table = new_table();
     let mut output = new_output();
-    let answer = format_batch(frames, &mut table, &mut output, choice);
-    count(batches, number_of(answer));
-    count_files(files, &table);
+    let answer = counted(frames, &mut table, &mut output, choice, files, batches);
     call_found(d, due, answer, &table, &output)
 }
 

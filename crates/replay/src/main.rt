@@ -43,14 +43,30 @@ fn read(name: &[u8], room: &mut [u8]) -> usize
     0
 }
 
+fn replay_calls(room: &mut [u8]) {
+    let n = read(b"calls", room);
+    groups::calls(&room[..n]);
+}
+
+fn replay_frames(room: &mut [u8]) {
+    let n = read(b"frames", room);
+    groups::frames(&room[..n]);
+}
+
+fn replay_steps(room: &mut [u8]) {
+    let n = read(b"steps", room);
+    groups::steps(&room[..n]);
+}
+
+fn replay_batches(room: &mut [u8]) {
+    let n = read(b"batches", room);
+    groups::batches(&room[..n]);
+}
+
 fn main() {
     let mut input = room();
-    let calls = read(b"calls", &mut input);
-    groups::calls(&input[..calls]);
-    let frames = read(b"frames", &mut input);
-    groups::frames(&input[..frames]);
-    let steps = read(b"steps", &mut input);
-    groups::steps(&input[..steps]);
-    let batches = read(b"batches", &mut input);
-    groups::batches(&input[..batches]);
+    replay_calls(&mut input);
+    replay_frames(&mut input);
+    replay_steps(&mut input);
+    replay_batches(&mut input);
 }
