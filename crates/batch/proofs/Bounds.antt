@@ -19,9 +19,9 @@ use Rattle.cut_rule.specs.States.{layoutFresh, renderFresh}
 use Rattle.cut_rule.specs.Tests.{modeTests, widthTests}
 use Rattle.cut_rule.specs.Parts.{widthLine}
 use Rattle.plain_run.specs.Parts.{keepsWaiting}
-use Rattle.plain_run.specs.File.{layoutChoice, renderChoice, modeLine, fileRows, fileMarks, fileBeforeMarks, fileMarksLine, fileBeforeText}
+use Rattle.plain_run.specs.File.{modeLine, fileRows, fileMarks, fileBeforeMarks, fileMarksLine, fileBeforeText}
 use Rattle.plain_run.specs.FileLimits.{FILE-TEXT}
-use Rattle.plain_run.specs.Built.{FileChoice, rowsDue, marksDue}
+use Rattle.plain_run.specs.Built.{layoutChoice, renderChoice, FileChoice, rowsDue, marksDue}
 use Rattle.plain_run.proofs.Limits.{stood}
 use Rattle.plain_run.proofs.FileLimits.{file-text-limited}
 use Rattle.batch.specs.Batch.{Save, rowOf, single, textsOf}

@@ -21,13 +21,13 @@ use Rattle.cut_rule.specs.Tests as tests
 use Rattle.cut_rule.specs.Parts as cut
 use Rattle.plain_run.specs.Parts.{partsOf, renderImage}
 use Rattle.plain_run.specs.Demands.{rulesOf}
-use Rattle.plain_run.specs.Built.{FileChoice, referenceChoice, drawnDue, rowsDue, marksDue}
-use Rattle.plain_run.specs.File.{layoutChoice, fileRows, fileMarks, fileBeforeRows, fileRowsLine, fileBeforeMarks, fileMarksLine, fileBeforeText, fileTextLine}
+use Rattle.plain_run.specs.Built.{FileChoice, layoutChoice, referenceChoice, drawnDue, rowsDue, marksDue}
+use Rattle.plain_run.specs.File.{fileRows, fileMarks, fileBeforeRows, fileRowsLine, fileBeforeMarks, fileMarksLine, fileBeforeText, fileTextLine}
 use Rattle.plain_run.specs.File.{fileTable, fileRefusal}
 use Rattle.file.specs.Whole.{sourceOf, imageOf, frameFits, frameRefusal, frameTable}
 use Rattle.layout_call.specs.Calls as layout
 use Rattle.render_call.specs.Calls as render
-use Rattle.reply.specs.Reply.{programRoom, replyBy, reply}
+use Rattle.file.specs.Reply.{programRoom, replyBy, reply}
 use Rattle.cut_rule.proofs.Memory.{take-front}
 use Rattle.demands.specs.Demand1.{layoutNumbers, renderNumbers, fileNumbers, referenceNumbers, frameNumbers, countNumbers, Answered, CheckAnswered, LayoutAnswered, RenderAnswered, FileAnswered, FrameAnswered, ProgramAnswered, CountAnswered, Demand1}
 use Rattle.tallies.specs.declared.Tallies.{Tallies}

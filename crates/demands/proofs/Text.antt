@@ -23,7 +23,7 @@ use Rattle.plain_run.proofs.FileTable.{laid-passed, before-marks}
 use Rattle.plain_run.proofs.File.{new-mode-leaves-none}
 use Rattle.plain_run.proofs.Text.{kept-comments-held, text-is-the-program, new-mode-places-all, output-is-the-program, calls-keep-the-text}
 use Rattle.file.specs.Whole.{sourceOf, imageOf}
-use Rattle.reply.specs.Reply.{reply, replyBy, programRefusal}
+use Rattle.file.specs.Reply.{reply, replyBy, programRefusal}
 use Rattle.batch.specs.Batch.{Save, allSaves, savesBy, rowOf, textBy, rendered, single, tableOf, textsOf, tableDue, textsDue, batchRefusal, BatchResult, batchResult, batchAnswer, tableLeft, textsLeft}
 use Rattle.demands.specs.Demand3.{callMade}
 use Rattle.demands.specs.Linked.{callLinked}

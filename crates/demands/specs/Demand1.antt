@@ -28,7 +28,7 @@ use Rattle.render_call.specs.Calls as render
 use Rattle.render_call.specs.Whole.{RenderCalled}
 use Rattle.file.specs.declared.Formatted.{Formatted}
 use Rattle.file.specs.Whole.{formattedAnswer, Formats, FormatsFrame, sourceOf, imageOf, frameTable}
-use Rattle.reply.specs.Reply.{programRefusal, Replies}
+use Rattle.file.specs.Reply.{programRefusal, Replies}
 use Rattle.lines.specs.Lines.{refusedLine}
 use Rattle.tallies.specs.declared.Tallies.{Tallies}
 use Rattle.figures.specs.declared.Counted.{Counted}
@@ -99,7 +99,7 @@ abbrev pub FrameAnswered : Type 0
 FrameAnswered = (frame out : List ℕ) (r : Formatted) (out2 : List ℕ) → FormatsFrame frame out r out2
     → Answered frameNumbers (frameTable frame (length out)) (refusalOf (formattedAnswer r)) (out2 ≡ out)
 
--- `reply::reply`, which is lent the output: the n bytes that the program writes for a frame are the line of its refusal, with a number of the list, or the text of the
+-- `file::reply::reply`, which is lent the output: the n bytes that the program writes for a frame are the line of its refusal, with a number of the list, or the text of the
 -- frame's file; behind them the output is as it was
 pub record ProgramWrote (frame out : List ℕ) (n : ℕ) (out2 : List ℕ) : Type 0 where
   pub refused : (r : Refusal) → programRefusal frame ≡ some r → (take n out2 ≡ refusedLine r) × (isOneOf (r .number) frameNumbers ≡ true)

@@ -20,7 +20,7 @@ use Rattle.plain_run.specs.Text.{HoldsFirst, IsProgram, AllRendered, TextKept}
 use Rattle.plain_run.specs.Built.{FileChoice, referenceChoice, built}
 use Rattle.file.specs.declared.Formatted.the-variants as answer
 use Rattle.file.specs.Whole.{Formats, toChoice, sourceOf, imageOf}
-use Rattle.reply.specs.Reply.{programRefusal, Replies}
+use Rattle.file.specs.Reply.{programRefusal, Replies}
 use Rattle.batch.specs.Batch.{Save, allSaves, savesBy, single}
 use Rattle.batch.specs.Whole.{Batches}
 use Rattle.batch.specs.declared.Batch.the-variants as batch

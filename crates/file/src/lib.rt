@@ -1,4 +1,6 @@
 // Module 8: the whole run of one file, and of a frame that the program reads.
+pub mod reply;
+
 ghost use mathlib.Core.Path.{_≡_};
 ghost use Prim.Native.Nat.{_*_};
 ghost use lib.ListN.{replicate};

@@ -4,7 +4,7 @@ ghost use lib.ListN.{length};
 use libc::STDERR_FILENO;
 use libc::STDIN_FILENO;
 use libc::STDOUT_FILENO;
-use reply::reply;
+use file::reply::reply;
 
 // Room for a frame, and one byte more, to see that a frame is over.
 fn room() -> [u8; 32769]
