@@ -30,36 +30,42 @@ last-before-stmt-requires t c κs =
 
 pub last-expr-requires : (t : ℕ) → last-lts.Need-expr-requires (last-calls t) (last-at t) last.Post
 last-expr-requires t c κs =
-    let at-start = c .before .before .before .before in
+    let at-before-stmt = c .before .before .before in
+    let at-start = at-before-stmt .before in
     let at-if1 = at-start .before .before in
     let at-is-absent = at-if1 .before in
     let start = at-is-absent .before .before .before .before in
     let h = has-last (start .args .first) (present (at-is-absent .is-absent .ensures) (at-if1 .if1 .left)) (at-start .start .ensures) (start .pre .1) in
-    (omega (arith, start .pre .0), has-at h (room-first _ (room-next (h .room) (lays (at-start-stmt .ensures)))))
+    (omega (arith, start .pre .0), has-at h (room-first _ (room-next (h .room) (lays (at-before-stmt .before-stmt .ensures)))))
 
 pub last-pop-trailing-comment-requires : (t : ℕ) → last-lts.Need-pop-trailing-comment-requires (last-calls t) (last-at t) last.Post
 last-pop-trailing-comment-requires t c κs =
     let at-expr = c .before .before .before in
-    let at-start = at-expr .before .before .before .before .before in
+    let at-before-stmt = at-expr .before .before .before .before in
+    let at-start = at-before-stmt .before in
     let at-if1 = at-start .before .before in
     let at-is-absent = at-if1 .before in
     let start = at-is-absent .before .before .before .before in
     let h = has-last (start .args .first) (present (at-is-absent .is-absent .ensures) (at-if1 .if1 .left)) (at-start .start .ensures) (start .pre .1) in (
       start .pre .1 .accepted .listed,
-      room-next (room-next (h .room) (lays (at-start-stmt .ensures))) (lays-as (start .pre .1 .accepted) (at-expr .expr .ensures) .of (h .tree) (h .held)),
+      room-next (room-next (h .room) (lays (at-before-stmt .before-stmt .ensures)))
+          (lays-as (start .pre .1 .accepted) (at-expr .expr .ensures) .of (h .tree) (h .held)),
     )
 
 pub last-same-length : (t : ℕ) → last-lts.Need-same-length (last-calls t) (last-at t) last.Post
 last-same-length t c =
     let at-expr = c .before .before .before .before .before .before in
-    c .before .before .pop-trailing-comment .kept .0 ∙ at-expr .expr .kept .0 ∙ at-expr .before .before .before .before .before-stmt .kept .0
+    let at-before-stmt = at-expr .before .before .before .before in
+    c .before .before .pop-trailing-comment .kept .0 ∙ at-expr .expr .kept .0 ∙ at-before-stmt .before-stmt .kept .0
 
 pub last-returns-2 : (t : ℕ) → last-lts.Need-returns-2 (last-calls t) (last-at t) last.Post
 last-returns-2 t c =
     let at-expr = c .before .before .before .before .before .before in
-    let at-start = at-expr .before .before .before .before .before in
+    let at-before-stmt = at-expr .before .before .before .before in
+    let at-start = at-before-stmt .before in
     let at-if1 = at-start .before .before in
     let at-is-absent = at-if1 .before in
     let start = at-is-absent .before .before .before .before in
-    laid-as (some-last _ (present (at-is-absent .is-absent .ensures) (at-if1 .if1 .left)) (at-start .start .ensures) (lays (at-start-stmt .ensures))
-    (lays-as (start .pre .1 .accepted) (at-expr .expr .ensures)) (lays (c .before .before .pop-trailing-comment .ensures)))
+    laid-as (some-last _ (present (at-is-absent .is-absent .ensures) (at-if1 .if1 .left)) (at-start .start .ensures)
+    (lays (at-before-stmt .before-stmt .ensures)) (lays-as (start .pre .1 .accepted) (at-expr .expr .ensures))
+    (lays (c .before .before .pop-trailing-comment .ensures)))

@@ -39,12 +39,13 @@ stmts-before-stmt-requires t c κs =
 
 pub stmts-stmt-requires : (t : ℕ) → stmts-lts.Need-stmt-requires (stmts-calls t) (stmts-at t) stmts.Post stmts-Inv-loop stmts-μ-loop
 stmts-stmt-requires t c κs =
-    let at-start = c .before .before .before .before in
+    let at-before-stmt = c .before .before .before in
+    let at-start = at-before-stmt .before in
     let at-loop-test = at-start .before .before in
     let at-loop = at-loop-test .before in
     let start = at-loop .before .before .before .before in
     let m = stmts-first (at-loop .loop .first) (at-loop-test .loop-test .taken) (at-loop .loop .inv .2) in
-    (omega (arith, start .pre .0, m .least, at-loop .loop .inv .1), stmt-has _ m (at-start .start .ensures) (lays (at-start-stmt .ensures)))
+    (omega (arith, start .pre .0, m .least, at-loop .loop .inv .1), stmt-has _ m (at-start .start .ensures) (lays (at-before-stmt .before-stmt .ensures)))
 
 pub stmts-end-requires : (t : ℕ) → stmts-lts.Need-end-requires (stmts-calls t) (stmts-at t) stmts.Post stmts-Inv-loop stmts-μ-loop
 stmts-end-requires t c κs =
@@ -55,13 +56,14 @@ stmts-end-requires t c κs =
 pub stmts-after-stmt-requires : (t : ℕ) → stmts-lts.Need-after-stmt-requires (stmts-calls t) (stmts-at t) stmts.Post stmts-Inv-loop stmts-μ-loop
 stmts-after-stmt-requires t c κs =
     let at-stmt = c .before .before .before .before in
-    let at-start = at-stmt .before .before .before .before .before in
+    let at-before-stmt = at-stmt .before .before .before .before in
+    let at-start = at-before-stmt .before in
     let at-loop-test = at-start .before .before in
     let at-loop = at-loop-test .before in
     let start = at-loop .before .before .before .before in
     let m = stmts-first (at-loop .loop .first) (at-loop-test .loop-test .taken) (at-loop .loop .inv .2) in (
       start .pre .1 .accepted,
-      after-stmt-room _ m (at-start .start .ensures) (c .end .ensures) (lays (at-start-stmt .ensures))
+      after-stmt-room _ m (at-start .start .ensures) (c .end .ensures) (lays (at-before-stmt .before-stmt .ensures))
           (lays-as (start .pre .1 .accepted) (at-stmt .stmt .ensures)),
     )
 
@@ -84,17 +86,18 @@ stmts-loop-again t c =
     let at-after-stmt = c .before .before .before in
     let at-end = at-after-stmt .before in
     let at-stmt = at-end .before .before .before .before in
-    let at-start = at-stmt .before .before .before .before .before in
+    let at-before-stmt = at-stmt .before .before .before .before in
+    let at-start = at-before-stmt .before in
     let at-loop-test = at-start .before .before in
     let at-loop = at-loop-test .before in
     let start = at-loop .before .before .before .before in
     let m = stmts-first (at-loop .loop .first) (at-loop-test .loop-test .taken) (at-loop .loop .inv .2) in (
-      at-after-stmt .after-stmt .kept .0 ∙ at-stmt .stmt .kept .0 ∙ at-start-stmt .kept .0 ∙ at-loop .loop .inv .0,
+      at-after-stmt .after-stmt .kept .0 ∙ at-stmt .stmt .kept .0 ∙ at-before-stmt .before-stmt .kept .0 ∙ at-loop .loop .inv .0,
       omega (arith, c .past .ensures, at-loop .loop .inv .1),
-      rw (c .past .ensures) (stmts-rest _ m (at-start .start .ensures) (at-end .end .ensures) (lays (at-start-stmt .ensures))
+      rw (c .past .ensures) (stmts-rest _ m (at-start .start .ensures) (at-end .end .ensures) (lays (at-before-stmt .before-stmt .ensures))
           (lays-as (start .pre .1 .accepted) (at-stmt .stmt .ensures)) (lays (at-after-stmt .after-stmt .ensures))),
       λ x e l. at-loop .loop .inv .3 x e (stmts-more (at-loop .loop .first) (at-loop-test .loop-test .taken) (at-start .start .ensures)
-          (at-end .end .ensures) (lays (at-start-stmt .ensures)) (lays-as (start .pre .1 .accepted) (at-stmt .stmt .ensures))
+          (at-end .end .ensures) (lays (at-before-stmt .before-stmt .ensures)) (lays-as (start .pre .1 .accepted) (at-stmt .stmt .ensures))
           (lays (at-after-stmt .after-stmt .ensures)) (rw (c .past .ensures) at l)),
     )
 

@@ -80,12 +80,13 @@ before-elem-requires c κs =
 
 ident-requires : tie.Need-ident-requires Inv-loop μ-loop
 ident-requires c κs =
-    let at-start = c .before .before .before .before in
+    let at-before-elem = c .before .before .before in
+    let at-start = at-before-elem .before in
     let at-loop-test = at-start .before .before in
     let at-loop = at-loop-test .before in
     let start = at-loop .before .before .before .before .before .before .before .before .before .before in
     let m = elems-first _ (start .args .form .commas) (at-loop .loop .first) (at-loop-test .loop-test .taken) (at-loop .loop .inv .2) in
-    elem-of (elem-has _ _ _ m (at-start .start .ensures) (lays (at-start-elem .ensures)))
+    elem-of (elem-has _ _ _ m (at-start .start .ensures) (lays (at-before-elem .before-elem .ensures)))
 
 past-requires-2 : tie.Need-past-requires-2 Inv-loop μ-loop
 past-requires-2 c κs =
@@ -106,18 +107,19 @@ loop-less c =
 loop-again : tie.Need-loop-again Inv-loop μ-loop
 loop-again c =
     let at-ident = c .before .before .before in
-    let at-start = at-ident .before .before .before .before .before in
+    let at-before-elem = at-ident .before .before .before .before in
+    let at-start = at-before-elem .before in
     let at-loop-test = at-start .before .before in
     let at-loop = at-loop-test .before in
     let start = at-loop .before .before .before .before .before .before .before .before .before .before in
     let m = elems-first _ (start .args .form .commas) (at-loop .loop .first) (at-loop-test .loop-test .taken) (at-loop .loop .inv .2) in (
-      at-ident .ident .kept .0 ∙ at-start-elem .kept .0 ∙ at-loop .loop .inv .0,
+      at-ident .ident .kept .0 ∙ at-before-elem .before-elem .kept .0 ∙ at-loop .loop .inv .0,
       omega (arith, c .past2 .ensures, at-loop .loop .inv .1),
-      rw (c .past2 .ensures) (elems-rest _ _ _ m (at-start .start .ensures) (lays (at-start-elem .ensures))
+      rw (c .past2 .ensures) (elems-rest _ _ _ m (at-start .start .ensures) (lays (at-before-elem .before-elem .ensures))
           (elem-laid (lays-as (start .pre .accepted) (at-ident .ident .ensures)))),
       λ x e l. at-loop .loop .inv .3 x e (elems-more _ (start .args .form .commas) (at-loop .loop .first) (at-loop-test .loop-test .taken)
-          (at-start .start .ensures) (lays (at-start-elem .ensures)) (elem-laid (lays-as (start .pre .accepted) (at-ident .ident .ensures)))
-          (rw (c .past2 .ensures) at l)),
+          (at-start .start .ensures) (lays (at-before-elem .before-elem .ensures))
+          (elem-laid (lays-as (start .pre .accepted) (at-ident .ident .ensures))) (rw (c .past2 .ensures) at l)),
     )
 
 finish-list-requires : tie.Need-finish-list-requires Inv-loop μ-loop

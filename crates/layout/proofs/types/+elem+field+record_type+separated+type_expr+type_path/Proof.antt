@@ -364,14 +364,15 @@ separated-before-elem-requires t c κs =
 
 separated-elem-requires : (t : ℕ) → separated-lts.Need-elem-requires (separated-calls t) (separated-at t) separated.Post separated-Inv-loop separated-μ-loop
 separated-elem-requires t c κs =
-    let at-start = c .before .before .before .before in
+    let at-before-elem = c .before .before .before in
+    let at-start = at-before-elem .before in
     let at-loop-test = at-start .before .before in
     let at-loop = at-loop-test .before in
     let at-past = at-loop .before .before .before .before .before .before in
     let start = at-past .before .before .before .before in
     let m = elems-first _ (start .args .form .commas) (at-loop .loop .first) (at-loop-test .loop-test .taken) (at-loop .loop .inv .2) in (
       omega (arith, start .pre .0, m .least, at-loop .loop .inv .1, at-past .past .ensures),
-      elem-has _ _ _ m (at-start .start .ensures) (lays (at-start-elem .ensures)),
+      elem-has _ _ _ m (at-start .start .ensures) (lays (at-before-elem .before-elem .ensures)),
     )
 
 separated-past-requires-2 : (t : ℕ) → separated-lts.Need-past-requires-2 (separated-calls t) (separated-at t) separated.Post separated-Inv-loop separated-μ-loop
@@ -393,18 +394,19 @@ separated-loop-less t c =
 separated-loop-again : (t : ℕ) → separated-lts.Need-loop-again (separated-calls t) (separated-at t) separated.Post separated-Inv-loop separated-μ-loop
 separated-loop-again t c =
     let at-elem = c .before .before .before in
-    let at-start = at-elem .before .before .before .before .before in
+    let at-before-elem = at-elem .before .before .before .before in
+    let at-start = at-before-elem .before in
     let at-loop-test = at-start .before .before in
     let at-loop = at-loop-test .before in
     let start = at-loop .before .before .before .before .before .before .before .before .before .before in
     let m = elems-first _ (start .args .form .commas) (at-loop .loop .first) (at-loop-test .loop-test .taken) (at-loop .loop .inv .2) in (
-      at-elem .elem .kept .0 ∙ at-start-elem .kept .0 ∙ at-loop .loop .inv .0,
+      at-elem .elem .kept .0 ∙ at-before-elem .before-elem .kept .0 ∙ at-loop .loop .inv .0,
       omega (arith, c .past2 .ensures, at-loop .loop .inv .1),
-      rw (c .past2 .ensures)
-          (elems-rest _ _ _ m (at-start .start .ensures) (lays (at-start-elem .ensures)) (lays-as (start .pre .1 .accepted) (at-elem .elem .ensures))),
+      rw (c .past2 .ensures) (elems-rest _ _ _ m (at-start .start .ensures) (lays (at-before-elem .before-elem .ensures))
+          (lays-as (start .pre .1 .accepted) (at-elem .elem .ensures))),
       λ x e l. at-loop .loop .inv .3 x e (elems-more _ (start .args .form .commas) (at-loop .loop .first) (at-loop-test .loop-test .taken)
-          (at-start .start .ensures) (lays (at-start-elem .ensures)) (lays-as (start .pre .1 .accepted) (at-elem .elem .ensures))
-          (rw (c .past2 .ensures) at l)),
+          (at-start .start .ensures) (lays (at-before-elem .before-elem .ensures))
+          (lays-as (start .pre .1 .accepted) (at-elem .elem .ensures)) (rw (c .past2 .ensures) at l)),
     )
 
 separated-finish-list-requires : (t : ℕ)
