@@ -41,7 +41,7 @@ skip-then a = λ i s. skip-at a s i
 
 module _ (g : Given) where
   -- the operators of a stack, laid after those before them
-  popAll : List Pushed → Operands → Operands
+  abbrev popAll : List Pushed → Operands → Operands
   popAll [] c = c
   popAll (x ∷ ops) c = popAll ops (popped g c (x .span) (x .op) (exprRule g (x .right)))
 
@@ -58,23 +58,23 @@ module _ (g : Given) where
       ∙ ap (λ (a : Act). c .ops ⨟ a) (assoc (operator g (c .first) (x .span) (x .op)) (exprRule g (x .right)) (popOps g false ops))
 
   -- what is laid where the first loop broke
-  laidFrom : ℕ → Descent → Operands
+  abbrev laidFrom : ℕ → Descent → Operands
   laidFrom q d = popAll (d .ops) (leftmost (exprWithPrecedence g (d .left) q))
 
-  pick : (t : Bool) (ops : List Pushed) (q : ℕ) {a b : Operands} {c d : Descent} → popAll ops a ≡ laidFrom q c → popAll ops b ≡ laidFrom q d
+  pick : (t : Bool) (ops : List Pushed) (q : ℕ) (a b : Operands) (c d : Descent) → popAll ops a ≡ laidFrom q c → popAll ops b ≡ laidFrom q d
       → popAll ops (cond t a b) ≡ laidFrom q (cond t c d)
-  pick true ops q e f = e
-  pick false ops q e f = f
+  pick true ops q a b c d e f = e
+  pick false ops q a b c d e f = f
 
   mutual
+    unfolding operands operandsForm exprWithPrecedence descend descendForm
+
     descends : (q : ℕ) (e : Expr) (ops : List Pushed) → popAll ops (operands g q e) ≡ laidFrom q (descend q e ops)
-    unfolding operands descend exprWithPrecedence
     descends q (expr s f) ops = descends-form q s f ops
 
     descends-form : (q : ℕ) (s : Span) (f : Form) (ops : List Pushed)
         → popAll ops (operandsForm g q f (exprWithPrecedence g (expr s f) q)) ≡ laidFrom q (descendForm q f ops (descent (expr s f) ops))
-    unfolding operandsForm descendForm
-    descends-form q s (binOp l t op r) ops = pick (eqb (binopPrecedence op) q) ops q (descends q l (pushed t op r ∷ ops)) refl
+    descends-form q s (binOp l t op r) ops = pick (eqb (binopPrecedence op) q) ops q _ _ _ _ (descends q l (pushed t op r ∷ ops)) refl
     descends-form q t (return′ kind e) ops = refl
     descends-form q t (literal s which) ops = refl
     descends-form q t (block b) ops = refl
@@ -105,6 +105,7 @@ binop-as-rust g span s left right op outer =
     laid : (d : Descent) → binop (laidFrom g (binopPrecedence op) d)
         ≡ grouped (λ id. exprWithPrecedence g (d .left) (binopPrecedence op) ⨟ push lineOrSpace ⨟ indented (popOps g true (d .ops)))
     laid d =
+        let c : Operands = leftmost (exprWithPrecedence g (d .left) (binopPrecedence op)) in
         ap₂ (λ (a b : Act). grouped (λ id. a ⨟ push lineOrSpace ⨟ indented b))
-        (keeps-left g (d .ops) (leftmost (exprWithPrecedence g (d .left) (binopPrecedence op))))
-        (pops-in-order g (d .ops) (leftmost (exprWithPrecedence g (d .left) (binopPrecedence op))) ∙ skip-then (popOps g true (d .ops)))
+        (keeps-left g (d .ops) c)
+        (pops-in-order g (d .ops) c ∙ skip-then (popOps g true (d .ops)))

@@ -122,7 +122,7 @@ module _ {s b : List ℕ} (list : Listed s b) where
       record { placed = w .placed; position = w .position }
 
 pub closing-leaves-none : ClosingLeavesNone
-closing-leaves-none list t z h = closing-places list t z h
+closing-leaves-none s b list t z h = closing-places list t z h
 
 -- ---- newlines before the first comment
 pub newlines-dropped : NewlinesDropped

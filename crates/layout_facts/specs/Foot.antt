@@ -22,7 +22,7 @@ pub record AtFoot (s b : List ℕ) (o : Out) : Type 0 where
 -- "closing places every waiting comment", a comment that is the last byte of the source too
 abbrev pub ClosingLeavesNone : Type 0
 ClosingLeavesNone =
-    {s b : List ℕ} → Listed s b → (t : SyntaxTree) (z : St) → z .placed ≤ length (commentsOf b) → AtFoot s b (closing (given s b) t true z)
+    (s b : List ℕ) → Listed s b → (t : SyntaxTree) (z : St) → z .placed ≤ length (commentsOf b) → AtFoot s b (closing (given s b) t true z)
 
 -- a source of two newlines and a comment, and that comment
 abbrev pub gap : Given

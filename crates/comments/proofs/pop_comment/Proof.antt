@@ -27,20 +27,22 @@ sub-move-to c =
 
 push-comment-requires : tie.Need-push-comment-requires
 push-comment-requires c κs =
-    let at-with-placed = c .before .before .before .before .before .before in
+    let at-before-comment = c .before .before .before .before in
+    let at-with-placed = at-before-comment .before .before in
     let start = at-with-placed .before .before .before .before .before in (
       omega (arith, good (start .pre .0) _ _ (start .pre .1 .0) .order),
       room-remark (given (start .args .source .now) (start .args .image .now)) (start .args .leading) (span (start .args .start) (start .args .end))
-          (at-with-placed .with-placed .ensures) (c .before .before .before .before .before-comment .ensures) (c .move-to .ensures) (start .pre .1 .1),
+          (at-with-placed .with-placed .ensures) (at-before-comment .before-comment .ensures) (c .move-to .ensures) (start .pre .1 .1),
     )
 
 returns : tie.Need-returns
 returns c =
     let at-move-to = c .before .before .before in
-    let at-with-placed = at-move-to .before .before .before .before .before .before in
+    let at-before-comment = at-move-to .before .before .before .before in
+    let at-with-placed = at-before-comment .before .before in
     let start = at-with-placed .before .before .before .before .before in
     laid-comment (given (start .args .source .now) (start .args .image .now)) (start .args .leading) (span (start .args .start) (start .args .end))
-    (at-with-placed .with-placed .ensures) (at-move-to .before .before .before .before .before-comment .ensures) (at-move-to .move-to .ensures)
+    (at-with-placed .with-placed .ensures) (at-before-comment .before-comment .ensures) (at-move-to .move-to .ensures)
     (c .before .before .push-comment .ensures (start .args .image .now))
 
 pub pop-comment-spec : {M : Type 1} → statement M
