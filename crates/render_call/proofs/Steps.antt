@@ -60,7 +60,7 @@ module _ (source image : List ℕ) (state : RenderState) (args : RenderArgs) (st
 
   -- ---- the dry run
   module _ (rows2 marks2 : List ℕ) (e : held rows2 marks2 ≡ putAside (args .stop - state .row) (state .«in_use») (held store marks) (state .row)) where
-    pub dry-starts : (p : Writing) (out : List ℕ) → Takes state p → Starting rows2 0 (state .row) (args .stop) out p
+    pub dry-starts : (p : Writing) (out : List ℕ) → Takes state p → Starting rows2 0 (args .stop) out (record { depth = 0; next = state .row; writing = p })
     dry-starts p out k =
         starts source image state args store marks may rows2 (dry.aside-nests source image state args store marks may rows2 marks2 e) p 0 out k (omega arith)
 
@@ -107,7 +107,7 @@ module _ (source image : List ℕ) (state : RenderState) (args : RenderArgs) (st
   pub marks-within : (n : ℕ) → n ≡ marksNeeded (args .stop - state .row) store (state .row) → n ≤ length marks
   marks-within n e = let w = fine .enough in omega arith
 
-  pub run-starts : (p : Writing) → Takes state p → Starting store (length out) (state .row) (args .stop) out p
+  pub run-starts : (p : Writing) → Takes state p → Starting store (length out) (args .stop) out (record { depth = 0; next = state .row; writing = p })
   run-starts p k =
       starts source image state args store marks fine store (nested source image state args store marks fine) p (length out) out k (omega arith)
 

@@ -109,9 +109,8 @@ pub record Entering (store source image : List ℕ) (max limit stop : ℕ) (mark
 
 -- a run that takes a turn: it is ready, and not done yet
 pub record Turning (store source image : List ℕ) (bounds : Bounds) (marks out : List ℕ) (r : Running) : Type 0 where
-  pub stop : ℕ
-  pub ready : Ready store source image (bounds .max .0) (bounds .limit .0) stop marks out r
-  pub more : r .depth ≡ 0 → r .next < stop
+  pub ready : Ready store source image (bounds .max .0) (bounds .limit .0) (bounds .stop) marks out r
+  pub more : r .depth ≡ 0 → r .next < bounds .stop
 
 -- a run that opens a row, which reads no text and writes none
 pub record Opening (store : List ℕ) (max : ℕ) (marks : List ℕ) (r : Running) : Type 0 where
@@ -199,14 +198,15 @@ pub data Left (store : List ℕ) (max : ℕ) (marks : List ℕ) (r : Running) (f
   goesOn : cell store (f .row) KIND ≡ CALL → f .first ≡ true → ArgumentsOpened store max marks r f marks2 q → Left store max marks r f marks2 q
   ends : (cell store (f .row) KIND ≡ CALL → f .first ≡ false) → marks2 ≡ marks → q ≡ withFrames (r .frames) (closedRun store (bareRun r) f) → Left store max marks r f marks2 q
 
--- a rendering may start: the rows nest, and the state's numbers are in range
-pub record Starting (store : List ℕ) (limit from stop : ℕ) (out : List ℕ) (w : Writing) : Type 0 where
-  pub nested : Nested store from stop
+-- a rendering may start: no row is open, the rows up to the stop nest, and the state's numbers are in range
+pub record Starting (store : List ℕ) (limit stop : ℕ) (out : List ℕ) (r : Run) : Type 0 where
+  pub none-open : r .depth ≡ 0
+  pub nested : Nested store (r .next) stop
   pub fits : limit ≤ length out
-  pub margin : w .pen .indent + w .pen .«next_indent» ≤ START-MARGIN
-  pub column : w .pen .column .0 ≤ MAX-COLUMN
-  pub at : w .at .0 ≡ 0
-  pub widest : w .widest .0 ≡ 0
+  pub margin : r .writing .pen .indent + r .writing .pen .«next_indent» ≤ START-MARGIN
+  pub column : r .writing .pen .column .0 ≤ MAX-COLUMN
+  pub at : r .writing .at .0 ≡ 0
+  pub widest : r .writing .widest .0 ≡ 0
 
 -- what s has is what the writing, the marks and the output have become
 pub record Ended (limit : ℕ) (s : Renderer) (out marks2 out2 : List ℕ) (q : Writing) : Type 0 where

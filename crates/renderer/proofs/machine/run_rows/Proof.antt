@@ -8,38 +8,35 @@ use mathlib.Core.List.{map}
 use lib.ListN.{length, replicate}
 use borrow.Author.Tests.{ltb-true, ltb-false}
 use Rattle.rows.specs.Limits.{MAX-DEPTH}
-use Rattle.rows.specs.View.{viewOf, nodesAt}
-use Rattle.renderer_rules.specs.Page.{pageOf}
-use Rattle.renderer_rules.specs.Renderer.{freshRenderer, renderNodes}
 use Rattle.renderer_rules.proofs.Machine.{weight}
 use Rattle.renderer.specs.Run.{unpackedFrame, wholeRun}
 use Rattle.renderer.proofs.Packed.{map-length}
-use Rattle.renderer.proofs.Running.{Going, small-cells, going-start, ready, going-on, going-less, going-end, same-size}
+use Rattle.renderer.proofs.Running.{Going, due, small-cells, going-start, ready, going-on, going-less, going-end, same-size}
 use Rattle.renderer.proofs.machine.run_rows.Statement.{statement}
 use Rattle.renderer.proofs.machine.run_rows.Tie as tie
 
 abbrev Inv-loop : tie.InvT-loop
 Inv-loop store source image marks₀ out₀ bounds stop frames₀ r₀ marks out frames r =
-    Going store source image (bounds .max .0) (bounds .limit .0) stop (renderNodes (pageOf (bounds .max .0) source image) (nodesAt (viewOf store) (r₀ .next) stop) true (freshRenderer (r₀ .writing .pen) marks₀)) out₀ marks out (wholeRun frames r)
+    Going store source image (bounds .max .0) (bounds .limit .0) stop (due store source image (bounds .max .0) (bounds .limit .0) stop marks₀ r₀) out₀ marks out (wholeRun frames r)
     × (length marks ≡ length marks₀)
 
 abbrev μ-loop : tie.MeasureT-loop
 μ-loop store source image marks₀ out₀ bounds stop frames₀ r₀ marks out frames r = (stop - r .next) * 3 + weight (map unpackedFrame frames) (r .depth)
 
 -- the loop goes on
-more : (c : tie.After-step-arg2 Inv-loop μ-loop) → (0 < c .before .before .before .before .before .loop .r .depth) ⊎ (c .before .before .before .before .before .loop .r .next < c .before .before .before .before .before .before .before .before .before .before .before .args .rows .stop)
+more : (c : tie.After-step-arg2 Inv-loop μ-loop) → (0 < c .before .before .before .before .before .loop .r .depth) ⊎ (c .before .before .before .before .before .loop .r .next < c .before .before .before .before .before .before .before .before .before .before .before .args .bounds .stop)
 more c = ⊎-elim (λ w. inl (w .taken)) (λ w. inr (ltb-true _ _ (w .2 .taken))) (c .before .before .before .if1 .came)
 
 loop-holds : tie.Need-loop-holds Inv-loop μ-loop
 loop-holds c = (
-  going-start _ _ _ _ _ _ _ _ _ _ _ (map-length (replicate MAX-DEPTH 0))
+  going-start _ _ _ _ _ _ _ _ _ _ (map-length (replicate MAX-DEPTH 0))
       (small-cells (c .before .before .before .before .before .args .bounds .max .0) (c .before .before .before .before .before .args .source .now) (c .before .before .before .before .before .args .image .now) (c .before .before .before .before .before .args .store .now) (λ k. omega (arith, c .before .before .before .before .shared-slice-known .given k)))
       (c .before .before .before .before .before .pre),
   refl,
 )
 
 step-requires : tie.Need-step-requires Inv-loop μ-loop
-step-requires c κs = record { stop = _; ready = ready _ _ _ _ _ _ _ _ _ _ _ (c .before .before .before .before .before .loop .inv .0); more = λ e. ⊎-elim (λ w. omega arith) (λ w. ltb-true _ _ (w .2 .taken)) (c .before .before .before .if1 .came) }
+step-requires c κs = record { ready = ready _ _ _ _ _ _ _ _ _ _ _ (c .before .before .before .before .before .loop .inv .0); more = λ e. ⊎-elim (λ w. omega arith) (λ w. ltb-true _ _ (w .2 .taken)) (c .before .before .before .if1 .came) }
 
 loop-less : tie.Need-loop-less Inv-loop μ-loop
 loop-less c = going-less _ _ _ _ _ _ _ _ _ _ _ (c .before .before .before .before .before .before .before .before .before .before .loop .inv .0) _ _ _ (c .before .before .before .before .step .ensures) (more (c .before .before .before .before .before))
