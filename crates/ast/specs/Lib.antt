@@ -1,2 +1,1 @@
 pub mod Syntax
-pub mod Kinds

@@ -14,7 +14,7 @@ use Rattle.image.specs.Read.{stopAt, kindAt}
 use Rattle.ast.specs.Syntax.{Span, Ident, TypeExpr, Import, Expr, expr, MaybeExpr, noExpr, someExpr, Block, braces, Stmts, noStmts, _∷ˢ_, Stmt, stmt, StmtForm}
 use Rattle.ast.specs.Syntax.{let′, importStmt, does, Parts, noParts, string, value, Form, return′, literal, block, match′, functionCall, access, path, record′}
 use Rattle.ast.specs.Syntax.{typedRecord, list, not′, assign, compoundAssign, binOp, negate, ifElse, while, for, questionMark, fString, parentheses}
-use Rattle.ast.specs.Kinds.{formKind}
+use Rattle.tree.specs.FormKinds.{formKind}
 use Rattle.tree.specs.At.{Head, Record, Done, Before, Ends, ImportAt, ExprAt, MaybeExprAt, BlockAt, StmtsAt, StmtAt, PartsAt}
 use Rattle.rows.specs.Node.{line}
 use Rattle.state.specs.Act.{Act, _⨟_, push, says, grouped, indented, when, Given}

@@ -10,7 +10,7 @@ use Rattle.image.specs.Bytes.{be32}
 use Rattle.image.specs.Read.{stopAt, kindAt}
 use Rattle.ast.specs.Syntax.{Span, Expr, expr, Form, return′, literal, block, match′, functionCall, access, path, record′, typedRecord}
 use Rattle.ast.specs.Syntax.{list, not′, assign, compoundAssign, binOp, negate, ifElse, while, for, questionMark, fString, parentheses}
-use Rattle.ast.specs.Kinds.{formKind}
+use Rattle.tree.specs.FormKinds.{formKind}
 use Rattle.tree.specs.At.{Head, ExprAt}
 use Rattle.state.specs.Act.{Given, Act, _⨟_, when}
 use Rattle.state.specs.Laid.{Room}

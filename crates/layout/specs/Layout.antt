@@ -17,7 +17,7 @@ use Rattle.ast.specs.Syntax.{Exprs, noExprs, _∷ᵉ_, MaybeExpr, noExpr, someE
 use Rattle.ast.specs.Syntax.{value, Block, braces, MaybeBlock, noBlock, someBlock, Stmts, noStmts, _∷ˢ_, Stmt, stmt, StmtForm, let′, importStmt, does}
 use Rattle.ast.specs.Syntax.{Variants, noVariants, variant, Declaration, filterMap, const, recordDecl, enumDecl, function, test, importDecl}
 use Rattle.ast.specs.Syntax.{SyntaxTree}
-use Rattle.ast.specs.Kinds.{formKind}
+use Rattle.tree.specs.FormKinds.{formKind}
 use Rattle.rows.specs.Node.{Text, str, ascii, line, emptyLine, lineOrSpace, wrapParent, ifWrap}
 use Rattle.rows.specs.Words.{word}
 use Rattle.state.specs.Act.{Given, St, Out, Act, Asking, _⨟_, _⨟?_, skip, when, push, stepAlone, grouped, indented, indentedNext, called, says, content}

@@ -12,7 +12,7 @@ use Rattle.image.specs.Read.{stopAt, kindAt}
 use Rattle.image.specs.Limits.{MAX-RECORDS-DEEP}
 use Rattle.image.specs.Kinds.{ARM, BLOCK, CONST, ENUM, ENUM-VARIANT, EXPR-PART, FIELD, FILTER-MAP, FUNCTION, IMPORT, LIST, LITERAL, NAME-AND-TYPE}
 use Rattle.image.specs.Kinds.{OPERATOR, PATH, RECORD, RECORD-FIELDS, TEST, TEXT, TEXT-PART, TREE, UNDERSCORE, VARIANT}
-use Rattle.ast.specs.Kinds.{formKind, typeKind, stmtKind}
+use Rattle.tree.specs.FormKinds.{formKind, typeKind, stmtKind}
 use Rattle.ast.specs.Syntax.{Span, Ident, Path, Idents, TypeExpr, type, TypeForm, option, typePath, never, unit, recordType, TypeArgs, noArgs}
 use Rattle.ast.specs.Syntax.{args, Types, noTypes, _∷ᵗ_, Fields, noFields, field, Import, import, ImportGroup, noGroup, group, Imports}
 use Rattle.ast.specs.Syntax.{noImports, _∷ⁱ_, Pattern, underscore, enumVariant, Expr, expr, Form, return′, literal, block, match′, functionCall}
