@@ -18,12 +18,12 @@ use Rattle.layout_facts.proofs.Limits.{closed-within}
 use Rattle.cut_rule.specs.States.{layoutFresh, renderFresh}
 use Rattle.cut_rule.specs.Tests.{modeTests, widthTests}
 use Rattle.cut_rule.specs.Parts.{widthLine}
-use Rattle.plain_run.specs.Parts.{keepsWaiting}
-use Rattle.plain_run.specs.File.{modeLine, fileRows, fileMarks, fileBeforeMarks, fileMarksLine, fileBeforeText}
-use Rattle.plain_run.specs.FileLimits.{FILE-TEXT}
-use Rattle.plain_run.specs.Built.{layoutChoice, renderChoice, FileChoice, rowsDue, marksDue}
-use Rattle.plain_run.proofs.Limits.{stood}
-use Rattle.plain_run.proofs.FileLimits.{file-text-limited}
+use Rattle.whole_run.specs.Parts.{keepsWaiting}
+use Rattle.whole_run.specs.File.{modeLine, fileRows, fileMarks, fileBeforeMarks, fileMarksLine, fileBeforeText}
+use Rattle.whole_run.specs.FileLimits.{FILE-TEXT}
+use Rattle.whole_run.specs.Built.{layoutChoice, renderChoice, FileChoice, rowsDue, marksDue}
+use Rattle.whole_run.proofs.Limits.{stood}
+use Rattle.whole_run.proofs.FileLimits.{file-text-limited}
 use Rattle.batch.specs.Batch.{Save, rowOf, single, textsOf}
 use Rattle.batch.specs.Whole.{textOf, Small, cells}
 use Rattle.batch.specs.declared.writing.Row.{Row}

@@ -26,10 +26,10 @@ use Rattle.renderer_rules.proofs.Names.{names, namesIn, neither}
 use Rattle.comments.specs.Listed.{given}
 use Rattle.layout_facts.proofs.Limits.{closed-within}
 use Rattle.layout_facts.proofs.Numbers.{whole-below}
-use Rattle.plain_run.specs.Parts.{acceptedTree, keepsWaiting}
-use Rattle.plain_run.specs.Built.{FileChoice, built, marksDue}
-use Rattle.plain_run.proofs.Limits.{stood}
-use Rattle.plain_run.proofs.Marks.{marks-add}
+use Rattle.whole_run.specs.Parts.{acceptedTree, keepsWaiting}
+use Rattle.whole_run.specs.Built.{FileChoice, built, marksDue}
+use Rattle.whole_run.proofs.Limits.{stood}
+use Rattle.whole_run.proofs.Marks.{marks-add}
 
 -- no number from k on is this one, so it is below k
 below : (k n : ℕ) → ((x : ℕ) → k ≤ x → eqb x n ≡ false) → n < k

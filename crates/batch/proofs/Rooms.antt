@@ -13,8 +13,8 @@ use Rattle.refusals.specs.Refusals.{Refusal, first, refuseIf, orElse, unless}
 use Rattle.refusals.specs.Answers.{Answer, refused, accepted, answerBy}
 use Rattle.refusals.proofs.Groups.{first-append}
 use Rattle.cut_rule.specs.Run.{writeFront}
-use Rattle.plain_run.specs.Built.{FileChoice}
-use Rattle.plain_run.specs.File.{fileRows, fileMarks, fileBeforeText, fileTextLine, fileRefusal, FileResult, fileResult, fileAnswer, fileOutput}
+use Rattle.whole_run.specs.Built.{FileChoice}
+use Rattle.whole_run.specs.File.{fileRows, fileMarks, fileBeforeText, fileTextLine, fileRefusal, FileResult, fileResult, fileAnswer, fileOutput}
 use Rattle.batch.specs.Batch.{Save, textBy, rendered, single}
 use Rattle.batch.specs.Whole.{textOf}
 

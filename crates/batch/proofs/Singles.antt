@@ -11,8 +11,8 @@ use Rattle.refusals.specs.Answers.{Answer, answerBy}
 use Rattle.image.specs.Read.{readRefusal}
 use Rattle.cut_rule.specs.Run.{writeFront}
 use Rattle.cut_rule.proofs.Memory.{take-front}
-use Rattle.plain_run.specs.Built.{FileChoice}
-use Rattle.plain_run.specs.File.{FileResult}
+use Rattle.whole_run.specs.Built.{FileChoice}
+use Rattle.whole_run.specs.File.{FileResult}
 use Rattle.file.specs.Whole.{formattedAnswer}
 use Rattle.batch.specs.Batch.{allSaves, savesBy, rowOf, single, tableOf, textsOf, tableDue, textsDue, batchRefusal}
 use Rattle.batch.specs.Whole.{textOf}

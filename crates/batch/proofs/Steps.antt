@@ -15,8 +15,8 @@ use Rattle.image.specs.Read.{readRefusal}
 use Rattle.image.specs.Bytes.{be32}
 use Rattle.rows.specs.declared.units.Bytes.{Bytes}
 use Rattle.cut_rule.specs.Run.{writeFront}
-use Rattle.plain_run.specs.File.{fileAnswer}
-use Rattle.plain_run.specs.Built.{FileChoice}
+use Rattle.whole_run.specs.File.{fileAnswer}
+use Rattle.whole_run.specs.Built.{FileChoice}
 use Rattle.file.specs.Whole.{formattedAnswer, Formats}
 use Rattle.file.specs.declared.Formatted.{Formatted}
 use Rattle.file.specs.declared.Formatted.the-variants as file

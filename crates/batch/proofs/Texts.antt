@@ -13,9 +13,9 @@ use Rattle.refusals.specs.Answers.{Answer, refused, accepted}
 use Rattle.image.specs.Read.{readRefusal}
 use Rattle.cut_rule.specs.Run.{writeFront}
 use Rattle.cut_rule.proofs.Memory.{write-sets}
-use Rattle.plain_run.specs.File.{FileResult}
-use Rattle.plain_run.specs.FileLimits.{FILE-TEXT}
-use Rattle.plain_run.specs.Built.{FileChoice}
+use Rattle.whole_run.specs.File.{FileResult}
+use Rattle.whole_run.specs.FileLimits.{FILE-TEXT}
+use Rattle.whole_run.specs.Built.{FileChoice}
 use Rattle.batch.specs.Batch.{MAX-SAVES, Save, frameEnd, saveAt, allSaves, savesBy, rowOf, single, tableOf, textsOf, tableDue, textsDue}
 use Rattle.batch.specs.Whole.{textOf, cells, Saved, Room, Written}
 use Rattle.batch.specs.declared.writing.Row.{Row}

@@ -10,8 +10,8 @@ use Rattle.refusals.specs.Answers.{Answer, refused, accepted, answerBy}
 use Rattle.image.specs.Bytes.{be32, part}
 use Rattle.image.specs.Read.{Read, got, bad, bind, readRefusal}
 use Rattle.cut_rule.specs.Run.{writeFront}
-use Rattle.plain_run.specs.Built.{FileChoice, drawnDue}
-use Rattle.plain_run.specs.File.{FileResult, fileAnswer}
+use Rattle.whole_run.specs.Built.{FileChoice, drawnDue}
+use Rattle.whole_run.specs.File.{FileResult, fileAnswer}
 
 -- "The repository hook formats up to 256 files."
 abbrev pub MAX-SAVES : ℕ

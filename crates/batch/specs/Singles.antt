@@ -10,8 +10,8 @@ use Rattle.refusals.specs.Refusals.{Refusal, first, refuseIf, unless}
 use Rattle.refusals.specs.Answers.{Answer, refused, accepted, answerBy}
 use Rattle.image.specs.Read.{readRefusal}
 use Rattle.cut_rule.specs.Run.{writeFront}
-use Rattle.plain_run.specs.Built.{FileChoice}
-use Rattle.plain_run.specs.File.{FileResult}
+use Rattle.whole_run.specs.Built.{FileChoice}
+use Rattle.whole_run.specs.File.{FileResult}
 use Rattle.file.specs.Whole.{formattedAnswer, Formats}
 use Rattle.file.specs.declared.Formatted.{Formatted}
 use Rattle.batch.specs.Batch.{Save, allSaves, savesBy, rowOf}

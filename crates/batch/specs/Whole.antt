@@ -7,7 +7,7 @@ use lib.ListN.{length}
 use Rattle.refusals.specs.Answers.{Answer, refused, accepted}
 use Rattle.image.specs.Read.{Read, got, bad, readRefusal}
 use Rattle.cut_rule.specs.Run.{writeFront}
-use Rattle.plain_run.specs.Built.{FileChoice}
+use Rattle.whole_run.specs.Built.{FileChoice}
 use Rattle.batch.specs.Batch.{Save, allSaves, savesBy, rowOf, textBy, rendered, single, BatchResult, batchAnswer, tableDue, textsDue, tableLeft, textsLeft}
 use Rattle.batch.specs.declared.Batch.{Batch}
 use Rattle.batch.specs.declared.Batch.the-variants as answer

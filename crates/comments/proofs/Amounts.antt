@@ -13,8 +13,8 @@ use Rattle.text.specs.declared.space.Found.the-variants.{At, Nowhere}
 use Rattle.ast.specs.Syntax.{Span}
 use Rattle.rows.specs.Node.{comment, line, emptyLine}
 use Rattle.rows.specs.Rows.{size}
-use Rattle.state.specs.Act.{Given, St, _⨟_, skip, push, moveTo, pop, stepAlone}
-use Rattle.state.proofs.Few.{FewAt, Few, few-more, few-skip, few-moveTo, few-push, few-pop, few-then, few-cond, few-answers}
+use Rattle.acts.specs.Act.{Given, St, _⨟_, skip, push, moveTo, pop, stepAlone}
+use Rattle.acts.proofs.Few.{FewAt, Few, few-more, few-skip, few-moveTo, few-push, few-pop, few-then, few-cond, few-answers}
 use Rattle.comments.specs.Comments.{nth, pushComment, newlines, ignoreNewlines, popComment, waits}
 use Rattle.comments.specs.Comments.{popComments, afterComments, popWhitespace, popTrailingComment}
 

@@ -15,8 +15,8 @@ use Rattle.text.specs.declared.space.Found.the-variants.{At, Nowhere}
 use Rattle.text.proofs.Counts.{range-inside}
 use Rattle.ast.specs.Syntax.{Span}
 use Rattle.rows.specs.Node.{comment, line, emptyLine}
-use Rattle.state.specs.Act.{St, Out, Act, next, _⨟_, skip, push, moveTo, pop, stepAlone}
-use Rattle.state.proofs.Keeps.{Keeps, KeepsAt, keeps-at, keeps-of, keeps-skip, keeps-push, keeps-moveTo, keeps-then, keeps-after, keeps-cond, keeps-answers}
+use Rattle.acts.specs.Act.{St, Out, Act, next, _⨟_, skip, push, moveTo, pop, stepAlone}
+use Rattle.acts.proofs.Keeps.{Keeps, KeepsAt, keeps-at, keeps-of, keeps-skip, keeps-push, keeps-moveTo, keeps-then, keeps-after, keeps-cond, keeps-answers}
 use Rattle.comments.specs.Comments.{nth, front, pushComment, newlines, ignoreNewlines, popComment, waits}
 use Rattle.comments.specs.Comments.{popComments, afterComments, popWhitespace, popTrailingComment}
 use Rattle.tree.specs.CommentList.{commentsOf}

@@ -17,12 +17,12 @@ use Rattle.text.specs.declared.space.Found.the-variants.{At, Nowhere}
 use Rattle.ast.specs.Syntax.{Span}
 use Rattle.text.specs.declared.newlines.Newlines.{Newlines}
 use Rattle.rows.specs.Node.{line, emptyLine}
-use Rattle.state.specs.Act.{Given, St, Out, Act, Asking, next, _⨟_, _⨟!_, skip, push, moveTo, pop, stepAlone}
-use Rattle.state.specs.declared.Cursor.{Cursor}
+use Rattle.acts.specs.Act.{Given, St, Out, Act, Asking, next, _⨟_, _⨟!_, skip, push, moveTo, pop, stepAlone}
+use Rattle.acts.specs.declared.Cursor.{Cursor}
 use Rattle.comments.specs.declared.Gap.{Gap}
-use Rattle.state.specs.Laid.{cursor, st, Room, Laid, LaidAsking}
-use Rattle.state.proofs.Laws.{room-same, room-first, room-past, room-else, laid-same, laid-then, laid-skip, laid-moveTo, laid-pop}
-use Rattle.state.proofs.Laws.{asking-same, laid-answering, laid-turning, laid-answers}
+use Rattle.acts.specs.Laid.{cursor, st, Room, Laid, LaidAsking}
+use Rattle.acts.proofs.Laws.{room-same, room-first, room-past, room-else, laid-same, laid-then, laid-skip, laid-moveTo, laid-pop}
+use Rattle.acts.proofs.Laws.{asking-same, laid-answering, laid-turning, laid-answers}
 use Rattle.comments.specs.Listed.{given}
 use Rattle.comments.specs.Comments.{nth, breakLine, gapOf, uncounted, front, pushComment, newlines, ignoreNewlines, popComment, waits}
 use Rattle.comments.specs.Comments.{popComments, afterComments, popWhitespace, popTrailingComment}

@@ -12,7 +12,7 @@ use Rattle.text.specs.declared.newlines.Newlines.{Newlines}
 use Rattle.text.specs.declared.space.Found.the-variants.{At, Nowhere}
 use Rattle.ast.specs.Syntax.{Span}
 use Rattle.rows.specs.Node.{comment, line, emptyLine}
-use Rattle.state.specs.Act.{Given, St, Act, Asking, _⨟_, _⨟!_, skip, push, moveTo, pop, stepAlone, answering, turning}
+use Rattle.acts.specs.Act.{Given, St, Act, Asking, _⨟_, _⨟!_, skip, push, moveTo, pop, stepAlone, answering, turning}
 use Rattle.comments.specs.declared.Gap.{Gap}
 
 -- the element of a list at a place

@@ -10,7 +10,7 @@ use Rattle.image.specs.Limits.{MAX-COMMENTS}
 use Rattle.image.specs.Bytes.{be16, be32}
 use Rattle.ast.specs.Syntax.{Span}
 use Rattle.tree.specs.CommentList.{commentsOf}
-use Rattle.state.specs.Act.{Given}
+use Rattle.acts.specs.Act.{Given}
 use Rattle.comments.specs.declared.Pending.{Pending}
 use Rattle.comments.specs.declared.Pending.the-variants.{Comment, Nothing}
 

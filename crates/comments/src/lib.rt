@@ -6,8 +6,8 @@ ghost use mathlib.Core.List.{List, []};
 ghost use mathlib.Core.Option.{some};
 ghost use Prim.Native.Nat.{ℕ, _+_, _≤_};
 ghost use lib.ListN.{length};
-ghost use Rattle.state.specs.Act.{stepAlone};
-ghost use Rattle.state.specs.Laid.{cursor, st, Room, Laid, LaidAsking};
+ghost use Rattle.acts.specs.Act.{stepAlone};
+ghost use Rattle.acts.specs.Laid.{cursor, st, Room, Laid, LaidAsking};
 ghost use Rattle.comments.specs.Comments.{nth, breakLine, gapOf, uncounted, whitespace, pushComment, newlines, ignoreNewlines, popComment, waits};
 ghost use Rattle.comments.specs.Comments.{popComments, popWhitespace, popTrailingComment};
 ghost use Rattle.tree.specs.CommentList.{span, commentsOf};
@@ -17,14 +17,14 @@ mod reading;
 
 use crate::reading::newlines_from;
 use crate::reading::something_from;
+use acts::Cursor;
+use acts::leaves::empty_line;
+use acts::leaves::line;
+use acts::move_to;
+use acts::with_placed;
 use image::bytes::num16;
 use image::bytes::num32;
 use rows::units::Bytes;
-use state::Cursor;
-use state::leaves::empty_line;
-use state::leaves::line;
-use state::move_to;
-use state::with_placed;
 use text::newlines::Newlines;
 use text::space::Found;
 use text::space::trim_end;
@@ -88,7 +88,7 @@ fn push_comment(store: &mut [u32], c: Cursor, source: &[u8], start: u32, end: u3
 {
     let trimmed = trim_end(source, start as usize, end as usize);
     let size = Bytes(trimmed - start as usize);
-    state::leaves::comment(store, c, start, size)
+    acts::leaves::comment(store, c, start, size)
 }
 
 // A line for one newline, an empty line for more. Where the last of them is doesn't matter here.

@@ -7,12 +7,12 @@ use Rattle.renderer_rules.proofs.Holds.{writes-pieces, no-slash-around}
 use Rattle.layout_facts.proofs.Binop.{binop-as-rust}
 use Rattle.layout_facts.proofs.Limits.{few-rows, words-due}
 use Rattle.layout_facts.proofs.Tokens.{says-the-program, fmt-parsed-says-the-program, slash-words}
-use Rattle.plain_run.proofs.Demands.{rules-cut, due-is-fmt-parsed, laid-within-limits}
-use Rattle.plain_run.proofs.Edges.{edges-hold, widths-hold, empty-line-holds}
-use Rattle.plain_run.proofs.File.{old-mode-is-fmt-parsed, new-mode-leaves-none}
-use Rattle.plain_run.proofs.FileLimits.{file-text-limited, file-column-limited}
-use Rattle.plain_run.proofs.Foot.{closing-places-all, closed-holds-all}
-use Rattle.plain_run.proofs.Reference.{reference-holds}
+use Rattle.whole_run.proofs.Demands.{rules-cut, due-is-fmt-parsed, laid-within-limits}
+use Rattle.whole_run.proofs.Edges.{edges-hold, widths-hold, empty-line-holds}
+use Rattle.whole_run.proofs.File.{old-mode-is-fmt-parsed, new-mode-leaves-none}
+use Rattle.whole_run.proofs.FileLimits.{file-text-limited, file-column-limited}
+use Rattle.whole_run.proofs.Foot.{closing-places-all, closed-holds-all}
+use Rattle.whole_run.proofs.Reference.{reference-holds}
 use Rattle.figures.proofs.Order.{totals-are-sums, same-in-any-order, first-are-counted, same-feed-in-any-order}
 use Rattle.tallies.proofs.Ratio.{always-reduced}
 use Rattle.steps.proofs.Claims.{exactly-one, written-reads-back}

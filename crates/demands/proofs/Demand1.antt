@@ -19,11 +19,11 @@ use Rattle.cut_rule.specs.Rules as rules
 use Rattle.cut_rule.specs.States as states
 use Rattle.cut_rule.specs.Tests as tests
 use Rattle.cut_rule.specs.Parts as cut
-use Rattle.plain_run.specs.Parts.{partsOf, renderImage}
-use Rattle.plain_run.specs.Demands.{rulesOf}
-use Rattle.plain_run.specs.Built.{FileChoice, layoutChoice, referenceChoice, drawnDue, rowsDue, marksDue}
-use Rattle.plain_run.specs.File.{fileRows, fileMarks, fileBeforeRows, fileRowsLine, fileBeforeMarks, fileMarksLine, fileBeforeText, fileTextLine}
-use Rattle.plain_run.specs.File.{fileTable, fileRefusal}
+use Rattle.whole_run.specs.Parts.{partsOf, renderImage}
+use Rattle.whole_run.specs.Demands.{rulesOf}
+use Rattle.whole_run.specs.Built.{FileChoice, layoutChoice, referenceChoice, drawnDue, rowsDue, marksDue}
+use Rattle.whole_run.specs.File.{fileRows, fileMarks, fileBeforeRows, fileRowsLine, fileBeforeMarks, fileMarksLine, fileBeforeText, fileTextLine}
+use Rattle.whole_run.specs.File.{fileTable, fileRefusal}
 use Rattle.file.specs.Whole.{sourceOf, imageOf, frameFits, frameRefusal, frameTable}
 use Rattle.layout_call.specs.Calls as layout
 use Rattle.render_call.specs.Calls as render

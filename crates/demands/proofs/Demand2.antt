@@ -8,7 +8,7 @@ use Prim.Native.Nat.{ℕ, _≤_}
 use lib.ListN.{length}
 use borrow.Author.Tests.{le-ltb}
 use Rattle.image.specs.Read.{readAll, readRefusal}
-use Rattle.state.specs.Act.{Out}
+use Rattle.acts.specs.Act.{Out}
 use Rattle.refusals.specs.Refusals.{Refusal, unless, first, refuseIf, any}
 use Rattle.refusals.proofs.Groups.{passes-line, passes-others, not-if}
 use Rattle.refusals.proofs.Answers.{accepted-by}
@@ -21,15 +21,15 @@ use Rattle.cut_rule.specs.Tests as tests
 use Rattle.cut_rule.specs.Parts as cut
 use Rattle.cut_rule.proofs.Table.{LegalWidth, layout-told, render-told}
 use Rattle.cut_rule.proofs.Answers.{LaidBy, laid-by, written-by}
-use Rattle.plain_run.specs.Parts.{partsOf}
-use Rattle.plain_run.specs.Demands.{rulesOf, Gives, laidTo, stoppingAt, closingAt}
-use Rattle.plain_run.specs.Built.{FileChoice, layoutChoice, declared, rowsDue, drawnDue}
-use Rattle.plain_run.specs.File.{modeLine, fileBeforeRows, laidRefusal, refusalIn, fileRefusal, FileResult, fileResult, storeLeft}
-use Rattle.plain_run.proofs.Demands.{due-is-fmt-parsed, laid-within-limits}
-use Rattle.plain_run.proofs.Foot.{closing-places-all}
-use Rattle.plain_run.proofs.Reference.{reference-holds}
-use Rattle.plain_run.proofs.File.{stateDue, renderedDue, old-mode-is-fmt-parsed, new-mode-leaves-none}
-use Rattle.plain_run.proofs.File.{layout-answer-due, layout-store-due, render-answer-due, render-marks-due, render-output-due}
+use Rattle.whole_run.specs.Parts.{partsOf}
+use Rattle.whole_run.specs.Demands.{rulesOf, Gives, laidTo, stoppingAt, closingAt}
+use Rattle.whole_run.specs.Built.{FileChoice, layoutChoice, declared, rowsDue, drawnDue}
+use Rattle.whole_run.specs.File.{modeLine, fileBeforeRows, laidRefusal, refusalIn, fileRefusal, FileResult, fileResult, storeLeft}
+use Rattle.whole_run.proofs.Demands.{due-is-fmt-parsed, laid-within-limits}
+use Rattle.whole_run.proofs.Foot.{closing-places-all}
+use Rattle.whole_run.proofs.Reference.{reference-holds}
+use Rattle.whole_run.proofs.File.{stateDue, renderedDue, old-mode-is-fmt-parsed, new-mode-leaves-none}
+use Rattle.whole_run.proofs.File.{layout-answer-due, layout-store-due, render-answer-due, render-marks-due, render-output-due}
 use Rattle.layout_call.specs.declared.LayoutState.{LayoutState}
 use Rattle.layout_call.specs.declared.LayoutArgs.{LayoutArgs}
 use Rattle.layout_call.specs.declared.Laying.the-variants as laying

@@ -18,11 +18,11 @@ use Rattle.refusals.specs.Refusals.{any, refuseIf}
 use Rattle.refusals.proofs.Groups.{passes-left, passes-line, passes-others, not-if}
 use Rattle.cut_rule.specs.States as states
 use Rattle.cut_rule.specs.Parts.{layoutTests, beforeRows, rowsLine, laidOf}
-use Rattle.plain_run.specs.Parts.{listed, partsOf}
-use Rattle.plain_run.specs.Demands.{rulesOf}
-use Rattle.plain_run.specs.Foot.{HoldsAll}
-use Rattle.plain_run.proofs.Demands.{rules-cut}
-use Rattle.plain_run.proofs.Foot.{closing-places-all, closed-holds-all}
+use Rattle.whole_run.specs.Parts.{listed, partsOf}
+use Rattle.whole_run.specs.Demands.{rulesOf}
+use Rattle.whole_run.specs.Foot.{HoldsAll}
+use Rattle.whole_run.proofs.Demands.{rules-cut}
+use Rattle.whole_run.proofs.Foot.{closing-places-all, closed-holds-all}
 use Rattle.layout_call.specs.declared.LayoutArgs.{LayoutArgs}
 use Rattle.layout_call.specs.declared.Laying.{Laying}
 use Rattle.layout_call.specs.declared.Laying.the-variants as laying

@@ -20,10 +20,10 @@ use Rattle.cut_rule.specs.Plain.{atFirst, answersDue, AllReadLaid}
 use Rattle.cut_rule.specs.Callers.{afterAll, AllKept}
 use Rattle.cut_rule.specs.States as states
 use Rattle.cut_rule.specs.States.{NEW-MODE}
-use Rattle.plain_run.specs.Built.{declared}
-use Rattle.plain_run.specs.Demands.{rulesOf}
-use Rattle.plain_run.specs.File.{fileRefusal, fileResult}
-use Rattle.plain_run.specs.Foot.{HoldsAll}
+use Rattle.whole_run.specs.Built.{declared}
+use Rattle.whole_run.specs.Demands.{rulesOf}
+use Rattle.whole_run.specs.File.{fileRefusal, fileResult}
+use Rattle.whole_run.specs.Foot.{HoldsAll}
 use Rattle.layout_call.specs.declared.Laying.{Laying}
 use Rattle.layout_call.specs.declared.Laying.the-variants as laying
 use Rattle.layout_call.specs.Calls as layout

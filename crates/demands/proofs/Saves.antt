@@ -9,8 +9,8 @@ use Rattle.refusals.specs.Refusals.{refuseIf, isOneOf}
 use Rattle.refusals.specs.Answers.{refusalOf}
 use Rattle.refusals.proofs.Answers.{by-table, refused-by}
 use Rattle.image.specs.Read.{readAll, readRefusal, readNumbers}
-use Rattle.plain_run.specs.Built.{FileChoice}
-use Rattle.plain_run.specs.File.{fileRows, fileMarks, fileBeforeText}
+use Rattle.whole_run.specs.Built.{FileChoice}
+use Rattle.whole_run.specs.File.{fileRows, fileMarks, fileBeforeText}
 use Rattle.batch.specs.Batch.{MAX-SAVES, Save, allSaves, tableDue, textsDue, batchRefusal}
 use Rattle.batch.proofs.Buffer.{cut-number}
 use Rattle.batch.proofs.Rooms.{early, single-by}

@@ -14,14 +14,14 @@ use Rattle.refusals.proofs.Answers.{accepted-by}
 use Rattle.image.specs.Read.{readAll, readRefusal}
 use Rattle.cut_rule.specs.Run.{writeFront, Carried}
 use Rattle.cut_rule.proofs.Memory.{take-front}
-use Rattle.plain_run.specs.Parts.{listed}
-use Rattle.plain_run.specs.Built.{FileChoice, referenceChoice, built, drawnDue}
-use Rattle.plain_run.specs.Demands.{rulesOf}
-use Rattle.plain_run.specs.File.{fileRows, fileMarks, fileRefusal, FileResult, fileResult}
-use Rattle.plain_run.specs.Text.{IsProgram, TextKept}
-use Rattle.plain_run.proofs.FileTable.{laid-passed, before-marks}
-use Rattle.plain_run.proofs.File.{new-mode-leaves-none}
-use Rattle.plain_run.proofs.Text.{kept-comments-held, text-is-the-program, new-mode-places-all, output-is-the-program, calls-keep-the-text}
+use Rattle.whole_run.specs.Parts.{listed}
+use Rattle.whole_run.specs.Built.{FileChoice, referenceChoice, built, drawnDue}
+use Rattle.whole_run.specs.Demands.{rulesOf}
+use Rattle.whole_run.specs.File.{fileRows, fileMarks, fileRefusal, FileResult, fileResult}
+use Rattle.whole_run.specs.Text.{IsProgram, TextKept}
+use Rattle.whole_run.proofs.FileTable.{laid-passed, before-marks}
+use Rattle.whole_run.proofs.File.{new-mode-leaves-none}
+use Rattle.whole_run.proofs.Text.{kept-comments-held, text-is-the-program, new-mode-places-all, output-is-the-program, calls-keep-the-text}
 use Rattle.file.specs.Whole.{sourceOf, imageOf}
 use Rattle.file.specs.Reply.{reply, replyBy, programRefusal}
 use Rattle.batch.specs.Batch.{Save, allSaves, savesBy, rowOf, textBy, rendered, single, tableOf, textsOf, tableDue, textsDue, batchRefusal, BatchResult, batchResult, batchAnswer, tableLeft, textsLeft}

@@ -7,12 +7,12 @@ use Rattle.renderer_rules.specs.Holds.{WritesPieces, NoSlashAround}
 use Rattle.layout_facts.specs.Accepted.{FewRows, WordsDue}
 use Rattle.layout_facts.specs.Binop.{BinopAsRust}
 use Rattle.layout_facts.specs.Tokens.{SaysTheProgram, FmtParsedSaysTheProgram, SlashWords}
-use Rattle.plain_run.specs.Demands.{RulesCut, DueIsFmtParsed, LaidWithinLimits}
-use Rattle.plain_run.specs.Edges.{EdgesHold, WidthsHold, EmptyLineHolds}
-use Rattle.plain_run.specs.File.{OldModeIsFmtParsed, NewModeLeavesNone}
-use Rattle.plain_run.specs.FileLimits.{FileTextLimited, FileColumnLimited}
-use Rattle.plain_run.specs.Foot.{ClosingPlacesAll, ClosedHoldsAll}
-use Rattle.plain_run.specs.Reference.{ReferenceHolds}
+use Rattle.whole_run.specs.Demands.{RulesCut, DueIsFmtParsed, LaidWithinLimits}
+use Rattle.whole_run.specs.Edges.{EdgesHold, WidthsHold, EmptyLineHolds}
+use Rattle.whole_run.specs.File.{OldModeIsFmtParsed, NewModeLeavesNone}
+use Rattle.whole_run.specs.FileLimits.{FileTextLimited, FileColumnLimited}
+use Rattle.whole_run.specs.Foot.{ClosingPlacesAll, ClosedHoldsAll}
+use Rattle.whole_run.specs.Reference.{ReferenceHolds}
 use Rattle.figures.specs.Order.{TotalsAreSums, SameInAnyOrder, FirstAreCounted, SameFeedInAnyOrder}
 use Rattle.tallies.specs.Fraction.{AlwaysReduced}
 use Rattle.steps.specs.Exact.{ExactlyOne, WrittenReadsBack}

@@ -13,9 +13,9 @@ use Rattle.refusals.specs.Refusals.{Refusal, isOneOf}
 use Rattle.refusals.specs.Answers.{refusalOf}
 use Rattle.image.specs.Read.{readAll, readRefusal, readNumbers, checkedAnswer, Checks}
 use Rattle.image.specs.declared.Answer as check
-use Rattle.plain_run.specs.Demands.{rulesOf}
-use Rattle.plain_run.specs.Built.{FileChoice, referenceChoice, drawnDue}
-use Rattle.plain_run.specs.File.{fileRefusal}
+use Rattle.whole_run.specs.Demands.{rulesOf}
+use Rattle.whole_run.specs.Built.{FileChoice, referenceChoice, drawnDue}
+use Rattle.whole_run.specs.File.{fileRefusal}
 use Rattle.layout_call.specs.declared.LayoutState.{LayoutState}
 use Rattle.layout_call.specs.declared.LayoutArgs.{LayoutArgs}
 use Rattle.layout_call.specs.declared.Laying.{Laying}

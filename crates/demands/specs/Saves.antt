@@ -8,7 +8,7 @@ use lib.ListN.{length}
 use Rattle.refusals.specs.Refusals.{Refusal, isOneOf}
 use Rattle.refusals.specs.Answers.{refused, refusalOf}
 use Rattle.image.specs.Read.{readNumbers}
-use Rattle.plain_run.specs.Built.{FileChoice}
+use Rattle.whole_run.specs.Built.{FileChoice}
 use Rattle.batch.specs.Batch.{Save, single, batchRefusal}
 use Rattle.batch.specs.Whole.{batchedAnswer, Batches}
 use Rattle.batch.specs.Singles.{AsSingles}

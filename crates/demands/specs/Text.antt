@@ -1,5 +1,5 @@
 -- The text holds every comment, and it is the program that was read: of what each entry writes, by what it promises and nothing else. proofs/Text.antt proves it.
--- What is said of a text: `HoldsFirst`, `IsProgram` and `TextKept` (crates/plain_run/specs/Text.antt); what a program is written of: `tokensOf`
+-- What is said of a text: `HoldsFirst`, `IsProgram` and `TextKept` (crates/whole_run/specs/Text.antt); what a program is written of: `tokensOf`
 -- (crates/layout_facts/specs/Tokens.antt).
 use mathlib.Core.Path.{_≡_}
 use mathlib.Core.Bool.{true}
@@ -14,10 +14,10 @@ use Rattle.cut_rule.specs.Run.{Carried, start}
 use Rattle.cut_rule.specs.Plain.{AllReadLaid}
 use Rattle.cut_rule.specs.Callers.{afterAll, AllKept}
 use Rattle.cut_rule.specs.States.{NEW-MODE}
-use Rattle.plain_run.specs.Parts.{listed}
-use Rattle.plain_run.specs.Demands.{rulesOf}
-use Rattle.plain_run.specs.Text.{HoldsFirst, IsProgram, AllRendered, TextKept}
-use Rattle.plain_run.specs.Built.{FileChoice, referenceChoice, built}
+use Rattle.whole_run.specs.Parts.{listed}
+use Rattle.whole_run.specs.Demands.{rulesOf}
+use Rattle.whole_run.specs.Text.{HoldsFirst, IsProgram, AllRendered, TextKept}
+use Rattle.whole_run.specs.Built.{FileChoice, referenceChoice, built}
 use Rattle.file.specs.declared.Formatted.the-variants as answer
 use Rattle.file.specs.Whole.{Formats, toChoice, sourceOf, imageOf}
 use Rattle.file.specs.Reply.{programRefusal, Replies}

@@ -7,7 +7,7 @@ use lib.ListN.{length}
 use Rattle.refusals.specs.Answers.{Answer, numbersOf}
 use Rattle.image.specs.declared.Answer.{Answer as Checked}
 use Rattle.image.specs.Read.{checkedAnswer, Checks}
-use Rattle.plain_run.specs.Built.{declared}
+use Rattle.whole_run.specs.Built.{declared}
 use Rattle.layout_call.specs.declared.LayoutState.{LayoutState}
 use Rattle.layout_call.specs.declared.LayoutArgs.{LayoutArgs}
 use Rattle.layout_call.specs.declared.Laying.{Laying}

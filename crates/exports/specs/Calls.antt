@@ -5,9 +5,9 @@ use mathlib.Core.List.{List}
 use lib.ListN.{length}
 use Rattle.refusals.specs.Answers.{numbersOf}
 use Rattle.cut_rule.specs.Entries.{layoutAnswer, layoutStore, renderAnswer, renderMarks, renderOutput}
-use Rattle.plain_run.specs.Demands.{rulesOf}
-use Rattle.plain_run.specs.File.{fileOutput, fileAnswer}
-use Rattle.plain_run.specs.Built.{declared}
+use Rattle.whole_run.specs.Demands.{rulesOf}
+use Rattle.whole_run.specs.File.{fileOutput, fileAnswer}
+use Rattle.whole_run.specs.Built.{declared}
 use Rattle.layout_call.specs.Calls as laying
 use Rattle.render_call.specs.Calls as rendering
 use Rattle.file.specs.Whole as whole

@@ -8,8 +8,8 @@ use lib.ListN.{getD}
 use Rattle.text.specs.declared.newlines.Newlines.{Newlines}
 use Rattle.image.specs.declared.Document.{Document}
 use Rattle.cut_rule.specs.Run.{CallResult, laidOut, written}
-use Rattle.plain_run.specs.Demands.{rulesOf}
-use Rattle.plain_run.specs.File.{FileResult}
+use Rattle.whole_run.specs.Demands.{rulesOf}
+use Rattle.whole_run.specs.File.{FileResult}
 use Rattle.figures.specs.Figures.{CountResult}
 use Rattle.tallies.specs.declared.Figures.{Figures}
 use Rattle.tallies.specs.declared.Tallies.{Tallies}

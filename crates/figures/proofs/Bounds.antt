@@ -17,14 +17,14 @@ use Rattle.layout_facts.specs.Accepted as limits
 use Rattle.layout_facts.proofs.Limits.{closed-within}
 use Rattle.layout_facts.proofs.Numbers.{whole-below}
 use Rattle.cut_rule.specs.Limits.{REFERENCE-WIDTH}
-use Rattle.plain_run.specs.Parts.{acceptedTree, keepsWaiting, page, rendererOf}
-use Rattle.plain_run.specs.File.{fileRows, fileMarks, laidRefusal, fileRefusal}
-use Rattle.plain_run.specs.FileLimits.{AreBytes}
-use Rattle.plain_run.specs.Built.{referenceChoice, renderChoice, built, marksDue, drawnDue}
-use Rattle.plain_run.proofs.Past.{renders-length}
-use Rattle.plain_run.proofs.Limits.{stood}
-use Rattle.plain_run.proofs.FileTable.{laid-passed, before-marks, marks-fit, text-fit}
-use Rattle.plain_run.proofs.FileLimits.{file-column-limited}
+use Rattle.whole_run.specs.Parts.{acceptedTree, keepsWaiting, page, rendererOf}
+use Rattle.whole_run.specs.File.{fileRows, fileMarks, laidRefusal, fileRefusal}
+use Rattle.whole_run.specs.FileLimits.{AreBytes}
+use Rattle.whole_run.specs.Built.{referenceChoice, renderChoice, built, marksDue, drawnDue}
+use Rattle.whole_run.proofs.Past.{renders-length}
+use Rattle.whole_run.proofs.Limits.{stood}
+use Rattle.whole_run.proofs.FileTable.{laid-passed, before-marks, marks-fit, text-fit}
+use Rattle.whole_run.proofs.FileLimits.{file-column-limited}
 use Rattle.tallies.specs.Tallies.{Within}
 use Rattle.tallies.specs.Order.{Small}
 use Rattle.figures.specs.Figures.{FILE-OUTPUT, figuresOf}

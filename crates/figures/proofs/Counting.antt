@@ -20,9 +20,9 @@ use Rattle.refusals.specs.Refusals.{Refusal, any, unless, orElse, first, refuse
 use Rattle.refusals.specs.Answers.{Answer, refused, accepted, answerBy, refusalOf}
 use Rattle.refusals.proofs.Answers.{refused-by, AcceptedBy, accepted-by}
 use Rattle.cut_rule.specs.Run.{writeFront}
-use Rattle.plain_run.specs.Built.{referenceChoice, built, drawnDue, columnDue}
-use Rattle.plain_run.specs.File.{fileRows, fileMarks, refusalIn, fileRefusal, FileResult, fileResult, fileAnswer}
-use Rattle.plain_run.proofs.FileTable.{stops-laid, stops-whole}
+use Rattle.whole_run.specs.Built.{referenceChoice, built, drawnDue, columnDue}
+use Rattle.whole_run.specs.File.{fileRows, fileMarks, refusalIn, fileRefusal, FileResult, fileResult, fileAnswer}
+use Rattle.whole_run.proofs.FileTable.{stops-laid, stops-whole}
 use Rattle.layout_call.proofs.Standing.{stands, comments-count}
 use Rattle.file.specs.Whole.{RunsFile, formattedAnswer, formattedOf, widestOf}
 use Rattle.file.specs.declared.FileRun.{FileRun}

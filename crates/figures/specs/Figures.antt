@@ -9,8 +9,8 @@ use lib.ListN.{length}
 use Rattle.tree.specs.CommentList.{commentsOf}
 use Rattle.refusals.specs.Refusals.{Refusal, first}
 use Rattle.refusals.specs.Answers.{Answer, refused, accepted, answerBy}
-use Rattle.plain_run.specs.Built.{referenceChoice, built, drawnDue, columnDue}
-use Rattle.plain_run.specs.File.{fileRefusal}
+use Rattle.whole_run.specs.Built.{referenceChoice, built, drawnDue, columnDue}
+use Rattle.whole_run.specs.File.{fileRefusal}
 use Rattle.tallies.specs.declared.Figures.{Figures}
 use Rattle.tallies.specs.declared.Tallies.{Tallies}
 use Rattle.tallies.specs.declared.Fraction.{Fraction}

@@ -8,9 +8,9 @@ use lib.ListN.{length, take}
 use Rattle.refusals.specs.Refusals.{Refusal}
 use Rattle.refusals.specs.Answers.{Answer, refused, accepted}
 use Rattle.cut_rule.specs.Callers.{afterAll, AllKept}
-use Rattle.plain_run.specs.File.{fileRefusal}
-use Rattle.plain_run.specs.FileLimits.{AreBytes}
-use Rattle.plain_run.specs.Built.{referenceChoice}
+use Rattle.whole_run.specs.File.{fileRefusal}
+use Rattle.whole_run.specs.FileLimits.{AreBytes}
+use Rattle.whole_run.specs.Built.{referenceChoice}
 use Rattle.tallies.specs.declared.Figures.{Figures}
 use Rattle.tallies.specs.declared.Tallies.{Tallies}
 use Rattle.tallies.specs.Tallies.{MAX-FILES, freshTallies}

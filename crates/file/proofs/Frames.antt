@@ -13,8 +13,8 @@ use Rattle.image.specs.Bytes.{be32}
 use Rattle.refusals.specs.Refusals.{Refusal, unless, first, refuseIf}
 use Rattle.refusals.specs.Answers.{answerBy}
 use Rattle.cut_rule.specs.Run.{writeFront}
-use Rattle.plain_run.specs.Built.{referenceChoice, drawnDue}
-use Rattle.plain_run.specs.File.{fileRefusal, fileResult}
+use Rattle.whole_run.specs.Built.{referenceChoice, drawnDue}
+use Rattle.whole_run.specs.File.{fileRefusal, fileResult}
 use Rattle.file.specs.Whole.{Formats, sourceOf, imageOf, frameFits, frameTable, formattedAnswer, FormatsFrame}
 use Rattle.file.specs.declared.Formatted.{Formatted}
 use Rattle.file.specs.declared.Formatted.the-variants as answer

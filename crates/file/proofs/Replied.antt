@@ -11,8 +11,8 @@ use Rattle.rows.specs.declared.units.Bytes.{Bytes}
 use Rattle.refusals.specs.Refusals.{Refusal, unless}
 use Rattle.refusals.proofs.Answers.{refused-by, accepted-by, sets-front}
 use Rattle.cut_rule.specs.Run.{writeFront}
-use Rattle.plain_run.specs.Built.{referenceChoice, drawnDue}
-use Rattle.plain_run.specs.File.{FileResult, fileResult}
+use Rattle.whole_run.specs.Built.{referenceChoice, drawnDue}
+use Rattle.whole_run.specs.File.{FileResult, fileResult}
 use Rattle.file.specs.Whole.{formattedAnswer, sourceOf, imageOf, frameTable, FormatsFrame}
 use Rattle.file.specs.declared.Formatted.{Formatted}
 use Rattle.file.specs.declared.Formatted.the-variants as answer

@@ -24,14 +24,14 @@ use Rattle.cut_rule.specs.Rules as rules
 use Rattle.cut_rule.specs.States.{layoutFresh, renderFresh}
 use Rattle.cut_rule.specs.Parts.{withCleared, widthLine, beforeMarks}
 use Rattle.cut_rule.proofs.Answers.{LaidBy, laid-by, written-by}
-use Rattle.plain_run.specs.Parts.{partsOf, widestDrawn}
-use Rattle.plain_run.specs.Built.{FileChoice, layoutChoice, renderChoice, declared, built, rowsDue, drawnDue, columnDue}
-use Rattle.plain_run.specs.Demands.{rulesOf, closingAt}
-use Rattle.plain_run.specs.File.{modeLine, fileRows, fileMarks, fileBeforeRows, laidRefusal, refusalIn, fileRefusal, fileResult}
-use Rattle.plain_run.specs.File.{storeLeft, marksLeft, outputLeft}
-use Rattle.plain_run.proofs.FileTable.{stops-laid, stops-whole}
-use Rattle.plain_run.proofs.File.{stateDue, renderedDue, layout-answer-due, layout-store-due}
-use Rattle.plain_run.proofs.File.{render-early-due, render-answer-due, render-marks-due, render-output-due, render-widest-due}
+use Rattle.whole_run.specs.Parts.{partsOf, widestDrawn}
+use Rattle.whole_run.specs.Built.{FileChoice, layoutChoice, renderChoice, declared, built, rowsDue, drawnDue, columnDue}
+use Rattle.whole_run.specs.Demands.{rulesOf, closingAt}
+use Rattle.whole_run.specs.File.{modeLine, fileRows, fileMarks, fileBeforeRows, laidRefusal, refusalIn, fileRefusal, fileResult}
+use Rattle.whole_run.specs.File.{storeLeft, marksLeft, outputLeft}
+use Rattle.whole_run.proofs.FileTable.{stops-laid, stops-whole}
+use Rattle.whole_run.proofs.File.{stateDue, renderedDue, layout-answer-due, layout-store-due}
+use Rattle.whole_run.proofs.File.{render-early-due, render-answer-due, render-marks-due, render-output-due, render-widest-due}
 use Rattle.layout_call.specs.Calls as layouts
 use Rattle.layout_call.specs.Whole.{LayoutCalled}
 use Rattle.layout_call.specs.declared.LayoutState.{LayoutState}

@@ -7,7 +7,7 @@ use lib.ListN.{length}
 use Rattle.refusals.specs.Refusals.{Refusal}
 use Rattle.lines.specs.Lines.{refusedLine}
 use Rattle.cut_rule.specs.Run.{writeFront}
-use Rattle.plain_run.specs.Built.{referenceChoice, drawnDue}
+use Rattle.whole_run.specs.Built.{referenceChoice, drawnDue}
 use Rattle.file.specs.Whole.{sourceOf, imageOf, frameTable}
 
 -- "65,536 output bytes"

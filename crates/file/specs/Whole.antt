@@ -12,9 +12,9 @@ use Rattle.refusals.specs.Refusals.{Refusal, unless, first, refuseIf}
 use Rattle.refusals.specs.Answers.{Answer, refused, accepted, answerBy}
 use Rattle.cut_rule.specs.Run.{writeFront}
 use Rattle.cut_rule.specs.Tests.{rowsIn}
-use Rattle.plain_run.specs.Built as plain
-use Rattle.plain_run.specs.Built.{referenceChoice, drawnDue, columnDue}
-use Rattle.plain_run.specs.File.{FileResult, fileResult, answerIn, fileAnswer, fileRefusal, fileOutput, refusalIn, storeLeft, marksLeft, outputLeft}
+use Rattle.whole_run.specs.Built as plain
+use Rattle.whole_run.specs.Built.{referenceChoice, drawnDue, columnDue}
+use Rattle.whole_run.specs.File.{FileResult, fileResult, answerIn, fileAnswer, fileRefusal, fileOutput, refusalIn, storeLeft, marksLeft, outputLeft}
 use Rattle.file.specs.declared.FileChoice.{FileChoice}
 use Rattle.file.specs.declared.Formatted.{Formatted}
 use Rattle.file.specs.declared.Formatted.the-variants as answer

@@ -17,11 +17,11 @@ use Rattle.ast.specs.Syntax.{typedRecord, list, not′, assign, compoundAssign,
 use Rattle.tree.specs.FormKinds.{formKind}
 use Rattle.tree.specs.At.{Head, Record, Done, Before, Ends, ImportAt, ExprAt, MaybeExprAt, BlockAt, StmtsAt, StmtAt, PartsAt}
 use Rattle.rows.specs.Node.{line}
-use Rattle.state.specs.Act.{Act, _⨟_, push, says, grouped, indented, when, Given}
-use Rattle.state.specs.Laid.{Room, Opened}
-use Rattle.state.specs.declared.Cursor.{Cursor}
-use Rattle.state.proofs.Laws.{Lays, lays-then, lays-skip, room-first, room-next}
-use Rattle.state.proofs.Nested.{lays-group, lays-indent}
+use Rattle.acts.specs.Act.{Act, _⨟_, push, says, grouped, indented, when, Given}
+use Rattle.acts.specs.Laid.{Room, Opened}
+use Rattle.acts.specs.declared.Cursor.{Cursor}
+use Rattle.acts.proofs.Laws.{Lays, lays-then, lays-skip, room-first, room-next}
+use Rattle.acts.proofs.Nested.{lays-group, lays-indent}
 use Rattle.comments.specs.Listed.{given}
 use Rattle.layout.specs.Layout.{importPath, isBraced, noneOf, isEmpty, gap, stmtsRule, stmtRule, stmtForm}
 use Rattle.layout.specs.Layout.{beforeStmt, afterStmt, blockStart, blockRule, partsRule, placeholder}

@@ -11,10 +11,10 @@ use Rattle.image.specs.Read.{stopAt, kindAt}
 use Rattle.ast.specs.Syntax.{Idents, TypeExpr, Expr, expr, Pattern, underscore, enumVariant, MaybeExpr}
 use Rattle.ast.specs.Syntax.{noExpr, someExpr, Block, MaybeBlock, noBlock, someBlock, Ident}
 use Rattle.tree.specs.At.{Head, Ends, IdentAt, ListAt, Maybe, TypeAt, PatternAt, ExprAt, MaybeExprAt, BlockAt, MaybeBlockAt}
-use Rattle.state.specs.Act.{Act, _⨟_, says}
-use Rattle.state.specs.Laid.{Room}
-use Rattle.state.specs.declared.Cursor.{Cursor}
-use Rattle.state.proofs.Laws.{Lays, lays-then, lays-skip, room-first, room-next}
+use Rattle.acts.specs.Act.{Act, _⨟_, says}
+use Rattle.acts.specs.Laid.{Room}
+use Rattle.acts.specs.declared.Cursor.{Cursor}
+use Rattle.acts.proofs.Laws.{Lays, lays-then, lays-skip, room-first, room-next}
 use Rattle.comments.specs.Comments.{popTrailingComment}
 use Rattle.comments.specs.Listed.{given}
 use Rattle.layout.specs.Layout.{ident, typeExpr, identElems, letType, maybeExpr, otherwise, lastRule, beforeStmt, blockRule, pattern}

@@ -12,11 +12,11 @@ use Rattle.ast.specs.Syntax.{Span, Ident, TypeExpr, type, Types, noTypes, _∷�
 use Rattle.ast.specs.Syntax.{_∷ⁱ_, Variants, noVariants, variant, Expr, expr, Exprs, noExprs, _∷ᵉ_, Entries, noEntries, entry, Arms, noArms, arm}
 use Rattle.tree.specs.At.{Head, Done, Before, IdentsAt, TypeAt, TypesAt, FieldsAt, ImportAt, ImportsAt, VariantsAt, ExprAt, ExprsAt, EntriesAt, ArmsAt}
 use Rattle.rows.specs.Words.{table}
-use Rattle.state.specs.Act.{Given, Act, _⨟_, says, grouped, indented}
-use Rattle.state.specs.Laid.{Room, Laid}
-use Rattle.state.specs.declared.Cursor.{Cursor}
-use Rattle.state.proofs.Laws.{Lays, lays, lays-then, lays-skip, room-first, room-next}
-use Rattle.state.proofs.Nested.{room-group, laid-group, room-indent, lays-indent}
+use Rattle.acts.specs.Act.{Given, Act, _⨟_, says, grouped, indented}
+use Rattle.acts.specs.Laid.{Room, Laid}
+use Rattle.acts.specs.declared.Cursor.{Cursor}
+use Rattle.acts.proofs.Laws.{Lays, lays, lays-then, lays-skip, room-first, room-next}
+use Rattle.acts.proofs.Nested.{room-group, laid-group, room-indent, lays-indent}
 use Rattle.comments.specs.Comments.{popTrailingComment}
 use Rattle.tree.specs.CommentList.{span}
 use Rattle.comments.specs.Listed.{given}

@@ -5,9 +5,9 @@ use Prim.Native.Nat.{ℕ, _+_, _*_, _≤_, _<_}
 use lib.ListN.{getD, length}
 use Rattle.ast.specs.Syntax.{Span, Expr, expr, Form, binOp}
 use Rattle.tree.specs.At.{ExprAt}
-use Rattle.state.specs.Act.{Act}
-use Rattle.state.specs.Laid.{Room, Laid}
-use Rattle.state.specs.declared.Cursor.{Cursor}
+use Rattle.acts.specs.Act.{Act}
+use Rattle.acts.specs.Laid.{Room, Laid}
+use Rattle.acts.specs.declared.Cursor.{Cursor}
 use Rattle.comments.specs.Listed.{given}
 use Rattle.layout.specs.Layout.{Operands, leftmost, popped, binopPrecedence, operands}
 use Rattle.layout.specs.Contracts.{Readable}

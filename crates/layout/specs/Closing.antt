@@ -5,7 +5,7 @@ use lib.Dec.{ltb}
 use lib.ListN.{length}
 use Rattle.ast.specs.Syntax.{Declaration, SyntaxTree}
 use Rattle.rows.specs.Node.{line}
-use Rattle.state.specs.Act.{Given, St, Act, _⨟_, when, push, stepAlone}
+use Rattle.acts.specs.Act.{Given, St, Act, _⨟_, when, push, stepAlone}
 use Rattle.comments.specs.Comments.{popWhitespace}
 use Rattle.layout.specs.Layout.{shebangRule, declarationsRule}
 

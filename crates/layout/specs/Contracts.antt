@@ -8,9 +8,9 @@ use Rattle.image.specs.Bytes.{be32}
 use Rattle.image.specs.Read.{stopAt}
 use Rattle.ast.specs.Syntax.{Span}
 use Rattle.rows.specs.Words.{table}
-use Rattle.state.specs.Act.{Given, Act}
-use Rattle.state.specs.Laid.{Room, Laid}
-use Rattle.state.specs.declared.Cursor.{Cursor}
+use Rattle.acts.specs.Act.{Given, Act}
+use Rattle.acts.specs.Laid.{Room, Laid}
+use Rattle.acts.specs.declared.Cursor.{Cursor}
 use Rattle.comments.specs.Listed.{given, Listed}
 
 -- what layout needs of an accepted image besides its tree: the comment list, and the size, which a place in a row can hold

@@ -12,9 +12,9 @@ use Rattle.ast.specs.Syntax.{Span, Ident, Idents, TypeExpr, Types, Fields, Patt
 use Rattle.tree.specs.At.{Head, Record, firstAt, secondAt, thirdAt, Ends, Done, Before, IdentAt, TypeAt, TypesAt, FieldsAt, ImportAt, PatternAt, MaybeExprAt, ExprAt, ExprsAt, EntriesAt}
 use Rattle.rows.specs.Kinds.{GROUP, INDENT}
 use Rattle.rows.specs.Words.{table}
-use Rattle.state.specs.Act.{Given, Act, _⨟_, grouped, indented}
-use Rattle.state.specs.Laid.{Room, Laid, Opened}
-use Rattle.state.specs.declared.Cursor.{Cursor}
+use Rattle.acts.specs.Act.{Given, Act, _⨟_, grouped, indented}
+use Rattle.acts.specs.Laid.{Room, Laid, Opened}
+use Rattle.acts.specs.declared.Cursor.{Cursor}
 use Rattle.comments.specs.Listed.{given}
 use Rattle.layout.specs.declared.forms.ListForm.{ListForm}
 use Rattle.layout.specs.declared.forms.TypeElement.{TypeElement}

@@ -11,7 +11,7 @@ use Rattle.ast.specs.Syntax.{Span, Ident, Path, TypeExpr, type, TypeForm, Types
 use Rattle.tree.specs.At.{Head, Record, Done, Ends, ByteAt, PathAt, Maybe, TypeAt, TypesAt, ExprAt, BlockAt, StmtAt, IdentAt, ListAt, DeclarationAt}
 use Rattle.rows.specs.Node.{ascii}
 use Rattle.rows.specs.Words.{table}
-use Rattle.state.specs.Act.{Given, Act, _⨟_, says, push, content}
+use Rattle.acts.specs.Act.{Given, Act, _⨟_, says, push, content}
 use Rattle.layout.specs.Layout as layout
 
 -- a constructor of two or more arguments, as one of a tuple

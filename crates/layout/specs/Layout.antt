@@ -20,7 +20,7 @@ use Rattle.ast.specs.Syntax.{SyntaxTree}
 use Rattle.tree.specs.FormKinds.{formKind}
 use Rattle.rows.specs.Node.{Text, str, ascii, line, emptyLine, lineOrSpace, wrapParent, ifWrap}
 use Rattle.rows.specs.Words.{word}
-use Rattle.state.specs.Act.{Given, St, Out, Act, Asking, _⨟_, _⨟?_, skip, when, push, stepAlone, grouped, indented, indentedNext, called, says, content}
+use Rattle.acts.specs.Act.{Given, St, Out, Act, Asking, _⨟_, _⨟?_, skip, when, push, stepAlone, grouped, indented, indentedNext, called, says, content}
 use Rattle.comments.specs.Comments.{whitespace, popWhitespace, popTrailingComment}
 use Rattle.layout.specs.declared.forms.WrapStyle.{WrapStyle}
 use Rattle.layout.specs.declared.forms.WrapStyle.the-variants.{Tight, Spaced, Wrap}

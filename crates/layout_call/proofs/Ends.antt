@@ -16,9 +16,9 @@ use Rattle.image.proofs.Answers.{read-refusal}
 use Rattle.rows.specs.Limits.{CELL-LIMIT}
 use Rattle.rows.specs.Rows.{sizes, rows}
 use Rattle.rows.proofs.Sizes.{length-rows}
-use Rattle.state.specs.Act.{Act}
-use Rattle.state.specs.Laid.{cursor, st, Room, Laid}
-use Rattle.state.specs.declared.Cursor.{Cursor}
+use Rattle.acts.specs.Act.{Act}
+use Rattle.acts.specs.Laid.{cursor, st, Room, Laid}
+use Rattle.acts.specs.declared.Cursor.{Cursor}
 use Rattle.tree.specs.CommentList.{commentsOf}
 use Rattle.comments.specs.Listed.{given}
 use Rattle.layout_facts.proofs.InOrder.{places-call}
@@ -32,10 +32,10 @@ use Rattle.cut_rule.specs.Tests.{rowsIn, layoutTestsIn}
 use Rattle.cut_rule.specs.Parts.{Piece, layoutTests, beforeRows, rowsLine, layoutTable, rowsNeeded, callPiece, laidOf}
 use Rattle.cut_rule.proofs.Memory.{write-sets}
 use Rattle.cut_rule.proofs.Table.{LayoutFits, layout-fits}
-use Rattle.plain_run.specs.Parts.{keepsWaiting, partsOf, actPiece}
-use Rattle.plain_run.specs.Demands.{rulesOf}
-use Rattle.plain_run.specs.Built.{tree, declared}
-use Rattle.plain_run.proofs.Whole.{call-piece}
+use Rattle.whole_run.specs.Parts.{keepsWaiting, partsOf, actPiece}
+use Rattle.whole_run.specs.Demands.{rulesOf}
+use Rattle.whole_run.specs.Built.{tree, declared}
+use Rattle.whole_run.proofs.Whole.{call-piece}
 use Rattle.layout_call.specs.Calls.{toState, toArgs, layingAnswer}
 use Rattle.layout_call.specs.Whole.{LayoutCalled}
 use Rattle.layout_call.specs.Steps.{SmallCursor, StateFits, Roomy, callAct}

@@ -15,8 +15,8 @@ use Rattle.ast.specs.Syntax.{Declaration}
 use Rattle.tree.specs.At.{DeclarationsAt}
 use Rattle.tree.specs.Walk.{walked}
 use Rattle.tree.proofs.Walk.{declarations-from, walked-within, walked-on, declarations-between}
-use Rattle.state.specs.Laid.{st, Room, Laid}
-use Rattle.state.specs.declared.Cursor.{Cursor}
+use Rattle.acts.specs.Laid.{st, Room, Laid}
+use Rattle.acts.specs.declared.Cursor.{Cursor}
 use Rattle.tree.specs.CommentList.{commentsOf}
 use Rattle.comments.specs.Listed.{given, Listed}
 use Rattle.comments.proofs.Accepted.{accepted-listed}
@@ -28,9 +28,9 @@ use Rattle.layout_facts.specs.Sound.{BYTE-GIVES, ROW-TAKES}
 use Rattle.layout_facts.specs.Accepted.{Stands}
 use Rattle.rows.specs.Rows.{sizes}
 use Rattle.layout_facts.proofs.Limits.{call-room, few-rows as few}
-use Rattle.plain_run.specs.Parts.{keepsWaiting}
-use Rattle.plain_run.specs.Built.{tree, declared}
-use Rattle.plain_run.proofs.Limits.{standing}
+use Rattle.whole_run.specs.Parts.{keepsWaiting}
+use Rattle.whole_run.specs.Built.{tree, declared}
+use Rattle.whole_run.proofs.Limits.{standing}
 use Rattle.layout_call.specs.Steps.{SmallCursor, startOf, callAct}
 use Rattle.layout_call.specs.declared.LayoutState.{LayoutState}
 use Rattle.layout_call.specs.declared.LayoutArgs.{LayoutArgs}

@@ -5,7 +5,7 @@ use Rattle.refusals.specs.Answers.{Answer, refused, accepted}
 use Rattle.cut_rule.specs.Rules as cut
 use Rattle.cut_rule.specs.Run.{CallResult, laidOut}
 use Rattle.cut_rule.specs.States as states
-use Rattle.plain_run.specs.Demands.{rulesOf}
+use Rattle.whole_run.specs.Demands.{rulesOf}
 use Rattle.layout_call.specs.declared.LayoutState.{LayoutState}
 use Rattle.layout_call.specs.declared.LayoutArgs.{LayoutArgs}
 use Rattle.layout_call.specs.declared.Laying.{Laying}

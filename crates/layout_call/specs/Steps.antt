@@ -9,15 +9,15 @@ use Rattle.image.specs.Read.{stopAt}
 use Rattle.image.specs.declared.Document.{Document}
 use Rattle.rows.specs.Limits.{MAX-ROWS, MAX-NUMBER}
 use Rattle.tree.specs.Walk.{walked}
-use Rattle.state.specs.Act.{Act}
+use Rattle.acts.specs.Act.{Act}
 use Rattle.comments.specs.Listed.{given}
 use Rattle.layout.specs.Closing.{callRule}
-use Rattle.state.specs.declared.Cursor.{Cursor}
+use Rattle.acts.specs.declared.Cursor.{Cursor}
 use Rattle.refusals.specs.Refusals.{any}
 use Rattle.cut_rule.specs.Tests.{rowsIn}
 use Rattle.cut_rule.specs.Parts.{layoutTests, rowsNeeded}
-use Rattle.plain_run.specs.Parts.{keepsWaiting, partsOf}
-use Rattle.plain_run.specs.Built.{tree, declared}
+use Rattle.whole_run.specs.Parts.{keepsWaiting, partsOf}
+use Rattle.whole_run.specs.Built.{tree, declared}
 use Rattle.layout_call.specs.Calls.{toState, toArgs}
 use Rattle.layout_call.specs.declared.LayoutState.{LayoutState}
 use Rattle.layout_call.specs.declared.LayoutArgs.{LayoutArgs}

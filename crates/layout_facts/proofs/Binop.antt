@@ -10,8 +10,8 @@ use lib.Dec.{eqb}
 use Rattle.ast.specs.Syntax.{Span, Expr, expr, Form, return′, literal, block, match′, functionCall, access, path, record′, typedRecord, list, not′}
 use Rattle.ast.specs.Syntax.{assign, compoundAssign, binOp, negate, ifElse, while, for, questionMark, fString, parentheses}
 use Rattle.rows.specs.Node.{Nodes, none, _then_, join, lineOrSpace}
-use Rattle.state.specs.Act.{Given, St, Out, Act, next, _⨟_, skip, push, grouped, indented}
-use Rattle.state.proofs.Laws.{then-assoc}
+use Rattle.acts.specs.Act.{Given, St, Out, Act, next, _⨟_, skip, push, grouped, indented}
+use Rattle.acts.proofs.Laws.{then-assoc}
 use Rattle.layout.specs.Layout.{Operands, binopPrecedence, operator, leftmost, binop, popped, operands, operandsForm, exprWithPrecedence, exprForm, exprRule}
 use Rattle.layout_facts.specs.Binop.{Pushed, pushed, Descent, descent, descend, descendForm, popOps, binopOfRust, BinopAsRust}
 

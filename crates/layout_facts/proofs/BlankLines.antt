@@ -14,8 +14,8 @@ use borrow.Author.Tests.{lt-ltb, ne-eqb}
 use Rattle.text.specs.Newlines.{countNewlines}
 use Rattle.ast.specs.Syntax.{Span}
 use Rattle.rows.specs.Node.{Nodes, comment, line, emptyLine, none, _then_, join}
-use Rattle.state.specs.Act.{Given, St, Out, Act, next, _⨟_, _⨟?_, _⨟!_, skip, when, push, pop, stepAlone}
-use Rattle.state.proofs.Joins.{join-assoc}
+use Rattle.acts.specs.Act.{Given, St, Out, Act, next, _⨟_, _⨟?_, _⨟!_, skip, when, push, pop, stepAlone}
+use Rattle.acts.proofs.Joins.{join-assoc}
 use Rattle.comments.specs.Comments.{nth, whitespace, newlines, ignoreNewlines, popComment, waits, popComments, afterComments, popWhitespace}
 use Rattle.comments.proofs.Pops.{waits-none, waits-some, pop-on, pop-late, pop-none}
 use Rattle.layout.specs.Layout.{opening}

@@ -13,7 +13,7 @@ use Rattle.ast.specs.Syntax.{Span, Ident, Idents, noTypes, _∷ᵗ_, Fields, Va
 use Rattle.ast.specs.Syntax.{enumDecl, function, test, importDecl, SyntaxTree}
 use Rattle.tree.specs.At.{Head, past, IdentAt, ListAt, Maybe, TypesAt, FieldsAt, VariantsAt, DeclarationAt, DeclarationsAt, TreeAt}
 use Rattle.rows.specs.Words.{among}
-use Rattle.state.specs.Act.{Given, Act}
+use Rattle.acts.specs.Act.{Given, Act}
 use Rattle.comments.specs.Comments.{whitespace, popWhitespace}
 use Rattle.layout.specs.declared.forms.WrapStyle.the-variants.{Tight, Wrap}
 use Rattle.layout.specs.Layout.{someTypeParams, Bottom, params, typeParams, identElems, fieldElems, opening, variantElems, declaration, declares, shebangRule}

@@ -19,7 +19,7 @@ use Rattle.ast.specs.Syntax.{SyntaxTree}
 use Rattle.rows.specs.Node.{Text, Node, ascii, str, line, emptyLine, lineOrSpace, wrapParent, ifWrap}
 use Rattle.rows.specs.Words.{word}
 use Rattle.renderer_rules.specs.Holds.{Token, aWord, lastComma}
-use Rattle.state.specs.Act.{Given, Act, Asking, _⨟_, _⨟?_, skip, when, push, stepAlone, grouped, indented, indentedNext, called, says, content}
+use Rattle.acts.specs.Act.{Given, Act, Asking, _⨟_, _⨟?_, skip, when, push, stepAlone, grouped, indented, indentedNext, called, says, content}
 use Rattle.comments.specs.Comments.{whitespace, popWhitespace, popTrailingComment}
 use Rattle.comments.specs.declared.Gap.{Gap}
 use Rattle.layout.specs.declared.forms.WrapStyle.{WrapStyle}

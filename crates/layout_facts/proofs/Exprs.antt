@@ -20,7 +20,7 @@ use Rattle.tree.specs.At.{past, Maybe, ExprAt, FormAt, ExprsAt, MaybeExprAt, En
 use Rattle.tree.specs.At.{StmtFormAt}
 use Rattle.rows.specs.Node.{ascii}
 use Rattle.rows.specs.Words.{among, isWord}
-use Rattle.state.specs.Act.{Given, Act, _⨟_, push, grouped, content, indentedNext, called}
+use Rattle.acts.specs.Act.{Given, Act, _⨟_, push, grouped, content, indentedNext, called}
 use Rattle.comments.specs.Comments.{whitespace, popWhitespace, popTrailingComment}
 use Rattle.layout.specs.declared.forms.WrapStyle.the-variants.{Tight, Spaced, Wrap}
 use Rattle.layout.specs.Layout.{operator, maybeExpr, placeholder, clause, blockStart, beforeStmt, afterStmt, leftmost, popped, Operands, Bottom}

@@ -14,7 +14,7 @@ use Rattle.ast.specs.Syntax.{Span, Ident, Declaration, SyntaxTree}
 use Rattle.text.specs.Newlines.{countNewlines, newlinePlaces, isRange}
 use Rattle.text.specs.Utf8.{within, boundary}
 use Rattle.rows.specs.Node.{join}
-use Rattle.state.specs.Act.{Given, St, Out, Act, next, _⨟_, _⨟!_, when, skip, moveTo, pop, stepAlone}
+use Rattle.acts.specs.Act.{Given, St, Out, Act, next, _⨟_, _⨟!_, when, skip, moveTo, pop, stepAlone}
 use Rattle.comments.specs.Comments.{nth, front, newlines, ignoreNewlines, popComment, waits, popComments, afterComments, popWhitespace}
 use Rattle.tree.specs.CommentList.{commentsOf}
 use Rattle.comments.specs.Listed.{given, Listed}

@@ -13,7 +13,7 @@ use Rattle.text.specs.declared.space.Found.{Found}
 use Rattle.text.specs.declared.space.Found.the-variants.{At, Nowhere}
 use Rattle.ast.specs.Syntax.{Span}
 use Rattle.rows.specs.Node.{line, emptyLine}
-use Rattle.state.specs.Act.{Given, St, Act, _⨟_, _⨟!_, skip, push, moveTo, pop, stepAlone}
+use Rattle.acts.specs.Act.{Given, St, Act, _⨟_, _⨟!_, skip, push, moveTo, pop, stepAlone}
 use Rattle.comments.specs.Comments.{breakLine, front, pushComment, newlines, ignoreNewlines, popComment}
 use Rattle.comments.specs.Comments.{waits, popComments, afterComments, popWhitespace, popTrailingComment}
 

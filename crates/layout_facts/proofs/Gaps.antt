@@ -18,10 +18,10 @@ use Rattle.text.specs.declared.space.Found.the-variants.{At, Nowhere}
 use Rattle.ast.specs.Syntax.{Span}
 use Rattle.rows.specs.Node.{line, emptyLine, none, join}
 use Rattle.rows.specs.Rows.{sizes}
-use Rattle.state.specs.Act.{Given, St, Out, Act, next, _⨟_, _⨟!_, skip, push, moveTo, pop, stepAlone}
+use Rattle.acts.specs.Act.{Given, St, Out, Act, next, _⨟_, _⨟!_, skip, push, moveTo, pop, stepAlone}
 use Rattle.comments.specs.Comments.{nth, front, pushComment, newlines, ignoreNewlines, popComment, waits}
 use Rattle.comments.specs.Comments.{popComments, afterComments, popWhitespace, popTrailingComment}
-use Rattle.state.proofs.Joins.{sizes-join}
+use Rattle.acts.proofs.Joins.{sizes-join}
 use Rattle.layout_facts.specs.Placing.{trimmed}
 use Rattle.layout_facts.specs.Sound.{Inside, Ranged, Commented, ROW-TAKES, Sound, Sounds}
 use Rattle.layout_facts.proofs.Steps.{sound-then, _⨾_, fewer, sound-skip, sound-moveTo, sound-line, sound-emptyLine, sound-comment, sound-cond}

@@ -9,7 +9,7 @@ use native.Mathlib.Omega.{arith}
 use lib.ListN.{take}
 use Rattle.ast.specs.Syntax.{Ident, Declaration, SyntaxTree}
 use Rattle.rows.specs.Node.{Node}
-use Rattle.state.specs.Act.{Given}
+use Rattle.acts.specs.Act.{Given}
 use Rattle.layout.specs.Layout.{declaration, declarationsRule, shebangRule}
 use Rattle.layout_facts.specs.Placing.{commentsOfNode, commentsInNodes, trimmed, Places}
 use Rattle.layout.specs.Closing.{fresh, closing, wholeRule, callRule}

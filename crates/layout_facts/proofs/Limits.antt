@@ -22,9 +22,9 @@ use Rattle.rows.specs.Node.{Nodes}
 use Rattle.rows.specs.Rows.{sizes, rows}
 use Rattle.rows.proofs.Flatten.{Holds}
 use Rattle.renderer_rules.specs.Check.{wrongPlace}
-use Rattle.state.specs.Act.{Given, St, Out, Act}
-use Rattle.state.specs.Laid.{st, Room}
-use Rattle.state.specs.declared.Cursor.{Cursor}
+use Rattle.acts.specs.Act.{Given, St, Out, Act}
+use Rattle.acts.specs.Laid.{st, Room}
+use Rattle.acts.specs.declared.Cursor.{Cursor}
 use Rattle.comments.specs.Listed.{given, Listed}
 use Rattle.comments.proofs.Fronts.{count-of, good}
 use Rattle.layout.specs.Layout.{fmtParsed}

@@ -9,8 +9,8 @@ use lib.Dec.{eqb}
 use Rattle.ast.specs.Syntax.{SyntaxTree}
 use Rattle.rows.specs.Node.{Node, Nodes, none, _then_, join}
 use Rattle.renderer_rules.proofs.Names.{names, namesIn}
-use Rattle.state.specs.Act.{Given, St, Out, Act, next, _⨟_, _⨟?_, skip, push, grouped, indented}
-use Rattle.state.specs.Act.{indentedNext, called}
+use Rattle.acts.specs.Act.{Given, St, Out, Act, next, _⨟_, _⨟?_, skip, push, grouped, indented}
+use Rattle.acts.specs.Act.{indentedNext, called}
 use Rattle.comments.specs.Comments.{ignoreNewlines}
 use Rattle.layout.specs.Layout.{fmtParsed}
 use Rattle.layout.specs.Closing.{fresh, wholeRule}

@@ -19,7 +19,7 @@ use Rattle.tree.specs.At.{ImportGroupAt, ImportsAt, PatternAt}
 use Rattle.rows.specs.Node.{Text, wrapParent}
 use Rattle.rows.specs.Words.{among, word, isWord}
 use Rattle.rows.proofs.Table.{words-there, word-inside}
-use Rattle.state.specs.Act.{Given, Act, push, says, when}
+use Rattle.acts.specs.Act.{Given, Act, push, says, when}
 use Rattle.layout.specs.declared.forms.WrapStyle.{WrapStyle}
 use Rattle.layout.specs.declared.forms.WrapStyle.the-variants.{Tight, Spaced, Wrap}
 use Rattle.layout.specs.Layout.{edge, isWrap, opens, ends, inside, beforeElem, pathNext, Elem, elements, separated, pathMore, pathRule, ident}

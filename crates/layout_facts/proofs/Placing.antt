@@ -16,8 +16,8 @@ use Rattle.text.specs.declared.space.Found.{Found}
 use Rattle.text.specs.declared.space.Found.the-variants.{At, Nowhere}
 use Rattle.ast.specs.Syntax.{Span}
 use Rattle.rows.specs.Node.{Text, Node, Nodes, group, indent, indentNext, comment, line, emptyLine, none, _then_, join}
-use Rattle.state.specs.Act.{Given, St, Out, Act, Asking, next, _⨟_, _⨟?_, _⨟!_, skip, when, push, moveTo, pop, stepAlone, grouped}
-use Rattle.state.specs.Act.{indented, indentedNext, called}
+use Rattle.acts.specs.Act.{Given, St, Out, Act, Asking, next, _⨟_, _⨟?_, _⨟!_, skip, when, push, moveTo, pop, stepAlone, grouped}
+use Rattle.acts.specs.Act.{indented, indentedNext, called}
 use Rattle.comments.specs.Comments.{nth, breakLine, front, pushComment, newlines, ignoreNewlines, popComment, waits}
 use Rattle.comments.specs.Comments.{popComments, afterComments, popWhitespace, popTrailingComment}
 use Rattle.layout_facts.specs.Placing.{commentsOfNode, commentsInNodes, trimmed, between, Placed, Places}

@@ -7,9 +7,9 @@ use native.Mathlib.Omega.{arith}
 use lib.ListN.{length}
 use Rattle.rows.specs.Node.{Text, Node, Nodes, wrapParent, comment, str, ascii, line, emptyLine, lineOrSpace, ifWrap, none, _then_, join}
 use Rattle.rows.specs.Rows.{size, sizes, depth, depths}
-use Rattle.state.specs.Act.{Given, St, Out, Act, Asking, next, _⨟_, _⨟?_, skip, when, push, moveTo, stepAlone, grouped, indented, indentedNext}
-use Rattle.state.specs.Act.{called}
-use Rattle.state.proofs.Joins.{sizes-join}
+use Rattle.acts.specs.Act.{Given, St, Out, Act, Asking, next, _⨟_, _⨟?_, skip, when, push, moveTo, stepAlone, grouped, indented, indentedNext}
+use Rattle.acts.specs.Act.{called}
+use Rattle.acts.proofs.Joins.{sizes-join}
 use Rattle.layout_facts.specs.Sound.{Inside, Supplied, TextsOf, TextsIn, ROW-TAKES, Sound, Sounds}
 
 depths-join : (ns ms : Nodes) → depths (join ns ms) ≡ max (depths ns) (depths ms)

@@ -9,7 +9,7 @@ use Rattle.ast.specs.Syntax.{Declaration, SyntaxTree}
 use Rattle.tree.specs.At.{TreeAt}
 use Rattle.rows.specs.Limits.{MAX-NUMBER}
 use Rattle.rows.specs.Rows.{sizes, depths}
-use Rattle.state.specs.Act.{Given, St, Out}
+use Rattle.acts.specs.Act.{Given, St, Out}
 use Rattle.layout.specs.Closing.{callRule}
 use Rattle.layout_facts.specs.Sound.{BYTE-GIVES, ROW-TAKES, TextsIn, Commented}
 use Rattle.layout_facts.specs.Height.{treeHeight}

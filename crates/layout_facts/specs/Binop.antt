@@ -8,7 +8,7 @@ use lib.Dec.{eqb}
 use Rattle.ast.specs.Syntax.{Span, Expr, expr, Form, return′, literal, block, match′, functionCall, access, path, record′, typedRecord, list, not′}
 use Rattle.ast.specs.Syntax.{assign, compoundAssign, binOp, negate, ifElse, while, for, questionMark, fString, parentheses}
 use Rattle.rows.specs.Node.{lineOrSpace}
-use Rattle.state.specs.Act.{Given, Act, _⨟_, skip, push, grouped, indented}
+use Rattle.acts.specs.Act.{Given, Act, _⨟_, skip, push, grouped, indented}
 use Rattle.layout.specs.Layout.{binopPrecedence, operator, exprWithPrecedence, exprForm, exprRule}
 
 -- an operator on the stack, and its right operand

@@ -10,7 +10,7 @@ use lib.Dec.{ltb, eqb}
 use Rattle.text.specs.Newlines.{countNewlines}
 use Rattle.ast.specs.Syntax.{Span}
 use Rattle.rows.specs.Node.{Nodes, comment, line, emptyLine, none, _then_}
-use Rattle.state.specs.Act.{Given, St}
+use Rattle.acts.specs.Act.{Given, St}
 use Rattle.comments.specs.Comments.{popWhitespace}
 use Rattle.layout.specs.Layout.{opening}
 use Rattle.layout_facts.specs.Placing.{trimmed}

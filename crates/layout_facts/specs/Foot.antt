@@ -9,7 +9,7 @@ use lib.ListN.{length}
 use Rattle.ast.specs.Syntax.{Declaration, SyntaxTree}
 use Rattle.tree.specs.CommentList.{span, commentsOf}
 use Rattle.rows.specs.Node.{Node, comment, line, emptyLine, none, _then_}
-use Rattle.state.specs.Act.{Given, St, Out}
+use Rattle.acts.specs.Act.{Given, St, Out}
 use Rattle.comments.specs.Listed.{given, Listed}
 use Rattle.layout.specs.Closing.{fresh, closing}
 use Rattle.layout_facts.specs.Placing.{trimmed}

@@ -7,7 +7,7 @@ use Rattle.text.specs.Space.{trimEnd}
 use Rattle.ast.specs.Syntax.{Span}
 use Rattle.rows.specs.Node.{Text, Node, Nodes, group, indent, indentNext, wrapParent, comment, str, ascii, line, emptyLine, lineOrSpace, ifWrap, call}
 use Rattle.rows.specs.Node.{none, _then_}
-use Rattle.state.specs.Act.{Given, St, Out, Act}
+use Rattle.acts.specs.Act.{Given, St, Out, Act}
 
 -- the texts of the comments among nodes, in order
 unfoldable mutual

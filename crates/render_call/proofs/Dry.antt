@@ -24,8 +24,8 @@ use Rattle.cut_rule.specs.Parts as cut
 use Rattle.marks.specs.Marks.{marksNeeded, clearFrom, Held, held, putAside, putBack}
 use Rattle.marks.proofs.Undone.{owns, Bytes, Unused, undone}
 use Rattle.marks.proofs.Seen.{aside-view, aside-size, aside-count, aside-nested, clear-count, clear-parts, same-start}
-use Rattle.plain_run.proofs.Past.{renders-length}
-use Rattle.plain_run.proofs.Right.{right}
+use Rattle.whole_run.proofs.Past.{renders-length}
+use Rattle.whole_run.proofs.Right.{right}
 use Rattle.render_call.specs.Whole.{Counted, Takes}
 use Rattle.render_call.specs.declared.RenderState.{RenderState}
 use Rattle.render_call.specs.declared.RenderArgs.{RenderArgs}

@@ -19,7 +19,7 @@ use Rattle.renderer_rules.specs.declared.Pen.{Pen}
 use Rattle.cut_rule.specs.Parts as cut
 use Rattle.cut_rule.specs.PartLaws.{withPast}
 use Rattle.marks.specs.Marks.{marksNeeded}
-use Rattle.plain_run.specs.Parts.{rendererOf, drawnBy}
+use Rattle.whole_run.specs.Parts.{rendererOf, drawnBy}
 use Rattle.render_call.specs.Calls.{toState, runRefusal}
 use Rattle.render_call.specs.Whole.{widestDue, Draws, Takes}
 use Rattle.render_call.specs.declared.RenderState.{RenderState}

@@ -15,9 +15,9 @@ use Rattle.cut_rule.specs.Run.{writeFront}
 use Rattle.cut_rule.specs.Parts.{Drawn, withCleared, drawnOf}
 use Rattle.cut_rule.specs.PartLaws.{withPast}
 use Rattle.marks.specs.Marks.{marksNeeded}
-use Rattle.plain_run.specs.Parts.{partsOf, rendererOf, drawnBy}
-use Rattle.plain_run.proofs.Past.{Unders, ext, renders-ext, renders-length}
-use Rattle.plain_run.proofs.Marks.{nodes-under}
+use Rattle.whole_run.specs.Parts.{partsOf, rendererOf, drawnBy}
+use Rattle.whole_run.proofs.Past.{Unders, ext, renders-ext, renders-length}
+use Rattle.whole_run.proofs.Marks.{nodes-under}
 use Rattle.render_call.specs.Calls.{toState, goesTo}
 use Rattle.render_call.specs.Whole.{widestDue}
 use Rattle.render_call.specs.declared.RenderState.{RenderState}

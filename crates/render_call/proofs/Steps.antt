@@ -16,7 +16,7 @@ use Rattle.renderer.specs.Run.{Starting, Ended}
 use Rattle.renderer.specs.declared.writing.Writing.{Writing}
 use Rattle.cut_rule.specs.Parts as cut
 use Rattle.marks.specs.Marks.{marksNeeded, clearFrom, held, putAside, putBack}
-use Rattle.plain_run.specs.Parts.{rendererOf}
+use Rattle.whole_run.specs.Parts.{rendererOf}
 use Rattle.render_call.specs.Calls.{toState, renderingOf, verdictRefusal, earlyRefusal}
 use Rattle.render_call.specs.Whole.{RenderCalled, Draws, Checked, Counted, Passing, Fitting, Takes, mostOf}
 use Rattle.render_call.specs.declared.RenderState.{RenderState}

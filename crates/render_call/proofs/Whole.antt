@@ -16,8 +16,8 @@ use Rattle.cut_rule.specs.Entries.{renderGives}
 use Rattle.cut_rule.specs.States as states
 use Rattle.rows.specs.declared.units.Bytes.{Bytes}
 use Rattle.cut_rule.specs.Parts.{bytesNeeded, beforeText, textLine, renderTable}
-use Rattle.plain_run.specs.Parts.{partsOf}
-use Rattle.plain_run.specs.Demands.{rulesOf}
+use Rattle.whole_run.specs.Parts.{partsOf}
+use Rattle.whole_run.specs.Demands.{rulesOf}
 use Rattle.rows.specs.declared.units.Columns.{Columns}
 use Rattle.render_call.specs.Calls.{toState, toArgs, runRefusal}
 use Rattle.render_call.specs.Whole.{widestDue, Draws}

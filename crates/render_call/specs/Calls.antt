@@ -8,8 +8,8 @@ use Rattle.cut_rule.specs.Rules as cut
 use Rattle.cut_rule.specs.Run.{CallResult, written}
 use Rattle.cut_rule.specs.States as states
 use Rattle.cut_rule.specs.Parts.{beforeMarks, beforeText}
-use Rattle.plain_run.specs.Parts.{partsOf}
-use Rattle.plain_run.specs.Demands.{rulesOf}
+use Rattle.whole_run.specs.Parts.{partsOf}
+use Rattle.whole_run.specs.Demands.{rulesOf}
 use Rattle.render_call.specs.declared.RenderState.{RenderState}
 use Rattle.render_call.specs.declared.RenderArgs.{RenderArgs}
 use Rattle.render_call.specs.declared.Rendering.{Rendering}

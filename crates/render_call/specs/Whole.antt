@@ -11,8 +11,8 @@ use Rattle.cut_rule.specs.Entries.{renderAnswer, renderMarks, renderOutput}
 use Rattle.refusals.specs.Refusals.{unless}
 use Rattle.marks.specs.Marks.{marksNeeded}
 use Rattle.cut_rule.specs.Parts.{withCleared, bytesNeeded}
-use Rattle.plain_run.specs.Parts.{partsOf, widestDrawn}
-use Rattle.plain_run.specs.Demands.{rulesOf}
+use Rattle.whole_run.specs.Parts.{partsOf, widestDrawn}
+use Rattle.whole_run.specs.Demands.{rulesOf}
 use Rattle.render_call.specs.Calls.{toState, goesTo, toArgs, renderingAnswer, renderingOf, widestOf, earlyRefusal, runRefusal}
 use Rattle.render_call.specs.declared.RenderState.{RenderState}
 use Rattle.render_call.specs.declared.RenderArgs.{RenderArgs}

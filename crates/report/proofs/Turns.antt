@@ -10,13 +10,13 @@ use borrow.Author.Tests.{not-true, not-false}
 use lib.ListN.{length, take, getD, length-take, List·getD-eq-default}
 use lib.Seq.{take-all, getD-take}
 use Rattle.refusals.specs.Answers.{Answer, refused, accepted}
-use Rattle.plain_run.specs.FileLimits.{AreBytes}
+use Rattle.whole_run.specs.FileLimits.{AreBytes}
 use Rattle.tallies.specs.declared.Figures.{Figures}
 use Rattle.tallies.specs.declared.Tallies.{Tallies}
 use Rattle.tallies.specs.declared.Fraction.{Fraction}
 use Rattle.figures.specs.Figures.{CountResult}
 use Rattle.figures.specs.Order.{File}
-use Rattle.table.specs.Table.{fileLine, refusedFileLine, endsInsideLine, Writes}
+use Rattle.report_lines.specs.Table.{fileLine, refusedFileLine, endsInsideLine, Writes}
 use Rattle.feed.specs.Input.{sourceLength, imageLength}
 use Rattle.report.specs.Report.{numberOf, freshProgress, answerTo, progressBy, sourceIn, imageIn, progressDue, TakesBy, TakesNext}
 use Rattle.report.specs.Report.{afterFiles, isWhole, Stops, input-ended, unwritten}

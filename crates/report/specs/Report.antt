@@ -9,7 +9,7 @@ use Rattle.refusals.specs.Answers.{Answer, refused, accepted}
 use Rattle.tallies.specs.Tallies.{freshTallies}
 use Rattle.figures.specs.Figures.{CountResult, countAnswer}
 use Rattle.figures.specs.Order.{File, countedFiles, sumsOf}
-use Rattle.table.specs.Table.{fileLine, refusedFileLine, endsInsideLine, Writes}
+use Rattle.report_lines.specs.Table.{fileLine, refusedFileLine, endsInsideLine, Writes}
 use Rattle.feed.specs.Input.{sourceLength, imageLength}
 use Rattle.feed.specs.declared.Came.{Came}
 use Rattle.feed.specs.declared.Came.the-variants.{Nothing, Cut, Whole}

@@ -2,7 +2,7 @@ use borrow.Author.Needs.{needs}
 use mathlib.Core.List.{[]}
 use Rattle.comments.proofs.Pops.{laid-ignored, any-image}
 use Rattle.comments.specs.Listed.{given}
-use Rattle.state.proofs.Laws.{lays, room-if, lays-if, lays-else}
+use Rattle.acts.proofs.Laws.{lays, room-if, lays-if, lays-else}
 use Rattle.comments.proofs.before_comment.Statement.{statement}
 use Rattle.comments.proofs.before_comment.Tie as tie
 

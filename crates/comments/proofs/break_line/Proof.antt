@@ -1,5 +1,5 @@
 use borrow.Author.Needs.{needs}
-use Rattle.state.proofs.Laws.{lays, lays-skip, room-if, room-else, lays-if, lays-else}
+use Rattle.acts.proofs.Laws.{lays, lays-skip, room-if, room-else, lays-if, lays-else}
 use borrow.Author.Tests.{eq-eqb, ne-eqb}
 use Rattle.comments.proofs.break_line.Statement.{statement}
 use Rattle.comments.proofs.break_line.Tie as tie

@@ -4,7 +4,7 @@ use native.Mathlib.Omega.{arith}
 use Rattle.comments.proofs.Fronts.{is-none, is-some}
 use Rattle.comments.proofs.Pops.{ignored-none, ignored-some}
 use Rattle.comments.specs.Listed.{given}
-use Rattle.state.specs.Laid.{cursor, st}
+use Rattle.acts.specs.Laid.{cursor, st}
 use borrow.Author.Needs.{needs}
 use Rattle.comments.proofs.ignore_newlines.Statement.{statement}
 use Rattle.comments.proofs.ignore_newlines.Tie as tie

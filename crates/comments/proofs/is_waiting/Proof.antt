@@ -2,7 +2,7 @@ use mathlib.Core.Path.{sym}
 use Rattle.comments.proofs.Fronts.{is-none, is-some}
 use Rattle.comments.proofs.Pops.{waits-none, waits-some}
 use Rattle.comments.specs.Listed.{given}
-use Rattle.state.specs.Laid.{st}
+use Rattle.acts.specs.Laid.{st}
 use borrow.Author.Needs.{needs}
 use Rattle.comments.proofs.is_waiting.Statement.{statement}
 use Rattle.comments.proofs.is_waiting.Tie as tie

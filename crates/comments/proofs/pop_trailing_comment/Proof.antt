@@ -6,8 +6,8 @@ use native.Mathlib.Omega.{arith}
 use Rattle.comments.proofs.Fronts.{inside, good, is-none, is-some}
 use Rattle.comments.proofs.Pops.{no-place, no-comment, elsewhere, trailing-one}
 use Rattle.comments.specs.Listed.{given}
-use Rattle.state.proofs.Laws.{room-same, room-first, room-past, laid-same, laid-then, laid-skip, laid-moveTo, laid-pop}
-use Rattle.state.specs.Laid.{st}
+use Rattle.acts.proofs.Laws.{room-same, room-first, room-past, laid-same, laid-then, laid-skip, laid-moveTo, laid-pop}
+use Rattle.acts.specs.Laid.{st}
 use Rattle.comments.proofs.pop_trailing_comment.Statement.{statement}
 use Rattle.comments.proofs.pop_trailing_comment.Tie as tie
 

@@ -4,7 +4,7 @@ use mathlib.Core.List.{List}
 use Prim.Native.Nat.{ℕ, _*_, _/_}
 use lib.ListN.{length, length-replicate}
 use Rattle.rows.specs.Places.{PLACES}
-use Rattle.plain_run.specs.File.{fileRows, fileMarks}
+use Rattle.whole_run.specs.File.{fileRows, fileMarks}
 use Rattle.file.proofs.Steps.{runs-whole}
 use borrow.Author.Needs.{needs}
 use Rattle.file.proofs.format_accepted.Statement.{statement}

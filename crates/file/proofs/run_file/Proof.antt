@@ -1,6 +1,6 @@
 -- 12, for the mode, and 15; then one layout call and one rendering call, both from fresh, on rows and marks that are lent.
 use mathlib.Core.Path.{ap, _∙_}
-use Rattle.plain_run.specs.Demands.{closingAt}
+use Rattle.whole_run.specs.Demands.{closingAt}
 use Rattle.file.specs.Whole.{toChoice}
 use Rattle.file.proofs.Steps.{mode-refused, width-refused, choice-passes, before-layout, layout-refused, drawn-starts, drawn-refused, drawn-formats}
 use borrow.Author.Needs.{needs}

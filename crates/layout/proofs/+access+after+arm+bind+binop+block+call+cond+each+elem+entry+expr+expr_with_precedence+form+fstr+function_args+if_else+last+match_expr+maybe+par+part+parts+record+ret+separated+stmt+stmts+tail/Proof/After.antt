@@ -1,7 +1,7 @@
 use mathlib.Core.Path.{_∙_}
 use Prim.Native.Nat.{ℕ}
 use native.Mathlib.Omega.{arith}
-use Rattle.state.proofs.Laws.{lays, room-first, room-next, lays-then}
+use Rattle.acts.proofs.Laws.{lays, room-first, room-next, lays-then}
 use Rattle.layout.proofs.Lays.{lays-as, laid-as, has-at}
 use Rattle.layout.proofs.after.Reads as after
 use Rattle.layout.proofs.+access+after+arm+bind+binop+block+call+cond+each+elem+entry+expr+expr_with_precedence+form+fstr+function_args+if_else+last+match_expr+maybe+par+part+parts+record+ret+separated+stmt+stmts+tail.Lts-after as after-lts

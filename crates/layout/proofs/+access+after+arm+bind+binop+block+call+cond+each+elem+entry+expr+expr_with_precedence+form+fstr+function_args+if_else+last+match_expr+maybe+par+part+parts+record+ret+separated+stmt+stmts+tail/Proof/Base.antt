@@ -124,15 +124,15 @@ use Rattle.layout.proofs.pieces.begin_list.Reads as begin-list-reads
 use Rattle.layout.proofs.pieces.empty_list.Reads as empty-list-reads
 use Rattle.layout.proofs.pieces.finish_list.Reads as finish-list-reads
 use Rattle.layout.proofs.pieces.gap.Reads as gap-reads
-use Rattle.state.proofs.leaves.line.Reads as line-reads
-use Rattle.state.proofs.leaves.line_or_space.Reads as line-or-space-reads
-use Rattle.state.proofs.parts.close.Reads as close-reads
-use Rattle.state.proofs.parts.open_call.Reads as open-call-reads
-use Rattle.state.proofs.parts.open_group.Reads as open-group-reads
-use Rattle.state.proofs.parts.open_indent.Reads as open-indent-reads
-use Rattle.state.proofs.parts.open_indent_next.Reads as open-indent-next-reads
-use Rattle.state.proofs.parts.set_second.Reads as set-second-reads
-use Rattle.state.proofs.words.word.Reads as word-reads
+use Rattle.acts.proofs.leaves.line.Reads as line-reads
+use Rattle.acts.proofs.leaves.line_or_space.Reads as line-or-space-reads
+use Rattle.acts.proofs.parts.close.Reads as close-reads
+use Rattle.acts.proofs.parts.open_call.Reads as open-call-reads
+use Rattle.acts.proofs.parts.open_group.Reads as open-group-reads
+use Rattle.acts.proofs.parts.open_indent.Reads as open-indent-reads
+use Rattle.acts.proofs.parts.open_indent_next.Reads as open-indent-next-reads
+use Rattle.acts.proofs.parts.set_second.Reads as set-second-reads
+use Rattle.acts.proofs.words.word.Reads as word-reads
 
 abbrev pub μ-access : Measures 3 access-kinds.ps ℕ
 μ-access κs a = 16 * be32 (a .1 .1 .1 .0 .now) (a .1 .1 .1 .1 .0) + 7

@@ -1,12 +1,12 @@
 use mathlib.Core.Path.{_≡_, refl, sym, _∙_, ap}
 use Prim.Native.Nat.{ℕ}
 use native.Mathlib.Omega.{arith}
-use Rattle.state.proofs.Laws.{lays, room-first, room-next}
+use Rattle.acts.proofs.Laws.{lays, room-first, room-next}
 use Rattle.layout.proofs.Lays.{lays-as, laid-as, lays-tail}
 use Rattle.ast.specs.Syntax.{binOp}
 use Rattle.ast.specs.Syntax as syntax
 use Rattle.tree.specs.At.{ExprAt}
-use Rattle.state.proofs.Nested.{opens-group, room-group, opens-indent, room-indent}
+use Rattle.acts.proofs.Nested.{opens-group, room-group, opens-indent, room-indent}
 use Rattle.comments.specs.Listed.{given}
 use Rattle.layout.specs.Layout as rules
 use Rattle.layout.specs.Forms.{four, exprWith}

@@ -1,8 +1,8 @@
 use mathlib.Core.Path.{refl, _∙_}
 use Prim.Native.Nat.{ℕ}
 use native.Mathlib.Omega.{arith}
-use Rattle.state.proofs.Laws.{lays, room-first, room-next}
-use Rattle.state.proofs.Nested.{opens-group, room-group, opens-indent, room-indent}
+use Rattle.acts.proofs.Laws.{lays, room-first, room-next}
+use Rattle.acts.proofs.Nested.{opens-group, room-group, opens-indent, room-indent}
 use Rattle.layout.proofs.Lays.{lays-as, laid-as, lays-all, has-at}
 use Rattle.layout.proofs.Places.{within, maybe-expr}
 use Rattle.layout.proofs.Bodies.{block-parts, block-has, block-laid, body-has, body-laid}

@@ -1,10 +1,10 @@
 use mathlib.Core.Path.{_∙_}
 use Prim.Native.Nat.{ℕ}
 use native.Mathlib.Omega.{arith}
-use Rattle.state.proofs.Laws.{room-first, room-next, lays-then, lays-if, lays-else, room-if, room-else}
+use Rattle.acts.proofs.Laws.{room-first, room-next, lays-then, lays-if, lays-else, room-if, room-else}
 use Rattle.layout.proofs.Lays.{lays-as, laid-as}
 use Rattle.tree.specs.At.{ExprAt}
-use Rattle.state.proofs.Nested.{opens-called, room-called, room-called-next, lays-called}
+use Rattle.acts.proofs.Nested.{opens-called, room-called, room-called-next, lays-called}
 use Rattle.layout.specs.Layout as rules
 use Rattle.layout.proofs.Places.{within, expr-whole}
 use borrow.Author.Tests.{lt-ltb, le-ltb}

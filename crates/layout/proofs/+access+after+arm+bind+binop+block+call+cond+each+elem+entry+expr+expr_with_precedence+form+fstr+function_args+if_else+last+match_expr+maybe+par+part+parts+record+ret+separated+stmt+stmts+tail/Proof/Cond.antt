@@ -1,9 +1,9 @@
 use mathlib.Core.Path.{_∙_}
 use Prim.Native.Nat.{ℕ}
 use native.Mathlib.Omega.{arith}
-use Rattle.state.proofs.Laws.{lays, room-first, room-next, lays-then}
+use Rattle.acts.proofs.Laws.{lays, room-first, room-next, lays-then}
 use Rattle.layout.proofs.Lays.{lays-as, laid-as}
-use Rattle.state.proofs.Nested.{opens-group, room-group, opens-indent, room-indent, lays-group, lays-indent}
+use Rattle.acts.proofs.Nested.{opens-group, room-group, opens-indent, room-indent, lays-group, lays-indent}
 use Rattle.layout.specs.Layout as rules
 use Rattle.layout.proofs.Places.{within, expr-whole}
 use Rattle.layout.proofs.cond.Reads as cond

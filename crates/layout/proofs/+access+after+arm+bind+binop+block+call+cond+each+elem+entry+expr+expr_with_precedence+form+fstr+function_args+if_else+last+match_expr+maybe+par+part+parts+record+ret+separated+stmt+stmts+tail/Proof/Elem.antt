@@ -4,7 +4,7 @@ use Prim.Native.Nat.{ℕ}
 use native.Mathlib.Omega.{arith}
 use Rattle.layout.proofs.Lays.{lays-as, laid-as, has-at}
 use Rattle.layout.proofs.Runs.{elem-of, elem-laid}
-use Rattle.state.proofs.Nested.{opens-group, room-group, lays-group}
+use Rattle.acts.proofs.Nested.{opens-group, room-group, lays-group}
 use Rattle.layout.proofs.elem.Reads as elem
 use Rattle.layout.proofs.+access+after+arm+bind+binop+block+call+cond+each+elem+entry+expr+expr_with_precedence+form+fstr+function_args+if_else+last+match_expr+maybe+par+part+parts+record+ret+separated+stmt+stmts+tail.Lts-elem as elem-lts
 use Rattle.layout.proofs.+access+after+arm+bind+binop+block+call+cond+each+elem+entry+expr+expr_with_precedence+form+fstr+function_args+if_else+last+match_expr+maybe+par+part+parts+record+ret+separated+stmt+stmts+tail.Proof.Base.{elem-at, elem-calls}

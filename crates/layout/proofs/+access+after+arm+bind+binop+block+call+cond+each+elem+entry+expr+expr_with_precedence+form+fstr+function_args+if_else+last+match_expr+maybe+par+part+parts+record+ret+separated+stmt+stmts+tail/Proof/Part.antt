@@ -1,7 +1,7 @@
 use mathlib.Core.Path.{sym, _∙_}
 use Prim.Native.Nat.{ℕ}
 use native.Mathlib.Omega.{arith}
-use Rattle.state.proofs.Laws.{lays, room-first, room-next}
+use Rattle.acts.proofs.Laws.{lays, room-first, room-next}
 use Rattle.layout.proofs.Lays.{lays-as, laid-as}
 use Rattle.layout.proofs.Bodies.{part-whole, text-has, value-has, text-laid, value-laid}
 use Rattle.layout.proofs.part.Reads as part

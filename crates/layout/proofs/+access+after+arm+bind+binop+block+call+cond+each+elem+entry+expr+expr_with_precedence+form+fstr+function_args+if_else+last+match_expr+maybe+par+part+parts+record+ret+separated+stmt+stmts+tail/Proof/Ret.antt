@@ -2,7 +2,7 @@ use mathlib.Core.Path.{_≡_, _∙_, ap}
 use Prim.Native.Nat.{ℕ, _+_}
 use native.Mathlib.Omega.{arith}
 use lib.ListN.{getD}
-use Rattle.state.proofs.Laws.{lays, room-first, room-next, lays-then}
+use Rattle.acts.proofs.Laws.{lays, room-first, room-next, lays-then}
 use Rattle.layout.proofs.Lays.{lays-as, laid-as}
 use Rattle.tree.specs.At.{ExprAt}
 use Rattle.layout.specs.Layout as rules

@@ -1,10 +1,10 @@
 use mathlib.Core.Path.{sym, _∙_}
 use Prim.Native.Nat.{ℕ}
 use native.Mathlib.Omega.{arith}
-use Rattle.state.proofs.Laws.{lays, room-first, room-next}
+use Rattle.acts.proofs.Laws.{lays, room-first, room-next}
 use Rattle.layout.proofs.Lays.{lays-as, laid-as}
 use Rattle.tree.specs.At.{StmtAt}
-use Rattle.state.proofs.Nested.{opens-group, room-group}
+use Rattle.acts.proofs.Nested.{opens-group, room-group}
 use Rattle.layout.proofs.Places.{expr-whole, stmt-whole}
 use Rattle.layout.proofs.Bodies.{let-has, import-has, does-has, let-laid, import-stmt, does-laid}
 use Rattle.layout.proofs.stmt.Reads as stmt

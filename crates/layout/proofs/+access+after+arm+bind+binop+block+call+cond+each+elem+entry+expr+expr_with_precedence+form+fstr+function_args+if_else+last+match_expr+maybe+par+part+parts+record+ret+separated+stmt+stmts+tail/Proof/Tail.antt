@@ -2,7 +2,7 @@ use mathlib.Core.Path.{_≡_, refl, _∙_, subst}
 use Prim.Native.Nat.{ℕ, _+_, _≤_, _*_, _<_, _/_, _-_}
 use native.Mathlib.Omega.{arith}
 use lib.ListN.{length, getD}
-use Rattle.state.proofs.Laws.{lays-skip}
+use Rattle.acts.proofs.Laws.{lays-skip}
 use Rattle.layout.proofs.Lays.{lays-as, laid-tail}
 use Rattle.ast.specs.Syntax.{binOp, Expr}
 use Rattle.ast.specs.Syntax as syntax
@@ -12,8 +12,8 @@ use Rattle.layout.specs.Forms.{four}
 use Rattle.layout.proofs.Places.{within, expr-whole, head-whole}
 use Rattle.layout.proofs.Operands.{above-size, above-at, Going, going-next, operator-has, right-has, going-step, going-end}
 use mathlib.Core.Bool.{true, false}
-use Rattle.state.specs.Act.{Act}
-use Rattle.state.specs.Laid.{Room}
+use Rattle.acts.specs.Act.{Act}
+use Rattle.acts.specs.Laid.{Room}
 use Rattle.layout.specs.Chains.{Above, grown}
 use Rattle.layout.proofs.tail.Reads as tail
 use Rattle.layout.proofs.+access+after+arm+bind+binop+block+call+cond+each+elem+entry+expr+expr_with_precedence+form+fstr+function_args+if_else+last+match_expr+maybe+par+part+parts+record+ret+separated+stmt+stmts+tail.Lts-tail as tail-lts

@@ -1,5 +1,5 @@
 use borrow.Author.Needs.{needs}
-use Rattle.state.proofs.Laws.{room-first, room-past, laid-then}
+use Rattle.acts.proofs.Laws.{room-first, room-past, laid-then}
 use Rattle.layout.specs.Layout.{afterStmt}
 use Rattle.layout.proofs.blocks.after_stmt.Statement.{statement}
 use Rattle.layout.proofs.blocks.after_stmt.Tie as tie

@@ -1,5 +1,5 @@
 use borrow.Author.Needs.{needs}
-use Rattle.state.proofs.Laws.{room-first, room-past, laid-then}
+use Rattle.acts.proofs.Laws.{room-first, room-past, laid-then}
 use Rattle.layout.specs.Layout.{beforeStmt}
 use Rattle.layout.proofs.blocks.before_stmt.Statement.{statement}
 use Rattle.layout.proofs.blocks.before_stmt.Tie as tie

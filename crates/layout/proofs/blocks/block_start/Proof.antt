@@ -1,5 +1,5 @@
 use borrow.Author.Needs.{needs}
-use Rattle.state.proofs.Laws.{room-first, room-past, laid-then, laid-skip}
+use Rattle.acts.proofs.Laws.{room-first, room-past, laid-then, laid-skip}
 use Rattle.layout.specs.Layout.{blockStart}
 use Rattle.layout.proofs.blocks.block_start.Statement.{statement}
 use Rattle.layout.proofs.blocks.block_start.Tie as tie

@@ -1,7 +1,7 @@
 use borrow.Author.Needs.{needs}
 use mathlib.Core.Path.{sym, _∙_}
 use borrow.Author.Tests.{eq-eqb, ne-eqb, lt-leb, le-leb}
-use Rattle.state.proofs.Laws.{laid-skip}
+use Rattle.acts.proofs.Laws.{laid-skip}
 use Rattle.layout.proofs.blocks.semicolon.Statement.{statement}
 use Rattle.layout.proofs.blocks.semicolon.Tie as tie
 

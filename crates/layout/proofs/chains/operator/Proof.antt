@@ -1,6 +1,6 @@
 use borrow.Author.Needs.{needs}
 use Rattle.layout.specs.Layout as rules
-use Rattle.state.proofs.Laws.{lays, lays-asking, room-first, room-next, room-asked, room-asks, lays-then, lays-asks}
+use Rattle.acts.proofs.Laws.{lays, lays-asking, room-first, room-next, room-asked, room-asks, lays-then, lays-asks}
 use Rattle.layout.proofs.Lays.{laid-as}
 use Rattle.layout.proofs.chains.operator.Statement.{statement}
 use Rattle.layout.proofs.chains.operator.Tie as tie

@@ -1,6 +1,6 @@
 use borrow.Author.Needs.{needs}
 use mathlib.Core.Path.{_∙_}
-use Rattle.state.proofs.Laws.{lays, room-first, room-next, lays-then}
+use Rattle.acts.proofs.Laws.{lays, room-first, room-next, lays-then}
 use Rattle.layout.specs.Layout as rules
 use Rattle.tree.specs.At.{DeclarationAt}
 use Rattle.layout.proofs.Places.{within, head-whole, ident-whole, maybe-list}

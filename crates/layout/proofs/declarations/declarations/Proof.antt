@@ -6,7 +6,7 @@ use native.Mathlib.Omega.{arith}
 use mathlib.Core.List.{List}
 use lib.ListN.{length}
 use Rattle.tree.specs.At.{DeclarationsAt}
-use Rattle.state.specs.declared.Cursor.{Cursor}
+use Rattle.acts.specs.declared.Cursor.{Cursor}
 use Rattle.layout.specs.Contracts.{HasAll}
 use Rattle.layout.specs.Forms.{declarationsFrom}
 use Rattle.layout.proofs.DeclarationForms.{declarations-first, first-has, rest-has, declarations-none, declarations-more}

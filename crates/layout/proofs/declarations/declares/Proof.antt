@@ -1,6 +1,6 @@
 use borrow.Author.Needs.{needs}
 use Rattle.layout.specs.Layout as rules
-use Rattle.state.proofs.Laws.{lays, room-first, room-next, lays-then}
+use Rattle.acts.proofs.Laws.{lays, room-first, room-next, lays-then}
 use Rattle.layout.proofs.Places.{ident-whole}
 use Rattle.layout.proofs.Lays.{lays-as, laid-as, has-at}
 use Rattle.layout.proofs.declarations.declares.Statement.{statement}

@@ -1,6 +1,6 @@
 use borrow.Author.Needs.{needs}
 use mathlib.Core.Path.{sym, _∙_}
-use Rattle.state.proofs.Laws.{laid-skip}
+use Rattle.acts.proofs.Laws.{laid-skip}
 use Rattle.layout.proofs.declarations.line_between.Statement.{statement}
 use Rattle.layout.proofs.declarations.line_between.Tie as tie
 

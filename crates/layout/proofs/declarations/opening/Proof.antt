@@ -1,6 +1,6 @@
 use borrow.Author.Needs.{needs}
 use Rattle.layout.specs.Layout as rules
-use Rattle.state.proofs.Laws.{lays, lays-asking, room-asked, room-asks, lays-asks}
+use Rattle.acts.proofs.Laws.{lays, lays-asking, room-asked, room-asks, lays-asks}
 use Rattle.layout.proofs.declarations.opening.Statement.{statement}
 use Rattle.layout.proofs.declarations.opening.Tie as tie
 

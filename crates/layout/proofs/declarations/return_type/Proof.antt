@@ -1,5 +1,5 @@
 use borrow.Author.Needs.{needs}
-use Rattle.state.proofs.Laws.{lays, room-first, room-next}
+use Rattle.acts.proofs.Laws.{lays, room-first, room-next}
 use Rattle.layout.proofs.Places.{absent, present, maybe-type}
 use Rattle.layout.proofs.DeclarationForms.{return-has, no-return, some-return}
 use Rattle.layout.proofs.Lays.{lays-as, laid-as, has-at}

@@ -5,9 +5,9 @@ use native.Mathlib.Omega.{arith}
 use Rattle.text.specs.Space.{trimEnd}
 use Rattle.text.proofs.Trims.{trim-before, trim-after}
 use Rattle.image.specs.Read.{stopAt}
-use Rattle.state.specs.Act.{Act}
-use Rattle.state.specs.Laid.{Room}
-use Rattle.state.proofs.Laws.{lays, room-first, room-next}
+use Rattle.acts.specs.Act.{Act}
+use Rattle.acts.specs.Laid.{Room}
+use Rattle.acts.proofs.Laws.{lays, room-first, room-next}
 use Rattle.layout.proofs.Places.{absent, present, maybe-ident}
 use Rattle.layout.proofs.DeclarationForms.{has-ident, shebang-same, no-shebang, some-shebang}
 use Rattle.layout.proofs.Lays.{laid-as}

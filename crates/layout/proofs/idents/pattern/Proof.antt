@@ -3,7 +3,7 @@ use Prim.Native.Nat.{ℕ, _+_}
 use native.Mathlib.Omega.{arith}
 use Rattle.image.specs.Bytes.{be32}
 use Rattle.image.specs.Read.{stopAt}
-use Rattle.state.proofs.Laws.{lays}
+use Rattle.acts.proofs.Laws.{lays}
 use Rattle.layout.proofs.Lays.{lays-as, laid-as, lays-list}
 use Rattle.layout.proofs.Places.{absent, present, within, ident-whole, pattern-whole}
 use Rattle.layout.proofs.Optionals.{fields-list, pattern-parts, any-room, any-pattern, bare-pattern, full-pattern, fields-whole}

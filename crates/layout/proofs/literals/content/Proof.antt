@@ -1,7 +1,7 @@
 use borrow.Author.Needs.{needs}
 use native.Mathlib.Omega.{arith}
 use Rattle.layout.proofs.Symbols.{range-order}
-use Rattle.state.proofs.Laws.{lays}
+use Rattle.acts.proofs.Laws.{lays}
 use Rattle.layout.proofs.Lays.{laid-as}
 use Rattle.layout.proofs.literals.content.Statement.{statement}
 use Rattle.layout.proofs.literals.content.Tie as tie

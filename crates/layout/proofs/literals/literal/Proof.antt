@@ -4,7 +4,7 @@ use borrow.Author.Needs.{needs}
 use mathlib.Core.Path.{_≡_, sym, _∙_}
 use native.Mathlib.Omega.{arith}
 use Rattle.layout.specs.Layout as rules
-use Rattle.state.proofs.Laws.{lays, room-first, room-next, lays-then}
+use Rattle.acts.proofs.Laws.{lays, room-first, room-next, lays-then}
 use Rattle.layout.proofs.Lays.{lays-as, laid-as, has-at}
 use Rattle.layout.proofs.literals.literal.Statement.{statement}
 use Rattle.layout.proofs.literals.literal.Tie as tie

@@ -1,5 +1,5 @@
 use borrow.Author.Needs.{needs}
-use Rattle.state.proofs.Laws.{lays, room-first, room-next, lays-then}
+use Rattle.acts.proofs.Laws.{lays, room-first, room-next, lays-then}
 use Rattle.layout.proofs.Lays.{lays-as, laid-as, has-at}
 use Rattle.layout.proofs.paths.field_name.Statement.{statement}
 use Rattle.layout.proofs.paths.field_name.Tie as tie

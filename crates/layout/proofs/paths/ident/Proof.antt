@@ -1,7 +1,7 @@
 use borrow.Author.Needs.{needs}
 use mathlib.Core.Path.{refl}
 use native.Mathlib.Omega.{arith}
-use Rattle.state.proofs.Laws.{lays}
+use Rattle.acts.proofs.Laws.{lays}
 use Rattle.layout.proofs.IdentLaws.{ident-room, ident-laid}
 use Rattle.layout.proofs.Lays.{laid-as}
 use Rattle.layout.proofs.paths.ident.Statement.{statement}

@@ -1,7 +1,7 @@
 use borrow.Author.Needs.{needs}
 use mathlib.Core.Path.{_∙_}
-use Rattle.state.proofs.Laws.{lays, room-first, room-next, lays-then}
-use Rattle.state.proofs.Nested.{opens-group, room-group, lays-group, opens-indent, room-indent, lays-indent}
+use Rattle.acts.proofs.Laws.{lays, room-first, room-next, lays-then}
+use Rattle.acts.proofs.Nested.{opens-group, room-group, lays-group, opens-indent, room-indent, lays-indent}
 use Rattle.layout.specs.Layout.{pathRule}
 use Rattle.layout.proofs.Lays.{lays-as, lays-all, laid-as}
 use Rattle.layout.proofs.paths.path.Statement.{statement}

@@ -6,7 +6,7 @@ use native.Mathlib.Omega.{arith}
 use mathlib.Core.List.{List}
 use lib.ListN.{length}
 use Rattle.tree.specs.At.{IdentsAt}
-use Rattle.state.specs.declared.Cursor.{Cursor}
+use Rattle.acts.specs.declared.Cursor.{Cursor}
 use Rattle.layout.specs.Layout.{pathMore}
 use Rattle.layout.specs.Contracts.{HasAll}
 use Rattle.layout.proofs.IdentLaws.{idents-first, first-has, rest-has, idents-none, idents-more}

@@ -1,5 +1,5 @@
 use borrow.Author.Needs.{needs}
-use Rattle.state.proofs.Laws.{lays, room-first, room-next, lays-then}
+use Rattle.acts.proofs.Laws.{lays, room-first, room-next, lays-then}
 use Rattle.layout.specs.Layout.{pathNext}
 use Rattle.layout.proofs.Places.{ident-whole}
 use Rattle.layout.proofs.Lays.{lays-as, laid-as, has-at}

@@ -1,6 +1,6 @@
 use mathlib.Core.Path.{_∙_}
-use Rattle.state.proofs.Laws.{lays, room-first, room-next}
-use Rattle.state.proofs.Nested.{opens-group, room-group, opens-indent}
+use Rattle.acts.proofs.Laws.{lays, room-first, room-next}
+use Rattle.acts.proofs.Nested.{opens-group, room-group, opens-indent}
 use Rattle.layout.proofs.pieces.begin_list.Statement.{statement}
 use Rattle.layout.proofs.pieces.begin_list.Tie as tie
 

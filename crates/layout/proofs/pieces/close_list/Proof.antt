@@ -1,5 +1,5 @@
 use borrow.Author.Needs.{needs}
-use Rattle.state.proofs.Laws.{room-first, room-past, laid-then}
+use Rattle.acts.proofs.Laws.{room-first, room-past, laid-then}
 use Rattle.layout.proofs.pieces.close_list.Statement.{statement}
 use Rattle.layout.proofs.pieces.close_list.Tie as tie
 

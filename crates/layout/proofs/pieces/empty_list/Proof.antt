@@ -1,6 +1,6 @@
 use mathlib.Core.Path.{_∙_}
-use Rattle.state.proofs.Laws.{lays, room-first, room-next, lays-then}
-use Rattle.state.proofs.Nested.{opens-group, room-group, lays-group, opens-indent, room-indent, lays-indent}
+use Rattle.acts.proofs.Laws.{lays, room-first, room-next, lays-then}
+use Rattle.acts.proofs.Nested.{opens-group, room-group, lays-group, opens-indent, room-indent, lays-indent}
 use Rattle.layout.specs.Layout.{separated, inside}
 use Rattle.layout.proofs.Lays.{laid-empty}
 use borrow.Author.Needs.{needs}

@@ -1,5 +1,5 @@
 use borrow.Author.Needs.{needs}
-use Rattle.state.proofs.Laws.{room-first, room-past, laid-then, laid-skip}
+use Rattle.acts.proofs.Laws.{room-first, room-past, laid-then, laid-skip}
 use Rattle.layout.specs.Layout.{ends}
 use Rattle.layout.proofs.pieces.end_elems.Statement.{statement}
 use Rattle.layout.proofs.pieces.end_elems.Tie as tie

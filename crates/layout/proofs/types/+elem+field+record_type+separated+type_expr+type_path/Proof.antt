@@ -4,8 +4,8 @@ use mathlib.Core.List.{List}
 use Prim.Native.Nat.{ℕ, _+_, _≤_, _*_, _<_, _-_}
 use native.Mathlib.Omega.{arith}
 use lib.ListN.{length}
-use Rattle.state.specs.declared.Cursor.{Cursor}
-use Rattle.state.proofs.Laws.{lays, lays-then, room-first, room-next}
+use Rattle.acts.specs.declared.Cursor.{Cursor}
+use Rattle.acts.proofs.Laws.{lays, lays-then, room-first, room-next}
 use Rattle.layout.specs.Contracts.{HasAll}
 use Rattle.layout.specs.Elems.{TypeElem, ElemsAt, elementsRule}
 use Rattle.layout.proofs.Lays.{LaysAll, lays-as, laid-list, lays-empty, laid-as, lays-list}
@@ -50,7 +50,7 @@ use Rattle.layout.proofs.pieces.before_elem.Reads as before-elem-reads
 use Rattle.layout.proofs.pieces.begin_list.Reads as begin-list-reads
 use Rattle.layout.proofs.pieces.empty_list.Reads as empty-list-reads
 use Rattle.layout.proofs.pieces.finish_list.Reads as finish-list-reads
-use Rattle.state.proofs.words.word.Reads as word-reads
+use Rattle.acts.proofs.words.word.Reads as word-reads
 use Rattle.layout.proofs.types.+elem+field+record_type+separated+type_expr+type_path.{statement}
 use Rattle.layout.proofs.types.+elem+field+record_type+separated+type_expr+type_path.Tie.{close}
 

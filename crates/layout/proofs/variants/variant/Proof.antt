@@ -1,7 +1,7 @@
 use mathlib.Core.Path.{_∙_}
 use Prim.Native.Nat.{ℕ}
 use native.Mathlib.Omega.{arith}
-use Rattle.state.proofs.Laws.{lays-then, room-first, room-next}
+use Rattle.acts.proofs.Laws.{lays-then, room-first, room-next}
 use Rattle.layout.proofs.Lays.{lays-as, laid-as, lays-list}
 use Rattle.layout.proofs.Places.{within, ident-whole}
 use Rattle.layout.proofs.TypeForms.{some-types, no-types, types-laid, types-list}

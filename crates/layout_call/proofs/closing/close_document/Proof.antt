@@ -1,5 +1,5 @@
 use borrow.Author.Tests.{eq-eqb, ne-eqb}
-use Rattle.state.proofs.Laws.{room-first, room-past, laid-then}
+use Rattle.acts.proofs.Laws.{room-first, room-past, laid-then}
 use borrow.Author.Needs.{needs}
 use Rattle.layout_call.proofs.closing.close_document.Statement.{statement}
 use Rattle.layout_call.proofs.closing.close_document.Tie as tie

@@ -1,6 +1,6 @@
 use borrow.Author.Needs.{needs}
 use mathlib.Core.Path.{ap, _∙_}
-use Rattle.state.specs.declared.Cursor.{Cursor}
+use Rattle.acts.specs.declared.Cursor.{Cursor}
 use Rattle.layout_call.proofs.Standing.{room}
 use Rattle.layout_call.proofs.room.rows_needed.Statement.{statement}
 use Rattle.layout_call.proofs.room.rows_needed.Tie as tie

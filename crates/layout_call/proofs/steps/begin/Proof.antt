@@ -1,6 +1,6 @@
 use borrow.Author.Needs.{needs}
 use native.Mathlib.Omega.{arith}
-use Rattle.state.proofs.Laws.{laid-skip}
+use Rattle.acts.proofs.Laws.{laid-skip}
 use Rattle.layout_call.proofs.Standing.{stands, has-shebang, shebang-laid}
 use Rattle.layout_call.proofs.steps.begin.Statement.{statement}
 use Rattle.layout_call.proofs.steps.begin.Tie as tie

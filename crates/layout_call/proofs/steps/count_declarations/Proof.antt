@@ -8,7 +8,7 @@ use mathlib.Core.Path.{_≡_, sym, ap, _∙_}
 use Prim.Native.Nat.{_-_, _≤_}
 use Rattle.layout_call.proofs.steps.count_declarations.Statement.{statement}
 use Rattle.layout_call.proofs.steps.count_declarations.Tie as tie
-use Rattle.plain_run.specs.Built.{declared}
+use Rattle.whole_run.specs.Built.{declared}
 
 abbrev Inv-loop : tie.InvT-loop
 Inv-loop s b at end p₀ count₀ p count = (count ≤ length (declared s b)) × (_≡_ {A = ℕ} p (startOf s b at count)) × (_≡_ {A = ℕ} end (stopAt b at))

@@ -1,4 +1,4 @@
-use Rattle.state.proofs.Laws.{laid-skip}
+use Rattle.acts.proofs.Laws.{laid-skip}
 use borrow.Author.Needs.{needs}
 use Rattle.layout_call.proofs.steps.end.Statement.{statement}
 use Rattle.layout_call.proofs.steps.end.Tie as tie

@@ -1,5 +1,5 @@
 use borrow.Author.Needs.{needs}
-use Rattle.state.proofs.Laws.{room-first, room-past, laid-then}
+use Rattle.acts.proofs.Laws.{room-first, room-past, laid-then}
 use Rattle.layout_call.proofs.Standing.{has-part, part-laid}
 use Rattle.layout_call.proofs.steps.lay.Statement.{statement}
 use Rattle.layout_call.proofs.steps.lay.Tie as tie
