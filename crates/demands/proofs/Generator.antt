@@ -1,8 +1,8 @@
 -- The writer's entries refuse by their tables, and turn lists into images and back.
 -- Assumes nothing.
 use mathlib.Core.Path.{_≡_, refl, sym, ap, ap₂, subst, _∙_}
-use mathlib.Core.Bool.{Bool, true, false, _||_}
-use mathlib.Core.Option.{Option, none, some}
+use mathlib.Core.Bool.{true, false, _||_}
+use mathlib.Core.Option.{Option, none}
 use mathlib.Core.List.{List, [], _∷_, _++_}
 use Prim.Native.Nat.{ℕ, _+_, _≤_}
 use native.Mathlib.Omega.{arith}
@@ -12,7 +12,7 @@ use lib.Seq.{sets, take-append-seam}
 use borrow.Author.Tests.{ltb-false, le-ltb}
 use Rattle.laws.proofs.Booleans.{or-first, or-rest}
 use Rattle.laws.proofs.Options as options
-use Rattle.refusals.specs.Refusals.{Refusal, refuseIf, first, isOneOf, unless}
+use Rattle.refusals.specs.Refusals.{Refusal, refuseIf, isOneOf, unless}
 use Rattle.refusals.specs.Answers.{refused, accepted, answerBy, refusalOf}
 use Rattle.refusals.proofs.Groups.{passes-line, passes-others, not-if}
 use Rattle.refusals.proofs.Answers.{by-table, refused-by, accepted-by, sets-front}
@@ -170,7 +170,7 @@ refused-as : (s b out : List ℕ) (r : Wrote) (out2 : List ℕ) (q : Refusal) �
     → isOneOf (q .number) (1 ∷ 2 ∷ 6 ∷ 7 ∷ 17 ∷ []) ≡ true
 refused-as s b out r out2 q p e by =
     let due = stepsDue s b in
-    let ns = 1 ∷ 2 ∷ 6 ∷ 7 ∷ [] in
+    let ns : List ℕ = 1 ∷ 2 ∷ 6 ∷ 7 ∷ [] in
     let read = under-read ns (readAll s b) by in
     under-first (ns ++ (17 ∷ [])) (readRefusal (readAll s b) ∷ refuseIf (ltb (length out) (length due)) 17 (length due) ∷ []) (
       under-more ns (17 ∷ []) (readRefusal (readAll s b)) read,

@@ -22,7 +22,7 @@ use Rattle.cut_rule.specs.States as states
 use Rattle.cut_rule.specs.States.{NEW-MODE}
 use Rattle.whole_run.specs.Built.{declared}
 use Rattle.whole_run.specs.Demands.{rulesOf}
-use Rattle.whole_run.specs.File.{fileRefusal, fileResult}
+use Rattle.whole_run.specs.File.{fileRefusal, FileResult, fileResult}
 use Rattle.whole_run.specs.Foot.{HoldsAll}
 use Rattle.layout_call.specs.declared.Laying.{Laying}
 use Rattle.layout_call.specs.declared.Laying.the-variants as laying
@@ -36,13 +36,13 @@ use Rattle.file.specs.declared.Formatted.{Formatted}
 use Rattle.file.specs.declared.Formatted.the-variants as formatted
 use Rattle.file.specs.Whole.{toChoice, formattedAnswer, Formats}
 use Rattle.figures.specs.declared.Counted.the-variants as counted
-use Rattle.figures.specs.Figures.{figuresOf, countRefusal, countResult, countedAnswer}
+use Rattle.figures.specs.Figures.{figuresOf, countRefusal, CountResult, countResult, countedAnswer}
 use Rattle.steps.specs.Writer.{writerRefusal, imageDue}
 use Rattle.steps.specs.OfImage.{stepsOfRefusal, stepsDue}
 use Rattle.writer.specs.declared.Wrote.{Wrote}
 use Rattle.writer.specs.declared.Wrote.the-variants as wrote
 use Rattle.writer.specs.Wrote.{wroteAnswer, Writes, Lists}
-use Rattle.batch.specs.Batch.{batchRefusal, batchResult}
+use Rattle.batch.specs.Batch.{batchRefusal, BatchResult, batchResult}
 use Rattle.batch.specs.Whole.{batchedAnswer, Batches}
 use Rattle.batch.specs.declared.Batch.{Batch}
 use Rattle.batch.specs.declared.Batch.the-variants as batch
@@ -76,8 +76,8 @@ not-zero ns r f e = go (eqb (r .number) 0) refl
         let z : _≡_ {A = Bool} true false = sym e ∙ ap (λ (k : ℕ). isOneOf k ns) n ∙ f in
         absurd (let y : _≡_ {A = ℕ} 0 1 = cc in omega arith)
 
-from-accepted : {A : Type 0} (refused : ℕ → ℕ → A) (told : A) (out2 : List ℕ) → getD out2 0 0 ≡ 0 → answerFrom refused told out2 ≡ told
-from-accepted refused told out2 e = ap (λ (n : ℕ). cond (eqb n 0) told (refused n (getD out2 1 0))) e
+from-accepted : {X : Type 0} (refusing : ℕ → ℕ → X) (x : X) (out2 : List ℕ) → getD out2 0 0 ≡ 0 → answerFrom refusing x out2 ≡ x
+from-accepted refusing x out2 e = ap (λ (n : ℕ). cond (eqb n 0) x (refusing n (getD out2 1 0))) e
 
 flag-bit : (t : Bool) → flag (bit t) ≡ t
 flag-bit true = refl
@@ -146,27 +146,55 @@ check-told : (s b out out2 : List ℕ) → ChecksFile s b out out2
 check-told s b out out2 e =
     e ∙ ap (λ (a : Answer Document). numbersOf (toldDocument (length (declared s b))) a out) (outcome-by (readAll s b))
 
+-- ---- what the numbers of each entry tell
+checked-reads : (d : ℕ) (a : Document) → Reads checkedAnswer checkedFrom (toldDocument d) a
+checked-reads d a = record { refusal = λ r rest. refusal-from checkedAnswer checked.Refused _ r rest refl; given = λ rest. refl }
+
+laying-reads : (s b : List ℕ) (t : states.LayoutState) (n : ℕ) → Reads (layout.layingAnswer s b) layingFrom (toldCall s b) (laidOut t n)
+laying-reads s b t n = record {
+  refusal = λ r rest. refusal-from (layout.layingAnswer s b) laying.Refused _ r rest refl;
+  given =
+      λ rest i.
+      accepted
+      (laidOut
+      (record {
+        begun = flag-bit (t .begun) i;
+        closed = flag-bit (t .closed) i;
+        declaration = t .declaration;
+        cursor = t .cursor;
+        mode = t .mode;
+      })
+      n);
+}
+
+rendering-reads : (s b : List ℕ) (t : states.RenderState) (n : ℕ) → Reads (render.renderingAnswer s b) renderingFrom (toldCall s b) (written t n)
+rendering-reads s b t n = record {
+  refusal = λ r rest. refusal-from (render.renderingAnswer s b) rendering.Refused _ r rest refl;
+  given = λ rest. refl;
+}
+
+formatted-reads : (a : FileResult) → Reads formattedAnswer formattedFrom toldFile a
+formatted-reads a = record { refusal = λ r rest. refusal-from formattedAnswer formatted.Refused _ r rest refl; given = λ rest. refl }
+
+counted-reads : (a : CountResult) → Reads countedAnswer countedFrom toldCounted a
+counted-reads a = record { refusal = λ r rest. refusal-from countedAnswer counted.Refused _ r rest refl; given = λ rest. refl }
+
+wrote-reads : (n : ℕ) → Reads wroteAnswer wroteFrom toldBytes n
+wrote-reads n = record { refusal = λ r rest. refusal-from wroteAnswer wrote.Refused _ r rest refl; given = λ rest. refl }
+
+batch-reads : (a : BatchResult) → Reads batchedAnswer batchFrom toldBatch a
+batch-reads a = record { refusal = λ r rest. refusal-from batchedAnswer batch.Refused _ r rest refl; given = λ rest. refl }
+
 -- ---- the promises
--- a layout state in numbers
-state-back : (s b : List ℕ) (t : states.LayoutState) (n : ℕ) (rest : List ℕ)
-    → layout.layingAnswer s b (laying.Laid (layoutState (take 8 (drop 2 ((0 ∷ toldCall s b (laidOut t n)) ++ rest)))) n) ≡ accepted (laidOut t n)
-state-back s b t n rest =
-    let as : Bool → Bool → states.LayoutState = λ x y. record { begun = x; closed = y; declaration = t .declaration; cursor = t .cursor; mode = t .mode } in
-    λ i. accepted (laidOut (as (flag-bit (t .begun) i) (flag-bit (t .closed) i)) n)
-
-wrote-reads : {n : ℕ} → Reads wroteAnswer wroteFrom toldBytes n
-wrote-reads {n} = record { refusal = λ r rest. refusal-from wroteAnswer wrote.Refused _ r rest refl; given = λ rest. refl }
-
 pub linked-promises : LinkedPromises
 linked-promises = record {
   check =
       λ s b out out2 h e.
       let x = readAll s b in
-      let back = record { refusal = λ r rest. refusal-from checkedAnswer checked.Refused _ r rest refl; given = λ rest. refl } in
       read-back checkedAnswer checkedFrom (toldDocument (length (declared s b))) readNumbers (readRefusal x) (documentBy x) out out2 refl (read-under s b)
       (omega arith)
       (omega arith)
-      back
+      (checked-reads (length (declared s b)) (documentBy x))
       (check-told s b out out2 e)
       ∙ sym (outcome-by x);
   layout =
@@ -174,13 +202,12 @@ linked-promises = record {
       let q = layout.toArgs (layoutArgs args) in
       let z = layout.toState (layoutState state) in
       let o = rulesOf s b .layout-refusal q z store in
-      let back = record { refusal = λ r rest. refusal-from (layout.layingAnswer s b) laying.Refused _ r rest refl; given = state-back s b _ _ } in
       record {
         answer =
             read-back (layout.layingAnswer s b) layingFrom (toldCall s b) layoutNumbers o (laidOut _ _) out out2 refl (layout-under s b q z store)
             (omega arith)
             (omega arith)
-            back
+            (laying-reads s b _ _)
             (p .told-as);
         store-left = p .store-left;
       };
@@ -189,13 +216,12 @@ linked-promises = record {
       let q = render.toArgs (renderArgs args) (length output) in
       let z = render.toState (renderState state) in
       let o = rulesOf s b .render-refusal q z store marks in
-      let back = record { refusal = λ r rest. refusal-from (render.renderingAnswer s b) rendering.Refused _ r rest refl; given = λ rest. refl } in
       record {
         answer =
             read-back (render.renderingAnswer s b) renderingFrom (toldCall s b) renderNumbers o (written _ _) out out2 refl (render-under s b q z store marks)
             (omega arith)
             (omega arith)
-            back
+            (rendering-reads s b _ _)
             (p .told-as);
         store-left = p .store-left;
         marks-left = p .marks-left;
@@ -205,56 +231,53 @@ linked-promises = record {
       λ s b choice output out output2 out2 h p.
       let c = toChoice (fileChoice choice) in
       let o = fileRefusal s b c (length output) in
-      let back = record { refusal = λ r rest. refusal-from formattedAnswer formatted.Refused _ r rest refl; given = λ rest. refl } in
       record {
         answer =
             read-back formattedAnswer formattedFrom toldFile fileNumbers o (fileResult s b c) out out2 refl (file-under s b c (length output))
             (omega arith)
             (omega arith)
-            back
+            (formatted-reads (fileResult s b c))
             (p .told-as);
         output-left = p .output-left;
       };
   count =
       λ s b from out out2 h e.
       let t = talliesFrom from in
-      let back = record { refusal = λ r rest. refusal-from countedAnswer counted.Refused _ r rest refl; given = λ rest. refl } in
       read-back countedAnswer countedFrom toldCounted countNumbers (countRefusal s b t) (countResult (figuresOf s b) t) out out2 refl (count-under s b t)
       (omega arith)
       (omega arith)
-      back
+      (counted-reads (countResult (figuresOf s b) t))
       e;
   write =
       λ l output out output2 out2 h p.
       let o = writerRefusal l (length output) in (
         read-back wroteAnswer wroteFrom toldBytes writerNumbers o (length (imageDue l)) out out2 refl (write-under l (length output))
-        (omega arith)
-        (omega arith)
-        wrote-reads
-        (p .1),
+            (omega arith)
+            (omega arith)
+            (wrote-reads (length (imageDue l)))
+            (p .1),
         p .0,
       );
   steps =
       λ s b output out output2 out2 h p.
       let o = stepsOfRefusal s b (length output) in (
         read-back wroteAnswer wroteFrom toldBytes stepsNumbers o (length (stepsDue s b)) out out2 refl (list-under s b (length output))
-        (omega arith)
-        (omega arith)
-        wrote-reads
-        (p .1),
+            (omega arith)
+            (omega arith)
+            (wrote-reads (length (stepsDue s b)))
+            (p .1),
         p .0,
       );
   batch =
       λ f choice table output out table2 output2 out2 h p.
       let c = toChoice (fileChoice choice) in
       let o = batchRefusal c f (length table) (length output) in
-      let back = record { refusal = λ r rest. refusal-from batchedAnswer batch.Refused _ r rest refl; given = λ rest. refl } in
       record {
         answer =
             read-back batchedAnswer batchFrom toldBatch batchNumbers o (batchResult c f) out out2 refl (batch-under c f (length table) (length output))
             (omega arith)
             (omega arith)
-            back
+            (batch-reads (batchResult c f))
             (p .told-as);
         table-left = p .table-left;
         texts-left = p .texts-left;

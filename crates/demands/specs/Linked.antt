@@ -24,7 +24,7 @@ use Rattle.cut_rule.specs.States.{OLD-MODE, NEW-MODE}
 use Rattle.whole_run.specs.Demands.{rulesOf}
 use Rattle.whole_run.specs.File.{fileRefusal}
 use Rattle.whole_run.specs.Foot.{HoldsAll}
-use Rattle.whole_run.specs.Built.{FileChoice, tree, declared}
+use Rattle.whole_run.specs.Built.{tree, declared}
 use Rattle.layout_call.specs.declared.Laying.{Laying}
 use Rattle.layout_call.specs.declared.Laying.the-variants as laying
 use Rattle.layout_call.specs.Calls as layout

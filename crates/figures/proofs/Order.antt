@@ -4,7 +4,7 @@ use mathlib.Core.Path.{_≡_, refl, sym, ap, _∙_}
 use mathlib.Core.Option.{Option, none, some}
 use mathlib.Core.List.{List, [], _∷_, map}
 use Prim.Native.Nat.{ℕ}
-use Rattle.refusals.specs.Refusals.{Refusal, unless, first}
+use Rattle.refusals.specs.Refusals.{Refusal, unless}
 use Rattle.refusals.specs.Answers.{answerBy}
 use Rattle.cut_rule.specs.Callers.{afterAll, AllKept}
 use Rattle.tallies.specs.declared.Figures.{Figures}

@@ -9,9 +9,9 @@ use Prim.Native.Nat.{ℕ, zero, suc, _+_, _*_, _-_, _≤_, _<_}
 use native.Mathlib.Omega.{arith}
 use native.Mathlib.Decide.{decLt}
 use native.Mathlib.Nat.{sub-zero}
-use lib.Dec.{ltb, leb, eqb}
+use lib.Dec.{leb, eqb}
 use lib.ListN.{length, getD, replicate}
-use borrow.Author.Tests.{ltb-false, leb-true, eqb-true, not-false}
+use borrow.Author.Tests.{leb-true, eqb-true, not-false}
 use Rattle.laws.proofs.Booleans.{and-right}
 use Rattle.image.specs.Bytes.{be16}
 use Rattle.image.specs.Limits.{MAX-SOURCE}
