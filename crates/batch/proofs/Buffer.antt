@@ -123,7 +123,8 @@ module _ (f : List ℕ) where
       → (readRefusal (savesFrom f n (frameEnd f at)) ≡ none → Listed n (frameEnd f at) (savesFrom f n (frameEnd f at)))
       → readRefusal (savesFrom f (suc n) at) ≡ none
       → Listed (suc n) at (savesFrom f (suc n) at)
-  listed-by n at false p u q later e = rw (no-more (suc n) at (ltb-false at (length f) p)) (record { files = done (ltb-false at (length f) p); few = omega arith })
+  listed-by n at false p u q later e =
+      rw (no-more (suc n) at (ltb-false at (length f) p)) (record { files = done (ltb-false at (length f) p); few = omega arith })
   listed-by n at true p false q later e =
       let g = rw (cut-off n at (ltb-true at (length f) p) (leb-false (frameEnd f at) (length f) q)) at e in
       let z : _≡_ {A = ℕ} 0 1 = cc in

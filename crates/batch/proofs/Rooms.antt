@@ -69,7 +69,8 @@ module _ (c : FileChoice) (x : Save) where
 
     untouched : (out : List ℕ) → fileOutput (x .source) (x .image) c out ≡ writeFront (textOf c x) out
     untouched out =
-        ap (λ (o : Option Refusal). unless o out (writeFront (rendered c x) out)) (table (length out) ∙ ap (λ (o : Option Refusal). orElse o (ten (length out))) e)
+        ap (λ (o : Option Refusal). unless o out (writeFront (rendered c x) out))
+        (table (length out) ∙ ap (λ (o : Option Refusal). orElse o (ten (length out))) e)
         ∙ sym (ap (λ (t : List ℕ). writeFront t out) no-text)
 
   -- refused for want of output alone

@@ -29,7 +29,8 @@ use Rattle.batch.proofs.Bounds.{early-fine}
 use Rattle.batch.proofs.Texts.{table-size}
 
 -- ---- one file: the parts of the buffer are its source and its image
-module _ (f : List ℕ) (at image end : ℕ) (i : image ≡ at + 8 + be32 f at) (e : end ≡ frameEnd f at) (c : FileChoice) (out : List ℕ) (r : Formatted) (out2 : List ℕ)
+module _ (f : List ℕ) (at image end : ℕ) (i : image ≡ at + 8 + be32 f at) (e : end ≡ frameEnd f at) (c : FileChoice)
+    (out : List ℕ) (r : Formatted) (out2 : List ℕ)
     (h : Formats (take (image - (at + 8)) (drop (at + 8) f)) (take (end - image) (drop image f)) c out r out2) where
   formats : Formats (saveAt f at .source) (saveAt f at .image) c out r out2
   formats = subst₂ (λ (k l : ℕ). Formats (take (k - (at + 8)) (drop (at + 8) f)) (take (l - k) (drop k f)) c out r out2) i e h

@@ -17,8 +17,10 @@ use Rattle.cut_rule.specs.Limits.{MIN-WIDTH, MAX-WIDTH}
 use Rattle.cut_rule.specs.Rules.{LayoutArgs, RenderArgs}
 use Rattle.renderer_rules.specs.declared.Pen.{Pen}
 use Rattle.cut_rule.specs.States.{LayoutChoice, RenderChoice, LayoutState, RenderState, NEW-MODE}
-use Rattle.cut_rule.specs.Tests.{rowsIn, oddMark, placesTests, limitTests, begunTests, stopTests, modeTests, layoutTestsIn, rowTests, penTests, markTests, renderTests, widthTests}
-use Rattle.cut_rule.specs.Parts.{RuleParts, layoutTests, rowsNeeded, beforeRows, rowsLine, layoutTable, widthLine, marksFor, beforeMarks, marksLine, beforeText, textLine, renderTable}
+use Rattle.cut_rule.specs.Tests.{rowsIn, oddMark, placesTests, limitTests, begunTests, stopTests, modeTests}
+use Rattle.cut_rule.specs.Tests.{layoutTestsIn, rowTests, penTests, markTests, renderTests, widthTests}
+use Rattle.cut_rule.specs.Parts.{RuleParts, layoutTests, rowsNeeded, beforeRows, rowsLine, layoutTable, widthLine}
+use Rattle.cut_rule.specs.Parts.{marksFor, beforeMarks, marksLine, beforeText, textLine, renderTable}
 
 -- no test of a list holds, and the first is one of two numbers
 first-within : (a b : ℕ) (rest : Bool) → (ltb a b || rest) ≡ false → b ≤ a

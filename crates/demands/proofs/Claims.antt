@@ -25,8 +25,9 @@ use Rattle.demands.proofs.Demand3.{calls-hold-all, closing-leaves-none}
 use Rattle.demands.proofs.Generator.{generator-1, generator-lists}
 use Rattle.demands.proofs.Saves.{saves-1}
 use Rattle.demands.proofs.Linked.{linked-promises, linked-1, linked-2, linked-3, linked-calls-hold-all, linked-lists, linked-singles}
-use Rattle.demands.proofs.Text.{file-is-the-program, file-holds, new-mode-file-holds-all, linked-file-is-the-program, reply-is-the-program, calls-are-the-program, linked-calls-are-the-program}
-use Rattle.demands.proofs.Text.{calls-hold, closed-calls-hold-all, batch-is-the-programs, linked-batch-is-the-programs}
+use Rattle.demands.proofs.Text.{file-is-the-program, file-holds, new-mode-file-holds-all, linked-file-is-the-program}
+use Rattle.demands.proofs.Text.{reply-is-the-program, calls-are-the-program, linked-calls-are-the-program, calls-hold}
+use Rattle.demands.proofs.Text.{closed-calls-hold-all, batch-is-the-programs, linked-batch-is-the-programs}
 
 pub claims : Claims
 claims = record {

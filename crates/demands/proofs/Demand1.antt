@@ -29,7 +29,8 @@ use Rattle.layout_call.specs.Calls as layout
 use Rattle.render_call.specs.Calls as render
 use Rattle.file.specs.Reply.{programRoom, replyBy, reply}
 use Rattle.cut_rule.proofs.Memory.{take-front}
-use Rattle.demands.specs.Demand1.{layoutNumbers, renderNumbers, fileNumbers, referenceNumbers, frameNumbers, countNumbers, Answered, CheckAnswered, LayoutAnswered, RenderAnswered, FileAnswered, FrameAnswered, ProgramAnswered, CountAnswered, Demand1}
+use Rattle.demands.specs.Demand1.{layoutNumbers, renderNumbers, fileNumbers, referenceNumbers, frameNumbers, countNumbers, Answered, CheckAnswered}
+use Rattle.demands.specs.Demand1.{LayoutAnswered, RenderAnswered, FileAnswered, FrameAnswered, ProgramAnswered, CountAnswered, Demand1}
 use Rattle.tallies.specs.declared.Tallies.{Tallies}
 use Rattle.tallies.specs.Tallies.{tallyTests, tallyRefusal}
 use Rattle.figures.specs.Figures.{FILE-OUTPUT, countRefusal}

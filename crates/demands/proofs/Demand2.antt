@@ -144,4 +144,14 @@ file s b c out n left count numbers out2 f =
     }
 
 pub demand-2 : Demand2
-demand-2 = record { at-stop = at-stop; closed = closed; closed-keeping = closed-keeping; rendered = rendered; file = file; file-old = old-mode-is-fmt-parsed; file-new = new-mode-leaves-none; within-limits = laid-within-limits; reference = reference-holds }
+demand-2 = record {
+  at-stop = at-stop;
+  closed = closed;
+  closed-keeping = closed-keeping;
+  rendered = rendered;
+  file = file;
+  file-old = old-mode-is-fmt-parsed;
+  file-new = new-mode-leaves-none;
+  within-limits = laid-within-limits;
+  reference = reference-holds;
+}

@@ -33,7 +33,8 @@ use Rattle.render_call.specs.declared.Rendering.{Rendering}
 use Rattle.render_call.specs.declared.Rendering.the-variants as rendering
 use Rattle.render_call.specs.Calls as render
 use Rattle.render_call.specs.Whole.{RenderCalled}
-use Rattle.demands.specs.Demand3.{Caller, freshCaller, Made, laid, rendered, Promised, afterMade, callMade, answerMade, held, HeldAsDue, Demand3, CallsHoldAll, ClosingLeavesNone}
+use Rattle.demands.specs.Demand3.{Caller, freshCaller, Made, laid, rendered, Promised, afterMade, callMade}
+use Rattle.demands.specs.Demand3.{answerMade, held, HeldAsDue, Demand3, CallsHoldAll, ClosingLeavesNone}
 
 module _ (s b : List ℕ) where
   -- one call
@@ -47,7 +48,8 @@ module _ (s b : List ℕ) where
 
   render-held : (w : Caller) (args : RenderArgs) (out : List ℕ) (r : Rendering) (store2 marks2 out2 : List ℕ)
       → RenderCalled s b (w .render-state) args (w .store) (w .marks) out r store2 marks2 out2
-      → held s b (afterMade w (rendered args out r store2 marks2 out2)) ≡ entryCall (rulesOf s b) (held s b w) out (renderCall (render.toArgs args (length out)))
+      → held s b (afterMade w (rendered args out r store2 marks2 out2))
+      ≡ entryCall (rulesOf s b) (held s b w) out (renderCall (render.toArgs args (length out)))
   render-held w args out (rendering.Written t n) store2 marks2 out2 p = rw (sym (p .answer), p .store-left, p .marks-left, p .output-left)
   render-held w args out (rendering.Refused n q) store2 marks2 out2 p =
       ap (withText (held s b (afterMade w (rendered args out (rendering.Refused n q) store2 marks2 out2)))) (sym (append-nil (w .text)))
@@ -63,7 +65,8 @@ module _ (s b : List ℕ) where
   one-answer w (rendered args out r store2 marks2 out2) p = p .answer
 
   -- the list
-  all-answers : (w : Caller) (ms : List Made) → AllKept afterMade (Promised s b) w ms → map (answerMade s b) ms ≡ answers (rulesOf s b) (held s b w) (map (callMade s b) ms)
+  all-answers : (w : Caller) (ms : List Made) → AllKept afterMade (Promised s b) w ms
+      → map (answerMade s b) ms ≡ answers (rulesOf s b) (held s b w) (map (callMade s b) ms)
   all-answers w [] p = refl
   all-answers w (m ∷ ms) p =
       ap₂ (λ (x : Answer (CallResult (rulesOf s b))) (xs : List (Answer (CallResult (rulesOf s b)))). x ∷ xs) (one-answer w m (p .0))

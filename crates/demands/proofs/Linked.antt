@@ -47,7 +47,8 @@ use Rattle.batch.specs.Whole.{batchedAnswer, Batches}
 use Rattle.batch.specs.declared.Batch.{Batch}
 use Rattle.batch.specs.declared.Batch.the-variants as batch
 use Rattle.batch.proofs.Singles.{as-singles}
-use Rattle.exports.specs.Numbers.{flag, bit, layoutState, layoutArgs, renderState, renderArgs, fileChoice, talliesFrom, toldDocument, toldCall, toldFile, toldCounted}
+use Rattle.exports.specs.Numbers.{flag, bit, layoutState, layoutArgs, renderState, renderArgs}
+use Rattle.exports.specs.Numbers.{fileChoice, talliesFrom, toldDocument, toldCall, toldFile, toldCounted}
 use Rattle.exports.specs.Calls.{ChecksFile, Lays, Renders, FormatsFile}
 use Rattle.exports.specs.Generator.{toldBytes}
 use Rattle.exports.specs.Saves.{toldBatch, FormatsBatch}
@@ -56,8 +57,9 @@ use Rattle.demands.specs.Demand3.{Caller, freshCaller, Made, Promised, a
 use Rattle.demands.specs.Demand3 as made
 use Rattle.demands.specs.Generator.{writerNumbers, stepsNumbers}
 use Rattle.demands.specs.Saves.{batchNumbers}
-use Rattle.demands.specs.Linked.{answerFrom, checkedFrom, layingFrom, renderingFrom, formattedFrom, countedFrom, wroteFrom, batchFrom, LinkedPromises, Told, Linked1, Linked2}
-use Rattle.demands.specs.Linked.{Holder, freshHolder, LinkedCall, laid, rendered, LinkedPromised, afterLinked, callLinked, heldLinked, madeLinked, LinkedCut, Linked3, LinkedCallsHoldAll, LinkedLists, LinkedSingles}
+use Rattle.demands.specs.Linked.{answerFrom, checkedFrom, layingFrom, renderingFrom, formattedFrom, countedFrom, wroteFrom, batchFrom}
+use Rattle.demands.specs.Linked.{LinkedPromises, Told, Linked1, Linked2, Holder, freshHolder, LinkedCall, laid, rendered, LinkedPromised}
+use Rattle.demands.specs.Linked.{afterLinked, callLinked, heldLinked, madeLinked, LinkedCut, Linked3, LinkedCallsHoldAll, LinkedLists, LinkedSingles}
 use Rattle.demands.proofs.Demand1.{Under, read-under, layout-under, render-under, file-under, count-under, left-same}
 use Rattle.demands.proofs.Demand2.{demand-2}
 use Rattle.demands.proofs.Demand3.{made-run, demand-3, calls-hold-all}
@@ -364,7 +366,8 @@ pub linked-render : (s b store marks output state args out store2 marks2 output2
     marks2
     output2
 linked-render s b store marks output state args out store2 marks2 output2 out2 h p e =
-    subst (λ (r : Rendering). RenderCalled s b (renderState state) (renderArgs args) store marks output r store2 marks2 output2) (from-accepted rendering.Refused _ out2 e)
+    subst (λ (r : Rendering). RenderCalled s b (renderState state) (renderArgs args) store marks output r store2 marks2 output2)
+    (from-accepted rendering.Refused _ out2 e)
     (linked-promises .render s b store marks output state args out store2 marks2 output2 out2 h p)
 
 pub linked-file : (s b choice output out output2 out2 : List ℕ) → length out ≡ 5 → FormatsFile s b choice output out output2 out2 → getD out2 0 0 ≡ 0
@@ -412,8 +415,16 @@ after-one w (laid args out store2 out2) = go (eqb (getD out2 0 0) 0)
     new = take 8 (drop 2 out2)
 
     go : (x : Bool)
-        → callerOf (record { store = store2; marks = w .marks; layout-state = cond x new (w .layout-state); render-state = w .render-state; text = w .text; left = cond x (some (getD out2 1 0)) (w .left) })
-        ≡ afterMade (callerOf w) (made.laid (layoutArgs args) (cond x (laying.Laid (layoutState new) (getD out2 1 0)) (laying.Refused (getD out2 0 0) (getD out2 1 0))) store2)
+        → callerOf (record {
+          store = store2;
+          marks = w .marks;
+          layout-state = cond x new (w .layout-state);
+          render-state = w .render-state;
+          text = w .text;
+          left = cond x (some (getD out2 1 0)) (w .left);
+        })
+        ≡ afterMade (callerOf w)
+        (made.laid (layoutArgs args) (cond x (laying.Laid (layoutState new) (getD out2 1 0)) (laying.Refused (getD out2 0 0) (getD out2 1 0))) store2)
     go true = refl
     go false = refl
 after-one w (rendered args output out store2 marks2 output2 out2) = go (eqb (getD out2 0 0) 0)
@@ -425,11 +436,25 @@ after-one w (rendered args output out store2 marks2 output2 out2) = go (eqb (get
     answer x = cond x (rendering.Written (renderState new) (record { 0 = getD out2 1 0 })) (rendering.Refused (getD out2 0 0) (getD out2 1 0))
 
     go : (x : Bool)
-        → callerOf (record { store = store2; marks = marks2; layout-state = w .layout-state; render-state = cond x new (w .render-state); text = w .text ++ cond x (take (getD out2 1 0) output2) []; left = w .left })
+        → callerOf (record {
+          store = store2;
+          marks = marks2;
+          layout-state = w .layout-state;
+          render-state = cond x new (w .render-state);
+          text = w .text ++ cond x (take (getD out2 1 0) output2) [];
+          left = w .left;
+        })
         ≡ afterMade (callerOf w) (made.rendered (renderArgs args) output (answer x) store2 marks2 output2)
     go true = refl
     go false =
-        ap (λ (t : List ℕ). record { store = store2; marks = marks2; layout-state = layoutState (w .layout-state); render-state = renderState (w .render-state); text = t; left = w .left })
+        ap (λ (t : List ℕ). record {
+          store = store2;
+          marks = marks2;
+          layout-state = layoutState (w .layout-state);
+          render-state = renderState (w .render-state);
+          text = t;
+          left = w .left;
+        })
         (append-nil (w .text))
 
 after-linked : (w : Holder) (ms : List LinkedCall) → callerOf (afterAll afterLinked w ms) ≡ afterAll afterMade (callerOf w) (map madeLinked ms)
@@ -483,7 +508,9 @@ module _ (s b : List ℕ) where
     linked-cut : AllReadLaid (rulesOf s b) (start (rulesOf s b) store₀ marks₀) (map (callLinked s b) calls) → LinkedCut s b store₀ marks₀ calls
     linked-cut h =
         let R = rulesOf s b in
-        let d = demand-3 s b store₀ marks₀ made-calls kept-all (subst (λ (cs : List (Call R)). AllReadLaid R (start R store₀ marks₀) cs) (sym (same-calls calls)) h) in
+        let d =
+        demand-3 s b store₀ marks₀ made-calls kept-all (subst (λ (cs : List (Call R)). AllReadLaid R (start R store₀ marks₀) cs) (sym (same-calls calls)) h)
+        in
         record {
           as-due = subst₂ (λ (cs : List (Call R)) (v : Carried R). HeldAsDue s b store₀ marks₀ cs v) (same-calls calls) (sym held-same) (d .as-due);
           answered = sym (same-answers calls) ∙ d .answered ∙ ap (λ (cs : List (Call R)). answersDue R store₀ marks₀ (atFirst R) cs) (same-calls calls);
@@ -511,11 +538,13 @@ linked-lists = record {
   one =
       λ s b output out output2 out2 h small p z.
       generator-lists .one s b output (getD out2 1 0) output2 small
-      (subst (λ (r : Wrote). Lists s b output r output2) (from-accepted wrote.Refused (wrote.Bytes (getD out2 1 0)) out2 z) (linked-promises .steps s b output out output2 out2 h p));
+      (subst (λ (r : Wrote). Lists s b output r output2) (from-accepted wrote.Refused (wrote.Bytes (getD out2 1 0)) out2 z)
+      (linked-promises .steps s b output out output2 out2 h p));
   back =
       λ l output out output2 out2 h small p z.
       generator-lists .back l output (getD out2 1 0) output2 small
-      (subst (λ (r : Wrote). Writes l output r output2) (from-accepted wrote.Refused (wrote.Bytes (getD out2 1 0)) out2 z) (linked-promises .write l output out output2 out2 h p));
+      (subst (λ (r : Wrote). Writes l output r output2) (from-accepted wrote.Refused (wrote.Bytes (getD out2 1 0)) out2 z)
+      (linked-promises .write l output out output2 out2 h p));
 }
 
 pub linked-singles : LinkedSingles

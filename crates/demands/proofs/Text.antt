@@ -24,11 +24,13 @@ use Rattle.whole_run.proofs.File.{new-mode-leaves-none}
 use Rattle.whole_run.proofs.Text.{kept-comments-held, text-is-the-program, new-mode-places-all, output-is-the-program, calls-keep-the-text}
 use Rattle.file.specs.Whole.{sourceOf, imageOf}
 use Rattle.file.specs.Reply.{reply, replyBy, programRefusal}
-use Rattle.batch.specs.Batch.{Save, allSaves, savesBy, rowOf, textBy, rendered, single, tableOf, textsOf, tableDue, textsDue, batchRefusal, BatchResult, batchResult, batchAnswer, tableLeft, textsLeft}
+use Rattle.batch.specs.Batch.{Save, allSaves, savesBy, rowOf, textBy, rendered, single, tableOf, textsOf, tableDue}
+use Rattle.batch.specs.Batch.{textsDue, batchRefusal, BatchResult, batchResult, batchAnswer, tableLeft, textsLeft}
 use Rattle.demands.specs.Demand3.{callMade}
 use Rattle.demands.specs.Linked.{callLinked}
-use Rattle.demands.specs.Text.{FileIsTheProgram, FileHolds, NewModeFileHoldsAll, LinkedFileIsTheProgram, ReplyIsTheProgram, CallsAreTheProgram, LinkedCallsAreTheProgram}
-use Rattle.demands.specs.Text.{CallsHold, ClosedCallsHoldAll, SaveKept, EachKept, noFile, refusedOne, textOfOne, BatchIsThePrograms, LinkedBatchIsThePrograms}
+use Rattle.demands.specs.Text.{FileIsTheProgram, FileHolds, NewModeFileHoldsAll, LinkedFileIsTheProgram, ReplyIsTheProgram}
+use Rattle.demands.specs.Text.{CallsAreTheProgram, LinkedCallsAreTheProgram, CallsHold, ClosedCallsHoldAll, SaveKept}
+use Rattle.demands.specs.Text.{EachKept, noFile, refusedOne, textOfOne, BatchIsThePrograms, LinkedBatchIsThePrograms}
 use Rattle.demands.proofs.Demand3.{made-run}
 use Rattle.demands.proofs.Linked.{linked-run, linked-file, linked-batch}
 

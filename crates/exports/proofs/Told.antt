@@ -26,7 +26,8 @@ use Rattle.figures.specs.declared.Counted.{Counted}
 use Rattle.figures.specs.Figures.{countAnswer, countedAnswer, Counts}
 use Rattle.batch.specs.declared.Batch.{Batch}
 use Rattle.batch.specs.Whole as batch
-use Rattle.exports.specs.Numbers.{layoutState, layoutArgs, renderState, renderArgs, fileChoice, toldDocument, toldCall, toldFile, talliesFrom, toldCounted}
+use Rattle.exports.specs.Numbers.{layoutState, layoutArgs, renderState, renderArgs, fileChoice}
+use Rattle.exports.specs.Numbers.{toldDocument, toldCall, toldFile, talliesFrom, toldCounted}
 use Rattle.exports.specs.Calls.{ChecksFile, CountsFile, Lays, Renders, FormatsFile}
 use Rattle.exports.specs.Saves.{toldBatch, FormatsBatch}
 

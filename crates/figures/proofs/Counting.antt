@@ -88,7 +88,8 @@ module _ (s b : List ℕ) where
       (ap (λ (x : Option Refusal). first (x ∷ [])) (sym (read-refusal (readAll s b)) ∙ ap refusalOf e))))
 
   -- ---- the run in cleared rows and marks
-  module _ (store marks out : List ℕ) (rowed : store ≡ replicate (fileRows * PLACES) 0) (marked : marks ≡ replicate fileMarks 0) (room : FILE-OUTPUT ≡ length out)
+  module _ (store marks out : List ℕ) (rowed : store ≡ replicate (fileRows * PLACES) 0) (marked : marks ≡ replicate fileMarks 0)
+      (room : FILE-OUTPUT ≡ length out)
       (r : FileRun) (store2 marks2 out2 : List ℕ) (ran : RunsFile s b referenceChoice store marks out r store2 marks2 out2) where
     marks-many : length marks ≡ fileMarks
     marks-many = ap length marked ∙ length-replicate {A = ℕ} fileMarks 0

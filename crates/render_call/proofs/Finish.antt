@@ -80,7 +80,8 @@ module _ (source image : List ℕ) (state : RenderState) (args : RenderArgs) (st
     finished t n e f h l =
         ends-written source image state args store marks out t n (q .widest) marks2 out2 e f h left-state
         (r .marks ∙ ap (λ (d : cut.Drawn). d .marks) end ∙ marks-onto source image state args store marks ahead)
-        (r .written ∙ over-full (length out) out (after .buf) (let z = ap (λ (d : cut.Drawn). length (d .text)) end in omega arith) (omega arith) ∙ ap (λ (d : cut.Drawn). writeFront (d .text) out) end)
+        (r .written ∙ over-full (length out) out (after .buf) (let z = ap (λ (d : cut.Drawn). length (d .text)) end in omega arith) (omega arith)
+        ∙ ap (λ (d : cut.Drawn). writeFront (d .text) out) end)
         (r .widest ∙ widest p k behind)
       where
         pen-same : _≡_ {A = Pen} (record { indent = t .indent; «next_indent» = t .«next_indent»; column = t .column }) (drawnBy after .pen)

@@ -71,7 +71,8 @@ module _ (source image : List ℕ) (state : RenderState) (args : RenderArgs) (st
         (may .ahead, omega arith)
 
     pub dry-ends : (p q : Writing) → Takes state p → ((k : ℕ) → getD marks k 0 < 256) → (out marks3 out3 rows4 marks4 : List ℕ)
-        → Ended 0 (renderNodes (pageOf (args .width .0) source image) (nodesAt (viewOf rows2) (state .row) (args .stop)) true (freshRenderer (p .pen) marks2)) out marks3 out3 q
+        → Ended 0 (renderNodes (pageOf (args .width .0) source image) (nodesAt (viewOf rows2) (state .row) (args .stop)) true (freshRenderer (p .pen) marks2))
+        out marks3 out3 q
         → held rows4 marks4 ≡ putBack (args .stop - state .row) (held rows2 marks3) (state .row)
         → Counted source image state args store marks out (q .at) rows4 marks4 out3
     dry-ends p q k b out marks3 out3 rows4 marks4 r f =
@@ -100,7 +101,8 @@ module _ (source image : List ℕ) (state : RenderState) (args : RenderArgs) (st
     then-run r marks3 out3 k = rw (c .store-left) (rw (c .store-left, c .marks-left, c .output-left) at k)
 
 -- ---- the true run
-module _ (source image : List ℕ) (state : RenderState) (args : RenderArgs) (store marks out : List ℕ) (h : Fitting source image state args store marks out) where
+module _ (source image : List ℕ) (state : RenderState) (args : RenderArgs)
+    (store marks out : List ℕ) (h : Fitting source image state args store marks out) where
   fine : Accepted source image state args store marks
   fine = accepted source image state args store marks (h .passing .passes)
 
@@ -114,11 +116,20 @@ module _ (source image : List ℕ) (state : RenderState) (args : RenderArgs) (st
   pub run-ends : (p q : Writing) → Takes state p → (n : ℕ) → n ≡ marksNeeded (args .stop - state .row) store (state .row) → (marks2 : List ℕ)
       → marks2 ≡ clearFrom (n - state .«in_use») (state .«in_use») marks
       → (marks3 out3 : List ℕ)
-      → Ended (length out) (renderNodes (pageOf (args .width .0) source image) (nodesAt (viewOf store) (state .row) (args .stop)) true (freshRenderer (p .pen) marks2)) out marks3 out3 q
+      → Ended (length out)
+      (renderNodes (pageOf (args .width .0) source image) (nodesAt (viewOf store) (state .row) (args .stop)) true (freshRenderer (p .pen) marks2)) out
+      marks3 out3 q
       → (used : ℕ)
       → used ≡ max (state .«in_use») n
       → Draws source image state args store marks out
-      (drawing.Drawn (record { indent = q .pen .indent; «next_indent» = q .pen .«next_indent»; column = q .pen .column; «in_use» = used; row = args .stop; width = args .width }) (q .at) (q .widest))
+      (drawing.Drawn (record {
+        indent = q .pen .indent;
+        «next_indent» = q .pen .«next_indent»;
+        column = q .pen .column;
+        «in_use» = used;
+        row = args .stop;
+        width = args .width;
+      }) (q .at) (q .widest))
       store
       marks3
       out3
@@ -127,7 +138,8 @@ module _ (source image : List ℕ) (state : RenderState) (args : RenderArgs) (st
       let run =
       subst
       (λ (m : List ℕ).
-      Ended (length out) (renderNodes (pageOf (args .width .0) source image) (nodesAt (viewOf store) (state .row) (args .stop)) true (freshRenderer (p .pen) m)) out marks3 out3 q)
+      Ended (length out) (renderNodes (pageOf (args .width .0) source image) (nodesAt (viewOf store) (state .row) (args .stop)) true (freshRenderer (p .pen) m))
+      out marks3 out3 q)
       over
       r
       in
@@ -153,5 +165,7 @@ module _ (source image : List ℕ) (state : RenderState) (args : RenderArgs) (st
   pub checked-by : v ≡ verdict.Accepted → Checked source image state args store marks
   checked-by f = record { passes = sym e ∙ ap verdictRefusal f }
 
-  pub refused-by : (out : List ℕ) (n p : ℕ) → v ≡ verdict.Refused n p → RenderCalled source image state args store marks out (rendering.Refused n p) store marks out
-  refused-by out n p f = ends-early source image state args store marks out n p (refused-early source image state args store marks _ (sym e ∙ ap verdictRefusal f)) .called
+  pub refused-by : (out : List ℕ) (n p : ℕ) → v ≡ verdict.Refused n p
+      → RenderCalled source image state args store marks out (rendering.Refused n p) store marks out
+  refused-by out n p f =
+      ends-early source image state args store marks out n p (refused-early source image state args store marks _ (sym e ∙ ap verdictRefusal f)) .called

@@ -74,7 +74,8 @@ module _ (store : List ℕ) (max : ℕ) (marks : List ℕ) (r : Running) (marks2
       }
 
 -- An `IfWrap` at either part.
-module _ (store marks : List ℕ) (r : Running) (wrap : Bool) (number : ℕ) (b : Bool) (q : Running) (n : number ≡ cell store (r .next) NUMBER) (e : b ≡ wrapped marks number) where
+module _ (store marks : List ℕ) (r : Running) (wrap : Bool) (number : ℕ) (b : Bool) (q : Running)
+    (n : number ≡ cell store (r .next) NUMBER) (e : b ≡ wrapped marks number) where
   abbrev chosen : Running
   chosen =
       cond (wrapped marks (cell store (r .next) NUMBER))

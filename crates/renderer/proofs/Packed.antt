@@ -32,7 +32,8 @@ pub opened-packed : (ns : List ℕ) (r : Run) (n : ℕ) (f : Frame) (k : ℕ) (p
 opened-packed ns r n f k p e =
     ap (λ (fs : List Frame). withFrames fs (record { depth = r .depth + 1; next = k; writing = p })) (set-packed ns (r .depth) n f e)
 
-pub stored-packed : (ns : List ℕ) (r : Run) (i n : ℕ) (f : Frame) → unpackedFrame n ≡ f → wholeRun (set ns i n) r ≡ withFrames (set (map unpackedFrame ns) i f) r
+pub stored-packed : (ns : List ℕ) (r : Run) (i n : ℕ) (f : Frame) → unpackedFrame n ≡ f
+    → wholeRun (set ns i n) r ≡ withFrames (set (map unpackedFrame ns) i f) r
 stored-packed ns r i n f e = ap (λ (fs : List Frame). withFrames fs r) (set-packed ns i n f e)
 
 none-packed : noFrame ≡ unpackedFrame 0

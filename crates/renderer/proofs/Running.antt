@@ -153,7 +153,9 @@ module _ (store source image : List ℕ) (max limit stop : ℕ) where
             entered = turn v pg (machineOf r marks (g .text) (g .entered)) .entered;
             wrote = s .wrote;
             fine = subst (λ (x : Machine). Fine v pg stop x) (s .same) (t .fine);
-            safe = subst (λ (x : Machine). Safe v (g .base) x) (s .same) (turn-safe v pg stop (g .base) (machineOf r marks (g .text) (g .entered)) (g .fine) (not-done n) (g .small) (g .low) (g .safe));
+            safe =
+                subst (λ (x : Machine). Safe v (g .base) x) (s .same)
+                (turn-safe v pg stop (g .base) (machineOf r marks (g .text) (g .entered)) (g .fine) (not-done n) (g .small) (g .low) (g .safe));
             mean = ap (means v pg stop) (sym (s .same)) ∙ t .same ∙ g .mean;
           }
 

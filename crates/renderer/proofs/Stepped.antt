@@ -30,7 +30,8 @@ use Rattle.renderer_rules.specs.declared.Pen.{Pen}
 use Rattle.renderer.specs.declared.writing.Writing.{Writing}
 use Rattle.renderer.specs.Writing.{setPen, WritingRoom}
 use Rattle.renderer.specs.declared.run.Run.{Run}
-use Rattle.renderer.specs.Run.{Running, withFrames, wholeRun, bareRun, passedRun, machineOf, Follows, Ready, Enters, Entering, Leaves, Backs, Left, goesOn, ends, openedRun, closedAt, closedRun, closes}
+use Rattle.renderer.specs.Run.{Running, withFrames, wholeRun, bareRun, passedRun, machineOf, Follows, Ready, Enters}
+use Rattle.renderer.specs.Run.{Entering, Leaves, Backs, Left, goesOn, ends, openedRun, closedAt, closedRun, closes}
 use Rattle.renderer.proofs.Followed.{shows-as, indent-follows, next-follows, arguments-follows, closed-follows}
 
 -- `close`, by what it tests
@@ -47,13 +48,15 @@ module _ (kind : ℕ) (f : Frame) (p q : Pen) where
 pub closes-none : (kind : ℕ) (f : Frame) (p : Pen) → (kind ≡ INDENT → ⊥) → (kind ≡ INDENT-NEXT → ⊥) → (kind ≡ CALL → ⊥) → p ≡ closes kind f p
 closes-none kind f p a b c = rw (ne-eqb kind 1 a, ne-eqb kind 2 b, ne-eqb kind 11 c)
 
-pub finished : (store : List ℕ) (r : Run) (f : Frame) (row kind next : ℕ) (p : Pen) (q : Run) → row ≡ f .row → kind ≡ cell store row KIND → next ≡ cell store row AFTER
+pub finished : (store : List ℕ) (r : Run) (f : Frame) (row kind next : ℕ) (p : Pen) (q : Run)
+    → row ≡ f .row → kind ≡ cell store row KIND → next ≡ cell store row AFTER
     → p ≡ closes kind f (r .writing .pen)
     → q ≡ closedAt r next p
     → q ≡ closedRun store r f
 finished store r f row kind next p q e k n a b = b ∙ rw (a, n, k, e)
 
-pub backs-at : (store : List ℕ) (r : Run) (f : Frame) (row kind : ℕ) → row ≡ f .row → kind ≡ cell store row KIND → Leaves store r f → Backs kind f (r .writing .pen)
+pub backs-at : (store : List ℕ) (r : Run) (f : Frame) (row kind : ℕ) → row ≡ f .row
+    → kind ≡ cell store row KIND → Leaves store r f → Backs kind f (r .writing .pen)
 backs-at store r f row kind e k l = rw (k, e) (l .backs)
 
 pub kind-at : (store : List ℕ) (f : Frame) (row kind : ℕ) → row ≡ f .row → kind ≡ cell store row KIND → cell store (f .row) KIND ≡ kind
@@ -319,9 +322,11 @@ module _ (store source image : List ℕ) (max limit stop : ℕ) (marks out : Lis
 
       closing-closes : (t : Renderer) → (cell store (f .row) KIND ≡ CALL → f .first ≡ false) → closing v pg f t ≡ onPen (closes (cell store (f .row) KIND) f) t
       unfolding viewOf
-      closing-closes t e = go (eqb (cell store (f .row) KIND) INDENT) (eqb (cell store (f .row) KIND) INDENT-NEXT) (eqb (cell store (f .row) KIND) CALL) refl refl refl
+      closing-closes t e =
+          go (eqb (cell store (f .row) KIND) INDENT) (eqb (cell store (f .row) KIND) INDENT-NEXT) (eqb (cell store (f .row) KIND) CALL) refl refl refl
         where
-          go : (a b c : Bool) → eqb (cell store (f .row) KIND) INDENT ≡ a → eqb (cell store (f .row) KIND) INDENT-NEXT ≡ b → eqb (cell store (f .row) KIND) CALL ≡ c
+          go : (a b c : Bool) → eqb (cell store (f .row) KIND) INDENT ≡ a → eqb (cell store (f .row) KIND) INDENT-NEXT ≡ b
+              → eqb (cell store (f .row) KIND) CALL ≡ c
               → closing v pg f t
               ≡ onPen (λ (p : Pen). cond a (indentLess (f .wrap) p) (cond b (nextIndentLess (f .wrap) p) (cond c (nextIndentLess (f .deeper) p) p))) t
           go true b c p q s = closing-indent v pg f t (eqb-true _ 1 p)

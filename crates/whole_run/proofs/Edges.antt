@@ -38,16 +38,19 @@ pub edges-hold : EdgesHold
 unfolding header commentFits commentsFrom commentList shape opens childrenAt skips recordAt treeAt readTree readImage sourceFits readAll be16 be32 rowOf
     rowUnder kindFits payloadFits firstChild written within rowIn followed sequence runs prefix wellFormed boundary isRange views syntaxTree bytes
     mustWrap mustWraps width widths size sizes rowsOf rows viewOf nodeOf decode nodesAt commentsOf pairsAt pushStr atColumn newLine margin comment text
-    virtualColumn insert indentMore indentLess nextIndentMore nextIndentLess wraps groupWraps trailingCall calleeWraps renderNode renderNodes originText textBytes
+    virtualColumn insert indentMore indentLess nextIndentMore nextIndentLess wraps groupWraps trailingCall calleeWraps renderNode renderNodes originText
+    textBytes
     reaches partsFit rowFits firstWrong wrongRow placesFit wrongPlace marksNeeded placeIn word
-    joined words _⨟_ _⨟?_ _⨟!_ join grouped indents countNewlines newlinePlaces charAt decoded scalar something seek oneOf trimEnd trim charBefore ending ends shebangRule declaration declares
+    joined words _⨟_ _⨟?_ _⨟!_ join grouped indents countNewlines newlinePlaces charAt decoded scalar something seek oneOf trimEnd trim charBefore ending
+    ends shebangRule declaration declares
     opening typeExpr typeForm typeArgs pathRule pathMore exprWithPrecedence literalRule comments.nth comments.newlines comments.ignoreNewlines
     comments.popComment comments.popComments comments.popWhitespace comments.popTrailingComment
 edges-hold = refl
 
 pub widths-hold : WidthsHold
 unfolding header sourceFits be32 mustWrap mustWraps width widths size sizes rowsOf rows viewOf nodeOf decode nodesAt pushStr atColumn newLine margin text
-    virtualColumn insert wraps groupWraps renderNode renderNodes originText textBytes reaches partsFit rowFits firstWrong wrongRow placesFit wrongPlace marksNeeded
+    virtualColumn insert wraps groupWraps renderNode renderNodes originText textBytes reaches partsFit rowFits firstWrong wrongRow placesFit wrongPlace
+    marksNeeded
 widths-hold = record {
   least = record { stays = refl; wraps = refl };
   print-shop = record { stays = refl; wraps = refl };

@@ -131,7 +131,10 @@ module _ {s b : List ℕ} (z : Sized s b) where
   unfolding placesFit originText
   text-short store i e =
       let kind = cell store i KIND in
-      let numbers = (usesNumber kind || eqb (cell store i NUMBER) 0) && ((usesNumber2 kind || eqb (cell store i SECOND-NUMBER) 0) && (usesSecond kind || eqb (cell store i SECOND) 0)) in
+      let numbers =
+      (usesNumber kind || eqb (cell store i NUMBER) 0)
+      && ((usesNumber2 kind || eqb (cell store i SECOND-NUMBER) 0) && (usesSecond kind || eqb (cell store i SECOND) 0))
+      in
       let width = usesWidth kind || eqb (cell store i WIDTH) 0 in
       let texts = cond (usesText kind) (textFits s b store i) (noTextFits store i) in
       go (usesText kind) (and-right width texts (and-right numbers (width && texts) e))

@@ -14,7 +14,8 @@ use Rattle.image.specs.Read.{readAll, readRefusal}
 use Rattle.cut_rule.specs.States.{renderFresh}
 use Rattle.cut_rule.specs.Parts.{widthLine}
 use Rattle.whole_run.specs.Built.{FileChoice, renderChoice, rowsDue, marksDue, drawnDue}
-use Rattle.whole_run.specs.File.{modeLine, fileBeforeRows, fileRowsLine, fileMarksLine, fileTextLine, fileBeforeMarks, fileBeforeText, laidRefusal, refusalIn}
+use Rattle.whole_run.specs.File.{modeLine, fileBeforeRows, fileRowsLine, fileMarksLine, fileTextLine}
+use Rattle.whole_run.specs.File.{fileBeforeMarks, fileBeforeText, laidRefusal, refusalIn}
 
 -- lines that let pass leave it to the two parts behind them
 pub left-to-two : (os ps qs : List (Option Refusal)) → first os ≡ none → first (os ++ ps ++ qs) ≡ first (ps ++ qs)

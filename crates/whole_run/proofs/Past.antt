@@ -8,9 +8,10 @@ use Prim.Native.Nat.{ℕ, _+_, _-_, _*_, _<_, max}
 use lib.Dec.{ltb, eqb}
 use lib.ListN.{length, replicate, length-set, List·getD-append}
 use lib.Seq.{set-append-left}
-use Rattle.rows.specs.Node.{Text, Node, Nodes, group, indent, indentNext, wrapParent, comment as commentNode, str, ascii, line, emptyLine, lineOrSpace, ifWrap, call}
-use Rattle.rows.specs.Node.{none, _then_, wrapped, width, widths, mustWraps}
-use Rattle.renderer_rules.specs.Renderer.{Page, Renderer, withBuf, withMarks, withWidest, onPen, pushStr, atColumn, newLine, margin, comment, text, virtualColumn, insert, indentMore, indentLess}
+use Rattle.rows.specs.Node.{Text, Node, Nodes, group, indent, indentNext, wrapParent, comment as commentNode, str, ascii}
+use Rattle.rows.specs.Node.{line, emptyLine, lineOrSpace, ifWrap, call, none, _then_, wrapped, width, widths, mustWraps}
+use Rattle.renderer_rules.specs.Renderer.{Page, Renderer, withBuf, withMarks, withWidest, onPen, pushStr, atColumn}
+use Rattle.renderer_rules.specs.Renderer.{newLine, margin, comment, text, virtualColumn, insert, indentMore, indentLess}
 use Rattle.renderer_rules.proofs.Choices.{grouped, callee, called}
 use Rattle.renderer_rules.proofs.Widest.{max-of-three}
 use Rattle.renderer_rules.specs.Renderer.{nextIndentMore, nextIndentLess, wraps, groupWraps, trailingCall, calleeWraps, renderNode, renderNodes}

@@ -64,7 +64,8 @@ resumed : (p : Page) (ns : Nodes) (r : Renderer) → Unders (length (r .marks)) 
 resumed p ns r u =
     let t = rendererOf (penOf r) (r .marks) in
     let e : _≡_ {A = Renderer} (ext (r .buf) [] (r .widest) t) r =
-    ap₂ (λ (x m : List ℕ). remade r x m (max (r .widest) 0)) (append-nil (r .buf)) (append-nil (r .marks)) ∙ ap (remade r (r .buf) (r .marks)) (max-zero (r .widest)) in
+    ap₂ (λ (x m : List ℕ). remade r x m (max (r .widest) 0)) (append-nil (r .buf)) (append-nil (r .marks))
+    ∙ ap (remade r (r .buf) (r .marks)) (max-zero (r .widest)) in
     ap (λ (x : Renderer). drawnBy (renderNodes p ns true x)) (sym e)
     ∙ ap drawnBy (renders-ext (r .buf) [] (r .widest) p ns true t u)
     ∙ ap (λ (m : List ℕ). withAhead r (record { pen = penOf (renderNodes p ns true t); marks = m; text = renderNodes p ns true t .buf }))

@@ -32,7 +32,8 @@ use Rattle.layout_facts.proofs.Foot.{call-places}
 use Rattle.renderer_rules.specs.declared.Pen.{Pen}
 use Rattle.renderer_rules.specs.Page.{textBytes}
 use Rattle.renderer_rules.specs.Renderer.{renderNodes}
-use Rattle.renderer_rules.specs.Holds.{HoldsInOrder, rest, nothing, anything, Token, Piece as Part, IsLine, commentsAmong, tokensAmong, pieces, CommasChosen, MadeOf}
+use Rattle.renderer_rules.specs.Holds.{HoldsInOrder, rest, nothing, anything, Token, Piece as Part}
+use Rattle.renderer_rules.specs.Holds.{IsLine, commentsAmong, tokensAmong, pieces, CommasChosen, MadeOf}
 use Rattle.renderer_rules.proofs.Holds.{holds-the-comments, writes-pieces}
 use Rattle.refusals.specs.Refusals.{Refusal, unless}
 use Rattle.refusals.proofs.Answers.{accepted-by}
@@ -147,7 +148,8 @@ module _ (s b : List ℕ) where
           others = said .same ∙ ap (λ (n : ℕ). shebangTokens b (tree s b .shebang) & declarationsTokens (take n ds)) stop;
         }
 
-  due-nodes : (o : Option (LayoutArgs LayoutChoice)) → LaidFits (partsOf s b) (layout-parts (readAll s b) s b) (render-parts s b (readAll s b)) o → LaidNodes (layoutDue (rulesOf s b) o)
+  due-nodes : (o : Option (LayoutArgs LayoutChoice))
+      → LaidFits (partsOf s b) (layout-parts (readAll s b) s b) (render-parts s b (readAll s b)) o → LaidNodes (layoutDue (rulesOf s b) o)
   unfolding pieces commentsAmong tokensAmong CommasChosen declarationsTokens
   due-nodes none k = record { nodes = noNodes; read = nodes-none _ 0 0 (omega arith); size = refl; chosen = tt; comments = refl; others = refl }
   due-nodes (some q) k = laid-nodes q (k .to)

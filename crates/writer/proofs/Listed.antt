@@ -13,7 +13,8 @@ use Rattle.refusals.specs.Refusals.{Refusal}
 use Rattle.refusals.specs.Answers.{refused, accepted}
 use Rattle.image.specs.Bytes.{be16, be32, part}
 use Rattle.image.specs.Grammar.{bare, place, after, complete, rowUnder, firstChild}
-use Rattle.image.specs.Read.{Read, got, bad, bind, headAt, stopAt, kindAt, Tree, Trees, absent, node, nil, _▸_, Image, skips, childAt, recordAt, childrenAt, treeAt, readImage, readAll, sourceFits, documentOf, outcome}
+use Rattle.image.specs.Read.{Read, got, bad, bind, headAt, stopAt, kindAt, Tree, Trees, absent, node, nil, _▸_, Image, skips}
+use Rattle.image.specs.Read.{childAt, recordAt, childrenAt, treeAt, readImage, readAll, sourceFits, documentOf, outcome}
 use Rattle.image.specs.declared.Document.{Document}
 use Rattle.image.specs.Write.{bytes4, plain, plains}
 use Rattle.image.proofs.Exact.{Small}

@@ -8,7 +8,8 @@ use Rattle.file.proofs.format_file.Tie as tie
 
 format-accepted-requires : tie.Need-format-accepted-requires
 format-accepted-requires c κs =
-    record { answer = sym (c .before .before .before .before .check .ensures) ∙ ap checkedAnswer (c .before .before .doc .given .1) }
+    let at-check = c .before .before .before .before in
+    record { answer = sym (at-check .check .ensures) ∙ ap checkedAnswer (c .before .before .doc .given .1) }
 
 returns : tie.Need-returns
 returns c = check-refused _ _ _ _ _ _ (sym (c .before .before .before .check .ensures) ∙ ap checkedAnswer (c .before .number .given .1))

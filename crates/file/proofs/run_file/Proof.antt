@@ -89,7 +89,10 @@ returns-5 c =
 
 -- the store keeps its length in both calls
 same-length-5 : tie.Need-same-length-5
-same-length-5 c = c .before .before .before .before .before .before .before .before .before .render-checked .kept .1 .1 .0 ∙ c .before .before .before .before .before .before .before .before .before .before .before .before .before .before .before .before .before .before .before .before .layout-accepted .kept .1 .1 .0
+same-length-5 c =
+    let at-render-checked = c .before .before .before .before .before .before .before .before .before in
+    let at-layout-accepted = at-render-checked .before .before .before .before .before .before .before .before .before .before .before in
+    at-render-checked .render-checked .kept .1 .1 .0 ∙ at-layout-accepted .layout-accepted .kept .1 .1 .0
 
 pub run-file-spec : {M : Type 1} → statement M
 run-file-spec =

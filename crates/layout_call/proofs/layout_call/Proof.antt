@@ -7,7 +7,8 @@ use Rattle.layout_call.proofs.layout_call.Tie as tie
 
 layout-accepted-requires : tie.Need-layout-accepted-requires
 layout-accepted-requires c κs =
-    record { answer = sym (c .before .before .before .before .check .ensures) ∙ ap checkedAnswer (c .before .before .doc .given .1) }
+    let at-check = c .before .before .before .before in
+    record { answer = sym (at-check .check .ensures) ∙ ap checkedAnswer (c .before .before .doc .given .1) }
 
 returns : tie.Need-returns
 returns c =

@@ -10,8 +10,10 @@ use Rattle.exports.proofs.generator.rrufthim_steps_s1.Tie as tie
 
 returns : tie.Need-returns
 returns c =
-    let told : Answer ℕ → List ℕ = λ a. numbersOf toldBytes a (c .before .before .before .before .before .before .before .before .before .args .out .now) in
-    (c .before .before .before .before .steps-of .ensures .1, c .put-wrote .ensures ∙ ap told (c .before .before .before .before .steps-of .ensures .0))
+    let at-steps-of = c .before .before .before .before in
+    let start = at-steps-of .before .before .before .before .before in
+    let told : Answer ℕ → List ℕ = λ a. numbersOf toldBytes a (start .args .out .now) in
+    (at-steps-of .steps-of .ensures .1, c .put-wrote .ensures ∙ ap told (at-steps-of .steps-of .ensures .0))
 
 pub rrufthim-steps-s1-spec : {M : Type 1} → statement M
 rrufthim-steps-s1-spec =

@@ -10,8 +10,10 @@ use Rattle.exports.proofs.generator.rrufthim_write_s1.Tie as tie
 
 returns : tie.Need-returns
 returns c =
-    let told : Answer ℕ → List ℕ = λ a. numbersOf toldBytes a (c .before .before .before .before .before .before .before .before .args .out .now) in
-    (c .before .before .before .before .write-image .ensures .1, c .put-wrote .ensures ∙ ap told (c .before .before .before .before .write-image .ensures .0))
+    let at-write-image = c .before .before .before .before in
+    let start = at-write-image .before .before .before .before in
+    let told : Answer ℕ → List ℕ = λ a. numbersOf toldBytes a (start .args .out .now) in
+    (at-write-image .write-image .ensures .1, c .put-wrote .ensures ∙ ap told (at-write-image .write-image .ensures .0))
 
 pub rrufthim-write-s1-spec : {M : Type 1} → statement M
 rrufthim-write-s1-spec =

@@ -9,7 +9,10 @@ returns : tie.Need-returns
 returns c = replied-text _ _ (omega arith) _ _ _ _ _ _ (c .before .before .before .format-frame .ensures) (c .before .bytes .given .1)
 
 returns-2 : tie.Need-returns-2
-returns-2 c = replied-line _ _ (omega arith) _ _ _ _ _ _ (c .before .before .before .before .before .format-frame .ensures) (c .before .before .before .number .given .1) (c .refused-line .ensures)
+returns-2 c =
+    let at-number = c .before .before .before in
+    let at-format-frame = at-number .before .before in
+    replied-line _ _ (omega arith) _ _ _ _ _ _ (at-format-frame .format-frame .ensures) (at-number .number .given .1) (c .refused-line .ensures)
 
 pub reply-spec : {M : Type 1} → statement M
 reply-spec =

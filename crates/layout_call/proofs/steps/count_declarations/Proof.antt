@@ -26,19 +26,39 @@ loop-holds : tie.Need-loop-holds Inv-loop μ-loop
 loop-holds c = (omega arith, c .second .ensures ∙ sym (starts-first (c .before .before .before .before .pre)), c .before .past .ensures)
 
 past-requires-2 : tie.Need-past-requires-2 Inv-loop μ-loop
-past-requires-2 c κs = rw (c .before .loop .inv .1) (record-in (c .before .before .before .before .before .before .pre) (c .before .loop .count) (another (c .before .before .before .before .before .before .pre) (c .before .loop .count) (rw (c .before .loop .inv .1, c .before .loop .inv .2) at (c .loop-test .taken))))
+past-requires-2 c κs =
+    let start = c .before .before .before .before .before .before in
+    rw (c .before .loop .inv .1) (record-in (start .pre) (c .before .loop .count)
+    (another (start .pre) (c .before .loop .count) (rw (c .before .loop .inv .1, c .before .loop .inv .2) at (c .loop-test .taken))))
 
 add-count : tie.Need-add-count Inv-loop μ-loop
 add-count c = omega (arith, few-declarations (c .before .before .before .before .before .before .before .pre), c .before .before .loop .inv .0)
 
 loop-less : tie.Need-loop-less Inv-loop μ-loop
-loop-less c = omega (arith, another (c .before .before .before .before .before .before .before .pre) (c .before .before .loop .count) (rw (c .before .before .loop .inv .1, c .before .before .loop .inv .2) at (c .before .loop-test .taken)))
+loop-less c =
+    let start = c .before .before .before .before .before .before .before in
+    omega (
+      arith,
+      another (start .pre) (c .before .before .loop .count)
+          (rw (c .before .before .loop .inv .1, c .before .before .loop .inv .2) at (c .before .loop-test .taken)),
+    )
 
 loop-again : tie.Need-loop-again Inv-loop μ-loop
-loop-again c = let h = another (c .before .before .before .before .before .before .before .pre) (c .before .before .loop .count) (rw (c .before .before .loop .inv .1, c .before .before .loop .inv .2) at (c .before .loop-test .taken)) in (omega (arith, h), c .past2 .ensures ∙ ap (stopAt _) (c .before .before .loop .inv .1) ∙ goes-on (c .before .before .before .before .before .before .before .pre) (c .before .before .loop .count) h, c .before .before .loop .inv .2)
+loop-again c =
+    let start = c .before .before .before .before .before .before .before in
+    let h =
+    another (start .pre) (c .before .before .loop .count)
+    (rw (c .before .before .loop .inv .1, c .before .before .loop .inv .2) at (c .before .loop-test .taken))
+    in (
+      omega (arith, h),
+      c .past2 .ensures ∙ ap (stopAt _) (c .before .before .loop .inv .1) ∙ goes-on (start .pre) (c .before .before .loop .count) h,
+      c .before .before .loop .inv .2,
+    )
 
 returns : tie.Need-returns Inv-loop μ-loop
-returns c = no-more (c .before .before .before .before .before .before .pre) (c .before .loop .count) (c .before .loop .inv .0) (rw (c .before .loop .inv .1, c .before .loop .inv .2) at (c .loop-test .left))
+returns c =
+    let start = c .before .before .before .before .before .before in
+    no-more (start .pre) (c .before .loop .count) (c .before .loop .inv .0) (rw (c .before .loop .inv .1, c .before .loop .inv .2) at (c .loop-test .left))
 
 pub count-declarations-spec : {M : Type 1} → statement M
 count-declarations-spec =

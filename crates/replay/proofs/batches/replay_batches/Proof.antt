@@ -6,7 +6,8 @@ use Rattle.replay.proofs.batches.replay_batches.Statement.{statement}
 use Rattle.replay.proofs.batches.replay_batches.Tie as tie
 
 abbrev Inv-loop : tie.InvT-loop
-Inv-loop d files₀ batches₀ at₀ cases₀ differ₀ files batches at cases differ = (length files ≡ length files₀) × (length batches ≡ length batches₀) × (cases ≤ at) × (differ ≤ cases)
+Inv-loop d files₀ batches₀ at₀ cases₀ differ₀ files batches at cases differ =
+    (length files ≡ length files₀) × (length batches ≡ length batches₀) × (cases ≤ at) × (differ ≤ cases)
 
 abbrev μ-loop : tie.MeasureT-loop
 μ-loop d files₀ batches₀ at₀ cases₀ differ₀ files batches at cases differ = length d - at

@@ -7,7 +7,8 @@ use Rattle.replay.proofs.frames.replay_frames.Statement.{statement}
 use Rattle.replay.proofs.frames.replay_frames.Tie as tie
 
 abbrev Inv-loop : tie.InvT-loop
-Inv-loop d store₀ marks₀ out₀ counts₀ at₀ cases₀ differ₀ store marks out counts at cases differ = (length store ≡ length store₀) × (length marks ≡ length marks₀) × (length counts ≡ length counts₀) × (cases ≤ at) × (differ ≤ cases)
+Inv-loop d store₀ marks₀ out₀ counts₀ at₀ cases₀ differ₀ store marks out counts at cases differ =
+    (length store ≡ length store₀) × (length marks ≡ length marks₀) × (length counts ≡ length counts₀) × (cases ≤ at) × (differ ≤ cases)
 
 abbrev μ-loop : tie.MeasureT-loop
 μ-loop d store₀ marks₀ out₀ counts₀ at₀ cases₀ differ₀ store marks out counts at cases differ = length d - at

@@ -6,7 +6,8 @@ use Rattle.replay.proofs.step_lists.replay_lists.Statement.{statement}
 use Rattle.replay.proofs.step_lists.replay_lists.Tie as tie
 
 abbrev Inv-loop : tie.InvT-loop
-Inv-loop d source image₀ steps₀ counts₀ at₀ cases₀ differ₀ image steps counts at cases differ = (length image ≡ length image₀) × (length steps ≡ length steps₀) × (length counts ≡ length counts₀) × (cases ≤ at) × (differ ≤ cases)
+Inv-loop d source image₀ steps₀ counts₀ at₀ cases₀ differ₀ image steps counts at cases differ =
+    (length image ≡ length image₀) × (length steps ≡ length steps₀) × (length counts ≡ length counts₀) × (cases ≤ at) × (differ ≤ cases)
 
 abbrev μ-loop : tie.MeasureT-loop
 μ-loop d source image₀ steps₀ counts₀ at₀ cases₀ differ₀ image steps counts at cases differ = length d - at
