@@ -3,8 +3,10 @@
 use Rattle.image.proofs.Numbers.{read-numbers}
 use Rattle.rows.proofs.Table.{words-there}
 use Rattle.renderer_rules.proofs.Call.{call-as-rust}
+use Rattle.renderer_rules.proofs.Checked.{fault-of-part}
 use Rattle.renderer_rules.proofs.Holds.{writes-pieces, no-slash-around}
 use Rattle.layout_facts.proofs.Binop.{binop-as-rust}
+use Rattle.layout_facts.proofs.BlankLines.{blank-lines}
 use Rattle.layout_facts.proofs.Limits.{few-rows, words-due}
 use Rattle.layout_facts.proofs.Tokens.{says-the-program, fmt-parsed-says-the-program, slash-words}
 use Rattle.whole_run.proofs.Demands.{rules-cut, due-is-fmt-parsed, laid-within-limits}
@@ -47,6 +49,7 @@ claims = record {
     few-rows = few-rows;
     words-there = words-there;
     words-due = words-due;
+    fault-of-part = fault-of-part;
     read-numbers = read-numbers;
   };
   text = record {
@@ -65,6 +68,7 @@ claims = record {
     slash-words = slash-words;
   };
   requests = record {
+    blank-lines = blank-lines;
     totals-are-sums = totals-are-sums;
     same-in-any-order = same-in-any-order;
     first-are-counted = first-are-counted;
