@@ -17,7 +17,8 @@ use Rattle.tree.specs.CommentList.{commentsOf}
 use Rattle.comments.specs.Listed.{given, Listed}
 use Rattle.comments.proofs.Accepted.{accepted-listed}
 use Rattle.layout.specs.Closing.{callRule}
-use Rattle.layout_facts.proofs.Foot.{AtFoot, call-places}
+use Rattle.layout_facts.specs.Foot.{AtFoot}
+use Rattle.layout_facts.proofs.Foot.{call-places}
 use Rattle.refusals.specs.Refusals.{Refusal, unless}
 use Rattle.cut_rule.specs.Rules.{LayoutArgs}
 use Rattle.cut_rule.specs.Run.{Call, layoutCall, renderCall, Carried, start, refusal, accepted, call, run}
