@@ -28,9 +28,9 @@ usage: judge run [--true-widths] < frame      what the program must write
        judge stored-frames                    a fixed set of frames, answered
        judge stored-calls                     a fixed set of lists, answered
        judge stored-table                     what the fixed sets reach
-       judge replay-calls                     the lists, as replay reads them
+       judge replay-calls                     the lists, as replay_calls reads them
        judge replay-calls-counts              what it must write of them
-       judge replay-frames                    the frames, as it reads them
+       judge replay-frames                    the frames, as replay_files reads them
        judge replay-frames-counts             what it must write of them
        judge replay-steps                     the lists of steps
        judge replay-steps-counts              what it must write of them

@@ -204,19 +204,16 @@ fn batches_take_about_sixty_kilobytes() {
 /// `reference/replay-answers` was run after the last change.
 #[test]
 fn the_replay_has_these_answers() {
-    let at = concat!(env!("CARGO_MANIFEST_DIR"), "/../../crates/replay");
+    let at = concat!(env!("CARGO_MANIFEST_DIR"), "/../../crates");
     let read = |name| std::fs::read(format!("{at}/{name}")).expect("there");
-    assert!(read("data/calls") == replay::calls_input());
-    assert!(read("data/frames") == replay::frames_input());
-    assert!(read("data/steps") == replay::steps_input());
-    assert!(read("data/batches") == replay::batches_input());
-    let counts = [
-        replay::calls_output(),
-        replay::frames_output(),
-        replay::steps_output(),
-        replay::batches_output(),
-    ];
-    assert!(read("stdout") == counts.concat().into_bytes());
+    assert!(read("replay_calls/data/calls") == replay::calls_input());
+    assert!(read("replay_calls/data/steps") == replay::steps_input());
+    assert!(read("replay_files/data/frames") == replay::frames_input());
+    assert!(read("replay_files/data/batches") == replay::batches_input());
+    let calls = [replay::calls_output(), replay::steps_output()];
+    assert!(read("replay_calls/stdout") == calls.concat().into_bytes());
+    let files = [replay::frames_output(), replay::batches_output()];
+    assert!(read("replay_files/stdout") == files.concat().into_bytes());
 }
 
 /// The same of the program `report`.
