@@ -3,7 +3,7 @@
 
 use std::error::Error;
 
-use rrufthim::{Options, ast::*, fmt_parsed, fmt_parsed_with_options};
+use rrufthim::{Formatter, Options, ast::*, fmt_parsed};
 
 pub const SOURCE: &str = "\
 // Tariff 2026, members only.
@@ -19,9 +19,9 @@ fn main() -> Result<(), Box<dyn Error>> {
     let (tree, extras) = tariff();
     let formatted = fmt_parsed(&tree, SOURCE, &extras)?;
     print!("{}", formatted.text);
-    let options = Options::AS_ROTO;
-    let roto = fmt_parsed_with_options(&tree, SOURCE, &extras, options)?;
-    for comment in roto.comments_left {
+    let mut roto = Formatter::new().with_options(Options::AS_ROTO);
+    let formatted = roto.format_tree(&tree, SOURCE, &extras)?;
+    for comment in formatted.comments_left {
         eprintln!("Roto would drop: {}", SOURCE[comment].trim_end());
     }
     Ok(())

@@ -2,23 +2,25 @@
 //!
 //! A frame is a file's source and its tree, as in save.rs.
 
-use std::{env, fs, process::ExitCode};
+#[path = "common/frame.rs"]
+mod frame;
 
-use rrufthim::report;
+use std::{env, path::Path, process::ExitCode};
+
+use frame::Frame;
+use rrufthim::figures::Report;
 
 fn main() -> ExitCode {
-    let mut files = Vec::new();
+    let mut report = Report::new();
     for name in env::args().skip(1) {
-        match fs::read(&name).map(|frame| parts(&frame)) {
-            Ok(Some(file)) => files.push(file),
-            Ok(None) => return failed(&name, "no frame"),
-            Err(error) => return failed(&name, &error.to_string()),
-        }
-    }
-    let names = env::args().skip(1);
-    let mut report = report(files);
-    for (name, file) in names.zip(report.by_ref()) {
-        match file {
+        let frame = match Frame::read(Path::new(&name)) {
+            Ok(frame) => frame,
+            Err(error) => {
+                eprintln!("{name}: {error}");
+                return ExitCode::FAILURE;
+            }
+        };
+        match report.count(frame.file()) {
             Ok(figures) => println!("{name}: {figures:?}"),
             Err(refusal) => println!("{name} isn't counted: {refusal}"),
         }
@@ -26,17 +28,4 @@ fn main() -> ExitCode {
     println!("in all: {:?}", report.tallies());
     println!("wrapped over given: {}", report.fraction());
     ExitCode::SUCCESS
-}
-
-/// Source and image of a frame.
-fn parts(frame: &[u8]) -> Option<(Vec<u8>, Vec<u8>)> {
-    let (length, rest) = frame.split_first_chunk()?;
-    let length = u32::from_be_bytes(*length) as usize;
-    let (source, image) = rest.split_at_checked(length)?;
-    Some((source.to_vec(), image.to_vec()))
-}
-
-fn failed(name: &str, why: &str) -> ExitCode {
-    eprintln!("{name}: {why}");
-    ExitCode::FAILURE
 }

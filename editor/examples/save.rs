@@ -98,8 +98,7 @@ pub(crate) fn save(
         Ok(frame) => frame,
         Err(error) => return report.fail(path, &error),
     };
-    let formatted = match formatter.format_image(&frame.source, &frame.image)
-    {
+    let formatted = match formatter.format_file(frame.file()) {
         Ok(formatted) => formatted,
         Err(error) => return report.refuse(path, &error),
     };

@@ -3,17 +3,20 @@
 //!
 //! A frame is a file's source and its tree, as in save.rs.
 
-use std::{env, error::Error, fs};
+#[path = "common/frame.rs"]
+mod frame;
 
+use std::{env, error::Error, path::Path};
+
+use frame::Frame;
 use rrufthim::generator::{Step, steps};
 
 fn main() -> Result<(), Box<dyn Error>> {
     let name = env::args().nth(1).ok_or("usage: steps FRAME")?;
-    let frame = fs::read(&name)?;
-    let (source, image) = parts(&frame).ok_or("no frame")?;
+    let frame = Frame::read(Path::new(&name))?;
     let mut offset = 0;
     let mut depth: usize = 0;
-    for step in steps(source, image)? {
+    for step in steps(frame.file())? {
         if step == Step::Close {
             depth -= 1;
         }
@@ -24,10 +27,4 @@ fn main() -> Result<(), Box<dyn Error>> {
         offset += step.bytes();
     }
     Ok(())
-}
-
-/// Source and image of a frame.
-fn parts(frame: &[u8]) -> Option<(&[u8], &[u8])> {
-    let (length, rest) = frame.split_first_chunk()?;
-    rest.split_at_checked(u32::from_be_bytes(*length) as usize)
 }

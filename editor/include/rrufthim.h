@@ -34,22 +34,24 @@ typedef char rrufthim_lengths_have_64_bits[sizeof(size_t) == 8 ? 1 : -1];
 /* Refusals: out[0], with what out[1] is then. */
 #define RRUFTHIM_SOURCE_TOO_LONG 1  /* the source is over 65,536 bytes: 0 */
 #define RRUFTHIM_SOURCE_NOT_UTF8 2  /* the source isn't well-formed UTF-8: first byte of the bad sequence */
-#define RRUFTHIM_NO_IMAGE 3         /* the image's version or length is wrong, or its body over 1,048,576 bytes: 0 */
-#define RRUFTHIM_BAD_RECORD 4       /* a record of the image is malformed: offset in the image */
-#define RRUFTHIM_TOO_DEEP 5         /* a record is 65 deep: its offset in the image */
-#define RRUFTHIM_BAD_SPAN 6         /* a record's span is no range of characters of the source: the record's offset in the image */
-#define RRUFTHIM_BAD_COMMENT 7      /* the comment list is wrong: offset of its count or of the bad pair in the image */
-#define RRUFTHIM_MORE_ROWS 8        /* the store is too short: rows needed in all */
-#define RRUFTHIM_MORE_MARKS 9       /* the marks are too few: marks needed */
+#define RRUFTHIM_NO_IMAGE 3         /* the tree image's version or length is wrong, or its body over 1,048,576 bytes: 0 */
+#define RRUFTHIM_BAD_RECORD 4       /* a record of the tree image is malformed: offset in the image */
+#define RRUFTHIM_TOO_DEEP 5         /* a record of the tree image is over 64 deep: record's offset in the image */
+#define RRUFTHIM_BAD_SPAN 6         /* a record's span is no range of characters of the source: record's offset in the image */
+#define RRUFTHIM_BAD_COMMENT 7      /* the comment list is cut off or over 8,192, or a comment is empty or no range of characters of the source:
+                                       offset of the count or the comment in the image */
+#define RRUFTHIM_MORE_ROWS 8        /* the store has too few rows: rows needed in all */
+#define RRUFTHIM_MORE_MARKS 9       /* there are too few marks: marks needed */
 #define RRUFTHIM_MORE_OUTPUT 10     /* the output is too short: bytes needed */
-#define RRUFTHIM_BAD_ROW 11         /* a row can't be rendered: that row; or the stop is past the store or 2,097,152: 0 */
-#define RRUFTHIM_BAD_STATE 12       /* the state, the marks in use, the stop or the mode don't fit: 0 */
-#define RRUFTHIM_BAD_TALLIES 14     /* the tallies count 4,096 files, one is over 4,294,967,296, or more is wrapped than given: 0 */
-#define RRUFTHIM_BAD_WIDTH 15       /* the width is under 40 or over 200, or not the one that the state carries: 0 */
-#define RRUFTHIM_BAD_STEP 16        /* a step is unknown, cut off or wrong there: its offset; something is missing at the end: steps_len */
-#define RRUFTHIM_MORE_ROOM 17       /* the output is too short for image or steps, or an image's body over 1,048,576: bytes needed */
-#define RRUFTHIM_BAD_BATCH 18       /* a frame of a batch runs past the buffer, or is the 257th: its offset in the buffer */
-#define RRUFTHIM_MORE_FOR_BATCH 19  /* the table is too short for a batch, or the output: places of the table, or bytes needed */
+#define RRUFTHIM_BAD_ROW 11         /* a row of the store can't be rendered, or the stop is past the store or 2,097,152: row, or 0 for the stop */
+#define RRUFTHIM_BAD_STATE 12       /* the state, the marks in use or the stop doesn't fit, or the mode (comments at the foot) is over 1 or not
+                                       that of the calls before: 0 */
+#define RRUFTHIM_BAD_TALLIES 14     /* the tallies count 4,096 files, one of them is over 4,294,967,296, or more groups are wrapped than given: 0 */
+#define RRUFTHIM_BAD_WIDTH 15       /* the width is under 40 or over 200 columns, or not that of the calls before: 0 */
+#define RRUFTHIM_BAD_STEP 16        /* a step is unknown, cut off or wrong there, or something is missing at the list's end: offset in the list */
+#define RRUFTHIM_MORE_ROOM 17       /* the output is too short for the image or the steps, or the image's body over 1,048,576 bytes: bytes needed */
+#define RRUFTHIM_BAD_BATCH 18       /* a frame of the batch runs past the buffer, or is the 257th: frame's offset in the buffer */
+#define RRUFTHIM_MORE_FOR_BATCH 19  /* the table of the batch is too short, or the output: numbers of the table, or bytes, needed */
 
 /* Limits: past them a file is refused. A text may be longer than a source: such a text can't be formatted again. */
 #define RRUFTHIM_MAX_SOURCE 65536    /* bytes of a source */
@@ -99,8 +101,8 @@ typedef char rrufthim_lengths_have_64_bits[sizeof(size_t) == 8 ? 1 : -1];
  * the major is 0, the minor is raised for both. Another shape is always another version too.
  */
 #define RRUFTHIM_SHAPE 1
-#define RRUFTHIM_VERSION "0.1"
-#define RRUFTHIM_VERSION_NUMBER 1
+#define RRUFTHIM_VERSION "0.2"
+#define RRUFTHIM_VERSION_NUMBER 2
 
 #define RRUFTHIM_JOIN_AS_IT_IS(name, number) name##number
 #define RRUFTHIM_JOIN(name, number) RRUFTHIM_JOIN_AS_IT_IS(name, number)

@@ -27,6 +27,8 @@ fn span<T>(spans: &Spans, node: &Meta<T>) -> Span {
 
 /// Formats a parsed file: a text that holds every comment.
 ///
+/// For other options give what [`write`] writes to `rrufthim::fmt_written`.
+///
 /// # Errors
 ///
 /// What is over a limit of the tree image, and refusals 1, 6, 7 and 10.
@@ -36,30 +38,13 @@ pub fn fmt_parsed(
     spans: &Spans,
     extras: &Extras,
 ) -> Result<Formatted, FormatError> {
-    let options = Options::default();
-    fmt_parsed_with_options(ast, source, spans, extras, options)
-}
-
-/// The same with what the caller chooses: a text, and the comments that it
-/// doesn't hold.
-///
-/// # Errors
-///
-/// The same, and refusal 15.
-pub fn fmt_parsed_with_options(
-    ast: &ast::SyntaxTree,
-    source: &str,
-    spans: &Spans,
-    extras: &Extras,
-    options: Options,
-) -> Result<Formatted, FormatError> {
-    rrufthim::fmt_written_with_options(source, options, |out| {
+    rrufthim::fmt_written(source, &Options::default(), |out| {
         write(out, ast, spans, extras)
     })
 }
 
-/// Writes a parsed file's comments and tree: for `format_written` of a
-/// `Formatter` that is kept elsewhere.
+/// Writes a parsed file's comments and tree: for `rrufthim::fmt_written`, and
+/// for `format_written` of a `Formatter` that is kept elsewhere.
 ///
 /// # Errors
 ///

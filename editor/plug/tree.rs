@@ -4,7 +4,7 @@
 //! own, and `rrufthim::ast`. The module above it says which, by `ast`,
 //! `Meta`, `Spans` and `span`.
 
-use rrufthim::{EncodeError, ImageWriter, NO_SPAN, Span, WriteResult};
+use rrufthim::{EncodeError, ImageWriter, NO_SPAN, Span, WriteResult, kind};
 
 use super::{
     Meta, Spans,
@@ -59,7 +59,7 @@ impl<W: FnMut(&str) -> usize> TreeWriter<'_, '_, W> {
         elements: &[T],
         put: impl FnMut(&mut Self, &T) -> WriteResult,
     ) -> WriteResult {
-        self.record(3, span, |w| w.each(elements, put))
+        self.record(kind::LIST, span, |w| w.each(elements, put))
     }
 
     fn each<T>(
@@ -100,14 +100,14 @@ impl<W: FnMut(&str) -> usize> TreeWriter<'_, '_, W> {
         if path.idents.is_empty() {
             return Err(EncodeError::EmptyPath { span }.into());
         }
-        self.record(4, span, |w| w.each(&path.idents, Self::name))
+        self.record(kind::PATH, span, |w| w.each(&path.idents, Self::name))
     }
 }
 
 /// Declarations and types.
 impl<W: FnMut(&str) -> usize> TreeWriter<'_, '_, W> {
     fn tree(&mut self, tree: &SyntaxTree) -> WriteResult {
-        self.record(1, NO_SPAN, |w| {
+        self.record(kind::TREE, NO_SPAN, |w| {
             w.maybe(tree.shebang.as_ref(), |w, text| {
                 let width = (w.width)(text.trim_end());
                 w.out.text(NO_SPAN, text, width)
@@ -118,33 +118,39 @@ impl<W: FnMut(&str) -> usize> TreeWriter<'_, '_, W> {
 
     fn declaration(&mut self, declaration: &Declaration) -> WriteResult {
         match declaration {
-            Declaration::FilterMap(x) => self.record(10, NO_SPAN, |w| {
-                w.name(&x.ident)?;
-                w.params(&x.params)?;
-                w.block(&x.body)
-            }),
-            Declaration::Const(x) => self.record(11, NO_SPAN, |w| {
+            Declaration::FilterMap(x) => {
+                self.record(kind::FILTER_MAP, NO_SPAN, |w| {
+                    w.name(&x.ident)?;
+                    w.params(&x.params)?;
+                    w.block(&x.body)
+                })
+            }
+            Declaration::Const(x) => self.record(kind::CONST, NO_SPAN, |w| {
                 w.name(&x.ident)?;
                 w.type_expr(&x.ty)?;
                 w.expr(&x.expr)
             }),
-            Declaration::Record(x) => self.record(12, NO_SPAN, |w| {
-                w.name(&x.ident)?;
-                w.maybe(x.type_params.as_ref(), Self::names)?;
-                w.record_type(&x.record_type)
-            }),
-            Declaration::Enum(x) => self.record(13, NO_SPAN, |w| {
+            Declaration::Record(x) => {
+                self.record(kind::RECORD, NO_SPAN, |w| {
+                    w.name(&x.ident)?;
+                    w.maybe(x.type_params.as_ref(), Self::names)?;
+                    w.record_type(&x.record_type)
+                })
+            }
+            Declaration::Enum(x) => self.record(kind::ENUM, NO_SPAN, |w| {
                 w.name(&x.ident)?;
                 w.maybe(x.type_params.as_ref(), Self::names)?;
                 w.list(w.span(&x.variants), &x.variants, Self::variant)
             }),
-            Declaration::Function(x) => self.record(14, NO_SPAN, |w| {
-                w.name(&x.ident)?;
-                w.params(&x.params)?;
-                w.maybe(x.ret.as_ref(), Self::type_expr)?;
-                w.block(&x.body)
-            }),
-            Declaration::Test(x) => self.record(15, NO_SPAN, |w| {
+            Declaration::Function(x) => {
+                self.record(kind::FUNCTION, NO_SPAN, |w| {
+                    w.name(&x.ident)?;
+                    w.params(&x.params)?;
+                    w.maybe(x.ret.as_ref(), Self::type_expr)?;
+                    w.block(&x.body)
+                })
+            }
+            Declaration::Test(x) => self.record(kind::TEST, NO_SPAN, |w| {
                 w.name(&x.ident)?;
                 w.block(&x.body)
             }),
@@ -153,7 +159,7 @@ impl<W: FnMut(&str) -> usize> TreeWriter<'_, '_, W> {
     }
 
     fn import(&mut self, import: &Meta<ImportPath>) -> WriteResult {
-        self.record(16, self.span(import), |w| {
+        self.record(kind::IMPORT, self.span(import), |w| {
             w.maybe(import.path.as_ref(), Self::path)?;
             w.maybe(import.group.as_ref(), |w, group| {
                 w.list(w.span(group), group, Self::import)
@@ -180,14 +186,14 @@ impl<W: FnMut(&str) -> usize> TreeWriter<'_, '_, W> {
         name: &Meta<Identifier>,
         ty: &Meta<TypeExpr>,
     ) -> WriteResult {
-        self.record(20, span, |w| {
+        self.record(kind::NAME_AND_TYPE, span, |w| {
             w.name(name)?;
             w.type_expr(ty)
         })
     }
 
     fn variant(&mut self, variant: &Meta<Variant>) -> WriteResult {
-        self.record(21, self.span(variant), |w| {
+        self.record(kind::VARIANT, self.span(variant), |w| {
             w.name(&variant.ident)?;
             w.list(NO_SPAN, &variant.fields, Self::type_expr)
         })
@@ -197,18 +203,22 @@ impl<W: FnMut(&str) -> usize> TreeWriter<'_, '_, W> {
         let span = self.span(ty);
         match &ty.node {
             TypeExpr::Option(inner) => {
-                self.record(40, span, |w| w.type_expr(inner))
+                self.record(kind::OPTION, span, |w| w.type_expr(inner))
             }
-            TypeExpr::Path(path, arguments) => self.record(41, span, |w| {
-                w.path(path)?;
-                w.maybe(arguments.as_ref(), |w, list| {
-                    w.list(w.span(list), list, Self::type_expr)
+            TypeExpr::Path(path, arguments) => {
+                self.record(kind::TYPE_PATH, span, |w| {
+                    w.path(path)?;
+                    w.maybe(arguments.as_ref(), |w, list| {
+                        w.list(w.span(list), list, Self::type_expr)
+                    })
                 })
-            }),
-            TypeExpr::Never => self.out.leaf(42, span),
-            TypeExpr::Unit => self.out.leaf(43, span),
+            }
+            TypeExpr::Never => self.out.leaf(kind::NEVER, span),
+            TypeExpr::Unit => self.out.leaf(kind::UNIT, span),
             TypeExpr::Record(record) => {
-                self.record(44, span, |w| w.record_type(record))
+                self.record(kind::RECORD_TYPE, span, |w| {
+                    w.record_type(record)
+                })
             }
         }
     }
@@ -217,7 +227,7 @@ impl<W: FnMut(&str) -> usize> TreeWriter<'_, '_, W> {
 /// Blocks, statements and expressions.
 impl<W: FnMut(&str) -> usize> TreeWriter<'_, '_, W> {
     fn block(&mut self, block: &Meta<Block>) -> WriteResult {
-        self.record(23, self.span(block), |w| {
+        self.record(kind::BLOCK, self.span(block), |w| {
             w.list(NO_SPAN, &block.stmts, Self::stmt)?;
             w.maybe(block.last.as_deref(), Self::expr)
         })
@@ -226,20 +236,22 @@ impl<W: FnMut(&str) -> usize> TreeWriter<'_, '_, W> {
     fn stmt(&mut self, stmt: &Meta<Stmt>) -> WriteResult {
         let span = self.span(stmt);
         match &stmt.node {
-            Stmt::Let(name, ty, value) => self.record(30, span, |w| {
+            Stmt::Let(name, ty, value) => self.record(kind::LET, span, |w| {
                 w.name(name)?;
                 w.maybe(ty.as_ref(), Self::type_expr)?;
                 w.expr(value)
             }),
             Stmt::Import(import) => {
-                self.record(31, span, |w| w.import(import))
+                self.record(kind::IMPORT_STMT, span, |w| w.import(import))
             }
-            Stmt::Expr(expr) => self.record(32, span, |w| w.expr(expr)),
+            Stmt::Expr(expr) => {
+                self.record(kind::EXPR_STMT, span, |w| w.expr(expr))
+            }
         }
     }
 
     fn expr(&mut self, expr: &Meta<Expr>) -> WriteResult {
-        let record = self.out.open(kind(expr), self.span(expr))?;
+        let record = self.out.open(kind_of(expr), self.span(expr))?;
         self.parts(expr)?;
         self.out.close(record)
     }
@@ -304,13 +316,15 @@ impl<W: FnMut(&str) -> usize> TreeWriter<'_, '_, W> {
         right: &Meta<Expr>,
     ) -> WriteResult {
         self.expr(left)?;
-        self.out.choice(86, self.span(op), op.node as u8)?;
+        self.out
+            .choice(kind::OPERATOR, self.span(op), op.node as u8)?;
         self.expr(right)
     }
 
     fn compound(&mut self, x: &CompoundAssign) -> WriteResult {
         self.path(&x.path)?;
-        self.out.choice(86, self.span(&x.op), x.op.node as u8)?;
+        self.out
+            .choice(kind::OPERATOR, self.span(&x.op), x.op.node as u8)?;
         self.expr(&x.expr)
     }
 
@@ -341,13 +355,13 @@ impl<W: FnMut(&str) -> usize> TreeWriter<'_, '_, W> {
             Literal::Unit => 3,
             _ => 0,
         };
-        self.out.choice(87, self.span(literal), payload)
+        self.out.choice(kind::LITERAL, self.span(literal), payload)
     }
 
     fn fields(&mut self, record: &Meta<Record>) -> WriteResult {
-        self.record(80, self.span(record), |w| {
+        self.record(kind::RECORD_FIELDS, self.span(record), |w| {
             w.each(&record.fields, |w, field| {
-                w.record(22, w.span(field), |w| {
+                w.record(kind::FIELD, w.span(field), |w| {
                     w.name(&field.name)?;
                     w.expr(&field.expr)
                 })
@@ -361,7 +375,7 @@ impl<W: FnMut(&str) -> usize> TreeWriter<'_, '_, W> {
     }
 
     fn arm(&mut self, arm: &Meta<MatchArm>) -> WriteResult {
-        self.record(81, self.span(arm), |w| {
+        self.record(kind::ARM, self.span(arm), |w| {
             w.pattern(&arm.pattern)?;
             w.maybe(arm.guard.as_ref(), Self::expr)?;
             w.expr(&arm.body)
@@ -371,9 +385,9 @@ impl<W: FnMut(&str) -> usize> TreeWriter<'_, '_, W> {
     fn pattern(&mut self, pattern: &Meta<Pattern>) -> WriteResult {
         let span = self.span(pattern);
         match &pattern.node {
-            Pattern::Underscore => self.out.leaf(82, span),
+            Pattern::Underscore => self.out.leaf(kind::UNDERSCORE, span),
             Pattern::EnumVariant { variant, fields } => {
-                self.record(83, span, |w| {
+                self.record(kind::ENUM_VARIANT, span, |w| {
                     w.name(variant)?;
                     w.maybe(fields.as_ref(), Self::names)
                 })
@@ -384,37 +398,37 @@ impl<W: FnMut(&str) -> usize> TreeWriter<'_, '_, W> {
     fn part(&mut self, part: &Meta<FStringPart>) -> WriteResult {
         let span = self.span(part);
         match &part.node {
-            FStringPart::String(_) => self.out.leaf(84, span),
+            FStringPart::String(_) => self.out.leaf(kind::TEXT_PART, span),
             FStringPart::Expr(expr) => {
-                self.record(85, span, |w| w.expr(expr))
+                self.record(kind::EXPR_PART, span, |w| w.expr(expr))
             }
         }
     }
 }
 
-/// The kinds of expressions are counted from 50 in the order of `Expr`.
-fn kind(expr: &Expr) -> u8 {
+/// The kind of an expression's record.
+fn kind_of(expr: &Expr) -> u8 {
     match expr {
-        Expr::Return(..) => 50,
-        Expr::Literal(_) => 51,
-        Expr::Block(_) => 52,
-        Expr::Match(_) => 53,
-        Expr::FunctionCall(..) => 54,
-        Expr::Access(..) => 55,
-        Expr::Path(_) => 56,
-        Expr::Record(_) => 57,
-        Expr::TypedRecord(..) => 58,
-        Expr::List(_) => 59,
-        Expr::Not(_) => 60,
-        Expr::Assign(..) => 61,
-        Expr::CompoundAssign(_) => 62,
-        Expr::BinOp(..) => 63,
-        Expr::Negate(_) => 64,
-        Expr::IfElse(..) => 65,
-        Expr::While(..) => 66,
-        Expr::For(..) => 67,
-        Expr::QuestionMark(_) => 68,
-        Expr::FString(_) => 69,
-        Expr::Parentheses(_) => 70,
+        Expr::Return(..) => kind::RETURN,
+        Expr::Literal(_) => kind::LITERAL_EXPR,
+        Expr::Block(_) => kind::BLOCK_EXPR,
+        Expr::Match(_) => kind::MATCH,
+        Expr::FunctionCall(..) => kind::FUNCTION_CALL,
+        Expr::Access(..) => kind::ACCESS,
+        Expr::Path(_) => kind::PATH_EXPR,
+        Expr::Record(_) => kind::RECORD_EXPR,
+        Expr::TypedRecord(..) => kind::TYPED_RECORD,
+        Expr::List(_) => kind::LIST_EXPR,
+        Expr::Not(_) => kind::NOT,
+        Expr::Assign(..) => kind::ASSIGN,
+        Expr::CompoundAssign(_) => kind::COMPOUND_ASSIGN,
+        Expr::BinOp(..) => kind::BIN_OP,
+        Expr::Negate(_) => kind::NEGATE,
+        Expr::IfElse(..) => kind::IF_ELSE,
+        Expr::While(..) => kind::WHILE,
+        Expr::For(..) => kind::FOR,
+        Expr::QuestionMark(_) => kind::QUESTION_MARK,
+        Expr::FString(_) => kind::F_STRING,
+        Expr::Parentheses(_) => kind::PARENTHESES,
     }
 }

@@ -4,13 +4,14 @@ use std::fmt;
 
 use crate::{
     ast::Span,
-    buffers::{File, lengthen},
-    calls::{MAX_BATCH, TABLE_ROW, format_batch, format_file, refused},
-    encode::{MAX_BODY, MAX_SOURCE},
+    buffers::lengthen,
+    calls::{TABLE_ROW, format_batch, format_file, refused},
     error::FormatError,
-    fmt::Formatted,
-    formatter::{Formatter, MAX_OUTPUT},
+    file::File,
+    formatted::Formatted,
+    formatter::Formatter,
     image::{HEADER, comments, comments_from},
+    limits::{MAX_BATCH, MAX_BODY, MAX_SOURCE},
     options::{Comments, Options},
     refusal::Refusal,
 };
@@ -20,51 +21,38 @@ use crate::{
 const SOURCE_FRAMED: usize = MAX_SOURCE + 1;
 const IMAGE_FRAMED: usize = HEADER + MAX_BODY + 1;
 
-/// Formats the files of a list, each a source with its tree image: a
-/// [`Batch`] for this list alone.
+/// Formats many files by few calls
+/// ([`format_batch`](crate::calls::format_batch)), in buffers that it owns
+/// and keeps.
+///
+/// Each answer is that of a [`Formatter`] with the same options: what is too
+/// large for a batch, a file of more than
+/// [`MAX_FILE_ROWS`](crate::limits::MAX_FILE_ROWS) rows or marks, is
+/// formatted by one.
 ///
 /// ```
-/// use rrufthim::{Options, format_files};
+/// use rrufthim::{Batch, File, encode};
 ///
-/// # let image = rrufthim::encode(&Default::default(), &[]).unwrap();
-/// let files = [("", &image[..]), ("", &[2, 0, 0])];
-/// let [first, second] = &format_files(&files, &Options::default())[..] else {
+/// let image = encode(&Default::default(), &[])?;
+/// let files = [File::new("", &image), File::new("", &[2, 0, 0])];
+/// let [first, second] = &Batch::new().format_files(files)[..] else {
 ///     panic!("two answers");
 /// };
 /// assert_eq!(first.as_ref().expect("formatted").text, "");
 /// assert!(second.is_err());
+/// # Ok::<(), rrufthim::EncodeError>(())
 /// ```
-pub fn format_files<S, I>(
-    files: &[(S, I)],
-    options: &Options,
-) -> Vec<Result<Formatted, FormatError>>
-where
-    S: AsRef<[u8]>,
-    I: AsRef<[u8]>,
-{
-    Batch::new(*options).format_files(files)
-}
-
-/// Formats many files by few calls ([`format_batch`]), in buffers that it
-/// owns and keeps.
-///
-/// Each answer is that of a [`Formatter`] with the same options: what is too
-/// large for a batch, a file of more than
-/// [`MAX_FILE_ROWS`](crate::MAX_FILE_ROWS) rows or marks, is formatted by one.
 pub struct Batch {
     frames: Vec<u8>,
     table: [u32; MAX_BATCH * TABLE_ROW],
     output: Vec<u8>,
-    max_output: u64,
-    options: Options,
-    /// For what is too large.
+    /// For what is too large. It has the options, and the bound on texts.
     formatter: Formatter,
 }
 
-/// By default every comment is kept, on lines of 80 columns.
 impl Default for Batch {
     fn default() -> Self {
-        Batch::new(Options::default())
+        Batch::new()
     }
 }
 
@@ -74,65 +62,73 @@ impl fmt::Debug for Batch {
         f.debug_struct("Batch")
             .field("frames", &self.frames.len())
             .field("output", &self.output.len())
-            .field("max_output", &self.max_output)
-            .field("options", &self.options)
             .field("formatter", &self.formatter)
             .finish()
     }
 }
 
 impl Batch {
-    /// One that chooses this for all files, and allows texts of at most
-    /// [`MAX_OUTPUT`] bytes.
-    pub fn new(options: Options) -> Self {
-        Batch::with_max_output(options, MAX_OUTPUT)
-    }
-
-    /// One that chooses this, and allows texts of at most so many bytes.
-    pub fn with_max_output(options: Options, max_output: u64) -> Self {
-        let mut formatter = Formatter::with_max_output(max_output);
-        formatter.set_options(options);
+    /// One with the default options, for texts of at most
+    /// [`MAX_OUTPUT`](crate::limits::MAX_OUTPUT) bytes.
+    pub fn new() -> Self {
         Batch {
             frames: Vec::new(),
             table: [0; MAX_BATCH * TABLE_ROW],
             output: Vec::new(),
-            max_output,
-            options,
-            formatter,
+            formatter: Formatter::new(),
         }
+    }
+
+    /// The same with other options.
+    #[must_use]
+    pub fn with_options(mut self, options: Options) -> Self {
+        self.set_options(options);
+        self
+    }
+
+    /// The same for texts of at most so many bytes.
+    #[must_use]
+    pub fn with_max_output(mut self, bytes: usize) -> Self {
+        self.formatter = self.formatter.with_max_output(bytes);
+        self
+    }
+
+    /// Chooses other options for the files from now on.
+    pub fn set_options(&mut self, options: Options) {
+        self.formatter.set_options(options);
+    }
+
+    /// What is chosen.
+    pub fn options(&self) -> &Options {
+        self.formatter.options()
     }
 
     /// The files' texts, or why they have none, in the order of the files,
     /// of which there may be any number. A file that is refused changes
     /// nothing for the others.
     ///
-    /// The errors are those of
-    /// [`Formatter::format_image`](Formatter::format_image).
-    pub fn format_files<S, I>(
+    /// The errors are those of [`Formatter::format_file`].
+    pub fn format_files<'f>(
         &mut self,
-        files: &[(S, I)],
-    ) -> Vec<Result<Formatted, FormatError>>
-    where
-        S: AsRef<[u8]>,
-        I: AsRef<[u8]>,
-    {
-        let mut answers = Vec::with_capacity(files.len());
-        for some in files.chunks(MAX_BATCH) {
-            let some = some.iter().map(|(source, image)| File {
-                source: source.as_ref(),
-                image: image.as_ref(),
-            });
-            let some: Vec<File<'_>> = some.collect();
-            answers.extend(self.format_some(&some));
+        files: impl IntoIterator<Item = File<'f>>,
+    ) -> Vec<Result<Formatted, FormatError>> {
+        let mut files = files.into_iter();
+        let mut answers = Vec::with_capacity(files.size_hint().0);
+        loop {
+            let some: Vec<_> = files.by_ref().take(MAX_BATCH).collect();
+            if some.is_empty() {
+                return answers;
+            }
+            self.format_some(&some, &mut answers);
         }
-        answers
     }
 
     /// At most [`MAX_BATCH`] files.
     fn format_some(
         &mut self,
         files: &[File<'_>],
-    ) -> Vec<Result<Formatted, FormatError>> {
+        answers: &mut Vec<Result<Formatted, FormatError>>,
+    ) {
         self.frames.clear();
         for file in files {
             put_frame(&mut self.frames, *file);
@@ -141,16 +137,19 @@ impl Batch {
         let together = self.call().is_ok();
         let mut texts = &self.output[..];
         let rows = self.table.chunks_exact(TABLE_ROW);
-        let mut answers = Vec::with_capacity(files.len());
         for (file, row) in files.iter().zip(rows) {
             let told = match together {
-                true => told(*file, row, &mut texts, &self.options),
+                true => {
+                    told(*file, row, &mut texts, self.formatter.options())
+                }
                 false => None,
             };
-            let alone = || alone(&mut self.formatter, *file);
+            let alone = || {
+                let formatted = self.formatter.format_file(*file);
+                formatted.map(Formatted::into_owned)
+            };
             answers.push(told.unwrap_or_else(alone));
         }
-        answers
     }
 
     /// The call on the frames, made again with the bytes that it asks for.
@@ -164,12 +163,10 @@ impl Batch {
             frames,
             table,
             output,
-            max_output,
-            options,
-            ..
+            formatter,
         } = self;
-        let most = *max_output;
-        lengthen(output, 0, (frames.len() as u64).min(most), most);
+        let (options, most) = (formatter.options(), formatter.max_output());
+        lengthen(output, 0, frames.len().min(most), most);
         loop {
             let answer = format_batch(frames, options, table, output);
             // The table has room for every batch.
@@ -197,15 +194,6 @@ fn put_frame(frames: &mut Vec<u8>, file: File<'_>) {
     frames.extend(image);
 }
 
-/// A file by itself.
-fn alone(
-    formatter: &mut Formatter,
-    file: File<'_>,
-) -> Result<Formatted, FormatError> {
-    let formatted = formatter.format_image(file.source, file.image);
-    formatted.map(Formatted::into_owned)
-}
-
 /// What the table's row says of a file, whose text is the next of the texts;
 /// nothing if it is too large for a batch.
 fn told(
@@ -214,8 +202,8 @@ fn told(
     texts: &mut &[u8],
     options: &Options,
 ) -> Option<Result<Formatted, FormatError>> {
-    let [number, place, bytes] = [0, 1, 2].map(|at| row[at].into());
-    let (text, behind) = texts.split_at(bytes as usize);
+    let [number, place, bytes] = [0, 1, 2].map(|at| row[at] as usize);
+    let (text, behind) = texts.split_at(bytes);
     *texts = behind;
     match refused(number, place) {
         Ok(()) => Some(formatted(file, text, options)),
@@ -243,12 +231,10 @@ fn comments_left(
     bytes: usize,
     options: &Options,
 ) -> Result<Vec<Span>, Refusal> {
-    let File { source, image } = file;
-    let all = comments(image);
+    let all = comments(file.image);
     if options.comments == Comments::All || all == 0 {
         return Ok(Vec::new());
     }
-    let again = &mut vec![0; bytes];
-    let written = format_file(source, image, options, again)?;
-    Ok(comments_from(image, all - written.comments_left))
+    let written = format_file(file, options, &mut vec![0; bytes])?;
+    Ok(comments_from(file.image, all - written.comments_left))
 }

@@ -3,41 +3,32 @@
 use std::fmt;
 
 use crate::{
-    calls::{Laid, ROW, Written, layout, render},
+    calls::{
+        Laid, LayoutArgs, LayoutState, ROW, RenderArgs, RenderState, Written,
+        layout, render,
+    },
     error::FormatError,
+    file::File,
     options::Options,
     refusal::Refusal,
-    states::{LayoutState, RenderState},
 };
 
 /// Five rows for each 13 bytes of its image are enough for every file: a byte
 /// gives 5 points, and a row takes 13. That it is so is proved
 /// (crates/layout_facts), and there are files that nearly need as many.
-const BYTE_GIVES: u64 = 5;
-const ROW_TAKES: u64 = 13;
+const BYTE_GIVES: usize = 5;
+const ROW_TAKES: usize = 13;
 
 /// The most rows that are lent before a refusal asks for more: 18 MiB.
-const MAX_AT_FIRST: u64 = 1 << 19;
-
-/// What all calls on a file are given.
-#[derive(Clone, Copy, Debug)]
-pub struct File<'f> {
-    pub source: &'f [u8],
-    pub image: &'f [u8],
-}
-
-impl File<'_> {
-    pub fn error(&self, refusal: Refusal) -> FormatError {
-        FormatError::refused(refusal, self.source, self.image)
-    }
-}
+const MAX_AT_FIRST: usize = 1 << 19;
 
 /// Rows, marks and the place of the text.
 pub struct Buffers {
     store: Vec<u32>,
     marks: Vec<u8>,
     output: Vec<u8>,
-    max_output: u64,
+    /// The bytes that a text may have.
+    pub max_output: usize,
 }
 
 /// By their lengths alone.
@@ -54,7 +45,7 @@ impl fmt::Debug for Buffers {
 
 impl Buffers {
     /// Empty ones, for texts of at most so many bytes.
-    pub fn new(max_output: u64) -> Self {
+    pub fn new(max_output: usize) -> Self {
         Buffers {
             store: Vec::new(),
             marks: Vec::new(),
@@ -67,15 +58,15 @@ impl Buffers {
     /// 13 bytes of the image, so many `times`, and many times the source and
     /// the image for the text. Neither layout nor rendering then has to count
     /// before it writes. What was in the buffers is dropped.
-    pub fn prepare(&mut self, file: File<'_>, times: u64) {
-        let image = file.image.len() as u64;
+    pub fn prepare(&mut self, file: File<'_>, times: usize) {
+        let image = file.image.len();
         let rows = image.saturating_mul(BYTE_GIVES) / ROW_TAKES;
         let rows = (times * rows).min(MAX_AT_FIRST);
-        let lengths = file.source.len() as u64 * 2 + image;
+        let lengths = file.source.len() * 2 + image;
         let bytes = lengths.saturating_mul(8).saturating_add(1 << 16);
         let bytes = bytes.min(self.max_output);
-        lengthen(&mut self.store, 0, rows * ROW as u64, u64::MAX);
-        lengthen(&mut self.marks, 0, rows, u64::MAX);
+        lengthen(&mut self.store, 0, rows * ROW, usize::MAX);
+        lengthen(&mut self.marks, 0, rows, usize::MAX);
         lengthen(&mut self.output, 0, bytes, self.max_output);
     }
 
@@ -84,21 +75,18 @@ impl Buffers {
         &mut self,
         file: File<'_>,
         state: &LayoutState,
-        stop: u64,
-        close: bool,
+        args: &LayoutArgs,
         options: &Options,
     ) -> Result<Laid, Refusal> {
-        let File { source, image } = file;
-        let kept = state.next_row.saturating_mul(ROW as u64);
+        let kept = state.next_row.saturating_mul(ROW);
         loop {
             let store = &mut self.store;
-            let answer =
-                layout(source, image, store, state, stop, close, options);
+            let answer = layout(file, store, state, args, options);
             let Err(Refusal::MoreRows { needed }) = answer else {
                 return answer;
             };
-            let numbers = needed.saturating_mul(ROW as u64);
-            if !lengthen(store, kept, numbers, u64::MAX) {
+            let numbers = needed.saturating_mul(ROW);
+            if !lengthen(store, kept, numbers, usize::MAX) {
                 return answer;
             }
         }
@@ -110,19 +98,17 @@ impl Buffers {
         &mut self,
         file: File<'_>,
         state: &RenderState,
-        stop: u64,
+        args: &RenderArgs,
         options: &Options,
     ) -> Result<Written, Refusal> {
-        let File { source, image } = file;
         loop {
             let (store, marks) = (&mut self.store, &mut self.marks);
             let output = &mut self.output;
-            let answer = render(
-                source, image, store, marks, output, state, stop, options,
-            );
+            let answer =
+                render(file, store, marks, output, state, args, options);
             let grown = match answer {
                 Err(Refusal::MoreMarks { needed }) => {
-                    lengthen(marks, state.marks_in_use, needed, u64::MAX)
+                    lengthen(marks, state.marks_in_use, needed, usize::MAX)
                 }
                 Err(Refusal::MoreOutput { needed }) => {
                     lengthen(output, 0, needed, self.max_output)
@@ -148,14 +134,14 @@ impl Buffers {
 /// much is asked; or if there is no memory.
 pub fn lengthen<T>(
     buffer: &mut Vec<T>,
-    kept: u64,
-    length: u64,
-    most: u64,
+    kept: usize,
+    length: usize,
+    most: usize,
 ) -> bool
 where
     T: Copy + Default,
 {
-    let now = buffer.len() as u64;
+    let now = buffer.len();
     if length <= now || length > most {
         return false;
     }
@@ -163,7 +149,7 @@ where
     let Some(mut longer) = zeros(ample).or_else(|| zeros(length)) else {
         return false;
     };
-    let kept = kept.min(now) as usize;
+    let kept = kept.min(now);
     longer[..kept].copy_from_slice(&buffer[..kept]);
     *buffer = longer;
     true
@@ -171,8 +157,7 @@ where
 
 /// Zeros, if there is memory for them. The system hands large ones out
 /// cleared, so that what is never written costs no time.
-fn zeros<T: Copy + Default>(length: u64) -> Option<Vec<T>> {
-    let length = usize::try_from(length).ok()?;
+fn zeros<T: Copy + Default>(length: usize) -> Option<Vec<T>> {
     // `vec!` ends the program if there is none, so ask before.
     Vec::<T>::new().try_reserve_exact(length).ok()?;
     Some(vec![T::default(); length])
@@ -211,13 +196,14 @@ mod tests {
     }
 
     fn whole(buffers: &mut Buffers) -> Result<String, Refusal> {
-        let (source, image) = (SOURCE.as_bytes(), &image()[..]);
-        let file = File { source, image };
+        let (image, options) = (image(), &Options::default());
+        let file = File::new(SOURCE, &image);
+        let all = LayoutArgs::up_to(1).with_close(true);
         let fresh = LayoutState::default();
-        let options = &Options::default();
-        let laid = buffers.lay_out(file, &fresh, 1, true, options)?;
-        let (fresh, rows) = (RenderState::default(), laid.state.next_row);
-        let written = buffers.render(file, &fresh, rows, options)?;
+        let laid = buffers.lay_out(file, &fresh, &all, options)?;
+        let rows = RenderArgs::up_to(laid.state.next_row);
+        let fresh = RenderState::default();
+        let written = buffers.render(file, &fresh, &rows, options)?;
         Ok(buffers.text(written.bytes).expect("UTF-8").to_owned())
     }
 
@@ -240,7 +226,7 @@ mod tests {
     /// A text that is longer than allowed is refused, one as long is not.
     #[test]
     fn the_output_has_a_bound() {
-        let needed = SOURCE.len() as u64;
+        let needed = SOURCE.len();
         let mut exact = Buffers::new(needed);
         assert!(whole(&mut exact).is_ok());
         let mut short = Buffers::new(needed - 1);
@@ -254,7 +240,7 @@ mod tests {
         assert!(!lengthen(&mut buffer, 3, 10, 9));
         assert!(lengthen(&mut buffer, 2, 4, 9));
         assert_eq!(buffer, [1, 2, 0, 0, 0, 0]);
-        assert!(lengthen(&mut buffer, u64::MAX, 7, 9));
+        assert!(lengthen(&mut buffer, usize::MAX, 7, 9));
         assert_eq!(buffer, [1, 2, 0, 0, 0, 0, 0, 0, 0]);
     }
 
@@ -262,8 +248,8 @@ mod tests {
     #[test]
     fn no_memory_is_no_end() {
         let mut buffer = vec![7];
-        assert!(!lengthen(&mut buffer, 1, u64::MAX, u64::MAX));
-        assert!(!lengthen(&mut buffer, 1, 1 << 62, u64::MAX));
+        assert!(!lengthen(&mut buffer, 1, usize::MAX, usize::MAX));
+        assert!(!lengthen(&mut buffer, 1, 1 << 62, usize::MAX));
         assert_eq!(buffer, [7]);
     }
 }

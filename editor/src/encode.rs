@@ -4,6 +4,7 @@ use std::{error::Error, fmt};
 
 use crate::{
     ast::{self, Meta, Span, SyntaxTree},
+    limits::{MAX_BODY, MAX_COMMENTS, MAX_DEPTH, MAX_SOURCE, MAX_WIDTH},
     writer::{ImageWriter, WriteResult},
 };
 
@@ -16,17 +17,6 @@ struct Spans;
 fn span<T>(_: &Spans, node: &Meta<T>) -> Span {
     node.span.clone()
 }
-
-/// The longest source, and so the furthest end of a span.
-pub const MAX_SOURCE: usize = 65_536;
-/// The longest body of an image, which is all but its first five bytes.
-pub const MAX_BODY: usize = 1_048_576;
-/// The most comments that an image has.
-pub const MAX_COMMENTS: usize = 8_192;
-/// The most columns that a text can be wide.
-pub const MAX_WIDTH: usize = u16::MAX as usize;
-/// How deep records may lie in each other, the tree being 1.
-pub const MAX_DEPTH: usize = 64;
 
 /// Why a tree has no image.
 #[derive(Clone, Debug, PartialEq, Eq)]
@@ -123,7 +113,8 @@ impl Error for EncodeError {}
 /// The image of a tree and its comments, with [`simple_width`] for widths.
 ///
 /// It doesn't see the source: whether spans lie in it, and on boundaries of
-/// characters, is for [`check`](crate::check) to say (refusals 6 and 7).
+/// characters, is for [`check`](crate::calls::check) to say (refusals 6 and
+/// 7).
 ///
 /// # Errors
 ///
@@ -132,33 +123,38 @@ pub fn encode(
     tree: &SyntaxTree,
     comments: &[Span],
 ) -> Result<Vec<u8>, EncodeError> {
-    encode_with_widths(tree, comments, simple_width)
+    encode_written(|out| write_tree(out, tree, comments, simple_width))
 }
 
-/// As [`encode`], with widths of the caller's own.
-///
-/// The function is asked once for each text in the image's order: the
-/// shebang, trimmed at its end, then names as they come. The text equals the
-/// original's if it gives what the crate `unicode_width` does.
+/// The image that the caller writes: its comments, then its tree.
 ///
 /// # Errors
 ///
-/// As [`encode`].
-pub fn encode_with_widths(
-    tree: &SyntaxTree,
-    comments: &[Span],
-    width: impl FnMut(&str) -> usize,
+/// What is over a limit.
+pub fn encode_written(
+    write: impl FnOnce(&mut ImageWriter<'_>) -> WriteResult,
 ) -> Result<Vec<u8>, EncodeError> {
     let mut image = Vec::new();
-    let mut writer = ImageWriter::new(&mut image);
-    write(&mut writer, tree, comments, width)
-        .and_then(|()| writer.finish())
+    let mut out = ImageWriter::new(&mut image);
+    write(&mut out)
+        .and_then(|()| out.finish())
         .map_err(|error| *error)?;
     Ok(image)
 }
 
-/// All of an image but its own length.
-pub(crate) fn write(
+/// Writes comments and a tree, with widths of the caller's own: what is
+/// handed to [`encode_written`], [`fmt_written`](crate::fmt_written) or
+/// [`Formatter::format_written`](crate::Formatter::format_written).
+///
+/// `width` is asked once for each text in the image's order: the shebang,
+/// trimmed at its end, then names as they come. The formatted text equals the
+/// original's if it gives what the crate `unicode_width` does;
+/// [`simple_width`] does without.
+///
+/// # Errors
+///
+/// As [`encode`].
+pub fn write_tree(
     out: &mut ImageWriter<'_>,
     tree: &SyntaxTree,
     comments: &[Span],

@@ -2,10 +2,13 @@
 
 use std::{error::Error, fmt, str::Utf8Error};
 
-use crate::{ast::Span, encode::EncodeError, place::Place, refusal::Refusal};
+use crate::{
+    encode::EncodeError, file::File, place::Place, refusal::Refusal,
+};
 
 /// Why a file can't be formatted, and where that is in its source.
 #[derive(Clone, Debug, PartialEq, Eq)]
+#[non_exhaustive]
 pub struct FormatError {
     /// What is wrong.
     pub cause: Cause,
@@ -32,18 +35,11 @@ impl FormatError {
         FormatError { cause, place }
     }
 
-    pub(crate) fn refused(
-        refusal: Refusal,
-        source: &[u8],
-        image: &[u8],
-    ) -> Self {
-        let span = match refusal {
-            Refusal::SourceNotUtf8 { at } => Some(at as usize..source.len()),
-            _ => refusal.span(image),
-        };
+    pub(crate) fn refused(refusal: Refusal, file: File<'_>) -> Self {
+        let span = refusal.span(file);
         FormatError {
             cause: Cause::Refused(refusal),
-            place: span.map(|span| Place::new(source, span)),
+            place: span.map(|span| Place::new(file.source, span)),
         }
     }
 
@@ -53,43 +49,28 @@ impl FormatError {
             place: None,
         }
     }
-}
 
-impl fmt::Display for FormatError {
-    fn fmt(&self, f: &mut fmt::Formatter<'_>) -> fmt::Result {
-        let Some(place) = &self.place else {
-            return self.cause.fmt(f);
-        };
-        write!(f, "{place}: ")?;
-        match &self.cause {
-            Cause::Refused(refusal) => in_source(f, refusal, &place.span),
-            cause => cause.fmt(f),
+    /// What is wrong with the span of the source, where the refusal's own
+    /// words are about an offset in an image.
+    fn in_source(&self) -> Option<String> {
+        match (&self.cause, &self.place) {
+            (Cause::Refused(refusal), Some(place)) => {
+                refusal.in_source(&place.span)
+            }
+            _ => None,
         }
     }
 }
 
-/// A refusal about this span of the source, not about an offset in an image,
-/// which people don't see.
-fn in_source(
-    f: &mut fmt::Formatter<'_>,
-    refusal: &Refusal,
-    span: &Span,
-) -> fmt::Result {
-    match refusal {
-        Refusal::BadSpan { .. } => write!(
-            f,
-            "the tree has the span {span:?}, which is no range of \
-             characters in the source"
-        ),
-        Refusal::BadComment { .. } => write!(
-            f,
-            "the comment {span:?} is empty or no range of characters in the \
-             source"
-        ),
-        Refusal::TooDeep { .. } => {
-            write!(f, "what stands at {span:?} is over 64 deep in the tree")
+impl fmt::Display for FormatError {
+    fn fmt(&self, f: &mut fmt::Formatter<'_>) -> fmt::Result {
+        if let Some(place) = &self.place {
+            write!(f, "{place}: ")?;
         }
-        other => write!(f, "{other}"),
+        match self.in_source() {
+            Some(words) => f.write_str(&words),
+            None => self.cause.fmt(f),
+        }
     }
 }
 
@@ -103,12 +84,14 @@ impl fmt::Display for Cause {
     }
 }
 
+/// Its source is the refusal, where its own words are others.
 impl Error for FormatError {
     fn source(&self) -> Option<&(dyn Error + 'static)> {
-        Some(match &self.cause {
-            Cause::Encode(error) => error,
-            Cause::Refused(refusal) => refusal,
-            Cause::NotUtf8(error) => error,
-        })
+        match &self.cause {
+            Cause::Refused(refusal) if self.in_source().is_some() => {
+                Some(refusal)
+            }
+            _ => None,
+        }
     }
 }

@@ -1,36 +1,37 @@
-//! Figures of files, and what many files give together.
+//! Figures of files, and what many files give together: a [`Report`] counts
+//! one file after another, by the call [`count`].
 
 use std::fmt;
 
-use crate::{calls::refused, linked::rrufthim_count, refusal::Refusal};
-
-/// How many files tallies count.
-pub const MAX_FILES: u64 = 4_096;
-
-/// What each number of the tallies that are handed in may be.
-pub const MAX_TALLY: u64 = 4_294_967_296;
+use crate::{
+    calls::refused,
+    file::File,
+    linked::{self, numbers, sizes},
+    refusal::Refusal,
+};
 
 /// What one file gives when it is formatted.
-#[derive(Clone, Copy, Debug, Default, PartialEq, Eq, Hash)]
+#[derive(Clone, Debug, Default, PartialEq, Eq, Hash)]
+#[non_exhaustive]
 pub struct Figures {
     /// The text's bytes.
-    pub bytes: u64,
+    pub bytes: usize,
     /// The text's newlines, those in literals and comments included.
-    pub newlines: u64,
+    pub newlines: usize,
     /// The greatest column that was reached.
-    pub column: u64,
+    pub column: usize,
     /// Groups: parts that stand on one line or are wrapped.
-    pub given: u64,
+    pub given: usize,
     /// Groups that were wrapped.
-    pub wrapped: u64,
+    pub wrapped: usize,
     /// Comments that the text holds.
-    pub placed: u64,
+    pub placed: usize,
     /// Comments that it doesn't hold.
-    pub left: u64,
+    pub left: usize,
 }
 
 impl Figures {
-    fn numbers(&self) -> [u64; 7] {
+    fn numbers(&self) -> [usize; 7] {
         [
             self.bytes,
             self.newlines,
@@ -42,7 +43,7 @@ impl Figures {
         ]
     }
 
-    fn from_numbers(numbers: [u64; 7]) -> Self {
+    fn from_numbers(numbers: [usize; 7]) -> Self {
         let [bytes, newlines, column, given, wrapped, placed, left] = numbers;
         Figures {
             bytes,
@@ -58,23 +59,24 @@ impl Figures {
 
 /// What the files counted so far give together, whatever their order. The
 /// default is that of no file.
-#[derive(Clone, Copy, Debug, Default, PartialEq, Eq, Hash)]
+#[derive(Clone, Debug, Default, PartialEq, Eq, Hash)]
+#[non_exhaustive]
 pub struct Tallies {
     /// How many files were counted.
-    pub files: u64,
+    pub files: usize,
     /// The sums of their figures; of `column` the greatest.
     pub all: Figures,
 }
 
 impl Tallies {
-    fn numbers(&self) -> [u64; 8] {
+    fn numbers(&self) -> [usize; 8] {
         let [bytes, newlines, column, given, wrapped, placed, left] =
             self.all.numbers();
         let files = self.files;
         [files, bytes, newlines, column, given, wrapped, placed, left]
     }
 
-    fn from_numbers(numbers: [u64; 8]) -> Self {
+    fn from_numbers(numbers: [usize; 8]) -> Self {
         let [files, all @ ..] = numbers;
         let all = Figures::from_numbers(all);
         Tallies { files, all }
@@ -85,9 +87,9 @@ impl Tallies {
 #[derive(Clone, Copy, Debug, PartialEq, Eq, Hash)]
 pub struct Fraction {
     /// The upper number.
-    pub over: u64,
+    pub over: usize,
     /// The lower number, which is never 0.
-    pub under: u64,
+    pub under: usize,
 }
 
 /// 0 over 1, as long as no group is given.
@@ -104,7 +106,8 @@ impl fmt::Display for Fraction {
 }
 
 /// What [`count`] answers.
-#[derive(Clone, Copy, Debug, PartialEq, Eq)]
+#[derive(Clone, Debug, PartialEq, Eq)]
+#[non_exhaustive]
 pub struct Counted {
     /// What this file gives.
     pub figures: Figures,
@@ -113,31 +116,21 @@ pub struct Counted {
 }
 
 /// Counts a file: its figures, which are added to the tallies. It has the
-/// rows and marks of [`format_file`](crate::format_file) and 65,536 bytes of
-/// output, and formats as [`Options::AS_ROTO`](crate::Options::AS_ROTO) says.
+/// rows and marks of [`format_file`](crate::calls::format_file) and 65,536
+/// bytes of output, and formats as
+/// [`Options::AS_ROTO`](crate::Options::AS_ROTO) says.
 ///
 /// # Errors
 ///
 /// Refusals 1 to 10, then 14, each of which leaves the tallies as they were.
 pub fn count(
-    source: &[u8],
-    image: &[u8],
+    file: File<'_>,
     tallies: &mut Tallies,
 ) -> Result<Counted, Refusal> {
-    let before = tallies.numbers();
+    let before = numbers(tallies.numbers());
     let mut out = [0; 18];
-    // Safety: as in `check`.
-    unsafe {
-        rrufthim_count(
-            source.as_ptr(),
-            source.len(),
-            image.as_ptr(),
-            image.len(),
-            &before,
-            &mut out,
-        );
-    }
-    let [number, answer @ ..] = out;
+    linked::count(file.source, file.image, &before, &mut out);
+    let [number, answer @ ..] = sizes(out);
     refused(number, answer[0])?;
     let [b, n, c, g, w, p, l, after @ .., over, under] = answer;
     *tallies = Tallies::from_numbers(after);
@@ -147,41 +140,43 @@ pub fn count(
     })
 }
 
-/// Counts files one after another, each a source with its tree image, as the
-/// report is iterated.
+/// Counts one file after another, and keeps the tallies. A refused file
+/// counts nowhere.
 ///
 /// ```
-/// # let image = rrufthim::encode(&Default::default(), &[]).unwrap();
-/// let mut report = rrufthim::report([("", &image), ("", &image)]);
-/// for file in report.by_ref() {
-///     assert_eq!(file.expect("counted").bytes, 0);
+/// use rrufthim::{File, encode, figures::Report};
+///
+/// let image = encode(&Default::default(), &[])?;
+/// let mut report = Report::new();
+/// for file in [File::new("", &image), File::new("", &image)] {
+///     assert_eq!(report.count(file).expect("counted").bytes, 0);
 /// }
 /// assert_eq!(report.tallies().files, 2);
+/// # Ok::<(), rrufthim::EncodeError>(())
 /// ```
-pub fn report<F, S, I>(files: F) -> Report<F::IntoIter>
-where
-    F: IntoIterator<Item = (S, I)>,
-    S: AsRef<[u8]>,
-    I: AsRef<[u8]>,
-{
-    Report {
-        files: files.into_iter(),
-        tallies: Tallies::default(),
-        fraction: Fraction::default(),
-    }
-}
-
-/// A report under way, made by [`report`]: it gives for each file its figures
-/// or what refuses it, and keeps the tallies. A refused file counts nowhere.
-#[derive(Clone, Debug)]
-#[must_use = "files are counted as it is iterated"]
-pub struct Report<F> {
-    files: F,
+#[derive(Clone, Debug, Default)]
+pub struct Report {
     tallies: Tallies,
     fraction: Fraction,
 }
 
-impl<F> Report<F> {
+impl Report {
+    /// A report of no file.
+    pub fn new() -> Self {
+        Report::default()
+    }
+
+    /// Counts a file, and answers its own figures.
+    ///
+    /// # Errors
+    ///
+    /// As [`count`].
+    pub fn count(&mut self, file: File<'_>) -> Result<Figures, Refusal> {
+        let counted = count(file, &mut self.tallies)?;
+        self.fraction = counted.fraction;
+        Ok(counted.figures)
+    }
+
     /// What the files counted so far give together.
     pub fn tallies(&self) -> &Tallies {
         &self.tallies
@@ -190,28 +185,5 @@ impl<F> Report<F> {
     /// Their groups wrapped over groups given.
     pub fn fraction(&self) -> Fraction {
         self.fraction
-    }
-}
-
-impl<F, S, I> Iterator for Report<F>
-where
-    F: Iterator<Item = (S, I)>,
-    S: AsRef<[u8]>,
-    I: AsRef<[u8]>,
-{
-    type Item = Result<Figures, Refusal>;
-
-    fn next(&mut self) -> Option<Self::Item> {
-        let (source, image) = self.files.next()?;
-        let tallies = &mut self.tallies;
-        let counted = count(source.as_ref(), image.as_ref(), tallies);
-        Some(counted.map(|counted| {
-            self.fraction = counted.fraction;
-            counted.figures
-        }))
-    }
-
-    fn size_hint(&self) -> (usize, Option<usize>) {
-        self.files.size_hint()
     }
 }

@@ -1,28 +1,25 @@
 //! What a caller may choose.
 
-/// The narrowest line that may be chosen, in columns.
-pub const MIN_LINE_WIDTH: u64 = 40;
-
-/// The widest line that may be chosen, in columns.
-pub const MAX_LINE_WIDTH: u64 = 200;
-
 /// What a caller may choose. The default keeps every comment, on lines of 80
 /// columns; [`Options::AS_ROTO`] is what Roto's own formatter does.
 ///
 /// ```
 /// use rrufthim::{Comments, Options};
 ///
-/// let print_shop = Options { width: 100, ..Options::default() };
+/// let print_shop = Options::default().with_width(100);
+/// assert_eq!(print_shop.width, 100);
 /// assert_eq!(print_shop.comments, Comments::All);
 /// assert_eq!(Options::AS_ROTO.comments, Comments::AsRoto);
 /// assert_eq!(Options::AS_ROTO.width, Options::default().width);
 /// ```
-#[derive(Clone, Copy, Debug, PartialEq, Eq, Hash)]
+#[derive(Clone, Debug, PartialEq, Eq, Hash)]
+#[non_exhaustive]
 pub struct Options {
-    /// The columns of a line, from [`MIN_LINE_WIDTH`] to [`MAX_LINE_WIDTH`]:
-    /// a group that would end behind them is wrapped. Others are refused by
-    /// 15.
-    pub width: u64,
+    /// The columns of a line, from
+    /// [`MIN_LINE_WIDTH`](crate::limits::MIN_LINE_WIDTH) to
+    /// [`MAX_LINE_WIDTH`](crate::limits::MAX_LINE_WIDTH): a group that would
+    /// end behind them is wrapped. Others are refused by 15.
+    pub width: usize,
     /// Which comments the text holds.
     pub comments: Comments,
 }
@@ -42,7 +39,7 @@ pub enum Comments {
 
 impl Comments {
     /// The mode of docs/02-change-requests.md, 4: 0 old, 1 new.
-    pub(crate) fn mode(self) -> u64 {
+    pub(crate) fn mode(self) -> usize {
         match self {
             Comments::AsRoto => 0,
             Comments::All => 1,
@@ -56,13 +53,24 @@ impl Options {
         width: 80,
         comments: Comments::AsRoto,
     };
+
+    /// The same with lines of so many columns.
+    #[must_use]
+    pub fn with_width(mut self, width: usize) -> Self {
+        self.width = width;
+        self
+    }
+
+    /// The same with these comments.
+    #[must_use]
+    pub fn with_comments(mut self, comments: Comments) -> Self {
+        self.comments = comments;
+        self
+    }
 }
 
 impl Default for Options {
     fn default() -> Self {
-        Options {
-            comments: Comments::All,
-            ..Options::AS_ROTO
-        }
+        Options::AS_ROTO.with_comments(Comments::All)
     }
 }

@@ -7,6 +7,7 @@ use crate::ast::Span;
 /// A span with line and column of its start, both counted from 1, the column
 /// in characters.
 #[derive(Clone, Debug, PartialEq, Eq)]
+#[non_exhaustive]
 pub struct Place {
     /// The bytes that it is about. They need not lie in the source.
     pub span: Span,

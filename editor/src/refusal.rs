@@ -5,267 +5,196 @@ use std::{error::Error, fmt};
 
 use crate::{
     ast::Span,
+    file::File,
     image::{comment_at, span_at},
 };
 
-/// A refused call. The number and the place are all that comes back; each
-/// case names what its place is.
-#[derive(Clone, Copy, Debug, PartialEq, Eq, Hash)]
+/// A row of [`Refusal::TABLE`].
+#[derive(Clone, Debug, PartialEq, Eq)]
 #[non_exhaustive]
-pub enum Refusal {
-    /// 1: the source is over 65,536 bytes.
-    SourceTooLong,
-    /// 2: the source isn't well-formed UTF-8.
-    SourceNotUtf8 {
-        /// The first byte of the bad sequence.
-        at: u64,
-    },
-    /// 3: the image's version or length is wrong, or its body too long.
-    NoImage,
-    /// 4: a record of the image is malformed.
-    BadRecord {
-        /// An offset in the image.
-        at: u64,
-    },
-    /// 5: a record of the image is 65 deep.
-    TooDeep {
-        /// Its offset in the image.
-        at: u64,
-    },
-    /// 6: a record of the image has a span that isn't one of the source.
-    BadSpan {
-        /// The record's offset in the image.
-        at: u64,
-    },
-    /// 7: the comment list is wrong.
-    BadComment {
-        /// The offset in the image of the count, or of the comment.
-        at: u64,
-    },
-    /// 8: the store has too few rows.
-    MoreRows {
-        /// Rows needed in all.
-        needed: u64,
-    },
-    /// 9: there are too few marks.
-    MoreMarks {
-        /// Marks needed.
-        needed: u64,
-    },
-    /// 10: the output is too short.
-    MoreOutput {
-        /// Bytes needed.
-        needed: u64,
-    },
-    /// 11: a row of the store can't be rendered, or the stop is out of range.
-    BadRow {
-        /// The row; 0 for the stop.
-        row: u64,
-    },
-    /// 12: the state, the marks in use or the stop don't fit the file, or
-    /// the calls before chose something else of the comments at the foot.
-    BadState,
-    /// 13: the program's frame is too long or cut off. No function of this
-    /// crate answers it; the program `rotofmt` does.
-    BadFrame,
-    /// 14: the tallies handed in count 4,096 files, or one of them is over
-    /// 4,294,967,296, or they have more groups wrapped than given.
-    BadTallies,
-    /// 15: the width is under 40 or over 200, or not the one that the calls
-    /// before chose.
-    BadWidth,
-    /// 16: a step is unknown, cut off or wrong there, or the list of steps
-    /// ends while something is missing.
-    BadStep {
-        /// The step's offset in the list, or the list's length.
-        at: u64,
-    },
-    /// 17: an image or a list of steps is longer than the output, or the
-    /// body of an image from steps over 1,048,576 bytes.
-    MoreRoom {
-        /// Bytes needed.
-        needed: u64,
-    },
-    /// 18: a frame of a batch runs past the buffer, or is the 257th.
-    BadBatch {
-        /// The frame's offset in the buffer.
-        at: u64,
-    },
-    /// 19: the table of a batch is too small for its files, or the output for
-    /// their texts.
-    MoreForBatch {
-        /// Numbers of the table, or bytes of the output, needed.
-        needed: u64,
-    },
-    /// A number that the table doesn't have: the static library isn't the
-    /// one this crate was written for.
-    Unknown {
-        /// The number.
-        number: u64,
-        /// Its place.
-        place: u64,
-    },
+pub struct RefusalRow {
+    /// The number by which a call is refused.
+    pub number: usize,
+    /// The case of [`Refusal`].
+    pub name: &'static str,
+    /// What is wrong, in words.
+    pub cause: &'static str,
+    /// What the refusal's place is. Where there is nothing, the place is 0.
+    pub place: Option<&'static str>,
+    /// What is wrong with a span of the source, which stands for #, where the
+    /// place is an offset in an image, which people don't see.
+    pub in_source: Option<&'static str>,
 }
 
-use Refusal::*;
+/// From one table: the cases and what there is to know of each. A row has the
+/// number, the name and the cause; then, if there is a place, how the case
+/// calls it and what it is; then, if that is an offset in an image and there
+/// is a span, what people are told, with # for the span.
+macro_rules! refusals {
+    ($(
+        $number:literal $name:ident $cause:literal
+        $(, $field:ident: $place:literal $(, # is $in_source:literal)?)?;
+    )*) => {
+        /// A refused call. The number and the place are all that comes back;
+        /// each case names what its place is.
+        #[derive(Clone, Copy, Debug, PartialEq, Eq, Hash)]
+        #[non_exhaustive]
+        pub enum Refusal {
+            $(
+                #[doc = concat!($number, ": ", $cause, ".")]
+                $name $({
+                    #[doc = concat!("The ", $place, ".")]
+                    $field: usize,
+                })?,
+            )*
+            /// A number that the table doesn't have: the static library
+            /// isn't the one this crate was written for.
+            Unknown {
+                /// The number.
+                number: usize,
+                /// Its place.
+                place: usize,
+            },
+        }
+
+        impl Refusal {
+            /// What there is to know of each, in the order of numbers.
+            pub const TABLE: &[RefusalRow] = &[$(
+                RefusalRow {
+                    number: $number,
+                    name: stringify!($name),
+                    cause: $cause,
+                    place: refusals!(@maybe $($place)?),
+                    in_source: refusals!(@maybe $($($in_source)?)?),
+                },
+            )*];
+
+            /// The refusal with this number and place.
+            pub fn from_numbers(number: usize, place: usize) -> Refusal {
+                match number {
+                    $($number => Self::$name $({ $field: place })?,)*
+                    _ => Self::Unknown { number, place },
+                }
+            }
+
+            /// The table's number.
+            pub fn number(&self) -> usize {
+                match *self {
+                    $(Self::$name $({ $field: _ })? => $number,)*
+                    Self::Unknown { number, .. } => number,
+                }
+            }
+
+            /// The table's place: 0 where the cause has none.
+            pub fn place(&self) -> usize {
+                match *self {
+                    $(
+                        Self::$name $({ $field })? => {
+                            refusals!(@or_zero $($field)?)
+                        }
+                    )*
+                    Self::Unknown { place, .. } => place,
+                }
+            }
+        }
+    };
+    (@maybe) => { None };
+    (@maybe $words:literal) => { Some($words) };
+    (@or_zero) => { 0 };
+    (@or_zero $field:ident) => { $field };
+}
+
+refusals! {
+    1 SourceTooLong "the source is over 65,536 bytes";
+    2 SourceNotUtf8 "the source isn't well-formed UTF-8",
+        at: "first byte of the bad sequence";
+    3 NoImage "the tree image's version or length is wrong, or its body over \
+        1,048,576 bytes";
+    4 BadRecord "a record of the tree image is malformed",
+        at: "offset in the image";
+    5 TooDeep "a record of the tree image is over 64 deep",
+        at: "record's offset in the image",
+        # is "what stands at # is over 64 deep in the tree";
+    6 BadSpan "a record's span is no range of characters of the source",
+        at: "record's offset in the image",
+        # is "the tree has the span #, which is no range of characters of \
+            the source";
+    7 BadComment "the comment list is cut off or over 8,192, or a comment is \
+        empty or no range of characters of the source",
+        at: "offset of the count or the comment in the image",
+        # is "the comment # is empty or no range of characters of the source";
+    8 MoreRows "the store has too few rows",
+        needed: "rows needed in all";
+    9 MoreMarks "there are too few marks",
+        needed: "marks needed";
+    10 MoreOutput "the output is too short",
+        needed: "bytes needed";
+    11 BadRow "a row of the store can't be rendered, or the stop is past the \
+        store or 2,097,152",
+        row: "row, or 0 for the stop";
+    12 BadState "the state, the marks in use or the stop doesn't fit, or the \
+        mode (comments at the foot) is over 1 or not that of the calls \
+        before";
+    13 BadFrame "the program's frame is over 32,768 bytes or cut off";
+    14 BadTallies "the tallies count 4,096 files, one of them is over \
+        4,294,967,296, or more groups are wrapped than given";
+    15 BadWidth "the width is under 40 or over 200 columns, or not that of \
+        the calls before";
+    16 BadStep "a step is unknown, cut off or wrong there, or something is \
+        missing at the list's end",
+        at: "offset in the list";
+    17 MoreRoom "the output is too short for the image or the steps, or the \
+        image's body over 1,048,576 bytes",
+        needed: "bytes needed";
+    18 BadBatch "a frame of the batch runs past the buffer, or is the 257th",
+        at: "frame's offset in the buffer";
+    19 MoreForBatch "the table of the batch is too short, or the output",
+        needed: "numbers of the table, or bytes, needed";
+}
 
 impl Refusal {
-    /// The refusal with this number and place.
-    pub fn from_numbers(number: u64, place: u64) -> Refusal {
-        match number {
-            1 => SourceTooLong,
-            2 => SourceNotUtf8 { at: place },
-            3 => NoImage,
-            4 => BadRecord { at: place },
-            5 => TooDeep { at: place },
-            6 => BadSpan { at: place },
-            7 => BadComment { at: place },
-            8 => MoreRows { needed: place },
-            9 => MoreMarks { needed: place },
-            10 => MoreOutput { needed: place },
-            11 => BadRow { row: place },
-            12 => BadState,
-            13 => BadFrame,
-            14 => BadTallies,
-            15 => BadWidth,
-            16 => BadStep { at: place },
-            17 => MoreRoom { needed: place },
-            18 => BadBatch { at: place },
-            19 => MoreForBatch { needed: place },
-            _ => Unknown { number, place },
-        }
+    /// Its row of the table.
+    fn row(&self) -> Option<&'static RefusalRow> {
+        Self::TABLE.iter().find(|row| row.number == self.number())
     }
 
-    /// The table's number.
-    pub fn number(&self) -> u64 {
+    /// The span of the source that 2, 5, 6 or 7 is about; for 5, 6 and 7 as
+    /// the refused image has it, so that it need not lie in the source.
+    /// `None` for other causes, and where the count of comments is wrong.
+    /// [`Place`](crate::Place) gives its line and column.
+    pub fn span(&self, file: File<'_>) -> Option<Span> {
+        let File { source, image } = file;
         match *self {
-            SourceTooLong => 1,
-            SourceNotUtf8 { .. } => 2,
-            NoImage => 3,
-            BadRecord { .. } => 4,
-            TooDeep { .. } => 5,
-            BadSpan { .. } => 6,
-            BadComment { .. } => 7,
-            MoreRows { .. } => 8,
-            MoreMarks { .. } => 9,
-            MoreOutput { .. } => 10,
-            BadRow { .. } => 11,
-            BadState => 12,
-            BadFrame => 13,
-            BadTallies => 14,
-            BadWidth => 15,
-            BadStep { .. } => 16,
-            MoreRoom { .. } => 17,
-            BadBatch { .. } => 18,
-            MoreForBatch { .. } => 19,
-            Unknown { number, .. } => number,
-        }
-    }
-
-    /// The table's place: 0 where the cause has none.
-    pub fn place(&self) -> u64 {
-        match *self {
-            SourceTooLong | NoImage | BadState | BadFrame | BadTallies
-            | BadWidth => 0,
-            SourceNotUtf8 { at }
-            | BadRecord { at }
-            | TooDeep { at }
-            | BadSpan { at }
-            | BadComment { at }
-            | BadStep { at }
-            | BadBatch { at } => at,
-            MoreRows { needed }
-            | MoreMarks { needed }
-            | MoreOutput { needed }
-            | MoreRoom { needed }
-            | MoreForBatch { needed } => needed,
-            BadRow { row } => row,
-            Unknown { place, .. } => place,
-        }
-    }
-
-    /// The span of the source that 5, 6 or 7 is about, as the refused image
-    /// has it; it need not lie in the source. `None` for other causes, and
-    /// where the count of comments is wrong. [`Place`](crate::Place) gives
-    /// its line and column.
-    pub fn span(&self, image: &[u8]) -> Option<Span> {
-        match *self {
-            TooDeep { at } | BadSpan { at } => span_at(image, at as usize),
-            BadComment { at } => comment_at(image, at as usize),
+            Self::SourceNotUtf8 { at } => Some(at..source.len()),
+            Self::TooDeep { at } | Self::BadSpan { at } => span_at(image, at),
+            Self::BadComment { at } => comment_at(image, at),
             _ => None,
         }
     }
-}
 
-impl Refusal {
-    /// What people are told, with # for the place.
-    fn sentence(&self) -> &'static str {
-        match self {
-            SourceTooLong => "the source is over 65,536 bytes",
-            SourceNotUtf8 { .. } => "the source isn't UTF-8 from byte # on",
-            NoImage => {
-                "the tree image has a wrong version or length, or a body \
-                 over 1,048,576 bytes"
-            }
-            BadRecord { .. } => "the image is malformed at byte #",
-            TooDeep { .. } => "the image's record at byte # is over 64 deep",
-            BadSpan { .. } => {
-                "the image's record at byte # has a span that is no range \
-                 of characters in the source"
-            }
-            BadComment { .. } => {
-                "the image's comment list is wrong at byte #: cut off, over \
-                 8,192, or a comment that is empty or no range of \
-                 characters in the source"
-            }
-            MoreRows { .. } => "# rows are needed",
-            MoreMarks { .. } => "# marks are needed",
-            MoreOutput { .. } => "# bytes of output are needed",
-            BadRow { .. } => {
-                "row # of the store can't be rendered, or the stop lies \
-                 past the store"
-            }
-            BadState => {
-                "the state or the stop doesn't fit file and buffers, or the \
-                 calls before chose otherwise of the comments at the foot"
-            }
-            BadFrame => "the frame is over 32,768 bytes or cut off",
-            BadTallies => {
-                "no file can be counted on top of these tallies: 4,096 \
-                 files are counted, one of them is over 4,294,967,296, or \
-                 more groups are wrapped than given"
-            }
-            BadWidth => {
-                "lines may have 40 to 200 columns, and no other width once \
-                 a part is rendered"
-            }
-            BadStep { .. } => {
-                "the step at byte # of the list is unknown, cut off or \
-                 wrong there, or something is missing at the list's end"
-            }
-            MoreRoom { .. } => {
-                "# bytes are needed: more than the output has, or than an \
-                 image may have"
-            }
-            BadBatch { .. } => {
-                "the frame at byte # of the batch runs past its end, or is \
-                 the 257th"
-            }
-            MoreForBatch { .. } => {
-                "the batch needs # numbers of table or bytes of output"
-            }
-            Unknown { .. } => {
-                "the static library refuses for a cause that this crate \
-                 doesn't know: it isn't the one for this crate"
-            }
-        }
+    /// What is wrong with this span of the source, if the table says it.
+    pub(crate) fn in_source(&self, span: &Span) -> Option<String> {
+        let words = self.row()?.in_source?;
+        Some(words.replace('#', &format!("{span:?}")))
     }
 }
 
 impl fmt::Display for Refusal {
     fn fmt(&self, f: &mut fmt::Formatter<'_>) -> fmt::Result {
-        let place = self.place().to_string();
-        f.write_str(&self.sentence().replace('#', &place))
+        let place = self.place();
+        let Some(row) = self.row() else {
+            return write!(
+                f,
+                "the static library refuses by {} at {place}, which this \
+                 crate doesn't know: it isn't the one for this crate",
+                self.number()
+            );
+        };
+        f.write_str(row.cause)?;
+        match row.place {
+            Some(what) => write!(f, " ({what}: {place})"),
+            None => Ok(()),
+        }
     }
 }
 

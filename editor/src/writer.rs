@@ -3,17 +3,12 @@
 
 use crate::{
     ast::Span,
-    encode::{EncodeError, MAX_BODY, MAX_COMMENTS, MAX_DEPTH, MAX_SOURCE},
+    encode::EncodeError,
+    image::{HEAD, HEADER, LENGTH},
+    kind,
+    limits::{MAX_BODY, MAX_COMMENTS, MAX_DEPTH, MAX_SOURCE},
 };
 
-/// Version and length of the body.
-const HEADER: usize = 5;
-/// The length that stands before each record.
-const LENGTH: usize = 4;
-/// Length, kind and span of a record.
-const HEAD: usize = 13;
-/// The length of a record without payload and children.
-const EMPTY: usize = HEAD - LENGTH;
 /// What stands for the length of a record until it is closed. It outgrows every
 /// image, so that one that is never closed is refused.
 const OPEN: usize = u32::MAX as usize;
@@ -27,10 +22,11 @@ pub type WriteResult<T = ()> = Result<T, Box<EncodeError>>;
 
 /// Writes a tree image into a buffer of the caller's: first
 /// [`comments`](Self::comments), then the tree's record, which holds all
-/// others. docs/01-scope.md has the kinds of records and what each holds.
+/// others. [`kind`](crate::kind) names the kinds of records, and
+/// docs/01-scope.md says what each holds.
 ///
 /// It sees to limits and to lengths. Whether records stand where they may is
-/// for [`check`](crate::check) to say.
+/// for [`check`](crate::calls::check) to say.
 #[derive(Debug)]
 pub struct ImageWriter<'b> {
     out: &'b mut Vec<u8>,
@@ -118,7 +114,7 @@ impl<'b> ImageWriter<'b> {
     /// As [`open`](Self::open).
     #[inline]
     pub fn leaf(&mut self, kind: u8, span: Span) -> WriteResult {
-        self.head(EMPTY, kind, span, [])
+        self.head(HEAD, kind, span, [])
     }
 
     /// A record with a payload byte and no children.
@@ -133,7 +129,7 @@ impl<'b> ImageWriter<'b> {
         span: Span,
         payload: u8,
     ) -> WriteResult {
-        self.head(EMPTY + 1, kind, span, [payload])
+        self.head(HEAD + 1, kind, span, [payload])
     }
 
     /// A text record: a name or the shebang, with its width in columns.
@@ -152,8 +148,8 @@ impl<'b> ImageWriter<'b> {
             return Err(EncodeError::TooWide { span, width }.into());
         };
         self.room_for(text.len())?;
-        let length = EMPTY + 2 + text.len();
-        self.head(length, 2, span, columns.to_be_bytes())?;
+        let length = HEAD + 2 + text.len();
+        self.head(length, kind::TEXT, span, columns.to_be_bytes())?;
         self.out.extend_from_slice(text.as_bytes());
         Ok(())
     }
@@ -198,7 +194,7 @@ impl<'b> ImageWriter<'b> {
             return bad_span(span);
         }
         self.room_for(0)?;
-        let mut head = [kind; HEAD];
+        let mut head = [kind; LENGTH + HEAD];
         head[..4].copy_from_slice(&number(length));
         head[5..9].copy_from_slice(&number(span.start));
         head[9..].copy_from_slice(&number(span.end));

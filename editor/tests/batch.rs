@@ -3,52 +3,65 @@
 mod support;
 
 use rrufthim::{
-    Batch, BatchWritten, Cause, Comments, Formatted, Formatter, MAX_BATCH,
-    MAX_BODY, MAX_SOURCE, Options, Refusal, TABLE_ROW, ast::*, encode,
-    format_batch, format_file, format_files,
+    Batch, Cause, File, FormatError, Formatted, Formatter, Options, Refusal,
+    ast::*,
+    calls::{TABLE_ROW, format_batch, format_file},
+    encode,
+    limits::{MAX_BATCH, MAX_BODY, MAX_SOURCE},
 };
 use support::{JUNK, JUNK_NUMBER, Random, SOURCE, constants, tariff_image};
 
 /// A source and an image.
-type File = (Vec<u8>, Vec<u8>);
+#[derive(Clone)]
+struct Owned {
+    source: Vec<u8>,
+    image: Vec<u8>,
+}
+
+impl Owned {
+    fn new(source: impl Into<Vec<u8>>, image: Vec<u8>) -> Self {
+        let source = source.into();
+        Owned { source, image }
+    }
+
+    fn file(&self) -> File<'_> {
+        File::new(&self.source, &self.image)
+    }
+}
 
 const LINE: &str = "const A: u32 = 1; # ok\n";
 
-fn file(source: &str, image: Vec<u8>) -> File {
-    (source.into(), image)
-}
-
 /// One constant, with a comment at the foot.
-fn line() -> File {
+fn line() -> Owned {
     let image = encode(&constants(LINE), &[18..23]);
-    file(LINE, image.expect("within the limits"))
+    Owned::new(LINE, image.expect("within the limits"))
 }
 
 /// More rows than a batch has for a file.
-fn large() -> File {
+fn large() -> Owned {
     let source = "const A: u32 = 1;\n".repeat(200);
     let image = encode(&constants(&source), &[]);
-    file(&source, image.expect("within the limits"))
+    Owned::new(source, image.expect("within the limits"))
 }
 
 /// Accepted and refused ones: by 7, 3, 2 and 8.
-fn mixed() -> Vec<File> {
+fn mixed() -> Vec<Owned> {
     let empty = encode(&SyntaxTree::default(), &[]).expect("an image");
     vec![
-        file(SOURCE, tariff_image()),
-        file("", line().1),
+        Owned::new(SOURCE, tariff_image()),
+        Owned::new("", line().image),
         line(),
-        file("", vec![]),
-        (vec![0xFF], empty.clone()),
+        Owned::new("", vec![]),
+        Owned::new([0xFF], empty.clone()),
         large(),
-        file("", empty),
+        Owned::new("", empty),
         line(),
     ]
 }
 
-fn framed(files: &[File]) -> Vec<u8> {
+fn framed(files: &[Owned]) -> Vec<u8> {
     let mut frames = Vec::new();
-    for (source, image) in files {
+    for Owned { source, image } in files {
         for part in [source, image] {
             frames.extend((part.len() as u32).to_be_bytes());
         }
@@ -58,15 +71,23 @@ fn framed(files: &[File]) -> Vec<u8> {
     frames
 }
 
+/// The answers of a batch.
+fn answers(
+    batch: &mut Batch,
+    files: &[Owned],
+) -> Vec<Result<Formatted, FormatError>> {
+    batch.format_files(files.iter().map(Owned::file))
+}
+
 /// The table and the texts that single calls give.
-fn singles(files: &[File], options: &Options) -> (Vec<u32>, Vec<u8>) {
+fn singles(files: &[Owned], options: &Options) -> (Vec<u32>, Vec<u8>) {
     let (mut table, mut texts) = (Vec::new(), Vec::new());
-    for (source, image) in files {
+    for file in files {
         let output = &mut vec![JUNK; 10_000];
-        let row = match format_file(source, image, options, output) {
+        let row = match format_file(file.file(), options, output) {
             Ok(written) => {
                 texts.extend(&output[..written.bytes]);
-                [0, 0, written.bytes as u64]
+                [0, 0, written.bytes]
             }
             Err(refusal) => [refusal.number(), refusal.place(), 0],
         };
@@ -75,48 +96,45 @@ fn singles(files: &[File], options: &Options) -> (Vec<u32>, Vec<u8>) {
     (table, texts)
 }
 
+/// How many files and bytes.
+type Counts = (usize, usize);
+
 /// The call in a table and an output of these sizes, full of junk.
 fn call(
     frames: &[u8],
     options: &Options,
     cells: usize,
     room: usize,
-) -> (Result<BatchWritten, Refusal>, Vec<u32>, Vec<u8>) {
+) -> (Result<Counts, Refusal>, Vec<u32>, Vec<u8>) {
     let mut table = vec![JUNK_NUMBER; cells];
     let mut output = vec![JUNK; room];
     let answer = format_batch(frames, options, &mut table, &mut output);
+    let answer = answer.map(|written| (written.files, written.bytes));
     (answer, table, output)
 }
 
-const WAYS: [Options; 4] = [
-    Options {
-        width: 80,
-        comments: Comments::All,
-    },
-    Options::AS_ROTO,
-    Options {
-        width: 40,
-        comments: Comments::All,
-    },
-    Options {
-        width: 39,
-        comments: Comments::All,
-    },
-];
+/// Options of all sorts, with a width that isn't legal.
+fn ways() -> [Options; 4] {
+    [
+        Options::default(),
+        Options::AS_ROTO,
+        Options::default().with_width(40),
+        Options::default().with_width(39),
+    ]
+}
 
 /// Row by row and text by text, and what lies behind them.
 #[test]
 fn a_batch_is_single_calls_in_a_row() {
     let files = mixed();
     let frames = framed(&files);
-    for options in &WAYS {
+    for options in &ways() {
         let (table, texts) = singles(&files, options);
         let bytes = texts.len();
-        let due = BatchWritten { files: 8, bytes };
         for more in [0, 1, 7] {
             let (cells, room) = (table.len() + more, bytes + more);
             let (answer, rows, output) = call(&frames, options, cells, room);
-            assert_eq!(answer, Ok(due));
+            assert_eq!(answer, Ok((8, bytes)));
             assert_eq!(rows[..24], table);
             assert_eq!(output[..bytes], texts);
             assert!(rows[24..].iter().all(|cell| *cell == JUNK_NUMBER));
@@ -140,10 +158,7 @@ fn a_short_table_or_output_is_refused() {
     let options = &Options::default();
     let (table, texts) = singles(&files, options);
     let (cells, room) = (table.len(), texts.len());
-    let needed = |needed: usize| {
-        let needed = needed as u64;
-        Err(Refusal::MoreForBatch { needed })
-    };
+    let needed = |needed| Err(Refusal::MoreForBatch { needed });
     for (lent_cells, lent_room, due) in [
         (0, 0, needed(cells)),
         (cells - 1, room, needed(cells)),
@@ -161,7 +176,6 @@ fn a_short_table_or_output_is_refused() {
 }
 
 fn refused_at(frames: &[u8], at: usize) {
-    let at = at as u64;
     let (answer, rows, output) = call(frames, &Options::default(), 900, 9);
     assert_eq!(answer, Err(Refusal::BadBatch { at }));
     assert!(rows.iter().all(|cell| *cell == JUNK_NUMBER));
@@ -194,16 +208,12 @@ fn frames_that_are_not_whole_are_refused() {
 #[test]
 fn none_and_as_many_as_there_may_be() {
     let options = &Options::default();
-    let none = BatchWritten { files: 0, bytes: 0 };
-    assert_eq!(call(&[], options, 0, 0).0, Ok(none));
+    assert_eq!(call(&[], options, 0, 0).0, Ok((0, 0)));
     let empty = encode(&SyntaxTree::default(), &[]).expect("an image");
-    let mut files = vec![file("", empty); MAX_BATCH];
+    let mut files = vec![Owned::new("", empty); MAX_BATCH];
     files[MAX_BATCH - 1] = line();
     let frames = framed(&files);
-    let due = BatchWritten {
-        files: MAX_BATCH,
-        bytes: LINE.len(),
-    };
+    let due = (MAX_BATCH, LINE.len());
     let cells = MAX_BATCH * TABLE_ROW;
     let (answer, rows, output) = call(&frames, options, cells, LINE.len());
     assert_eq!((answer, &output[..]), (Ok(due), LINE.as_bytes()));
@@ -245,22 +255,24 @@ fn any_bytes_are_answered() {
 fn lists_are_answered_as_file_by_file() {
     let mixed = mixed();
     let mut random = Random(6);
-    let many: Vec<File> = (0..2 * MAX_BATCH + 100)
+    let many: Vec<Owned> = (0..2 * MAX_BATCH + 100)
         .map(|_| mixed[random.below(mixed.len())].clone())
         .collect();
-    for options in WAYS {
-        let mut formatter = Formatter::new();
-        formatter.set_options(options);
-        let mut batch = Batch::new(options);
+    let mut kept = Batch::new();
+    for options in ways() {
+        let mut formatter = Formatter::new().with_options(options.clone());
+        let mut batch = Batch::new().with_options(options.clone());
+        assert_eq!(batch.options(), &options);
         for files in [&many[..], &[], &mixed, &many[..MAX_BATCH]] {
-            let answers = batch.format_files(files);
+            let answers = answers(&mut batch, files);
             assert_eq!(answers.len(), files.len());
-            for ((source, image), answer) in files.iter().zip(answers) {
-                let alone = formatter.format_image(source, image);
+            for (file, answer) in files.iter().zip(answers) {
+                let alone = formatter.format_file(file.file());
                 assert_eq!(answer, alone.map(Formatted::into_owned));
             }
         }
-        assert_eq!(format_files(&many, &options), batch.format_files(&many));
+        kept.set_options(options);
+        assert_eq!(answers(&mut kept, &mixed), answers(&mut batch, &mixed));
     }
 }
 
@@ -270,8 +282,8 @@ fn errors_are_those_of_the_file() {
     let source = "const A: u32 = 1;\nxyz\n";
     let comments = [0..1, 20..40];
     let image = encode(&constants(source), &comments).expect("an image");
-    let files = [line(), file(source, image)];
-    let answers = format_files(&files, &Options::default());
+    let files = [line(), Owned::new(source, image)];
+    let answers = answers(&mut Batch::new(), &files);
     let error = answers[1].as_ref().expect_err("a comment past the end");
     assert_eq!(error.cause, Cause::Refused(Refusal::BadComment { at: 15 }));
     assert!(
@@ -285,9 +297,10 @@ fn errors_are_those_of_the_file() {
 #[test]
 fn comments_at_the_foot() {
     let left = |options| -> Vec<Vec<Span>> {
-        let files = [line(), file(SOURCE, tariff_image()), large()];
-        let answers = format_files(&files, &options);
-        let texts = answers.into_iter().map(|answer| answer.expect("a text"));
+        let files = [line(), Owned::new(SOURCE, tariff_image()), large()];
+        let mut batch = Batch::new().with_options(options);
+        let answers = answers(&mut batch, &files).into_iter();
+        let texts = answers.map(|answer| answer.expect("a text"));
         texts.map(|text| text.comments_left).collect()
     };
     assert_eq!(left(Options::default()), vec![vec![]; 3]);
@@ -301,17 +314,17 @@ fn comments_at_the_foot() {
 /// or none at all.
 #[test]
 fn no_size_is_in_the_way() {
-    let (_, image) = line();
+    let image = line().image;
     let files = [
         line(),
-        (vec![b' '; MAX_SOURCE + 1], image.clone()),
-        (vec![b' '; 3 * MAX_SOURCE], image),
-        (vec![], vec![1; MAX_BODY + 6]),
-        (vec![], vec![1; 3 * MAX_BODY]),
+        Owned::new(vec![b' '; MAX_SOURCE + 1], image.clone()),
+        Owned::new(vec![b' '; 3 * MAX_SOURCE], image),
+        Owned::new("", vec![1; MAX_BODY + 6]),
+        Owned::new("", vec![1; 3 * MAX_BODY]),
         line(),
     ];
-    let numbers = |batch: &mut Batch| -> Vec<u64> {
-        let answers = batch.format_files(&files).into_iter();
+    let numbers = |batch: &mut Batch| -> Vec<usize> {
+        let answers = answers(batch, &files).into_iter();
         let number = answers.map(|answer| match answer {
             Ok(formatted) => {
                 assert_eq!(formatted.text, LINE);
@@ -324,13 +337,12 @@ fn no_size_is_in_the_way() {
         });
         number.collect()
     };
-    let length = LINE.len() as u64;
-    let options = Options::default();
-    for most in [u64::MAX, 2 * length, 2 * length - 1, length] {
-        let mut batch = Batch::with_max_output(options, most);
+    let length = LINE.len();
+    for most in [usize::MAX, 2 * length, 2 * length - 1, length] {
+        let mut batch = Batch::new().with_max_output(most);
         assert_eq!(numbers(&mut batch), [0, 1, 1, 3, 3, 0], "{most}");
     }
-    let mut short = Batch::with_max_output(options, length - 1);
+    let mut short = Batch::new().with_max_output(length - 1);
     assert_eq!(numbers(&mut short), [10, 1, 1, 3, 3, 10]);
 }
 
@@ -346,11 +358,11 @@ fn texts_longer_than_their_files() {
     let literal = constant.expr.clone();
     constant.expr = Meta::new(Expr::List(vec![literal; 40]), 0..0);
     let image = encode(&tree, &[]).expect("an image");
-    let files = [file(&source, image), line()];
+    let files = [Owned::new(source, image), line()];
     assert!(framed(&files).len() < 10_000);
     let mut batch = Batch::default();
     for _ in 0..2 {
-        let answers = batch.format_files(&files);
+        let answers = answers(&mut batch, &files);
         let long = answers[0].as_ref().expect("a text");
         assert!(long.outgrown && long.text.len() > 120_000);
         assert_eq!(answers[1].as_ref().expect("a text").text, LINE);
@@ -361,7 +373,7 @@ fn texts_longer_than_their_files() {
 #[test]
 fn a_batch_is_shown() {
     let mut batch = Batch::default();
-    let _ = batch.format_files(&mixed());
+    let _ = answers(&mut batch, &mixed());
     let shown = format!("{batch:?}");
     assert!(shown.starts_with("Batch { frames: "), "{shown}");
     assert!(shown.len() < 400, "{shown}");

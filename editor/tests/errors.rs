@@ -5,9 +5,9 @@ mod support;
 use std::error::Error;
 
 use rrufthim::{
-    Cause, EncodeError, FormatError, Formatter, MAX_SOURCE, Place, Refusal,
-    ast::*, check, encode, fmt_parsed, fmt_parsed_with_widths, fmt_written,
-    simple_width,
+    Cause, EncodeError, File, FormatError, Formatter, ImageWriter, Options,
+    Place, Refusal, WriteResult, ast::*, calls::check, encode, fmt_parsed,
+    fmt_written, kind, limits::MAX_SOURCE, simple_width, write_tree,
 };
 use support::{constants, tariff};
 
@@ -45,8 +45,8 @@ fn refused(
 }
 
 fn at(error: &FormatError) -> (Span, usize, usize) {
-    let Place { span, line, column } = error.place.clone().expect("a place");
-    (span, line, column)
+    let place = error.place.clone().expect("a place");
+    (place.span, place.line, place.column)
 }
 
 #[test]
@@ -68,8 +68,46 @@ fn a_span_is_named() {
         let start = format!("line {line}, column {column}: ");
         assert!(shown.starts_with(&start), "{shown}");
         assert!(shown.contains(&format!("{span:?}")), "{shown}");
-        assert!(error.source().is_some());
     }
+}
+
+/// An error's source says what the error itself doesn't: the offset in the
+/// image, where the words are about the source.
+#[test]
+fn sources_do_not_repeat() {
+    let said = |error: &FormatError| {
+        let source = error.source().map(ToString::to_string);
+        let shown = error.to_string();
+        assert!(source.is_none_or(|words| !shown.contains(&words)));
+        error.source().is_some()
+    };
+    let comment = refused(&tree(), SOURCE, &[0..5, 34..90]);
+    assert!(said(&comment));
+    let source = comment.source().expect("a refusal").to_string();
+    assert!(source.ends_with("in the image: 15)"), "{source}");
+    let mut wrong = tree();
+    *value(&mut wrong) = literal(40..41);
+    assert!(said(&refused(&wrong, SOURCE, &[])));
+
+    // Those whose words hold all of the cause.
+    let file = File::new(SOURCE, "");
+    let refusals = [
+        Refusal::SourceTooLong,
+        Refusal::SourceNotUtf8 { at: 20 },
+        Refusal::NoImage,
+        Refusal::MoreOutput { needed: 7 },
+        Refusal::BadComment { at: 5 },
+    ];
+    for refusal in refusals {
+        let error = file.error(refusal);
+        assert!(!said(&error));
+        assert!(error.to_string().ends_with(&refusal.to_string()));
+    }
+    let many = refused(&tree(), SOURCE, &vec![0..1; 8_193]);
+    assert!(!said(&many));
+    #[allow(clippy::reversed_empty_ranges)]
+    let reversed = refused(&tree(), SOURCE, &[9..3]);
+    assert!(reversed.place.is_some() && !said(&reversed));
 }
 
 #[test]
@@ -103,7 +141,7 @@ fn bytes_that_are_no_text_are_placed() {
     let mut formatter = Formatter::new();
     let image = encode(&tree(), &[]).expect("an image");
     let bad = [&SOURCE.as_bytes()[..20], b"\xFF"].concat();
-    let error = formatter.format_image(&bad, &image);
+    let error = formatter.format_file(File::new(&bad, &image));
     let error = error.expect_err("it isn't UTF-8");
     assert_eq!(
         error.cause,
@@ -116,13 +154,16 @@ fn bytes_that_are_no_text_are_placed() {
 #[test]
 fn spans_of_refusals() {
     let image = encode(&tree(), &[0..5, 6..7]).expect("an image");
-    let comment = check(b"const ", &image).expect_err("a comment");
-    assert_eq!(comment.span(&image), Some(6..7));
-    assert_eq!(Refusal::BadComment { at: 5 }.span(&image), None);
-    assert_eq!(Refusal::NoImage.span(&image), None);
-    for at in [image.len() as u64, u64::MAX - 3, u64::MAX] {
-        assert_eq!(Refusal::BadSpan { at }.span(&image), None);
-        assert_eq!(Refusal::BadComment { at }.span(&image), None);
+    let file = File::new("const ", &image);
+    let comment = check(file).expect_err("a comment");
+    assert_eq!(comment.span(file), Some(6..7));
+    assert_eq!(Refusal::BadComment { at: 5 }.span(file), None);
+    assert_eq!(Refusal::NoImage.span(file), None);
+    let bytes = Refusal::SourceNotUtf8 { at: 2 };
+    assert_eq!(bytes.span(file), Some(2..6));
+    for at in [image.len(), usize::MAX - 3, usize::MAX] {
+        assert_eq!(Refusal::BadSpan { at }.span(file), None);
+        assert_eq!(Refusal::BadComment { at }.span(file), None);
     }
 }
 
@@ -207,23 +248,29 @@ fn calls_within_calls() {
         assert_eq!(inner.expect("a text"), due);
         simple_width(text)
     };
-    let outer = fmt_parsed_with_widths(&tree, source, &extras, width);
+    let outer = fmt_written(source, &Options::default(), |out| {
+        write_tree(out, &tree, &extras.comments, width)
+    });
     assert_eq!(outer.expect("a text"), due);
 }
 
 /// What is no image is refused like any other bytes.
 #[test]
 fn badly_written_images_are_refused() {
-    let nothing = fmt_written("", |_| Ok(())).expect_err("no comment list");
-    assert_eq!(nothing.cause, Cause::Refused(Refusal::BadComment { at: 5 }));
-    let no_tree = fmt_written("", |out| out.comments([].into_iter()));
-    let cause = Cause::Refused(Refusal::BadRecord { at: 7 });
-    assert_eq!(no_tree.expect_err("no tree").cause, cause);
-    let open = fmt_written("", |out| {
+    type Write = fn(&mut ImageWriter<'_>) -> WriteResult;
+    let cause = |write: Write| {
+        let error = fmt_written("", &Options::default(), write);
+        error.expect_err("no image").cause
+    };
+    let no_list = Cause::Refused(Refusal::BadComment { at: 5 });
+    assert_eq!(cause(|_| Ok(())), no_list);
+    let no_tree = Cause::Refused(Refusal::BadRecord { at: 7 });
+    assert_eq!(cause(|out| out.comments([].into_iter())), no_tree);
+    let left_open = cause(|out| {
         out.comments([].into_iter())?;
-        let _ = out.open(1, 0..0)?;
+        let _ = out.open(kind::TREE, 0..0)?;
         out.absent();
         Ok(())
     });
-    assert_eq!(open.expect_err("not closed").cause, cause);
+    assert_eq!(left_open, no_tree);
 }

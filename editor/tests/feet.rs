@@ -4,24 +4,36 @@
 mod support;
 
 use rrufthim::{
-    Comments, CommentsLeft, Formatted, Formatter, LayoutState, Options,
-    Refusal, Steps, ast::*, encode, fmt_parsed, fmt_parsed_with_options,
-    format_file, layout,
+    Comments, CommentsLeft, File, Formatted, Formatter, InParts, Options,
+    Refusal,
+    ast::*,
+    calls::{LayoutArgs, LayoutState, format_file, layout},
+    encode, fmt_parsed, fmt_written, simple_width, write_tree,
 };
 
 use support::{
-    Buffers, DECLARATIONS, SOURCE, constants, tariff, tariff_image,
+    Buffers, DECLARATIONS, SOURCE, Whole, constants, tariff, tariff_image,
 };
 
 const FOOT: &str = "// Filing reference 44-B.\n";
 
-const CHOICES: [(Options, u64, usize); 2] =
-    [(Options::AS_ROTO, 0, 1), (DEFAULT, 1, 0)];
+/// Each choice, its mode, and how many comments of the tariff it leaves.
+fn choices() -> [(Options, usize, usize); 2] {
+    [(Options::AS_ROTO, 0, 1), (Options::default(), 1, 0)]
+}
 
-const DEFAULT: Options = Options {
-    width: 80,
-    comments: Comments::All,
-};
+/// What is written of a tree of the crate's.
+fn written(
+    tree: &SyntaxTree,
+    source: &str,
+    extras: &Extras,
+    options: &Options,
+) -> Formatted {
+    let formatted = fmt_written(source, options, |out| {
+        write_tree(out, tree, &extras.comments, simple_width)
+    });
+    formatted.expect("a text")
+}
 
 fn extras(comments: &[Span]) -> Extras {
     let comments = comments.to_vec();
@@ -31,22 +43,19 @@ fn extras(comments: &[Span]) -> Extras {
 /// With all comments, then as Roto's own formatter has it.
 fn both(source: &str, comments: &[Span]) -> [Formatted; 2] {
     let (tree, extras) = (constants(source), extras(comments));
-    let kept = fmt_parsed(&tree, source, &extras);
-    let options = Options::AS_ROTO;
-    let roto = fmt_parsed_with_options(&tree, source, &extras, options);
-    [kept, roto].map(|formatted| formatted.expect("a text"))
+    let kept = fmt_parsed(&tree, source, &extras).expect("a text");
+    [kept, written(&tree, source, &extras, &Options::AS_ROTO)]
 }
 
 #[test]
 fn the_default_keeps_the_last_line() {
-    assert_eq!(Options::default(), DEFAULT);
+    let default = Options::default();
+    assert_eq!((default.width, default.comments), (80, Comments::All));
     let (tree, extras) = tariff();
     let kept = fmt_parsed(&tree, SOURCE, &extras).expect("a text");
     assert!(kept.text.ends_with(&format!("}}\n{FOOT}")), "{}", kept.text);
     assert!(kept.comments_left.is_empty());
-    let options = Options::AS_ROTO;
-    let roto = fmt_parsed_with_options(&tree, SOURCE, &extras, options);
-    let roto = roto.expect("a text");
+    let roto = written(&tree, SOURCE, &extras, &Options::AS_ROTO);
     assert_eq!(format!("{}{FOOT}", roto.text), kept.text);
     let [left] = &roto.comments_left[..] else {
         panic!("{roto:?}");
@@ -101,32 +110,32 @@ fn a_foot_stays() {
 fn every_door_takes_the_choice() {
     let image = tariff_image();
     let (tree, extras) = tariff();
-    let source = SOURCE.as_bytes();
-    let mut formatter = Formatter::new();
-    for (options, mode, left) in CHOICES {
-        let due = fmt_parsed_with_options(&tree, SOURCE, &extras, options);
-        let due = due.expect("a text");
+    let file = File::new(SOURCE, &image);
+    for (options, mode, left) in choices() {
+        let due = written(&tree, SOURCE, &extras, &options);
         assert_eq!(due.comments_left.len(), left);
-        formatter.set_options(options);
-        let got = formatter.format_image(source, &image).expect("a text");
+        let mut formatter = Formatter::new().with_options(options.clone());
+        assert_eq!(formatter.options(), &options);
+        let got = formatter.format_file(file).expect("a text");
         assert_eq!(got.into_owned(), due);
+        let got = formatter.format_tree(&tree, SOURCE, &extras);
+        assert_eq!(got.expect("a text").into_owned(), due);
         let mut output = vec![0; 4_000];
-        let written = format_file(source, &image, &options, &mut output);
-        let written = written.expect("a text");
-        assert_eq!(&output[..written.bytes], due.text.as_bytes());
-        assert_eq!(written.comments_left, left as u64);
-        let mut buffers = Buffers::ample();
-        let two = buffers.format_as(source, &image, &options);
-        assert_eq!(two, Ok(written));
-        let steps = Steps::with_options(source, &image, options);
-        let mut steps = steps.expect("accepted");
+        let whole = format_file(file, &options, &mut output);
+        let whole = Whole::from(whole.expect("a text"));
+        assert_eq!(&output[..whole.bytes], due.text.as_bytes());
+        assert_eq!(whole.comments_left, left);
+        let two = Buffers::ample().format_as(file, &options);
+        assert_eq!(two, Ok(whole));
+        let parts = InParts::new(file).expect("accepted");
+        let mut parts = parts.with_options(options);
         let mut text = String::new();
-        while let Some(part) = steps.advance(1).expect("a part") {
+        while let Some(part) = parts.advance(1).expect("a part") {
             text.push_str(part);
         }
         assert_eq!(text, due.text);
-        assert_eq!(steps.comments_left(), due.comments_left);
-        assert_eq!(steps.layout_state().mode, mode);
+        assert_eq!(parts.comments_left(), due.comments_left);
+        assert_eq!(parts.layout_state().mode, mode);
     }
 }
 
@@ -134,9 +143,8 @@ fn every_door_takes_the_choice() {
 #[test]
 fn a_choice_is_for_one_call() {
     let (tree, extras) = tariff();
-    let options = Options::AS_ROTO;
-    let roto = fmt_parsed_with_options(&tree, SOURCE, &extras, options);
-    assert_eq!(roto.expect("a text").comments_left.len(), 1);
+    let roto = written(&tree, SOURCE, &extras, &Options::AS_ROTO);
+    assert_eq!(roto.comments_left.len(), 1);
     let kept = fmt_parsed(&tree, SOURCE, &extras).expect("a text");
     assert_eq!(kept.comments_left.len(), 0);
 }
@@ -146,28 +154,31 @@ fn a_choice_is_for_one_call() {
 #[test]
 fn a_run_has_one_choice() {
     let image = tariff_image();
-    let source = SOURCE.as_bytes();
+    let file = File::new(SOURCE, &image);
     let store = &mut Buffers::ample().store;
     let mut call = |state: &LayoutState, stop, options: &Options| {
         let close = stop == DECLARATIONS;
-        layout(source, &image, store, state, stop, close, options)
+        let args = LayoutArgs::up_to(stop).with_close(close);
+        layout(file, store, state, &args, options)
     };
     let fresh = LayoutState::default();
-    for (options, mode, left) in CHOICES {
-        let other = CHOICES[1 - mode as usize].0;
+    for (options, mode, left) in choices() {
+        let (other, ..) = &choices()[1 - mode];
         let begun = call(&fresh, 0, &options).expect("accepted").state;
         assert_eq!(begun.mode, mode);
-        let refused = call(&begun, DECLARATIONS, &other);
+        let refused = call(&begun, DECLARATIONS, other);
         assert_eq!(refused, Err(Refusal::BadState));
         let closed = call(&begun, DECLARATIONS, &options);
-        assert_eq!(closed.expect("accepted").comments_left, left as u64);
+        assert_eq!(closed.expect("accepted").comments_left, left);
         // No call left such states.
-        for mode in [2, u64::MAX] {
-            let state = LayoutState { mode, ..begun };
+        for mode in [2, usize::MAX] {
+            let mut state = begun.clone();
+            state.mode = mode;
             let refused = call(&state, DECLARATIONS, &options);
             assert_eq!(refused, Err(Refusal::BadState));
         }
-        let early = LayoutState { mode: 1, ..fresh };
+        let mut early = fresh.clone();
+        early.mode = 1;
         assert_eq!(call(&early, 1, &options), Err(Refusal::BadState));
     }
     let words = Refusal::BadState.to_string();
@@ -177,12 +188,12 @@ fn a_run_has_one_choice() {
 /// As many comments as a file may have, all of them at the foot.
 #[test]
 fn the_longest_foot() {
-    let count = rrufthim::MAX_COMMENTS;
+    let count = rrufthim::limits::MAX_COMMENTS;
     let source = "#\n".repeat(count);
     let comments: Vec<Span> = (0..count).map(|n| 2 * n..2 * n + 1).collect();
     let image = encode(&SyntaxTree::default(), &comments).expect("an image");
     let mut formatter = Formatter::new();
-    let kept = formatter.format_image(source.as_bytes(), &image);
+    let kept = formatter.format_file(File::new(&source, &image));
     let kept = kept.expect("a text");
     assert_eq!((kept.text, kept.comments_left.len()), (&source[..], 0));
 }

@@ -3,8 +3,12 @@
 mod support;
 
 use rrufthim::{
-    Figures, Fraction, MAX_FILES, MAX_TALLY, Options, Refusal, Tallies,
-    ast::*, count, encode, format_file, report,
+    File, Options, Refusal,
+    ast::*,
+    calls::format_file,
+    encode,
+    figures::{Figures, Fraction, Report, Tallies, count},
+    limits::{MAX_FILES, MAX_TALLY},
 };
 use support::{Random, SOURCE, constants, tariff_image};
 
@@ -15,63 +19,56 @@ fn line_image() -> Vec<u8> {
     encode(&constants(LINE), &[18..23]).expect("within the limits")
 }
 
-/// What the constant gives.
-const OF_LINE: Figures = Figures {
-    bytes: 18,
-    newlines: 1,
-    column: 17,
-    given: 1,
-    wrapped: 0,
-    placed: 0,
-    left: 1,
-};
+/// What the constant gives, so many times.
+fn of_lines(count: usize) -> Figures {
+    let mut figures = Figures::default();
+    figures.bytes = 18 * count;
+    figures.newlines = count;
+    figures.column = 17;
+    figures.given = count;
+    figures.left = count;
+    figures
+}
 
 /// The constant on top of these tallies.
 fn line_on(tallies: &mut Tallies) -> Result<Figures, Refusal> {
-    let counted = count(LINE.as_bytes(), &line_image(), tallies);
+    let counted = count(File::new(LINE, &line_image()), tallies);
     counted.map(|counted| counted.figures)
 }
 
 #[test]
 fn figures_are_those_of_the_formatted_file() {
-    let (source, image) = (SOURCE.as_bytes(), tariff_image());
+    let image = tariff_image();
+    let file = File::new(SOURCE, &image);
     let mut tallies = Tallies::default();
-    let counted = count(source, &image, &mut tallies).expect("counted");
+    let counted = count(file, &mut tallies).expect("counted");
     let mut output = [0; 1_000];
-    let written = format_file(source, &image, &Options::AS_ROTO, &mut output)
-        .expect("a text");
+    let written = format_file(file, &Options::AS_ROTO, &mut output);
+    let written = written.expect("a text");
     let text = &output[..written.bytes];
     let lines: Vec<&[u8]> = text.split(|byte| *byte == b'\n').collect();
     let figures = counted.figures;
-    assert_eq!(figures.bytes, text.len() as u64);
-    assert_eq!(figures.newlines, lines.len() as u64 - 1);
+    assert_eq!(figures.bytes, text.len());
+    assert_eq!(figures.newlines, lines.len() - 1);
     assert_eq!(figures.given, written.numbers);
     assert_eq!((figures.placed, figures.left), (2, written.comments_left));
     // Its longest line without a comment.
     let longest = "fn discount(years: u32) -> u32 {";
     assert!(lines.contains(&longest.as_bytes()));
-    assert_eq!(figures.column, longest.len() as u64);
+    assert_eq!(figures.column, longest.len());
     assert_eq!((figures.given, figures.wrapped), (13, 3));
     let (over, under) = (3, 13);
     assert_eq!(counted.fraction, Fraction { over, under });
     assert_eq!(counted.fraction.to_string(), "3 over 13");
-    let all = figures;
-    assert_eq!(tallies, Tallies { files: 1, all });
+    assert_eq!((tallies.files, tallies.all), (1, figures));
 }
 
 #[test]
 fn sums_and_the_greatest_column() {
     let mut tallies = Tallies::default();
-    assert_eq!(line_on(&mut tallies), Ok(OF_LINE));
-    assert_eq!(line_on(&mut tallies), Ok(OF_LINE));
-    let all = Figures {
-        bytes: 36,
-        newlines: 2,
-        given: 2,
-        left: 2,
-        ..OF_LINE
-    };
-    assert_eq!(tallies, Tallies { files: 2, all });
+    assert_eq!(line_on(&mut tallies), Ok(of_lines(1)));
+    assert_eq!(line_on(&mut tallies), Ok(of_lines(1)));
+    assert_eq!((tallies.files, tallies.all), (2, of_lines(2)));
 }
 
 /// Tallies that are fine, with a change.
@@ -86,8 +83,8 @@ fn changed(change: impl Fn(&mut Tallies)) -> Tallies {
 /// Each bound at its value, and one over.
 #[test]
 fn tallies_are_refused() {
-    type Set = fn(&mut Tallies, u64);
-    let bounds: [(Set, u64); 9] = [
+    type Set = fn(&mut Tallies, usize);
+    let bounds: [(Set, usize); 9] = [
         (|t, n| t.files = n, MAX_FILES - 1),
         (|t, n| t.all.bytes = n, MAX_TALLY),
         (|t, n| t.all.newlines = n, MAX_TALLY),
@@ -104,11 +101,11 @@ fn tallies_are_refused() {
     for (place, (set, bound)) in bounds.into_iter().enumerate() {
         let mut most = changed(|tallies| set(tallies, bound));
         let files = most.files;
-        assert_eq!(line_on(&mut most), Ok(OF_LINE), "{place}");
+        assert_eq!(line_on(&mut most), Ok(of_lines(1)), "{place}");
         assert_eq!(most.files, files + 1);
-        for over in [bound + 1, u64::MAX] {
+        for over in [bound + 1, usize::MAX] {
             let before = changed(|tallies| set(tallies, over));
-            let mut tallies = before;
+            let mut tallies = before.clone();
             let refused = line_on(&mut tallies);
             assert_eq!(refused, Err(Refusal::BadTallies), "{place}");
             assert_eq!(tallies, before);
@@ -120,7 +117,7 @@ fn tallies_are_refused() {
 #[test]
 fn the_file_is_refused_first() {
     let mut full = changed(|tallies| tallies.files = MAX_FILES);
-    let refused = count(b"", &[], &mut full);
+    let refused = count(File::new("", ""), &mut full);
     assert_eq!(refused, Err(Refusal::NoImage));
     let source = " ".repeat(40_000);
     let literal = Meta::new(Literal::Integer(0, None), 0..source.len());
@@ -131,7 +128,7 @@ fn the_file_is_refused_first() {
     };
     constant.expr = Meta::new(Expr::List(vec![literal; 2]), 0..0);
     let image = encode(&tree, &[]).expect("within the limits");
-    let refused = count(source.as_bytes(), &image, &mut full);
+    let refused = count(File::new(&source, &image), &mut full);
     assert!(matches!(refused, Err(Refusal::MoreOutput { .. })));
     assert_eq!(line_on(&mut full), Err(Refusal::BadTallies));
 }
@@ -150,11 +147,14 @@ fn a_report_counts_in_any_order() {
     for first in 0..files.len() {
         let mut turned = files.clone();
         turned.rotate_left(first);
-        let mut report = report(turned);
-        let refused = report.by_ref().filter(Result::is_err).count();
-        assert_eq!((refused, report.tallies().files), (1, 4));
-        let totals = (*report.tallies(), report.fraction());
-        assert_eq!(*due.get_or_insert(totals), totals);
+        let mut report = Report::new();
+        let counted = turned.iter().map(|(source, image)| {
+            report.count(File::new(*source, image)).is_ok()
+        });
+        assert_eq!(counted.filter(|counted| !counted).count(), 1);
+        assert_eq!(report.tallies().files, 4);
+        let totals = (report.tallies().clone(), report.fraction());
+        assert_eq!(*due.get_or_insert(totals.clone()), totals);
     }
     let (tallies, fraction) = due.expect("reports");
     assert_eq!((tallies.all.given, tallies.all.wrapped), (15, 3));
@@ -163,12 +163,11 @@ fn a_report_counts_in_any_order() {
 
 #[test]
 fn a_report_of_no_file() {
-    let mut report = report([("", [0; 0])]);
+    let mut report = Report::new();
     let nothing = Fraction { over: 0, under: 1 };
     assert_eq!(report.fraction(), nothing);
-    assert_eq!(report.size_hint(), (1, Some(1)));
-    assert_eq!(report.next(), Some(Err(Refusal::NoImage)));
-    assert_eq!(report.next(), None);
+    let refused = report.count(File::new("", ""));
+    assert_eq!(refused, Err(Refusal::NoImage));
     assert_eq!(*report.tallies(), Tallies::default());
     assert_eq!(report.fraction(), nothing);
 }
@@ -176,15 +175,17 @@ fn a_report_of_no_file() {
 #[test]
 fn no_file_past_the_last_is_counted() {
     let image = line_image();
-    let most = MAX_FILES as usize;
-    let files = std::iter::repeat_n((LINE, &image), most + 2);
-    let mut report = report(files);
-    assert!(report.by_ref().take(most).all(|file| file == Ok(OF_LINE)));
-    let full = *report.tallies();
-    assert_eq!((full.files, full.all.bytes), (MAX_FILES, MAX_FILES * 18));
-    let rest: Vec<_> = report.by_ref().collect();
-    assert_eq!(rest, [Err(Refusal::BadTallies); 2]);
-    assert_eq!(*report.tallies(), full);
+    let file = File::new(LINE, &image);
+    let mut report = Report::new();
+    for _ in 0..MAX_FILES {
+        assert_eq!(report.count(file), Ok(of_lines(1)));
+    }
+    let full = report.tallies().clone();
+    assert_eq!((full.files, &full.all), (MAX_FILES, &of_lines(MAX_FILES)));
+    for _ in 0..2 {
+        assert_eq!(report.count(file), Err(Refusal::BadTallies));
+        assert_eq!(*report.tallies(), full);
+    }
 }
 
 /// Tallies that no call left are refused or added to, and a refusal leaves
@@ -200,8 +201,8 @@ fn foreign_tallies() {
         [*given, *wrapped] = [random.wild(), random.wild()];
         tallies.files = random.wild();
         tallies.all.bytes = random.wild();
-        let before = tallies;
-        let answer = count(LINE.as_bytes(), &image, &mut tallies);
+        let before = tallies.clone();
+        let answer = count(File::new(LINE, &image), &mut tallies);
         if answer.is_ok() {
             counted += 1;
             assert_eq!(tallies.files, before.files + 1);

@@ -3,8 +3,8 @@
 mod support;
 
 use rrufthim::{
-    Cause, EncodeError, Formatter, Refusal, ast::*, encode,
-    encode_with_widths, fmt_parsed, simple_width,
+    Cause, EncodeError, File, Formatter, Refusal, ast::*, encode,
+    encode_written, fmt_parsed, simple_width, write_tree,
 };
 use support::{SOURCE, constants, tariff, tariff_image};
 
@@ -61,8 +61,8 @@ fn the_worked_image_is_written() {
     ];
     assert_eq!(image, due.concat());
     let mut formatter = Formatter::new();
-    let written = formatter.format_image(b"", &image).expect("a text");
-    assert_eq!(written.text, "#!/x\n\n");
+    let written = formatter.format_file(File::new("", &image));
+    assert_eq!(written.expect("a text").text, "#!/x\n\n");
 }
 
 #[test]
@@ -74,7 +74,8 @@ fn widths_are_asked_for_in_order_and_the_shebang_trimmed() {
         asked.push(text.to_owned());
         simple_width(text)
     };
-    encode_with_widths(&tree, &[], measure).expect("within the limits");
+    encode_written(|out| write_tree(out, &tree, &[], measure))
+        .expect("within the limits");
     assert_eq!(asked, ["#!/x", "A", "u32"]);
     assert_eq!(simple_width("größe\t"), 5);
 }
@@ -85,21 +86,21 @@ fn a_formatter_serves_file_after_file() {
     let small = encode(&SyntaxTree::default(), &[]).expect("an image");
     let mut formatter = Formatter::default();
     for _ in 0..2 {
-        let written = formatter.format_image(SOURCE.as_bytes(), &image);
+        let written = formatter.format_file(File::new(SOURCE, &image));
         let written = written.expect("a text");
         assert_eq!(written.text, TARIFF);
         assert_eq!(written.comments_left.len(), 0);
-        let written = formatter.format_image(b"", &small).expect("a text");
-        assert_eq!(written.text, "");
+        let written = formatter.format_file(File::new("", &small));
+        assert_eq!(written.expect("a text").text, "");
     }
 }
 
 #[test]
 fn a_text_over_the_bound_is_refused() {
     let image = tariff_image();
-    let mut formatter = Formatter::with_max_output(10);
-    let refusal = formatter.format_image(SOURCE.as_bytes(), &image);
-    let needed = TARIFF.len() as u64;
+    let mut formatter = Formatter::new().with_max_output(10);
+    let refusal = formatter.format_file(File::new(SOURCE, &image));
+    let needed = TARIFF.len();
     let cause = Cause::Refused(Refusal::MoreOutput { needed });
     assert_eq!(refusal.expect_err("too long").cause, cause);
 }

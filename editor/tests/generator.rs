@@ -3,10 +3,12 @@
 mod support;
 
 use rrufthim::{
-    ImageWriter, MAX_BODY, MAX_COMMENTS, MAX_DEPTH, Refusal, check, encode,
-    generator::{
-        Builder, Step, kind_name, read, steps, write_image, write_list,
-    },
+    File, Refusal,
+    calls::check,
+    encode, encode_written,
+    generator::{Builder, Step, read, steps, write_image, write_list},
+    kind,
+    limits::{MAX_BODY, MAX_COMMENTS, MAX_DEPTH, MAX_WIDTH},
 };
 use support::{JUNK, Random, SOURCE, constants, tariff_image};
 
@@ -20,13 +22,13 @@ fn constant(builder: &mut Builder) -> Built<'_> {
 
 /// The same before the byte that is `true`.
 fn constant_up_to_its_value(builder: &mut Builder) -> Built<'_> {
-    builder.comment(0, 5)?;
-    builder.open(1, 0..0)?.absent()?;
-    builder.open(11, 0..18)?;
-    builder.open(2, 6..7)?.text(1, "A")?.close()?;
-    builder.open(42, 9..10)?.close()?;
-    builder.open(51, 13..17)?;
-    builder.open(87, 13..17)
+    builder.comment(0..5)?;
+    builder.open(kind::TREE, 0..0)?.absent()?;
+    builder.open(kind::CONST, 0..18)?;
+    builder.open(kind::TEXT, 6..7)?.text("A", 1)?.close()?;
+    builder.open(kind::NEVER, 9..10)?.close()?;
+    builder.open(kind::LITERAL_EXPR, 13..17)?;
+    builder.open(kind::LITERAL, 13..17)
 }
 
 const CONSTANT: &[u8] = b"const A: ! = true;";
@@ -39,48 +41,50 @@ fn built() -> Builder {
 
 /// The same by the other writer.
 fn encoded() -> Vec<u8> {
-    let mut image = Vec::new();
-    let mut out = ImageWriter::new(&mut image);
-    out.comments([0..5].into_iter()).unwrap();
-    let tree = out.open(1, 0..0).unwrap();
-    out.absent();
-    let constant = out.open(11, 0..18).unwrap();
-    out.text(6..7, "A", 1).unwrap();
-    out.leaf(42, 9..10).unwrap();
-    let value = out.open(51, 13..17).unwrap();
-    out.choice(87, 13..17, 1).unwrap();
-    for record in [value, constant, tree] {
-        out.close(record).unwrap();
-    }
-    out.finish().unwrap();
-    image
+    let image = encode_written(|out| {
+        out.comments([0..5].into_iter())?;
+        let tree = out.open(kind::TREE, 0..0)?;
+        out.absent();
+        let constant = out.open(kind::CONST, 0..18)?;
+        out.text(6..7, "A", 1)?;
+        out.leaf(kind::NEVER, 9..10)?;
+        let value = out.open(kind::LITERAL_EXPR, 13..17)?;
+        out.choice(kind::LITERAL, 13..17, 1)?;
+        let open = [value, constant, tree];
+        open.into_iter().try_for_each(|record| out.close(record))
+    });
+    image.expect("within the limits")
+}
+
+fn constant_file(image: &[u8]) -> File<'_> {
+    File::new(CONSTANT, image)
 }
 
 #[test]
 fn an_image_from_steps() {
     let image = built().finish().expect("an image");
     assert_eq!(image, encoded());
-    let accepted = check(CONSTANT, &image).expect("accepted");
+    let accepted = check(constant_file(&image)).expect("accepted");
     assert_eq!((accepted.comments, accepted.declarations), (1, 1));
 }
 
 #[test]
 fn steps_in_words() {
     let image = built().finish().expect("an image");
-    let steps = steps(CONSTANT, &image).expect("steps");
+    let steps = steps(constant_file(&image)).expect("steps");
     let lines: Vec<String> = steps.iter().map(Step::to_string).collect();
     let due = [
         "comment at 0..5",
-        "open 1 (tree) at 0..0",
+        "open 1 (TREE) at 0..0",
         "absent",
-        "open 11 (const) at 0..18",
-        "open 2 (text) at 6..7",
+        "open 11 (CONST) at 0..18",
+        "open 2 (TEXT) at 6..7",
         "text \"A\", 1 wide",
         "close",
-        "open 42 (never type) at 9..10",
+        "open 42 (NEVER) at 9..10",
         "close",
-        "open 51 (literal) at 13..17",
-        "open 87 (literal value) at 13..17",
+        "open 51 (LITERAL_EXPR) at 13..17",
+        "open 87 (LITERAL) at 13..17",
         "payload 1",
         "close",
         "close",
@@ -108,8 +112,8 @@ fn steps_have_their_bytes() {
         ),
         (
             Step::Open {
-                kind: 87,
-                span: 0..u32::MAX,
+                kind: kind::LITERAL,
+                span: 0..u32::MAX as usize,
             },
             &[2, 87, 0, 0, 0, 0, 255, 255, 255, 255],
         ),
@@ -127,42 +131,27 @@ fn steps_have_their_bytes() {
     }
 }
 
-/// Each kind of docs/01-scope.md has a name of its own, and no other has.
-#[test]
-fn kinds_have_names() {
-    let known: Vec<u8> = (0..=255)
-        .filter(|kind| kind_name(*kind) != "no kind")
-        .collect();
-    let ranges = [1..=4, 10..=16, 20..=23, 30..=32, 40..=44, 50..=70];
-    let due = ranges.into_iter().chain([80..=87]).flatten();
-    assert_eq!(known, due.collect::<Vec<u8>>());
-    let mut names: Vec<&str> = known.into_iter().map(kind_name).collect();
-    names.sort();
-    names.dedup();
-    assert_eq!(names.len(), 52);
-}
-
 /// An image's steps, given to a builder, are the same list and give the same
 /// image.
-fn there_and_back(source: &[u8], image: &[u8]) {
-    let steps = steps(source, image).expect("steps");
+fn there_and_back(file: File<'_>) {
+    let steps = steps(file).expect("steps");
     let mut builder = Builder::new();
     for step in &steps {
         builder.step(step).expect("a step in order");
     }
-    assert_eq!(builder.finish().as_deref(), Ok(image));
+    assert_eq!(builder.finish().as_deref(), Ok(file.image));
     assert_eq!(builder.check(), Ok(()));
     assert_eq!(read(builder.list()), Ok(steps));
     let mut list = vec![JUNK; builder.list().len()];
-    let bytes = write_list(source, image, &mut list);
+    let bytes = write_list(file, &mut list);
     assert_eq!((bytes, &list[..]), (Ok(list.len()), builder.list()));
 }
 
 /// What the encoder writes, to steps and back, byte for byte.
 #[test]
 fn encoded_images_there_and_back() {
-    there_and_back(SOURCE.as_bytes(), &tariff_image());
-    there_and_back(CONSTANT, &encoded());
+    there_and_back(File::new(SOURCE, &tariff_image()));
+    there_and_back(constant_file(&encoded()));
     for count in [0, 1, 40, 1_500] {
         let source = "const A: u32 = 1; # ok\n".repeat(count);
         let comments = (0..count).map(|place| {
@@ -171,7 +160,8 @@ fn encoded_images_there_and_back() {
         });
         let comments: Vec<_> = comments.collect();
         let image = encode(&constants(&source), &comments);
-        there_and_back(source.as_bytes(), &image.expect("an image"));
+        let image = image.expect("an image");
+        there_and_back(File::new(&source, &image));
     }
 }
 
@@ -179,26 +169,26 @@ fn encoded_images_there_and_back() {
 #[test]
 fn steps_of_empty_texts() {
     let mut builder = Builder::new();
-    builder.open(1, 0..0).unwrap().absent().unwrap();
-    builder.open(12, 0..0).unwrap();
-    builder.open(2, 0..0).unwrap().text(0, "").unwrap();
-    builder.close().unwrap().open(3, 0..0).unwrap();
+    builder.open(kind::TREE, 0..0).unwrap().absent().unwrap();
+    builder.open(kind::RECORD, 0..0).unwrap();
+    builder.open(kind::TEXT, 0..0).unwrap().text("", 0).unwrap();
+    builder.close().unwrap().open(kind::LIST, 0..0).unwrap();
     for _ in 0..1_000 {
-        builder.open(2, 0..0).unwrap().text(0, "").unwrap();
+        builder.open(kind::TEXT, 0..0).unwrap().text("", 0).unwrap();
         builder.close().unwrap();
     }
-    builder.close().unwrap().open(3, 0..0).unwrap();
+    builder.close().unwrap().open(kind::LIST, 0..0).unwrap();
     for _ in 0..3 {
         builder.close().unwrap();
     }
     let image = builder.finish().expect("an image");
-    there_and_back(b"", &image);
+    there_and_back(File::new("", &image));
 }
 
 /// The next step is turned down where it stands, and isn't added.
 fn turned_down(builder: &Builder, step: &Step) {
     let mut other = builder.clone();
-    let at = builder.list().len() as u64;
+    let at = builder.list().len();
     let bad = Refusal::BadStep { at };
     assert_eq!(other.step(step).map(|_| ()), Err(bad), "{step}");
     assert_eq!(other.list(), builder.list());
@@ -229,7 +219,7 @@ fn nothing_stands_outside_the_tree() {
     }
     let whole = built();
     let rest = [text(), Step::Payload(0), Step::Absent, Step::Close];
-    for step in [COMMENT, open(1)].into_iter().chain(rest) {
+    for step in [COMMENT, open(kind::TREE)].into_iter().chain(rest) {
         turned_down(&whole, &step);
     }
 }
@@ -238,40 +228,80 @@ fn nothing_stands_outside_the_tree() {
 #[allow(clippy::reversed_empty_ranges)]
 fn comments_and_spans() {
     let mut builder = Builder::new();
-    for span in [0..0, 5..5, 1..0, u32::MAX..0] {
+    let far = u32::MAX as usize;
+    for span in [0..0, 5..5, 1..0, far..0] {
         turned_down(&builder, &Step::Comment { span });
     }
-    for span in [1..0, u32::MAX..0] {
-        turned_down(&builder, &Step::Open { kind: 1, span });
+    for span in [1..0, far..0] {
+        let kind = kind::TREE;
+        turned_down(&builder, &Step::Open { kind, span });
     }
     for _ in 0..MAX_COMMENTS {
-        builder.comment(0, 1).expect("a comment");
+        builder.comment(0..1).expect("a comment");
     }
     turned_down(&builder, &COMMENT);
-    builder.open(1, 7..7).expect("the tree");
+    builder.open(kind::TREE, 7..7).expect("the tree");
     turned_down(&builder, &COMMENT);
+}
+
+/// What a step has no bytes for is turned down as a wrong step is.
+#[test]
+fn numbers_over_their_bytes() {
+    let mut builder = Builder::new();
+    let over = u32::MAX as usize + 1;
+    let bad = Some(Refusal::BadStep { at: 0 });
+    for span in [0..over, over..over, usize::MAX - 1..usize::MAX] {
+        assert_eq!(builder.comment(span.clone()).err(), bad);
+        assert_eq!(builder.open(kind::TREE, span).err(), bad);
+    }
+    builder
+        .open(kind::TREE, over - 1..over - 1)
+        .expect("the tree");
+    builder.open(kind::TEXT, 0..0).expect("the shebang");
+    let bad = Some(Refusal::BadStep { at: 20 });
+    for width in [MAX_WIDTH + 1, usize::MAX] {
+        assert_eq!(builder.text("#!/x", width).err(), bad);
+    }
+    builder.text("#!/x", MAX_WIDTH).expect("as wide as may be");
+    builder
+        .close()
+        .expect("the shebang")
+        .close()
+        .expect("the tree");
+    assert!(builder.finish().is_ok());
 }
 
 /// A text or a payload byte comes directly after its record is opened.
 #[test]
 fn payloads() {
     let mut front = Builder::new();
-    front.open(1, 0..0).unwrap();
+    front.open(kind::TREE, 0..0).unwrap();
     turned_down(&front, &text());
     turned_down(&front, &Step::Payload(0));
     let mut shebang = front.clone();
-    shebang.open(2, 0..0).unwrap();
-    for step in [Step::Absent, Step::Close, open(2), Step::Payload(0)] {
+    shebang.open(kind::TEXT, 0..0).unwrap();
+    for step in [
+        Step::Absent,
+        Step::Close,
+        open(kind::TEXT),
+        Step::Payload(0),
+    ] {
         turned_down(&shebang, &step);
     }
-    shebang.text(1, "#!/x").unwrap();
+    shebang.text("#!/x", 1).unwrap();
     turned_down(&shebang, &text());
     let mut value = front;
-    value.absent().unwrap().open(11, 0..0).unwrap();
-    value.open(2, 0..0).unwrap().text(1, "A").unwrap();
-    value.close().unwrap().open(42, 0..0).unwrap();
-    value.close().unwrap().open(50, 0..0).unwrap();
-    for step in [Step::Absent, Step::Close, open(51), text(), COMMENT] {
+    value.absent().unwrap().open(kind::CONST, 0..0).unwrap();
+    value.open(kind::TEXT, 0..0).unwrap().text("A", 1).unwrap();
+    value.close().unwrap().open(kind::NEVER, 0..0).unwrap();
+    value.close().unwrap().open(kind::RETURN, 0..0).unwrap();
+    for step in [
+        Step::Absent,
+        Step::Close,
+        open(kind::LITERAL_EXPR),
+        text(),
+        COMMENT,
+    ] {
         turned_down(&value, &step);
     }
     value.payload(2).unwrap();
@@ -281,33 +311,37 @@ fn payloads() {
 #[test]
 fn depth() {
     let mut builder = Builder::new();
-    builder.open(1, 0..0).unwrap().absent().unwrap();
-    builder.open(11, 0..0).unwrap();
-    builder.open(2, 0..0).unwrap().text(1, "A").unwrap();
-    builder.close().unwrap().open(42, 0..0).unwrap();
+    builder.open(kind::TREE, 0..0).unwrap().absent().unwrap();
+    builder.open(kind::CONST, 0..0).unwrap();
+    builder
+        .open(kind::TEXT, 0..0)
+        .unwrap()
+        .text("A", 1)
+        .unwrap();
+    builder.close().unwrap().open(kind::NEVER, 0..0).unwrap();
     builder.close().unwrap();
     for _ in 2..MAX_DEPTH {
-        builder.open(70, 0..0).expect("not too deep");
+        builder.open(kind::PARENTHESES, 0..0).expect("not too deep");
     }
-    turned_down(&builder, &open(70));
+    turned_down(&builder, &open(kind::PARENTHESES));
 }
 
 /// What only the proved writer knows: kinds, places, payload bytes, children.
 #[test]
 fn the_writer_has_the_last_word() {
     let mut builder = Builder::new();
-    builder.open(1, 0..0).unwrap().absent().unwrap();
+    builder.open(kind::TREE, 0..0).unwrap().absent().unwrap();
     assert_eq!(builder.check(), Ok(()));
-    let at = builder.list().len() as u64;
-    builder.open(63, 0..0).expect("a record");
+    let at = builder.list().len();
+    builder.open(kind::BIN_OP, 0..0).expect("a record");
     let bad = Refusal::BadStep { at };
     assert_eq!(builder.check(), Err(bad));
     assert_eq!(builder.finish(), Err(bad));
-    let step = Step::at(builder.list(), at as usize).expect("there");
-    let line = "open 63 (binary operation) at 0..0";
+    let step = Step::at(builder.list(), at).expect("there");
+    let line = "open 63 (BIN_OP) at 0..0";
     assert_eq!(step.to_string(), line);
     // A later step that is turned down isn't the first that is wrong.
-    let later = builder.comment(0, 1).map(|_| ());
+    let later = builder.comment(0..1).map(|_| ());
     assert_eq!(later, Err(bad));
 }
 
@@ -317,10 +351,12 @@ fn the_writer_has_the_last_word() {
 fn unknown_kinds_are_for_the_writer() {
     let mut builder = Builder::new();
     builder.open(99, 0..0).expect("it is added");
+    let step = Step::at(builder.list(), 0).expect("there");
+    assert_eq!(step.to_string(), "open 99 (no kind) at 0..0");
     assert_eq!(builder.check(), Err(Refusal::BadStep { at: 0 }));
     let mut builder = Builder::new();
     constant_up_to_its_value(&mut builder).expect("steps in order");
-    let at = builder.list().len() as u64;
+    let at = builder.list().len();
     builder.payload(200).expect("it is added");
     assert_eq!(builder.check(), Err(Refusal::BadStep { at }));
 }
@@ -332,7 +368,7 @@ fn an_unfinished_list() {
     let steps = read(whole.list()).expect("steps");
     let mut builder = Builder::new();
     for step in &steps {
-        let at = builder.list().len() as u64;
+        let at = builder.list().len();
         assert_eq!(builder.finish(), Err(Refusal::BadStep { at }));
         assert_eq!(builder.check(), Ok(()));
         builder.step(step).expect("in order");
@@ -346,7 +382,10 @@ fn the_largest_image() {
     let with_text = |bytes: usize| {
         let mut builder = Builder::new();
         let text = "a".repeat(bytes);
-        builder.open(1, 0..0)?.open(2, 0..0)?.text(0, &text)?;
+        builder
+            .open(kind::TREE, 0..0)?
+            .open(kind::TEXT, 0..0)?
+            .text(&text, 0)?;
         builder.close()?.close()?;
         Ok::<Builder, Refusal>(builder)
     };
@@ -355,9 +394,9 @@ fn the_largest_image() {
     let image = with_text(room).and_then(|builder| builder.finish());
     let image = image.expect("an image");
     assert_eq!(image.len(), MAX_BODY + 5);
-    assert!(check(b"", &image).is_ok());
+    assert!(check(File::new("", &image)).is_ok());
     let more = with_text(room + 1).expect("steps in order");
-    let needed = MAX_BODY as u64 + 6;
+    let needed = MAX_BODY + 6;
     assert_eq!(more.finish(), Err(Refusal::MoreRoom { needed }));
     assert_eq!(more.check(), Ok(()));
 }
@@ -366,7 +405,7 @@ fn the_largest_image() {
 #[test]
 fn lent_outputs() {
     let (builder, image) = (built(), encoded());
-    let needed = image.len() as u64;
+    let needed = image.len();
     let short = Refusal::MoreRoom { needed };
     for room in [0, image.len() - 1] {
         let mut output = vec![JUNK; room];
@@ -381,14 +420,16 @@ fn lent_outputs() {
         assert_eq!(output[image.len()..], vec![JUNK; spare]);
     }
     let list = builder.list();
-    let needed = list.len() as u64;
+    let needed = list.len();
     let short = Refusal::MoreRoom { needed };
     let mut output = vec![JUNK; list.len() - 1];
-    assert_eq!(write_list(CONSTANT, &image, &mut output), Err(short));
+    let written = write_list(constant_file(&image), &mut output);
+    assert_eq!(written, Err(short));
     assert_eq!(output, vec![JUNK; list.len() - 1]);
     let bad = Refusal::SourceNotUtf8 { at: 0 };
-    assert_eq!(write_list(b"\xFF", &image, &mut output), Err(bad));
-    assert_eq!(steps(CONSTANT, &[1]), Err(Refusal::NoImage));
+    let written = write_list(File::new(b"\xFF", &image), &mut output);
+    assert_eq!(written, Err(bad));
+    assert_eq!(steps(constant_file(&[1])), Err(Refusal::NoImage));
 }
 
 #[test]
@@ -401,7 +442,7 @@ fn lists_that_cannot_be_read() {
                 let bytes: usize = steps.iter().map(Step::bytes).sum();
                 assert_eq!(bytes, length);
             }
-            Err(refusal) => assert!(refusal.place() < length as u64),
+            Err(refusal) => assert!(refusal.place() < length),
         }
     }
     for number in [0, 7, 255] {
@@ -433,14 +474,15 @@ fn foreign_lists() {
         match write_image(&list, &mut output) {
             Ok(bytes) => {
                 written += 1;
-                if let Ok(steps) = steps(&source, &output[..bytes]) {
+                let file = File::new(&source, &output[..bytes]);
+                if let Ok(steps) = steps(file) {
                     assert_eq!(read(&list), Ok(steps));
                 }
             }
             Err(refusal) => {
                 refused += 1;
                 assert_eq!(refusal.number(), 16);
-                assert!(refusal.place() <= list.len() as u64);
+                assert!(refusal.place() <= list.len());
                 assert_eq!(output, [JUNK; 200]);
             }
         }

@@ -6,12 +6,12 @@
 mod declared;
 
 use declared::{
-    HEADER, LINKED, constants, declared, exported, exports, linked,
+    HEADER, LINKED, constants, declared, exported, exports, linked, refusals,
 };
 use rrufthim::{
-    MAX_BATCH, MAX_BODY, MAX_COMMENTS, MAX_DEPTH, MAX_FILE_ROWS, MAX_FILES,
-    MAX_LINE_WIDTH, MAX_SOURCE, MAX_TALLY, MAX_WIDTH, MIN_LINE_WIDTH,
-    Options, ROW, Refusal, SHAPE, TABLE_ROW,
+    Options, Refusal, SHAPE,
+    calls::{ROW, TABLE_ROW},
+    limits::*,
 };
 
 #[test]
@@ -84,10 +84,26 @@ fn a_difference_is_found() {
     }
 }
 
-/// `BadRow { .. }` as `BAD_ROW`.
-fn as_constant(refusal: Refusal) -> String {
-    let shown = format!("{refusal:?}");
-    let name = shown.split(' ').next().expect("a name");
+/// `src/linked.rs` that says another thing is found out, too.
+#[test]
+fn a_difference_in_linked_is_found() {
+    let changes = [
+        ("state: &[u64; 8]", "state: &[u64; 7]"),
+        ("table: &mut [u32]", "table: &[u32]"),
+        ("start: u64, end: u64", "end: u64, start: u64"),
+        ("fn render(", "fn draw("),
+        ("image: &[u8], out: &mut [u64; 4]", "out: &mut [u64; 4]"),
+    ];
+    let exported = exported(&exports());
+    for (from, to) in changes {
+        let changed = LINKED.replacen(from, to, 1);
+        assert!(changed != LINKED, "{from}");
+        assert_ne!(linked(&changed), exported, "{from}");
+    }
+}
+
+/// `BadRow` as `BAD_ROW`.
+fn as_constant(name: &str) -> String {
     let mut out = String::new();
     for letter in name.chars() {
         if letter.is_ascii_uppercase() && !out.is_empty() {
@@ -98,26 +114,33 @@ fn as_constant(refusal: Refusal) -> String {
     out
 }
 
+/// Each row of the table, but for 13, which is the program's.
 #[test]
-fn refusals_and_sizes_have_their_names() {
+fn refusals_are_those_of_the_table() {
+    let rows = Refusal::TABLE.iter().filter(|row| row.number != 13);
+    let due = rows.map(|row| {
+        let name = format!("RRUFTHIM_{}", as_constant(row.name));
+        let place = row.place.unwrap_or("0");
+        (name, row.number, format!("{}: {place}", row.cause))
+    });
+    assert_eq!(refusals(HEADER), due.collect::<Vec<_>>());
+}
+
+#[test]
+fn sizes_have_their_names() {
     let constants = constants(HEADER);
-    // 13 is the program's.
-    for (place, number) in (1..=12).chain(14..=19).enumerate() {
-        let name = as_constant(Refusal::from_numbers(number, 0));
-        assert_eq!(constants[place], (format!("RRUFTHIM_{name}"), number));
-    }
     let value = |name: &str| {
         let mut all = constants.iter();
         let found = all.find(|(known, _)| known == name);
         found.unwrap_or_else(|| panic!("{name}")).1
     };
-    assert_eq!(value("RRUFTHIM_ROW"), ROW as u64);
+    assert_eq!(value("RRUFTHIM_ROW"), ROW);
     assert_eq!(value("RRUFTHIM_MAX_FILE_ROWS"), MAX_FILE_ROWS);
-    assert_eq!(value("RRUFTHIM_MAX_SOURCE"), MAX_SOURCE as u64);
-    assert_eq!(value("RRUFTHIM_MAX_BODY"), MAX_BODY as u64);
-    assert_eq!(value("RRUFTHIM_MAX_COMMENTS"), MAX_COMMENTS as u64);
-    assert_eq!(value("RRUFTHIM_MAX_DEPTH"), MAX_DEPTH as u64);
-    assert_eq!(value("RRUFTHIM_MAX_WIDTH"), MAX_WIDTH as u64);
+    assert_eq!(value("RRUFTHIM_MAX_SOURCE"), MAX_SOURCE);
+    assert_eq!(value("RRUFTHIM_MAX_BODY"), MAX_BODY);
+    assert_eq!(value("RRUFTHIM_MAX_COMMENTS"), MAX_COMMENTS);
+    assert_eq!(value("RRUFTHIM_MAX_DEPTH"), MAX_DEPTH);
+    assert_eq!(value("RRUFTHIM_MAX_WIDTH"), MAX_WIDTH);
     assert_eq!(value("RRUFTHIM_MIN_LINE_WIDTH"), MIN_LINE_WIDTH);
     assert_eq!(value("RRUFTHIM_MAX_LINE_WIDTH"), MAX_LINE_WIDTH);
     let default = Options::default().width;
@@ -127,6 +150,6 @@ fn refusals_and_sizes_have_their_names() {
     assert_eq!(value("RRUFTHIM_ALL_COMMENTS"), 1);
     assert_eq!(value("RRUFTHIM_MAX_FILES"), MAX_FILES);
     assert_eq!(value("RRUFTHIM_MAX_TALLY"), MAX_TALLY);
-    assert_eq!(value("RRUFTHIM_MAX_BATCH"), MAX_BATCH as u64);
-    assert_eq!(value("RRUFTHIM_TABLE_ROW"), TABLE_ROW as u64);
+    assert_eq!(value("RRUFTHIM_MAX_BATCH"), MAX_BATCH);
+    assert_eq!(value("RRUFTHIM_TABLE_ROW"), TABLE_ROW);
 }

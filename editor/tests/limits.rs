@@ -6,11 +6,15 @@ mod support;
 use std::thread;
 
 use rrufthim::{
-    EncodeError, LayoutState, MAX_BODY, MAX_COMMENTS, MAX_DEPTH, MAX_SOURCE,
-    MAX_WIDTH, Options, ROW, Refusal, Tallies, ast::*, check, count, encode,
-    encode_with_widths, format_file, layout,
+    EncodeError, File, Options, Refusal,
+    ast::*,
+    calls::{LayoutState, ROW, check, format_file, layout},
+    encode, encode_written,
+    figures::{Tallies, count},
+    limits::{MAX_BODY, MAX_COMMENTS, MAX_DEPTH, MAX_SOURCE, MAX_WIDTH},
+    write_tree,
 };
-use support::{Buffers, constants, path};
+use support::{Buffers, all, constants, path};
 
 const SOURCE: &str = "const A: u32 = 1;";
 
@@ -23,7 +27,15 @@ fn the_limits_are_those_of_the_document() {
 }
 
 fn accepted(source: &str, image: &[u8]) -> bool {
-    check(source.as_bytes(), image).is_ok()
+    check(File::new(source, image)).is_ok()
+}
+
+/// The image of a tree whose texts are all so wide.
+fn encode_at(
+    tree: &SyntaxTree,
+    width: usize,
+) -> Result<Vec<u8>, EncodeError> {
+    encode_written(|out| write_tree(out, tree, &[], |_| width))
 }
 
 #[test]
@@ -69,12 +81,12 @@ fn spans_of_nodes() {
 #[test]
 fn widths() {
     let tree = constants(SOURCE);
-    let image = encode_with_widths(&tree, &[], |_| MAX_WIDTH);
+    let image = encode_at(&tree, MAX_WIDTH);
     assert!(accepted(SOURCE, &image.expect("as wide as may be")));
     for width in [MAX_WIDTH + 1, usize::MAX] {
-        let error = encode_with_widths(&tree, &[], |_| width);
         let span = 6..7;
-        assert_eq!(error, Err(EncodeError::TooWide { span, width }));
+        let error = EncodeError::TooWide { span, width };
+        assert_eq!(encode_at(&tree, width), Err(error));
     }
 }
 
@@ -110,16 +122,10 @@ fn a_small_stack() {
     let image = encode(&nested(MAX_DEPTH - 5), &[]).expect("an image");
     let run = move || {
         let mut buffers = Buffers::ample();
-        let source = SOURCE.as_bytes();
-        buffers.format(source, &image).is_ok()
-            && format_file(
-                source,
-                &image,
-                &Options::default(),
-                &mut buffers.output,
-            )
-            .is_ok()
-            && count(source, &image, &mut Tallies::default()).is_ok()
+        let (file, options) = (File::new(SOURCE, &image), Options::default());
+        buffers.format(file).is_ok()
+            && format_file(file, &options, &mut buffers.output).is_ok()
+            && count(file, &mut Tallies::default()).is_ok()
     };
     let thread = thread::Builder::new().stack_size(256 << 10).spawn(run);
     assert!(thread.expect("a thread").join().expect("no panic"));
@@ -152,13 +158,12 @@ fn rows_come_near_their_bound() {
         assert!(accepted(SOURCE, &image));
         let bound = image.len() * 5 / 13;
         let mut store = vec![0; bound * ROW];
-        let (source, fresh) = (SOURCE.as_bytes(), LayoutState::default());
-        let options = &Options::default();
-        let laid =
-            layout(source, &image, &mut store, &fresh, 1, true, options);
+        let (fresh, options) = (LayoutState::default(), Options::default());
+        let file = File::new(SOURCE, &image);
+        let laid = layout(file, &mut store, &fresh, &all(1), &options);
         let rows = laid.expect("room enough").state.next_row;
-        assert_eq!(rows, bound as u64 - 22, "{deep} deep");
-        assert!(deep < most || rows > image.len() as u64 * 5 / 14);
+        assert_eq!(rows, bound - 22, "{deep} deep");
+        assert!(deep < most || rows > image.len() * 5 / 14);
     }
 }
 
@@ -173,12 +178,11 @@ fn shebang(length: usize) -> SyntaxTree {
 #[test]
 fn length() {
     let most = MAX_BODY - 30;
-    let image = encode_with_widths(&shebang(most), &[], |_| 1);
-    let image = image.expect("as long as may be");
+    let image = encode_at(&shebang(most), 1).expect("as long as may be");
     assert_eq!(image.len(), MAX_BODY + 5);
     assert!(accepted("", &image));
     for length in [most + 1, most + 3, most + 4, 4 * MAX_BODY] {
-        let error = encode_with_widths(&shebang(length), &[], |_| 1);
+        let error = encode_at(&shebang(length), 1);
         assert_eq!(error, Err(EncodeError::TooLong));
     }
 }
@@ -225,6 +229,6 @@ fn a_path_has_a_name() {
 #[test]
 fn spans_past_the_source_are_for_the_reader() {
     let image = encode(&constants(SOURCE), &[0..5]).expect("an image");
-    let refusal = check(b"cons", &image);
+    let refusal = check(File::new("cons", &image));
     assert_eq!(refusal, Err(Refusal::BadComment { at: 7 }));
 }

@@ -9,8 +9,8 @@ use std::{
 };
 
 use rrufthim::{
-    Batch, FormatError, Formatted, Formatter, Options, ast::Extras, encode,
-    fmt_parsed,
+    Batch, File, FormatError, Formatted, Formatter, Options, ast::Extras,
+    encode, fmt_parsed,
 };
 use support::{SOURCE, constants, tariff, tariff_image};
 
@@ -65,7 +65,7 @@ fn a_small_file_takes_little() {
     let image = tariff_image();
     let (_, cleared) = asked(|| {
         let mut formatter = Formatter::new();
-        let text = formatter.format_image(SOURCE.as_bytes(), &image);
+        let text = formatter.format_file(File::new(SOURCE, &image));
         assert!(text.is_ok());
     });
     assert!(cleared > 0 && cleared < 100_000, "{cleared}");
@@ -79,7 +79,7 @@ fn a_large_file_takes_cleared_memory() {
     let image = encode(&constants(&source), &[]).expect("an image");
     let mut formatter = Formatter::new();
     let (filled, cleared) = asked(|| {
-        let text = formatter.format_image(source.as_bytes(), &image);
+        let text = formatter.format_file(File::new(&source, &image));
         assert!(text.is_ok());
     });
     assert!(cleared > image.len() * 5 / 13 * 36, "{cleared}");
@@ -89,17 +89,18 @@ fn a_large_file_takes_cleared_memory() {
 #[test]
 fn the_next_save_takes_nothing() {
     let image = tariff_image();
+    let file = File::new(SOURCE, &image);
     let (tree, extras) = tariff();
     let mut formatter = Formatter::new();
     for save in 0..3 {
         let as_roto = asked(|| {
             formatter.set_options(Options::AS_ROTO);
-            let text = formatter.format_image(SOURCE.as_bytes(), &image);
+            let text = formatter.format_file(file);
             assert_eq!(text.expect("a text").comments_left.len(), 1);
         });
         formatter.set_options(Options::default());
         let of_image = asked(|| {
-            let text = formatter.format_image(SOURCE.as_bytes(), &image);
+            let text = formatter.format_file(file);
             assert!(text.expect("a text").complete().is_ok());
         });
         let of_tree = asked(|| {
@@ -128,16 +129,17 @@ fn one_call_takes_its_text() {
 /// A batch keeps its buffers: what it asks for are the answers.
 #[test]
 fn the_next_batch_takes_its_answers() {
-    let files = vec![(SOURCE, tariff_image()); 100];
+    let image = tariff_image();
+    let files = [File::new(SOURCE, &image); 100];
     let mut batch = Batch::default();
     let mut taken = [(0, 0); 3];
     for taken in &mut taken {
-        *taken = asked(|| batch.format_files(&files));
+        *taken = asked(|| batch.format_files(files));
     }
     let texts = 100 * 2 * SOURCE.len();
     let answers = 100 * 2 * size_of::<Result<Formatted, FormatError>>();
-    let files = 100 * 2 * size_of::<usize>() * 4;
-    assert!(taken[0].1 >= 100 * tariff_image().len(), "{taken:?}");
+    let files = 100 * 2 * size_of::<File<'_>>();
+    assert!(taken[0].1 >= 100 * image.len(), "{taken:?}");
     for (filled, cleared) in &taken[1..] {
         assert!(*filled < texts + answers + files, "{taken:?}");
         assert_eq!(*cleared, 0);

@@ -2,7 +2,7 @@
 
 mod support;
 
-use rrufthim::{Newlines, Place, Steps, ast::*, encode, newlines};
+use rrufthim::{File, InParts, Place, ast::*, calls::newlines, encode};
 use support::path;
 
 /// Between the imports are a blank line, `é` in a comment, U+0085 and U+2028.
@@ -10,8 +10,13 @@ const SOURCE: &str =
     "import a;\n\n// é\u{85}\u{2028}\r\nimport b;\n\n\nimport c;\n";
 
 fn found(start: usize, end: usize) -> (usize, usize) {
-    let Newlines { count, place } = newlines(SOURCE.as_bytes(), start..end);
-    (count, place)
+    of(SOURCE.as_bytes(), start..end)
+}
+
+/// How many newlines, and where the last is.
+fn of(source: &[u8], range: Span) -> (usize, usize) {
+    let found = newlines(source, range);
+    (found.count, found.place)
 }
 
 /// By `str::get` and `rfind`.
@@ -63,20 +68,20 @@ fn imports() -> (SyntaxTree, Extras) {
 fn jump_to_the_gap() {
     let (tree, extras) = imports();
     let image = encode(&tree, &extras.comments).expect("an image");
-    let mut steps = Steps::new(SOURCE.as_bytes(), &image).expect("accepted");
+    let mut parts =
+        InParts::new(File::new(SOURCE, &image)).expect("accepted");
     let mut found = Vec::new();
-    for stop in 1..=steps.declarations() {
-        let gaps = steps.gaps();
+    for stop in 1..=parts.declarations() {
+        let gaps = parts.gaps();
         let blank = gaps.iter().filter_map(|gap| {
-            let Newlines { count, place } =
-                newlines(SOURCE.as_bytes(), gap.clone());
+            let (count, place) = of(SOURCE.as_bytes(), gap.clone());
             let place = Place::new(SOURCE.as_bytes(), place..place);
             (count >= 2).then_some((place.line, place.column))
         });
         let blank: Vec<_> = blank.collect();
         let texts = gaps.into_iter().map(|gap| &SOURCE[gap]);
         found.push((texts.collect::<Vec<_>>(), blank));
-        steps.lay_out(stop).expect("in order");
+        parts.lay_out(stop).expect("in order");
     }
     let due = [
         (vec![], vec![]),
@@ -84,8 +89,8 @@ fn jump_to_the_gap() {
         (vec!["b;\n\n\nimport "], vec![(6, 1)]),
     ];
     assert_eq!(found, due);
-    assert!(steps.gaps().is_empty());
-    let text = steps.render().expect("a text");
+    assert!(parts.gaps().is_empty());
+    let text = parts.render().expect("a text");
     let due = "import a;\n\n// é\nimport b;\n\nimport c;\n";
     assert_eq!(text, due);
 }
@@ -95,8 +100,8 @@ fn jump_to_the_gap() {
 #[test]
 fn not_utf8() {
     let source = b"\xFF\n\x80\n";
-    assert_eq!(newlines(source, 0..2), Newlines { count: 0, place: 2 });
-    assert_eq!(newlines(source, 0..3), Newlines { count: 1, place: 1 });
-    assert_eq!(newlines(source, 2..4), Newlines { count: 0, place: 4 });
-    assert_eq!(newlines(b"", 0..0), Newlines { count: 0, place: 0 });
+    assert_eq!(of(source, 0..2), (0, 2));
+    assert_eq!(of(source, 0..3), (1, 1));
+    assert_eq!(of(source, 2..4), (0, 4));
+    assert_eq!(of(b"", 0..0), (0, 0));
 }

@@ -172,8 +172,7 @@ fn every_comment_is_saved() {
 fn what_is_not_whole_is_held_back() {
     let folder = Folder::new("held");
     let bytes = frame(SOURCE, &tariff_image());
-    let mut formatter = Formatter::new();
-    formatter.set_options(Options::AS_ROTO);
+    let mut formatter = Formatter::new().with_options(Options::AS_ROTO);
     for length in [0, 3, 4, 50, 200, bytes.len()] {
         folder.put("a.frame", &bytes[..length]);
         folder.put("a.roto", SOURCE);

@@ -107,7 +107,7 @@ fn the_version_is_the_crates() {
     let minor = env!("CARGO_PKG_VERSION_MINOR");
     let due = format!("#define RRUFTHIM_VERSION \"{major}.{minor}\"\n");
     assert!(HEADER.contains(&due), "{due}");
-    let number = |text: &str| text.parse::<u64>().expect("a number");
+    let number = |text: &str| text.parse::<usize>().expect("a number");
     let due = 1_000 * number(major) + number(minor);
     let name = "RRUFTHIM_VERSION_NUMBER".to_owned();
     assert!(constants(HEADER).contains(&(name, due)));

@@ -9,7 +9,7 @@ use std::{
     thread,
 };
 
-use rrufthim::{fmt_parsed, fmt_parsed_with_widths};
+use rrufthim::{Options, fmt_parsed, fmt_written, write_tree};
 use support::{SOURCE, tariff};
 
 fn text() -> String {
@@ -65,7 +65,11 @@ fn a_thread_that_ends_may_still_format() {
 fn a_panic_leaves_the_thread_as_good_as_new() {
     let (due, (tree, extras)) = (text(), tariff());
     let width = |_: &str| panic!("no width");
-    let call = || fmt_parsed_with_widths(&tree, SOURCE, &extras, width);
+    let call = || {
+        fmt_written(SOURCE, &Options::default(), |out| {
+            write_tree(out, &tree, &extras.comments, width)
+        })
+    };
     assert!(catch_unwind(AssertUnwindSafe(call)).is_err());
     assert_eq!(text(), due);
 }

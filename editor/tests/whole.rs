@@ -4,55 +4,47 @@
 mod support;
 
 use rrufthim::{
-    Formatter, LayoutState, MAX_FILE_ROWS, Options, Refusal, ast::*, check,
-    declarations, encode, format_file, layout,
+    File, Formatter, Options, Refusal,
+    ast::*,
+    calls::{LayoutState, check, format_file, layout},
+    encode,
+    limits::MAX_FILE_ROWS,
 };
 use support::{
-    Buffers, DECLARATIONS, JUNK, Random, SOURCE, constants, tariff_image,
+    Buffers, DECLARATIONS, JUNK, Random, SOURCE, Whole, all, constants,
+    tariff_image,
 };
+
+/// A whole file by one call.
+fn whole(file: File<'_>, output: &mut [u8]) -> Result<Whole, Refusal> {
+    format_file(file, &Options::default(), output).map(Whole::from)
+}
 
 #[test]
 fn one_call_gives_what_two_give() {
     let image = tariff_image();
+    let file = File::new(SOURCE, &image);
     let mut buffers = Buffers::ample();
-    let due = buffers.format(SOURCE.as_bytes(), &image).expect("a text");
+    let due = buffers.format(file).expect("a text");
     let mut output = vec![JUNK; buffers.output.len()];
-    let written = format_file(
-        SOURCE.as_bytes(),
-        &image,
-        &Options::default(),
-        &mut output,
-    );
-    assert_eq!(written, Ok(due));
+    assert_eq!(whole(file, &mut output), Ok(due));
     assert_eq!(output, buffers.output);
     let mut formatter = Formatter::new();
-    let written = formatter.format_image(SOURCE.as_bytes(), &image);
-    let written = written.expect("a text");
+    let written = formatter.format_file(file).expect("a text");
     assert_eq!(written.text.as_bytes(), &output[..due.bytes]);
-    assert_eq!(written.comments_left.len() as u64, due.comments_left);
+    assert_eq!(written.comments_left.len(), due.comments_left);
 }
 
 /// Each output that is too short stays as it was.
 #[test]
 fn a_short_output_is_refused() {
     let image = tariff_image();
-    let mut ample = [JUNK; 4_000];
-    let due = format_file(
-        SOURCE.as_bytes(),
-        &image,
-        &Options::default(),
-        &mut ample,
-    );
+    let file = File::new(SOURCE, &image);
+    let due = whole(file, &mut [JUNK; 4_000]);
     let needed = due.expect("a text").bytes;
     for length in 0..needed {
         let mut output = vec![JUNK; length];
-        let refused = format_file(
-            SOURCE.as_bytes(),
-            &image,
-            &Options::default(),
-            &mut output,
-        );
-        let needed = needed as u64;
+        let refused = whole(file, &mut output);
         assert_eq!(refused, Err(Refusal::MoreOutput { needed }));
         assert!(output.iter().all(|byte| *byte == JUNK));
     }
@@ -73,18 +65,16 @@ fn files_of_more_rows() {
     let mut refused = None;
     for count in 1.. {
         let (source, image) = lines(count);
-        let source = source.as_bytes();
+        let file = File::new(&source, &image);
         let mut buffers = Buffers::new(4_000, 4_000, 20_000);
-        let due = buffers.format(source, &image).expect("a text");
+        let due = buffers.format(file).expect("a text");
         let mut output = vec![JUNK; 20_000];
-        let written =
-            format_file(source, &image, &Options::default(), &mut output);
+        let written = whole(file, &mut output);
         if due.rows > MAX_FILE_ROWS {
             let needed = due.rows;
             assert_eq!(written, Err(Refusal::MoreRows { needed }));
             assert!(output.iter().all(|byte| *byte == JUNK));
-            let text =
-                formatter.format_image(source, &image).expect("a text");
+            let text = formatter.format_file(file).expect("a text");
             let text = text.text.as_bytes();
             assert_eq!(text, &buffers.output[..due.bytes]);
             refused = Some(count);
@@ -102,7 +92,7 @@ fn a_formatter_grows() {
     let mut formatter = Formatter::new();
     for count in [1, 3_000, 1] {
         let (source, image) = lines(count);
-        let text = formatter.format_image(source.as_bytes(), &image);
+        let text = formatter.format_file(File::new(&source, &image));
         assert_eq!(text.expect("a text").text, source);
     }
 }
@@ -125,14 +115,15 @@ fn images(count: usize) -> Vec<Vec<u8>> {
 fn declarations_are_counted() {
     for count in [0, 1, 2, 7, 300] {
         for image in images(count) {
-            assert_eq!(declarations(&image), count as u64);
             let source = "const A: u32 = 1;\n".repeat(count.max(1));
-            let accepted =
-                check(source.as_bytes(), &image).expect("accepted");
-            assert_eq!(accepted.declarations, count as u64);
+            let file = File::new(&source, &image);
+            assert_eq!(file.declarations(), count);
+            let accepted = check(file).expect("accepted");
+            assert_eq!(accepted.declarations, count);
         }
     }
-    assert_eq!(declarations(&tariff_image()), DECLARATIONS);
+    let image = tariff_image();
+    assert_eq!(File::new(SOURCE, &image).declarations(), DECLARATIONS);
 }
 
 /// Imports in imports are no declarations of the file.
@@ -146,7 +137,7 @@ fn only_the_files_own_are_counted() {
         declarations: vec![Declaration::Import(outer)],
     };
     let image = encode(&tree, &[]).expect("within the limits");
-    assert_eq!(declarations(&image), 1);
+    assert_eq!(File::new("", &image).declarations(), 1);
 }
 
 /// Of an accepted image the count is where layout closes; of others it says
@@ -162,21 +153,20 @@ fn counts_of_damaged_images() {
         if random.below(4) == 0 {
             image.truncate(random.below(whole.len()));
         }
-        let count = declarations(&image);
-        if let Ok(accepted) = check(SOURCE.as_bytes(), &image) {
+        let file = File::new(SOURCE, &image);
+        let count = file.declarations();
+        if let Ok(accepted) = check(file) {
             assert_eq!(accepted.declarations, count);
             let store = &mut Buffers::ample().store;
             let fresh = LayoutState::default();
-            let source = SOURCE.as_bytes();
             let options = &Options::default();
-            let laid =
-                layout(source, &image, store, &fresh, count, true, options);
+            let laid = layout(file, store, &fresh, &all(count), options);
             assert!(laid.is_ok(), "{laid:?}");
         }
     }
     for length in 0..30 {
         for byte in [0, 1, 255] {
-            declarations(&vec![byte; length]);
+            File::new("", &vec![byte; length]).declarations();
         }
     }
 }

@@ -3,18 +3,20 @@
 mod support;
 
 use rrufthim::{
-    Cause, FormatError, Formatted, Formatter, LayoutState, Options, Refusal,
-    RenderState, Steps, ast::*, encode, fmt_parsed, fmt_parsed_with_options,
-    fmt_written_with_options, format_file, layout, render,
+    Cause, File, FormatError, Formatted, Formatter, InParts, Options,
+    Refusal,
+    ast::*,
+    calls::{LayoutState, RenderState, format_file, layout},
+    encode, fmt_parsed, fmt_written, simple_width, write_tree,
 };
 
-use support::Buffers;
+use support::{Buffers, all};
 
 const SOURCE: &str = "import rates.{aaaaaaaaaa, bbbbbbbbbb, cccccccccc, \
     dddddddddd, eeeeeeeeee, ffffffffff, gggggggggg, hhhhhhhhhh};\n";
 
 /// The columns up to the semicolon, which isn't counted.
-const COLUMNS: u64 = SOURCE.len() as u64 - 2;
+const COLUMNS: usize = SOURCE.len() - 2;
 
 /// The tree of the source: an import of a group.
 fn tree() -> SyntaxTree {
@@ -42,17 +44,18 @@ fn image() -> Vec<u8> {
     encode(&tree(), &[]).expect("within the limits")
 }
 
-fn at(width: u64) -> Options {
-    Options {
-        width,
-        ..Options::default()
-    }
+fn at(width: usize) -> Options {
+    Options::default().with_width(width)
 }
 
-fn text_at(width: u64) -> String {
-    let extras = Extras::default();
-    let text = fmt_parsed_with_options(&tree(), SOURCE, &extras, at(width));
-    text.expect("a text").text
+fn written_at(width: usize) -> Result<Formatted, FormatError> {
+    fmt_written(SOURCE, &at(width), |out| {
+        write_tree(out, &tree(), &[], simple_width)
+    })
+}
+
+fn text_at(width: usize) -> String {
+    written_at(width).expect("a text").text
 }
 
 #[test]
@@ -80,45 +83,44 @@ fn refused(answer: Result<Formatted<impl AsRef<str>>, FormatError>) -> bool {
 /// The doors agree on the text.
 #[test]
 fn every_door_takes_the_width() {
-    let (source, image) = (SOURCE.as_bytes(), image());
+    let image = image();
+    let file = File::new(SOURCE, &image);
     let mut formatter = Formatter::new();
     let mut output = vec![0; 4_000];
     for width in [40, 57, 80, 100, COLUMNS - 1, COLUMNS, 200] {
         let due = text_at(width);
         formatter.set_options(at(width));
-        let got = formatter.format_image(source, &image).expect("a text");
+        let got = formatter.format_file(file).expect("a text");
         assert_eq!(got.text, due);
-        let written = format_file(source, &image, &at(width), &mut output);
+        let written = format_file(file, &at(width), &mut output);
         let bytes = written.expect("a text").bytes;
         assert_eq!(&output[..bytes], due.as_bytes());
-        let steps = Steps::with_options(source, &image, at(width));
-        let mut steps = steps.expect("accepted");
+        let parts = InParts::new(file).expect("accepted");
+        let mut parts = parts.with_options(at(width));
         let mut text = String::new();
-        while let Some(part) = steps.advance(1).expect("a part") {
+        while let Some(part) = parts.advance(1).expect("a part") {
             text.push_str(part);
         }
         assert_eq!(text, due);
-        assert_eq!(steps.render_state().width, width);
+        assert_eq!(parts.render_state().width, width);
     }
 }
 
 /// All of them refuse by 15.
 #[test]
 fn every_door_refuses_other_widths() {
-    let (source, image) = (SOURCE.as_bytes(), image());
-    let extras = Extras::default();
+    let image = image();
+    let file = File::new(SOURCE, &image);
     let mut formatter = Formatter::new();
     let mut output = vec![0; 4_000];
-    for width in [0, 39, 201, u64::MAX] {
-        let options = at(width);
-        formatter.set_options(options);
-        assert!(refused(formatter.format_image(source, &image)));
-        let text = fmt_parsed_with_options(&tree(), SOURCE, &extras, options);
-        assert!(refused(text));
-        let written = format_file(source, &image, &options, &mut output);
+    for width in [0, 39, 201, usize::MAX] {
+        formatter.set_options(at(width));
+        assert!(refused(formatter.format_file(file)));
+        assert!(refused(written_at(width)));
+        let written = format_file(file, &at(width), &mut output);
         assert_eq!(written, Err(Refusal::BadWidth));
-        let steps = Steps::with_options(source, &image, options);
-        let error = steps.expect("accepted").advance(1).unwrap_err();
+        let parts = InParts::new(file).expect("accepted");
+        let error = parts.with_options(at(width)).advance(1).unwrap_err();
         assert_eq!(error.cause, Cause::Refused(Refusal::BadWidth));
     }
 }
@@ -130,7 +132,7 @@ fn a_choice_is_for_one_call() {
     let due = text_at(80);
     assert_ne!(text_at(200), due);
     assert_eq!(plain().expect("a text").text, due);
-    let none = fmt_written_with_options(SOURCE, at(7), |_| Ok(()));
+    let none = fmt_written(SOURCE, &at(7), |_| Ok(()));
     assert!(none.is_err());
     assert_eq!(plain().expect("a text").text, due);
 }
@@ -138,20 +140,14 @@ fn a_choice_is_for_one_call() {
 /// One width for a run, that of its accepted calls; an empty one chooses too.
 #[test]
 fn a_run_has_one_width() {
-    let (source, image) = (SOURCE.as_bytes(), image());
+    let image = image();
+    let file = File::new(SOURCE, &image);
     let mut buffers = Buffers::ample();
     let fresh = LayoutState::default();
-    let (store, options) = (&mut buffers.store, &at(100));
-    let laid = layout(source, &image, store, &fresh, 1, true, options);
+    let laid = layout(file, &mut buffers.store, &fresh, &all(1), &at(100));
     let rows = laid.expect("accepted").state.next_row;
-    let mut call = |state: &RenderState, stop: u64, width: u64| {
-        let Buffers {
-            store,
-            marks,
-            output,
-        } = &mut buffers;
-        let options = &at(width);
-        render(source, &image, store, marks, output, state, stop, options)
+    let mut call = |state: &RenderState, stop, width| {
+        buffers.render(file, state, stop, &at(width))
     };
     let fresh = RenderState::default();
     let empty = call(&fresh, 0, 100).expect("accepted");
@@ -160,7 +156,8 @@ fn a_run_has_one_width() {
     assert_eq!(call(&empty.state, rows, 80), Err(Refusal::BadWidth));
     let all = call(&empty.state, rows, 100).expect("accepted");
     assert_eq!(all.bytes, text_at(100).len());
-    let seven = RenderState { width: 7, ..fresh };
+    let mut seven = fresh;
+    seven.width = 7;
     for width in [7, 40, 80] {
         assert_eq!(call(&seven, rows, width), Err(Refusal::BadWidth));
     }
@@ -169,13 +166,14 @@ fn a_run_has_one_width() {
 /// 15 comes after what is wrong with the image, and before 10.
 #[test]
 fn a_whole_file_reads_one_table() {
-    let (source, image) = (SOURCE.as_bytes(), image());
-    let wrong = &image[..image.len() - 1];
+    let image = image();
+    let file = File::new(SOURCE, &image);
+    let cut_off = File::new(SOURCE, &image[..image.len() - 1]);
     let none = &mut [];
-    let got = format_file(source, wrong, &at(39), none);
+    let got = format_file(cut_off, &at(39), none);
     assert_eq!(got, Err(Refusal::NoImage));
-    let got = format_file(source, &image, &at(39), none);
+    let got = format_file(file, &at(39), none);
     assert_eq!(got, Err(Refusal::BadWidth));
-    let got = format_file(source, &image, &at(40), none);
+    let got = format_file(file, &at(40), none);
     assert!(matches!(got, Err(Refusal::MoreOutput { .. })));
 }

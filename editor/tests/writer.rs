@@ -1,32 +1,22 @@
 //! Images written record by record.
 
 use rrufthim::{
-    EncodeError, ImageWriter, MAX_BODY, MAX_COMMENTS, MAX_DEPTH, MAX_SOURCE,
-    MAX_WIDTH, NO_SPAN, Refusal, WriteResult, check,
+    EncodeError, File, ImageWriter, NO_SPAN, Refusal, WriteResult,
+    calls::check,
+    encode_written as written, kind,
+    limits::{MAX_BODY, MAX_COMMENTS, MAX_DEPTH, MAX_SOURCE, MAX_WIDTH},
 };
-
-/// What is written, or the first error.
-fn written(
-    write: impl FnOnce(&mut ImageWriter<'_>) -> WriteResult,
-) -> Result<Vec<u8>, EncodeError> {
-    let mut image = vec![7; 100];
-    let mut out = ImageWriter::new(&mut image);
-    write(&mut out)
-        .and_then(|()| out.finish())
-        .map_err(|error| *error)?;
-    Ok(image)
-}
 
 /// `const A: ! = true;` with each sort of record that there is.
 fn constant(out: &mut ImageWriter<'_>) -> WriteResult {
     out.comments([0..1].into_iter())?;
-    let tree = out.open(1, NO_SPAN)?;
+    let tree = out.open(kind::TREE, NO_SPAN)?;
     out.absent();
-    let constant = out.open(11, NO_SPAN)?;
+    let constant = out.open(kind::CONST, NO_SPAN)?;
     out.text(6..7, "A", 1)?;
-    out.leaf(42, 9..10)?;
-    let value = out.open(51, 13..17)?;
-    out.choice(87, 13..17, 1)?;
+    out.leaf(kind::NEVER, 9..10)?;
+    let value = out.open(kind::LITERAL_EXPR, 13..17)?;
+    out.choice(kind::LITERAL, 13..17, 1)?;
     out.close(value)?;
     out.close(constant)?;
     out.close(tree)
@@ -46,17 +36,29 @@ fn records_have_their_lengths() {
     ];
     let due: Vec<u8> = due.concat();
     assert_eq!(image, due);
-    let accepted = check(b"const A: ! = true;", &image).expect("accepted");
+    let accepted = check(File::new("const A: ! = true;", &image));
+    let accepted = accepted.expect("accepted");
     assert_eq!((accepted.comments, accepted.declarations), (1, 1));
+}
+
+/// What a buffer held is dropped.
+#[test]
+fn a_buffer_is_written_anew() {
+    let mut image = vec![7; 100];
+    let mut out = ImageWriter::new(&mut image);
+    constant(&mut out)
+        .and_then(|()| out.finish())
+        .expect("an image");
+    assert_eq!(written(constant), Ok(image));
 }
 
 /// A payload byte stands before the children.
 #[test]
 fn a_record_with_payload_and_child() {
     let image = written(|out| {
-        let record = out.open(50, 0..1)?;
+        let record = out.open(kind::RETURN, 0..1)?;
         out.byte(2);
-        out.leaf(43, 0..1)?;
+        out.leaf(kind::UNIT, 0..1)?;
         out.close(record)
     });
     let image = image.expect("an image");
@@ -69,11 +71,12 @@ fn a_record_with_payload_and_child() {
 fn each_record_is_tested() {
     for span in [2..1, 0..MAX_SOURCE + 1, usize::MAX..usize::MAX] {
         let due = Err(EncodeError::BadSpan { span: span.clone() });
-        let leaf = written(|out| out.leaf(42, span.clone()));
-        let choice = written(|out| out.choice(87, span.clone(), 0));
+        let leaf = written(|out| out.leaf(kind::NEVER, span.clone()));
+        let choice =
+            written(|out| out.choice(kind::LITERAL, span.clone(), 0));
         let text = written(|out| out.text(span.clone(), "A", 1));
         let open = written(|out| {
-            let record = out.open(1, span.clone())?;
+            let record = out.open(kind::TREE, span.clone())?;
             out.close(record)
         });
         assert_eq!(
@@ -94,9 +97,9 @@ fn nested(depth: usize) -> Result<Vec<u8>, EncodeError> {
     written(|out| {
         let mut open = Vec::new();
         for _ in 1..depth {
-            open.push(out.open(70, 0..0)?);
+            open.push(out.open(kind::PARENTHESES, 0..0)?);
         }
-        out.leaf(42, 3..4)?;
+        out.leaf(kind::NEVER, 3..4)?;
         open.into_iter()
             .rev()
             .try_for_each(|record| out.close(record))
@@ -117,7 +120,8 @@ fn a_record_left_open_is_refused() {
         let image = written(|out| {
             out.comments([].into_iter())?;
             let mut open = Vec::new();
-            for (kind, place) in [(1, 0), (16, 1), (3, 2)] {
+            let kinds = [kind::TREE, kind::IMPORT, kind::LIST];
+            for (place, kind) in kinds.into_iter().enumerate() {
                 if place == 2 {
                     out.absent();
                 }
@@ -134,7 +138,8 @@ fn a_record_left_open_is_refused() {
             Ok(())
         });
         let at = [7, 7 + 17, 7 + 17 + 17][left_open];
-        let refusal = check(b"", &image.expect("an image"));
+        let image = image.expect("an image");
+        let refusal = check(File::new("", &image));
         assert_eq!(refusal, Err(Refusal::BadRecord { at }));
     }
 }

@@ -9,26 +9,27 @@ use native.Mathlib.Omega.{arith}
 use lib.Dec.{ltb}
 use lib.ListN.{length, length-append}
 use Rattle.laws.proofs.Options.{never}
-use Rattle.refusals.specs.Refusals.{Refusal, refuseIf, orElse, any, isOneOf}
-use Rattle.refusals.proofs.Groups.{passes-line}
-use Rattle.image.specs.Read.{Read, got, bad, Image, readAll, readNumbers}
+use Rattle.refusals.specs.Refusals.{Refusal, refuseIf, orElse, first, any, isOneOf}
+use Rattle.refusals.proofs.Groups.{passes-left}
+use Rattle.image.specs.Read.{Read, got, bad, Image, readAll, readNumbers, readRefusal}
 use Rattle.image.proofs.Numbers.{read-numbers}
 use Rattle.rows.specs.Limits.{MAX-ROWS}
 use Rattle.layout_facts.proofs.Limits.{closed-within}
 use Rattle.cut_rule.specs.States.{layoutFresh, renderFresh}
 use Rattle.cut_rule.specs.Tests.{modeTests, widthTests}
 use Rattle.cut_rule.specs.Parts.{widthLine}
-use Rattle.plain_run.specs.Parts.{readRefusal, keepsWaiting}
-use Rattle.plain_run.specs.File.{FileChoice, layoutChoice, renderChoice, modeLine, fileRows, fileMarks, rowsDue, marksDue, laidRefusal}
-use Rattle.plain_run.specs.FileLimits.{FILE-TEXT}
-use Rattle.plain_run.proofs.Limits.{stood}
-use Rattle.plain_run.proofs.FileLimits.{laid-read, file-text-limited}
+use Rattle.whole_run.specs.Parts.{keepsWaiting}
+use Rattle.whole_run.specs.File.{modeLine, fileRows, fileMarks, fileBeforeMarks, fileMarksLine, fileBeforeText}
+use Rattle.whole_run.specs.FileLimits.{FILE-TEXT}
+use Rattle.whole_run.specs.Built.{layoutChoice, renderChoice, FileChoice, rowsDue, marksDue}
+use Rattle.whole_run.proofs.Limits.{stood}
+use Rattle.whole_run.proofs.FileLimits.{file-text-limited}
 use Rattle.batch.specs.Batch.{Save, rowOf, single, textsOf}
 use Rattle.batch.specs.Whole.{textOf, Small, cells}
 use Rattle.batch.specs.declared.writing.Row.{Row}
 use Rattle.batch.proofs.Places.{read-places}
 use Rattle.batch.proofs.Marks.{marks-few}
-use Rattle.batch.proofs.Rooms.{nine, early, needed, no-text, all-text, single-refused, single-accepted}
+use Rattle.batch.proofs.Rooms.{early, needed, no-text, all-text, single-refused, single-accepted}
 
 -- ---- refusals that don't depend on the output: none of them is 10, and their places are small
 pub record Fine (r : Refusal) : Type 0 where
@@ -75,26 +76,23 @@ module _ (s b : List ℕ) where
     rows-few : readRefusal (readAll s b) ≡ none → rowsDue s b c ≤ MAX-ROWS
     rows-few h = omega (arith, closed-within (stood s b h .stood) (keepsWaiting (c .mode)) .rows)
 
-    laid-fine : Fines (laidRefusal s b c fileRows)
-    laid-fine =
+    early-lines : Fines (first (fileBeforeText s b c fileRows fileMarks))
+    early-lines =
         fine-or (readRefusal (readAll s b)) _ read-fine
         (λ h.
         fine-or (modeLine c) _ (fine-if (any (modeTests (layoutChoice c) layoutFresh)) 12 0 (λ e. omega arith) (omega arith))
         (λ f.
         fine-or (widthLine (renderChoice c) renderFresh) _ (fine-if (any (widthTests (c .width) 0)) 15 0 (λ e. omega arith) (omega arith))
         (λ g.
-        fine-or (refuseIf (ltb fileRows (rowsDue s b c)) 8 (rowsDue s b c)) none
+        fine-or (refuseIf (ltb fileRows (rowsDue s b c)) 8 (rowsDue s b c)) _
         (fine-if (ltb fileRows (rowsDue s b c)) 8 (rowsDue s b c) (λ e. omega arith) (let k = rows-few h in omega arith))
-        (λ k. fine-none))))
+        (λ k.
+        fine-or (refuseIf (ltb fileMarks (marksDue s b c)) 9 (marksDue s b c)) none
+        (fine-if (ltb fileMarks (marksDue s b c)) 9 (marksDue s b c) (λ e. omega arith) (let l = marks-few s b c h in omega arith))
+        (λ l. fine-none)))))
 
 pub early-fine : (c : FileChoice) (x : Save) → Fines (early c x)
-early-fine c x =
-    let s = x .source in
-    let b = x .image in
-    fine-or (laidRefusal s b c fileRows) _ (laid-fine s b c)
-    (λ h.
-    let k = marks-few s b c (laid-read s b c h) in
-    fine-or (nine c x) none (fine-if (ltb fileMarks (marksDue s b c)) 9 (marksDue s b c) (λ e. omega arith) (omega arith)) (λ g. fine-none))
+early-fine c x = early-lines (x .source) (x .image) c
 
 -- ---- texts
 module _ (c : FileChoice) where
@@ -106,7 +104,7 @@ module _ (c : FileChoice) where
       go none e =
           let s = x .source in
           let b = x .image in
-          let h = file-text-limited s b c (passes-line (laidRefusal s b c fileRows) (nine c x ∷ []) e) in
+          let h = file-text-limited s b c (passes-left (fileBeforeMarks s b c fileRows) (fileMarksLine s b c fileMarks) e) in
           omega (arith, ap length (all-text c x e))
 
   pub texts-limited : (xs : List Save) → length (textsOf c xs) ≤ length xs * FILE-TEXT

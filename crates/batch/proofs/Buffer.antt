@@ -12,8 +12,8 @@ use lib.ListN.{length}
 use borrow.Author.Tests.{ltb-true, ltb-false, leb-true, leb-false, lt-ltb, le-ltb, le-leb, lt-leb}
 use Rattle.laws.proofs.Numbers.{one-more}
 use Rattle.image.specs.Bytes.{be32}
-use Rattle.image.specs.Read.{Read, got, bad, bind}
-use Rattle.batch.specs.Batch.{MAX-SAVES, Save, frameEnd, saveAt, savesFrom, allSaves, savesBy, savesRefusal}
+use Rattle.image.specs.Read.{Read, got, bad, bind, readRefusal}
+use Rattle.batch.specs.Batch.{MAX-SAVES, Save, frameEnd, saveAt, savesFrom, allSaves, savesBy}
 use Rattle.batch.specs.Whole.{framesBy, Framed}
 use Rattle.batch.specs.declared.frames.Frames.{Frames}
 use Rattle.batch.specs.declared.frames.Frames.the-variants as frames
@@ -113,17 +113,18 @@ module _ (f : List ℕ) where
     pub files : Files at (savesBy r)
     pub few : length (savesBy r) ≤ n
 
-  listed-more : (n at : ℕ) (r : Read (List Save)) → at < length f → frameEnd f at ≤ length f → (savesRefusal r ≡ none → Listed n (frameEnd f at) r)
-      → savesRefusal (oneMore (saveAt f at) r) ≡ none
+  listed-more : (n at : ℕ) (r : Read (List Save)) → at < length f → frameEnd f at ≤ length f → (readRefusal r ≡ none → Listed n (frameEnd f at) r)
+      → readRefusal (oneMore (saveAt f at) r) ≡ none
       → Listed (suc n) at (oneMore (saveAt f at) r)
   listed-more n at (got xs end) h k later e = let l = later refl in record { files = more h k (l .files); few = omega (arith, l .few) }
   listed-more n at (bad m q) h k later e = let z : _≡_ {A = ℕ} 0 1 = cc in absurd (omega arith)
 
   listed-by : (n at : ℕ) (t : Bool) → ltb at (length f) ≡ t → (u : Bool) → leb (frameEnd f at) (length f) ≡ u
-      → (savesRefusal (savesFrom f n (frameEnd f at)) ≡ none → Listed n (frameEnd f at) (savesFrom f n (frameEnd f at)))
-      → savesRefusal (savesFrom f (suc n) at) ≡ none
+      → (readRefusal (savesFrom f n (frameEnd f at)) ≡ none → Listed n (frameEnd f at) (savesFrom f n (frameEnd f at)))
+      → readRefusal (savesFrom f (suc n) at) ≡ none
       → Listed (suc n) at (savesFrom f (suc n) at)
-  listed-by n at false p u q later e = rw (no-more (suc n) at (ltb-false at (length f) p)) (record { files = done (ltb-false at (length f) p); few = omega arith })
+  listed-by n at false p u q later e =
+      rw (no-more (suc n) at (ltb-false at (length f) p)) (record { files = done (ltb-false at (length f) p); few = omega arith })
   listed-by n at true p false q later e =
       let g = rw (cut-off n at (ltb-true at (length f) p) (leb-false (frameEnd f at) (length f) q)) at e in
       let z : _≡_ {A = ℕ} 0 1 = cc in
@@ -133,11 +134,11 @@ module _ (f : List ℕ) where
       let k = leb-true (frameEnd f at) (length f) q in
       rw (goes-on n at h k) (listed-more n at (savesFrom f n (frameEnd f at)) h k later (rw (goes-on n at h k) at e))
 
-  listed-none : (at : ℕ) (t : Bool) → ltb at (length f) ≡ t → savesRefusal (savesFrom f 0 at) ≡ none → Listed 0 at (savesFrom f 0 at)
+  listed-none : (at : ℕ) (t : Bool) → ltb at (length f) ≡ t → readRefusal (savesFrom f 0 at) ≡ none → Listed 0 at (savesFrom f 0 at)
   listed-none at false p e = rw (no-more 0 at (ltb-false at (length f) p)) (record { files = done (ltb-false at (length f) p); few = omega arith })
   listed-none at true p e = let g = rw (too-many at (ltb-true at (length f) p)) at e in let z : _≡_ {A = ℕ} 0 1 = cc in absurd (omega arith)
 
-  pub listed : (n at : ℕ) → savesRefusal (savesFrom f n at) ≡ none → Listed n at (savesFrom f n at)
+  pub listed : (n at : ℕ) → readRefusal (savesFrom f n at) ≡ none → Listed n at (savesFrom f n at)
   listed zero at e = listed-none at (ltb at (length f)) refl e
   listed (suc n) at e = listed-by n at (ltb at (length f)) refl (leb (frameEnd f at) (length f)) refl (listed n (frameEnd f at)) e
 
@@ -168,23 +169,26 @@ module _ (f : List ℕ) where
   cut-number zero at = cut-none at (ltb at (length f)) refl
   cut-number (suc n) at = cut-by n at (ltb at (length f)) refl (leb (frameEnd f at) (length f)) refl (cut-number n (frameEnd f at))
 
--- ---- what the code's count tells
-told : (f : List ℕ) (r : Read (List Save)) → allSaves f ≡ r → (files : ℕ) → frames.Whole files ≡ framesBy r → Framed f files
-told f (got xs end) e files h = let g : files ≡ length xs = cc in record { passes = ap savesRefusal e; count = g ∙ sym (ap (λ (r : Read (List Save)). length (savesBy r)) e) }
-told f (bad n p) e files h = let z : _≡_ {A = ℕ} 0 1 = cc in absurd (omega arith)
+-- ---- what the code's count says
+framed-by : (f : List ℕ) (r : Read (List Save)) → allSaves f ≡ r → (files : ℕ) → frames.Whole files ≡ framesBy r → Framed f files
+framed-by f (got xs end) e files h =
+    let g : files ≡ length xs = cc in
+    record { passes = ap readRefusal e; count = g ∙ sym (ap (λ (r : Read (List Save)). length (savesBy r)) e) }
+framed-by f (bad n p) e files h = let z : _≡_ {A = ℕ} 0 1 = cc in absurd (omega arith)
 
 pub framed : (f : List ℕ) (files : ℕ) → frames.Whole files ≡ framesBy (allSaves f) → Framed f files
-framed f files h = told f (allSaves f) refl files h
+framed f files h = framed-by f (allSaves f) refl files h
 
-cut-told : (f : List ℕ) (r : Read (List Save)) → allSaves f ≡ r → (at : ℕ) → frames.Cut at ≡ framesBy r → savesRefusal r ≡ some (record { number = 18; place = at })
-cut-told f (got xs end) e at h = let z : _≡_ {A = ℕ} 0 1 = cc in absurd (omega arith)
-cut-told f (bad n p) e at h =
+cut-by-count : (f : List ℕ) (r : Read (List Save)) → allSaves f ≡ r → (at : ℕ) → frames.Cut at ≡ framesBy r
+    → readRefusal r ≡ some (record { number = 18; place = at })
+cut-by-count f (got xs end) e at h = let z : _≡_ {A = ℕ} 0 1 = cc in absurd (omega arith)
+cut-by-count f (bad n p) e at h =
     let g : at ≡ p = cc in
     let k : n ≡ 18 = cut-number f MAX-SAVES 0 n p e in
     rw (g, k)
 
-pub cut-refuses : (f : List ℕ) (at : ℕ) → frames.Cut at ≡ framesBy (allSaves f) → savesRefusal (allSaves f) ≡ some (record { number = 18; place = at })
-cut-refuses f at h = cut-told f (allSaves f) refl at h
+pub cut-refuses : (f : List ℕ) (at : ℕ) → frames.Cut at ≡ framesBy (allSaves f) → readRefusal (allSaves f) ≡ some (record { number = 18; place = at })
+cut-refuses f at h = cut-by-count f (allSaves f) refl at h
 
 -- ---- the code's test of a frame's end
 module _ (f : List ℕ) (at : ℕ) (inside : at ≤ length f) where

@@ -11,7 +11,7 @@ use lib.Dec.{eqb}
 use lib.ListN.{length}
 use lib.Seq.{take-all}
 use borrow.Author.Tests.{eqb-false}
-use Rattle.image.specs.Read.{readAll}
+use Rattle.image.specs.Read.{readAll, readRefusal}
 use Rattle.rows.specs.Kinds.{GROUP, INDENT, INDENT-NEXT, WRAP-PARENT, COMMENT, STR, ASCII, LINE, EMPTY-LINE, LINE-OR-SPACE, IF-WRAP, CALL}
 use Rattle.rows.specs.Limits.{MAX-NUMBER}
 use Rattle.rows.specs.Node.{Text, Node, Nodes, group, indent, indentNext, wrapParent, comment, str, ascii, line, emptyLine, lineOrSpace, ifWrap, call, _then_}
@@ -26,10 +26,10 @@ use Rattle.renderer_rules.proofs.Names.{names, namesIn, neither}
 use Rattle.comments.specs.Listed.{given}
 use Rattle.layout_facts.proofs.Limits.{closed-within}
 use Rattle.layout_facts.proofs.Numbers.{whole-below}
-use Rattle.plain_run.specs.Parts.{readRefusal, acceptedTree, keepsWaiting}
-use Rattle.plain_run.specs.File.{FileChoice, built, marksDue}
-use Rattle.plain_run.proofs.Limits.{stood}
-use Rattle.plain_run.proofs.Marks.{marks-add}
+use Rattle.whole_run.specs.Parts.{acceptedTree, keepsWaiting}
+use Rattle.whole_run.specs.Built.{FileChoice, built, marksDue}
+use Rattle.whole_run.proofs.Limits.{stood}
+use Rattle.whole_run.proofs.Marks.{marks-add}
 
 -- no number from k on is this one, so it is below k
 below : (k n : ℕ) → ((x : ℕ) → k ≤ x → eqb x n ≡ false) → n < k
@@ -82,7 +82,8 @@ module _ (s : List ℕ) where
           let w = row-held s i GROUP n 0 0 (r + (1 + sizes ns)) noText 0 (rows ns (r + 1)) h in
           let l = below k n (λ x g. neither (eqb x n) (namesIn x ns) (u x g) .0) in
           with-row i (sizes ns) k (omega (arith, row-group s i GROUP n (sym (w .isKind)) (sym (w .isNumber)) refl))
-          (nodes-few ns (i + 1) (r + 1) (parts-held s i GROUP n 0 0 (r + (1 + sizes ns)) noText 0 (rows ns (r + 1)) h) (λ x g. neither (eqb x n) (namesIn x ns) (u x g) .1))
+          (nodes-few ns (i + 1) (r + 1) (parts-held s i GROUP n 0 0 (r + (1 + sizes ns)) noText 0 (rows ns (r + 1)) h)
+          (λ x g. neither (eqb x n) (namesIn x ns) (u x g) .1))
       node-few (indent ns) i r h u =
           let w = row-held s i INDENT 0 0 0 (r + (1 + sizes ns)) noText 0 (rows ns (r + 1)) h in
           with-row i (sizes ns) k (omega (arith, unmarked i INDENT (w .isKind) (omega arith) (omega arith)))
@@ -105,7 +106,8 @@ module _ (s : List ℕ) where
           let l = below k n (λ x g. neither (eqb x n) (names x a || names x b) (u x g) .0) in
           with-row i (size a + size b) k (omega (arith, row-if s i IF-WRAP n (sym (w .isKind)) (sym (w .isNumber)) refl))
           (joined (size a) (size b) (i + 1) k
-          (node-few a (i + 1) (r + 1) (holds-left s (i + 1) (rowsOf a (r + 1)) (rowsOf b (r + (1 + size a))) p) (λ x g. neither (names x a) (names x b) (neither (eqb x n) (names x a || names x b) (u x g) .1) .0))
+          (node-few a (i + 1) (r + 1) (holds-left s (i + 1) (rowsOf a (r + 1)) (rowsOf b (r + (1 + size a))) p)
+          (λ x g. neither (names x a) (names x b) (neither (eqb x n) (names x a || names x b) (u x g) .1) .0))
           (node-few b (i + 1 + size a) (r + (1 + size a))
           (holds-right s (i + 1) (size a) (rowsOf a (r + 1)) (rowsOf b (r + (1 + size a))) (length-rowsOf a (r + 1)) p)
           (λ x g. neither (names x a) (names x b) (neither (eqb x n) (names x a || names x b) (u x g) .1) .1)))
@@ -117,7 +119,8 @@ module _ (s : List ℕ) where
           let o = below k m (λ x g. neither (eqb x n) (eqb x m) (neither (eqb x n || eqb x m) (namesIn x e || namesIn x a) (u x g) .0) .1) in
           with-row i (sizes e + sizes a) k (omega (arith, row-call s i CALL n m (max n m) (sym (w .isKind)) (sym (w .isNumber)) (sym (w .isNumber2)) refl refl))
           (joined (sizes e) (sizes a) (i + 1) k
-          (nodes-few e (i + 1) (r + 1) (holds-left s (i + 1) (rows e (r + 1)) (rows a (r + (1 + sizes e))) p) (λ x g. neither (namesIn x e) (namesIn x a) (neither (eqb x n || eqb x m) (namesIn x e || namesIn x a) (u x g) .1) .0))
+          (nodes-few e (i + 1) (r + 1) (holds-left s (i + 1) (rows e (r + 1)) (rows a (r + (1 + sizes e))) p)
+          (λ x g. neither (namesIn x e) (namesIn x a) (neither (eqb x n || eqb x m) (namesIn x e || namesIn x a) (u x g) .1) .0))
           (nodes-few a (i + 1 + sizes e) (r + (1 + sizes e))
           (holds-right s (i + 1) (sizes e) (rows e (r + 1)) (rows a (r + (1 + sizes e))) (length-rows e (r + 1)) p)
           (λ x g. neither (namesIn x e) (namesIn x a) (neither (eqb x n || eqb x m) (namesIn x e || namesIn x a) (u x g) .1) .1)))
@@ -127,13 +130,15 @@ module _ (s : List ℕ) where
       nodes-few (n then ns) i r h u =
           joined (size n) (sizes ns) i k
           (node-few n i r (holds-left s i (rowsOf n r) (rows ns (r + size n)) h) (λ x g. neither (names x n) (namesIn x ns) (u x g) .0))
-          (nodes-few ns (i + size n) (r + size n) (holds-right s i (size n) (rowsOf n r) (rows ns (r + size n)) (length-rowsOf n r) h) (λ x g. neither (names x n) (namesIn x ns) (u x g) .1))
+          (nodes-few ns (i + size n) (r + size n) (holds-right s i (size n) (rowsOf n r) (rows ns (r + size n)) (length-rowsOf n r) h)
+          (λ x g. neither (names x n) (namesIn x ns) (u x g) .1))
 
 pub marks-few : (s b : List ℕ) (c : FileChoice) → readRefusal (readAll s b) ≡ none → marksDue s b c ≤ MAX-NUMBER
 marks-few s b c h =
     let l = rows (built s b c .nodes) 0 in
     let keeps = keepsWaiting (c .mode) in
     let few =
-    nodes-few l (built s b c .taken) (built s b c .nodes) 0 0 (holds-part l 0 l (take-all (length l) l (omega arith))) (λ x g. whole-below (given s b) (acceptedTree b (readAll s b)) keeps x g)
+    nodes-few l (built s b c .taken) (built s b c .nodes) 0 0 (holds-part l 0 l (take-all (length l) l (omega arith)))
+    (λ x g. whole-below (given s b) (acceptedTree b (readAll s b)) keeps x g)
     in
     omega (arith, closed-within (stood s b h .stood) keeps .numbers)

@@ -15,7 +15,8 @@ use Rattle.text.proofs.Prefixes.{prefix-inside}
 use Rattle.image.specs.Bytes.{be16, be32}
 use Rattle.image.specs.Limits.{MAX-SOURCE, MAX-BODY, MAX-COMMENTS, MAX-RECORDS-DEEP}
 use Rattle.image.specs.Grammar.{bare, place, after, complete}
-use Rattle.image.specs.Read.{Read, got, bad, bind, Head, headAt, stopAt, Tree, absent, nil, header, widthBytes, commentFits, commentsFrom, comments, shape, opens, skips, childAt, recordAt, childrenAt, treeAt, readTree, readImage, sourceFits, readAll, stepOf}
+use Rattle.image.specs.Read.{Read, got, bad, bind, Head, headAt, stopAt, Tree, absent, nil, header, widthBytes, commentFits, commentsFrom, comments}
+use Rattle.image.specs.Read.{shape, opens, skips, childAt, recordAt, childrenAt, treeAt, readTree, readImage, sourceFits, readAll, stepOf}
 use Rattle.image.proofs.Accepted.{headed}
 use Rattle.image.proofs.CommentList.{listed}
 use Rattle.image.proofs.Reading.{child-within, record-bad, record-opens, within}
@@ -75,7 +76,9 @@ module _ (s b : List ℕ) (v : ℕ) where
   inner-before : (left : ℕ) → Below left → (p at end : ℕ) → Opened s b v (suc left) p at end → Before end (recordAt s b v (suc left) p at end)
   inner-before left below p at end o =
       let r = within s b v left p at in
-      let c = children-before (childAt s b v left) (stopAt b at) (child-before left below (stopAt b at)) (suc (length b)) _ (headAt b at .first) (opened-order o) in
+      let c =
+      children-before (childAt s b v left) (stopAt b at) (child-before left below (stopAt b at)) (suc (length b)) _ (headAt b at .first) (opened-order o)
+      in
       rw (record-opens s b v left p at end o) (then end r _ (wider (stopAt b at) end r (o .right .within) c) (λ ts next e. tt))
 
   record-by : (left : ℕ) → ((p at end : ℕ) → Opened s b v left p at end → Before end (recordAt s b v left p at end)) → Below left

@@ -7,11 +7,14 @@ use Prim.Native.Nat.{ℕ}
 use lib.Dec.{ltb}
 use lib.ListN.{length, length-map}
 use Rattle.refusals.specs.Refusals.{Refusal, first, refuseIf, unless}
+use Rattle.refusals.specs.Answers.{Answer, answerBy}
+use Rattle.image.specs.Read.{readRefusal}
 use Rattle.cut_rule.specs.Run.{writeFront}
 use Rattle.cut_rule.proofs.Memory.{take-front}
-use Rattle.plain_run.specs.File.{FileChoice, FileAnswer}
+use Rattle.whole_run.specs.Built.{FileChoice}
+use Rattle.whole_run.specs.File.{FileResult}
 use Rattle.file.specs.Whole.{formattedAnswer}
-use Rattle.batch.specs.Batch.{allSaves, savesBy, savesRefusal, rowOf, single, tableOf, textsOf, tableDue, textsDue, batchRefusal, batchAnswerBy}
+use Rattle.batch.specs.Batch.{allSaves, savesBy, rowOf, single, tableOf, textsOf, tableDue, textsDue, batchRefusal}
 use Rattle.batch.specs.Whole.{textOf}
 use Rattle.batch.specs.Singles.{Made, Single, AllSingle, wroteBy, rowsMade, textsMade, refusalBy, AsSingles}
 use Rattle.batch.proofs.Rooms.{early, needed, no-text, all-text, single-refused, single-accepted, answer-roomy, output-roomy}
@@ -30,9 +33,10 @@ module _ (c : FileChoice) where
       where
         go : (o : Option Refusal) → early c (m .file) ≡ o → wroteBy (single c (m .file)) (writeFront (textOf c (m .file)) (m .out)) ≡ textOf c (m .file)
         go (some r) e =
-            ap (λ (a : FileAnswer). wroteBy a (writeFront (textOf c (m .file)) (m .out))) (single-refused c (m .file) r e) ∙ sym (no-text c (m .file) r e)
+            ap (λ (a : Answer FileResult). wroteBy a (writeFront (textOf c (m .file)) (m .out))) (single-refused c (m .file) r e)
+            ∙ sym (no-text c (m .file) r e)
         go none e =
-            ap (λ (a : FileAnswer). wroteBy a (writeFront (textOf c (m .file)) (m .out))) (single-accepted c (m .file) e)
+            ap (λ (a : Answer FileResult). wroteBy a (writeFront (textOf c (m .file)) (m .out))) (single-accepted c (m .file) e)
             ∙ take-front (needed c (m .file)) (textOf c (m .file)) (m .out) (sym (ap length (all-text c (m .file) e)))
 
   -- ---- all of them
@@ -54,13 +58,13 @@ as-singles c f ms k e table out r table2 out2 b =
     let refusal : batchRefusal c f (length table) (length out) ≡ refusalBy f ms (length table) (length out) =
     λ t.
     first
-    (savesRefusal (allSaves f)
+    (readRefusal (allSaves f)
     ∷ refuseIf (ltb (length table) (length (rows t))) 19 (length (rows t))
     ∷ refuseIf (ltb (length out) (length (texts t))) 19 (length (texts t))
     ∷ [])
     in
     record {
-      answer = b .answer ∙ (λ t. batchAnswerBy (refusal t) (files t) (length (texts t)));
+      answer = b .answer ∙ (λ t. answerBy (refusal t) (record { files = files t; bytes = length (texts t) }));
       table-left = b .table-left ∙ (λ t. unless (refusal t) table (writeFront (rows t) table));
       texts-left = b .texts-left ∙ (λ t. unless (refusal t) out (writeFront (texts t) out));
     }

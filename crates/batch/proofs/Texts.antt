@@ -9,19 +9,22 @@ use lib.ListN.{length, take, drop, length-append, length-drop, drop-of-length-le
 use lib.Seq.{sets, length-sets, take-all}
 use borrow.Rule.Slice.PartMut.{putMid}
 use Rattle.laws.proofs.Stores.{sets-append}
+use Rattle.refusals.specs.Answers.{Answer, refused, accepted}
+use Rattle.image.specs.Read.{readRefusal}
 use Rattle.cut_rule.specs.Run.{writeFront}
 use Rattle.cut_rule.proofs.Memory.{write-sets}
-use Rattle.plain_run.specs.File.{FileChoice, FileAnswer, refused, formatted}
-use Rattle.plain_run.specs.FileLimits.{FILE-TEXT}
-use Rattle.batch.specs.Batch.{MAX-SAVES, Save, frameEnd, saveAt, allSaves, savesBy, savesRefusal, rowOf, single, tableOf, textsOf, tableDue, textsDue}
+use Rattle.whole_run.specs.File.{FileResult}
+use Rattle.whole_run.specs.FileLimits.{FILE-TEXT}
+use Rattle.whole_run.specs.Built.{FileChoice}
+use Rattle.batch.specs.Batch.{MAX-SAVES, Save, frameEnd, saveAt, allSaves, savesBy, rowOf, single, tableOf, textsOf, tableDue, textsDue}
 use Rattle.batch.specs.Whole.{textOf, cells, Saved, Room, Written}
 use Rattle.batch.specs.declared.writing.Row.{Row}
 use Rattle.batch.proofs.Buffer.{Files, next, last, listed}
 use Rattle.batch.proofs.Bounds.{texts-limited, row-text}
 
-row-size : (a : FileAnswer) → length (rowOf a) ≡ 3
+row-size : (a : Answer FileResult) → length (rowOf a) ≡ 3
 row-size (refused r) = refl
-row-size (formatted n l k m) = refl
+row-size (accepted x) = refl
 
 module _ (c : FileChoice) where
   texts-more : (x : Save) (xs : List Save) → textsOf c (x ∷ xs) ≡ textOf c x ++ textsOf c xs
@@ -56,7 +59,7 @@ module _ (c : FileChoice) where
       pub files : Files f at rest
       pub same : bytes + length (textsOf c rest) ≡ length (textsDue c f)
 
-    module _ (passes : savesRefusal (allSaves f) ≡ none) where
+    module _ (passes : readRefusal (allSaves f) ≡ none) where
       pub adding-none : Adding 0 0
       adding-none = record { rest = savesBy (allSaves f); files = listed f MAX-SAVES 0 passes .files; same = omega arith }
 

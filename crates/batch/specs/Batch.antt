@@ -1,15 +1,17 @@
 -- Document 02, 7/14, "A night's saves in one call": the files of a buffer, what each gives by itself, and what the batch answers and leaves.
 use mathlib.Core.Bool.{cond}
-use mathlib.Core.Option.{Option, none, some}
+use mathlib.Core.Option.{Option}
 use mathlib.Core.List.{List, [], _∷_, _++_}
 use Prim.Native.Nat.{ℕ, zero, suc, _+_}
 use lib.Dec.{ltb, leb}
 use lib.ListN.{length}
 use Rattle.refusals.specs.Refusals.{Refusal, first, refuseIf, unless}
+use Rattle.refusals.specs.Answers.{Answer, refused, accepted, answerBy}
 use Rattle.image.specs.Bytes.{be32, part}
-use Rattle.image.specs.Read.{Read, got, bad, bind}
+use Rattle.image.specs.Read.{Read, got, bad, bind, readRefusal}
 use Rattle.cut_rule.specs.Run.{writeFront}
-use Rattle.plain_run.specs.File.{FileChoice, FileAnswer, refused, formatted, drawnDue, fileAnswer}
+use Rattle.whole_run.specs.Built.{FileChoice, drawnDue}
+use Rattle.whole_run.specs.File.{FileResult, fileAnswer}
 
 -- "The repository hook formats up to 256 files."
 abbrev pub MAX-SAVES : ℕ
@@ -42,20 +44,16 @@ abbrev pub savesBy : Read (List Save) → List Save
 savesBy (got xs end) = xs
 savesBy (bad n p) = []
 
-abbrev pub savesRefusal : Read (List Save) → Option Refusal
-savesRefusal (got xs end) = none
-savesRefusal (bad n p) = some (record { number = n; place = p })
-
 -- ---- single calls, "each with 1,800 rows and 1,800 marks of its own and output enough"
 -- three numbers a file: "refusal number or 0, place or 0, text length"
-abbrev pub rowOf : FileAnswer → List ℕ
+abbrev pub rowOf : Answer FileResult → List ℕ
 rowOf (refused r) = r .number ∷ r .place ∷ 0 ∷ []
-rowOf (formatted bytes left rows numbers) = 0 ∷ 0 ∷ bytes ∷ []
+rowOf (accepted x) = 0 ∷ 0 ∷ x .bytes ∷ []
 
 -- "a refused file adds no text"
-abbrev pub textBy : FileAnswer → List ℕ → List ℕ
+abbrev pub textBy : Answer FileResult → List ℕ → List ℕ
 textBy (refused r) t = []
-textBy (formatted bytes left rows numbers) t = t
+textBy (accepted x) t = t
 
 module _ (c : FileChoice) where
   -- what `Renderer` makes of the file
@@ -63,7 +61,7 @@ module _ (c : FileChoice) where
   rendered x = drawnDue (x .source) (x .image) c .text
 
   -- the single call's answer, with as much output as that has
-  abbrev pub single : Save → FileAnswer
+  abbrev pub single : Save → Answer FileResult
   single x = fileAnswer (x .source) (x .image) c (length (rendered x))
 
   -- "The result is that of single calls in the same order": their rows one after the other, and their texts
@@ -86,22 +84,21 @@ textsDue c f = textsOf c (savesBy (allSaves f))
 abbrev pub batchRefusal : FileChoice → List ℕ → ℕ → ℕ → Option Refusal
 batchRefusal c f cells room =
     first
-    (savesRefusal (allSaves f)
+    (readRefusal (allSaves f)
     ∷ refuseIf (ltb cells (length (tableDue c f))) 19 (length (tableDue c f))
     ∷ refuseIf (ltb room (length (textsDue c f))) 19 (length (textsDue c f))
     ∷ [])
 
--- the answer: number and place; or how many files there are, and the bytes of their texts
-pub data BatchAnswer : Type 0 where
-  turnedDown : Refusal → BatchAnswer
-  batched : ℕ → ℕ → BatchAnswer
+-- what a batch gives: how many files there are, and the bytes of their texts
+pub record BatchResult : Type 0 where
+  pub files : ℕ
+  pub bytes : ℕ
 
-abbrev pub batchAnswerBy : Option Refusal → ℕ → ℕ → BatchAnswer
-batchAnswerBy (some r) files bytes = turnedDown r
-batchAnswerBy none files bytes = batched files bytes
+abbrev pub batchResult : FileChoice → List ℕ → BatchResult
+batchResult c f = record { files = length (savesBy (allSaves f)); bytes = length (textsDue c f) }
 
-abbrev pub batchAnswer : FileChoice → List ℕ → ℕ → ℕ → BatchAnswer
-batchAnswer c f cells room = batchAnswerBy (batchRefusal c f cells room) (length (savesBy (allSaves f))) (length (textsDue c f))
+abbrev pub batchAnswer : FileChoice → List ℕ → ℕ → ℕ → Answer BatchResult
+batchAnswer c f cells room = answerBy (batchRefusal c f cells room) (batchResult c f)
 
 -- table and output at exit: what is behind the rows and the texts is as it was
 abbrev pub tableLeft : FileChoice → List ℕ → List ℕ → List ℕ → List ℕ

@@ -7,11 +7,14 @@ use Prim.Native.Nat.{ℕ, _≤_}
 use lib.Dec.{ltb}
 use lib.ListN.{length, take}
 use Rattle.refusals.specs.Refusals.{Refusal, first, refuseIf, unless}
+use Rattle.refusals.specs.Answers.{Answer, refused, accepted, answerBy}
+use Rattle.image.specs.Read.{readRefusal}
 use Rattle.cut_rule.specs.Run.{writeFront}
-use Rattle.plain_run.specs.File.{FileChoice, FileAnswer, refused, formatted}
+use Rattle.whole_run.specs.Built.{FileChoice}
+use Rattle.whole_run.specs.File.{FileResult}
 use Rattle.file.specs.Whole.{formattedAnswer, Formats}
 use Rattle.file.specs.declared.Formatted.{Formatted}
-use Rattle.batch.specs.Batch.{Save, allSaves, savesBy, savesRefusal, rowOf, batchAnswerBy}
+use Rattle.batch.specs.Batch.{Save, allSaves, savesBy, rowOf}
 use Rattle.batch.specs.Whole.{batchedAnswer, Batches, textOf}
 use Rattle.batch.specs.declared.Batch.{Batch}
 
@@ -32,9 +35,9 @@ AllSingle c [] = Unit {0}
 AllSingle c (m ∷ ms) = Single c m × AllSingle c ms
 
 -- the bytes that it wrote: as many as it says, from the front of its output; none where it refused
-abbrev pub wroteBy : FileAnswer → List ℕ → List ℕ
+abbrev pub wroteBy : Answer FileResult → List ℕ → List ℕ
 wroteBy (refused r) out2 = []
-wroteBy (formatted bytes left rows numbers) out2 = take bytes out2
+wroteBy (accepted x) out2 = take (x .bytes) out2
 
 -- the rows of the calls joined, and their texts
 unfoldable pub rowsMade : List Made → List ℕ
@@ -49,14 +52,14 @@ textsMade (m ∷ ms) = wroteBy (formattedAnswer (m .answer)) (m .out2) ++ textsM
 abbrev pub refusalBy : List ℕ → List Made → ℕ → ℕ → Option Refusal
 refusalBy f ms cells room =
     first
-    (savesRefusal (allSaves f)
+    (readRefusal (allSaves f)
     ∷ refuseIf (ltb cells (length (rowsMade ms))) 19 (length (rowsMade ms))
     ∷ refuseIf (ltb room (length (textsMade ms))) 19 (length (textsMade ms))
     ∷ [])
 
 -- the batch answers and leaves what single calls do, one for each file in order
 pub record SameAsSingles (f : List ℕ) (ms : List Made) (table out : List ℕ) (r : Batch) (table2 out2 : List ℕ) : Type 0 where
-  pub answer : batchedAnswer r ≡ batchAnswerBy (refusalBy f ms (length table) (length out)) (length ms) (length (textsMade ms))
+  pub answer : batchedAnswer r ≡ answerBy (refusalBy f ms (length table) (length out)) (record { files = length ms; bytes = length (textsMade ms) })
   pub table-left : table2 ≡ unless (refusalBy f ms (length table) (length out)) table (writeFront (rowsMade ms) table)
   pub texts-left : out2 ≡ unless (refusalBy f ms (length table) (length out)) out (writeFront (textsMade ms) out)
 

@@ -4,10 +4,11 @@ use mathlib.Core.Option.{none}
 use mathlib.Core.List.{List, [], _∷_}
 use Prim.Native.Nat.{ℕ, _^_, _<_, _≤_}
 use lib.ListN.{length}
-use Rattle.image.specs.Read.{Read, got, bad}
+use Rattle.refusals.specs.Answers.{Answer, refused, accepted}
+use Rattle.image.specs.Read.{Read, got, bad, readRefusal}
 use Rattle.cut_rule.specs.Run.{writeFront}
-use Rattle.plain_run.specs.File.{FileChoice}
-use Rattle.batch.specs.Batch.{Save, allSaves, savesBy, savesRefusal, rowOf, textBy, rendered, single, BatchAnswer, turnedDown, batched, batchAnswer, tableDue, textsDue, tableLeft, textsLeft}
+use Rattle.whole_run.specs.Built.{FileChoice}
+use Rattle.batch.specs.Batch.{Save, allSaves, savesBy, rowOf, textBy, rendered, single, BatchResult, batchAnswer, tableDue, textsDue, tableLeft, textsLeft}
 use Rattle.batch.specs.declared.Batch.{Batch}
 use Rattle.batch.specs.declared.Batch.the-variants as answer
 use Rattle.batch.specs.declared.frames.Frames.{Frames}
@@ -15,9 +16,9 @@ use Rattle.batch.specs.declared.frames.Frames.the-variants as frames
 use Rattle.batch.specs.declared.writing.Row.{Row}
 
 -- An answer, case by case.
-abbrev pub batchedAnswer : Batch → BatchAnswer
-batchedAnswer (answer.Done files bytes) = batched files bytes
-batchedAnswer (answer.Refused n p) = turnedDown (record { number = n; place = p })
+abbrev pub batchedAnswer : Batch → Answer BatchResult
+batchedAnswer (answer.Done files bytes) = accepted (record { files = files; bytes = bytes })
+batchedAnswer (answer.Refused n p) = refused (record { number = n; place = p })
 
 -- the answer, and table and output at exit, for a buffer of frames and what the caller chose
 pub record Batches (f : List ℕ) (c : FileChoice) (table out : List ℕ) (r : Batch) (table2 out2 : List ℕ) : Type 0 where
@@ -33,7 +34,7 @@ framesBy (bad n p) = frames.Cut p
 
 -- a buffer that 18 lets pass, of so many files
 pub record Framed (f : List ℕ) (files : ℕ) : Type 0 where
-  pub passes : savesRefusal (allSaves f) ≡ none
+  pub passes : readRefusal (allSaves f) ≡ none
   pub count : files ≡ length (savesBy (allSaves f))
 
 -- the text that a file adds
@@ -55,7 +56,7 @@ pub record Saved (c : FileChoice) (x : Save) (out : List ℕ) (r : Row) (out2 : 
 
 -- table and output have room for the rows and the texts of all files
 pub record Room (c : FileChoice) (f table out : List ℕ) : Type 0 where
-  pub passes : savesRefusal (allSaves f) ≡ none
+  pub passes : readRefusal (allSaves f) ≡ none
   pub rows : length (tableDue c f) ≤ length table
   pub texts : length (textsDue c f) ≤ length out
 

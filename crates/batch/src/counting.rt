@@ -3,8 +3,9 @@ ghost use mathlib.Core.Path.{_≡_};
 ghost use mathlib.Core.Option.{none};
 ghost use Prim.Native.Nat.{_≤_};
 ghost use lib.ListN.{length};
+ghost use Rattle.image.specs.Read.{readRefusal};
 ghost use Rattle.file.specs.Whole.{toChoice};
-ghost use Rattle.batch.specs.Batch.{frameEnd, saveAt, allSaves, savesRefusal, textsDue};
+ghost use Rattle.batch.specs.Batch.{frameEnd, saveAt, allSaves, textsDue};
 ghost use Rattle.batch.specs.Whole.{textOf};
 use crate::frames::HEAD;
 use crate::frames::frame_end;
@@ -43,7 +44,7 @@ fn text_size(frames: &[u8], at: usize, choice: FileChoice) -> usize
 
 // The bytes of the texts of all files.
 pub(crate) fn count_texts(frames: &[u8], choice: FileChoice) -> usize
-    requires { ⌜ savesRefusal (allSaves (now frames)) ≡ none ⌝ }
+    requires { ⌜ readRefusal (allSaves (now frames)) ≡ none ⌝ }
     ensures { λ r. ⌜ r ≡ length (textsDue (toChoice choice) (now (frames .entry))) ⌝ }
 {
     let mut at: usize = 0;

@@ -13,13 +13,13 @@ use Rattle.text.specs.declared.space.Found.the-variants.{At, Nowhere}
 use Rattle.ast.specs.Syntax.{Span}
 use Rattle.rows.specs.Node.{comment, line, emptyLine}
 use Rattle.rows.specs.Rows.{size}
-use Rattle.state.specs.Act.{Given, St, _⨟_, skip, push, moveTo, pop, told}
-use Rattle.state.proofs.Few.{FewAt, Few, few-more, few-skip, few-moveTo, few-push, few-pop, few-then, few-cond, few-answers}
+use Rattle.acts.specs.Act.{Given, St, _⨟_, skip, push, moveTo, pop, stepAlone}
+use Rattle.acts.proofs.Few.{FewAt, Few, few-more, few-skip, few-moveTo, few-push, few-pop, few-then, few-cond, few-answers}
 use Rattle.comments.specs.Comments.{nth, pushComment, newlines, ignoreNewlines, popComment, waits}
 use Rattle.comments.specs.Comments.{popComments, afterComments, popWhitespace, popTrailingComment}
 
 module _ (g : Given) where
-  few-newlines : (position : ℕ) → Few 1 0 (told (newlines g position))
+  few-newlines : (position : ℕ) → Few 1 0 (stepAlone (newlines g position))
   unfolding newlines size
   few-newlines position = record { at = λ s. both (countNewlines (g .source) (s .pos) position .count) .at s }
     where
@@ -59,7 +59,7 @@ module _ (g : Given) where
       go s none more = few-skip .at s
       go s (some c) more = few-cond (ltb (c .start) position) (few-then (few-comment leading c) more) few-skip .at s
 
-  pub few-whitespace : (position : ℕ) (leading trailing only : Bool) → Few 1 0 (told (popWhitespace g position leading trailing only))
+  pub few-whitespace : (position : ℕ) (leading trailing only : Bool) → Few 1 0 (stepAlone (popWhitespace g position leading trailing only))
   unfolding popWhitespace
   few-whitespace position leading trailing only =
       record {
@@ -69,7 +69,7 @@ module _ (g : Given) where
             (after (waits g position s && trailing) only) .at s;
       }
     where
-      after : (x y : Bool) → Few 1 0 (told (afterComments g x position y))
+      after : (x y : Bool) → Few 1 0 (stepAlone (afterComments g x position y))
       after true y = few-newlines position
       after false true = few-newlines position
       after false false = few-more (omega arith) (omega arith) (few-ignored position)

@@ -15,8 +15,8 @@ use Rattle.text.specs.declared.space.Found.the-variants.{At, Nowhere}
 use Rattle.text.proofs.Counts.{range-inside}
 use Rattle.ast.specs.Syntax.{Span}
 use Rattle.rows.specs.Node.{comment, line, emptyLine}
-use Rattle.state.specs.Act.{St, Out, Act, next, _⨟_, skip, push, moveTo, pop, told}
-use Rattle.state.proofs.Keeps.{Keeps, KeepsAt, keeps-at, keeps-of, keeps-skip, keeps-push, keeps-moveTo, keeps-then, keeps-after, keeps-cond, keeps-answers}
+use Rattle.acts.specs.Act.{St, Out, Act, next, _⨟_, skip, push, moveTo, pop, stepAlone}
+use Rattle.acts.proofs.Keeps.{Keeps, KeepsAt, keeps-at, keeps-of, keeps-skip, keeps-push, keeps-moveTo, keeps-then, keeps-after, keeps-cond, keeps-answers}
 use Rattle.comments.specs.Comments.{nth, front, pushComment, newlines, ignoreNewlines, popComment, waits}
 use Rattle.comments.specs.Comments.{popComments, afterComments, popWhitespace, popTrailingComment}
 use Rattle.tree.specs.CommentList.{commentsOf}
@@ -31,7 +31,7 @@ module _ {s b : List ℕ} (l : Listed s b) where
   abbrev Here : St → Out → Type 0
   Here = KeepsAt (length (commentsOf b)) (length s)
 
-  newlines-within : (position : ℕ) → position ≤ length s → Within (told (newlines (given s b) position))
+  newlines-within : (position : ℕ) → position ≤ length s → Within (stepAlone (newlines (given s b) position))
   unfolding newlines
   newlines-within position h = keeps-of (λ t. keeps-at (both (countNewlines s (t .pos) position .count)) t)
     where
@@ -103,7 +103,7 @@ module _ {s b : List ℕ} (l : Listed s b) where
 
   -- `pop_whitespace`
   pub whitespace-within : (position : ℕ) (leading trailing only : Bool) → position ≤ length s
-      → Within (told (popWhitespace (given s b) position leading trailing only))
+      → Within (stepAlone (popWhitespace (given s b) position leading trailing only))
   unfolding popWhitespace
   whitespace-within position leading trailing only h =
       keeps-of
@@ -114,7 +114,7 @@ module _ {s b : List ℕ} (l : Listed s b) where
       (after (waits (given s b) position t && trailing) only))
       t)
     where
-      after : (x y : Bool) → Keeps (length (commentsOf b)) (length s) (told (afterComments (given s b) x position y))
+      after : (x y : Bool) → Keeps (length (commentsOf b)) (length s) (stepAlone (afterComments (given s b) x position y))
       after true y = newlines-within position h
       after false true = newlines-within position h
       after false false = ignored-within position h

@@ -17,12 +17,12 @@ use Rattle.text.specs.declared.space.Found.the-variants.{At, Nowhere}
 use Rattle.ast.specs.Syntax.{Span}
 use Rattle.text.specs.declared.newlines.Newlines.{Newlines}
 use Rattle.rows.specs.Node.{line, emptyLine}
-use Rattle.state.specs.Act.{Given, St, Out, Act, Asking, next, _⨟_, _⨟!_, skip, push, moveTo, pop, told}
-use Rattle.state.specs.declared.Cursor.{Cursor}
+use Rattle.acts.specs.Act.{Given, St, Out, Act, Asking, next, _⨟_, _⨟!_, skip, push, moveTo, pop, stepAlone}
+use Rattle.acts.specs.declared.Cursor.{Cursor}
 use Rattle.comments.specs.declared.Gap.{Gap}
-use Rattle.state.specs.Laid.{cursor, st, Room, Laid, LaidAsking}
-use Rattle.state.proofs.Laws.{room-same, room-first, room-past, room-else, laid-same, laid-then, laid-skip, laid-moveTo, laid-pop}
-use Rattle.state.proofs.Laws.{asking-same, laid-answering, laid-turning, laid-answers}
+use Rattle.acts.specs.Laid.{cursor, st, Room, Laid, LaidAsking}
+use Rattle.acts.proofs.Laws.{room-same, room-first, room-past, room-else, laid-same, laid-then, laid-skip, laid-moveTo, laid-pop}
+use Rattle.acts.proofs.Laws.{asking-same, laid-answering, laid-turning, laid-answers}
 use Rattle.comments.specs.Listed.{given}
 use Rattle.comments.specs.Comments.{nth, breakLine, gapOf, uncounted, front, pushComment, newlines, ignoreNewlines, popComment, waits}
 use Rattle.comments.specs.Comments.{popComments, afterComments, popWhitespace, popTrailingComment}
@@ -45,7 +45,7 @@ module _ (g : Given) where
   ignored-some position s p e = rw e
 
   -- ---- `newlines` and `ignore_newlines`
-  pub room-newlines : (position : ℕ) {c : Cursor} → Room (told (newlines g position)) c → Room (breakLine (countNewlines (g .source) (c .pos) position)) c
+  pub room-newlines : (position : ℕ) {c : Cursor} → Room (stepAlone (newlines g position)) c → Room (breakLine (countNewlines (g .source) (c .pos) position)) c
   unfolding newlines
   room-newlines position room = room-first (moveTo position) (room-same refl room)
 
@@ -74,7 +74,7 @@ module _ (g : Given) where
 
   -- the newlines before a comment, kept or not
   abbrev pub gap : Bool → ℕ → Act
-  gap leading position = cond leading (told (newlines g position)) (ignoreNewlines g position)
+  gap leading position = cond leading (stepAlone (newlines g position)) (ignoreNewlines g position)
 
   gap-placed : (leading : Bool) (position : ℕ) (s : St) → gap leading position s .placed ≡ s .placed
   unfolding ignoreNewlines
@@ -186,27 +186,27 @@ module _ (g : Given) where
   whole position leading trailing only l m = asking-same refl (laid-answers l m)
 
   -- room for it is room for its loop, and then for what is done after it
-  room-whole : (position : ℕ) (leading trailing only : Bool) {c : Cursor} → Room (told (popWhitespace g position leading trailing only)) c
+  room-whole : (position : ℕ) (leading trailing only : Bool) {c : Cursor} → Room (stepAlone (popWhitespace g position leading trailing only)) c
       → Room
-      (popComments g (length (g .comments)) position leading ⨟ told (afterComments g (waits g position (st c) && trailing) position only))
+      (popComments g (length (g .comments)) position leading ⨟ stepAlone (afterComments g (waits g position (st c) && trailing) position only))
       c
   unfolding popWhitespace _⨟!_
   room-whole position leading trailing only room = room-same refl room
 
-  pub room-comments : (position : ℕ) (leading trailing only : Bool) {c : Cursor} → Room (told (popWhitespace g position leading trailing only)) c
+  pub room-comments : (position : ℕ) (leading trailing only : Bool) {c : Cursor} → Room (stepAlone (popWhitespace g position leading trailing only)) c
       → Room (popComments g (length (g .comments)) position leading) c
   room-comments position leading trailing only {c} room =
-      room-first (told (afterComments g (waits g position (st c) && trailing) position only)) (room-whole position leading trailing only room)
+      room-first (stepAlone (afterComments g (waits g position (st c) && trailing) position only)) (room-whole position leading trailing only room)
 
   -- newlines after a comment
   pub room-trailing : (position : ℕ) (leading trailing only : Bool) {s s₁ : List ℕ} {c c₁ : Cursor} → waits g position (st c) ≡ true → trailing ≡ true
-      → Laid (popComments g (length (g .comments)) position leading) s c s₁ c₁ → Room (told (popWhitespace g position leading trailing only)) c
-      → Room (told (newlines g position)) c₁
+      → Laid (popComments g (length (g .comments)) position leading) s c s₁ c₁ → Room (stepAlone (popWhitespace g position leading trailing only)) c
+      → Room (stepAlone (newlines g position)) c₁
   room-trailing position leading trailing only {c = c} {c₁ = c₁} w t l room =
-      let after : Room (told (afterComments g (waits g position (st c) && trailing) position only)) c₁ =
+      let after : Room (stepAlone (afterComments g (waits g position (st c) && trailing) position only)) c₁ =
       room-past (room-whole position leading trailing only room) l in
-      subst (λ (y : Bool). Room (told (afterComments g (true && y) position only)) c₁) t
-      (subst (λ (x : Bool). Room (told (afterComments g (x && trailing) position only)) c₁) w after)
+      subst (λ (y : Bool). Room (stepAlone (afterComments g (true && y) position only)) c₁) t
+      (subst (λ (x : Bool). Room (stepAlone (afterComments g (x && trailing) position only)) c₁) w after)
 
   pub laid-trailing : (position : ℕ) (leading only : Bool) {trailing : Bool} {s s₁ s₂ : List ℕ} {c c₁ c₂ : Cursor} {n : Newlines}
       → waits g position (st c) ≡ true → trailing ≡ true → Laid (popComments g (length (g .comments)) position leading) s c s₁ c₁
@@ -233,12 +233,12 @@ module _ (g : Given) where
 
   pub room-only : (position : ℕ) (leading trailing only : Bool) {s s₁ : List ℕ} {c c₁ : Cursor} → (trailing ≡ false) ⊎ (waits g position (st c) ≡ false)
       → only ≡ true → Laid (popComments g (length (g .comments)) position leading) s c s₁ c₁
-      → Room (told (popWhitespace g position leading trailing only)) c → Room (told (newlines g position)) c₁
+      → Room (stepAlone (popWhitespace g position leading trailing only)) c → Room (stepAlone (newlines g position)) c₁
   room-only position leading trailing only {c = c} {c₁ = c₁} e o l room =
-      let after : Room (told (afterComments g (waits g position (st c) && trailing) position only)) c₁ =
+      let after : Room (stepAlone (afterComments g (waits g position (st c) && trailing) position only)) c₁ =
       room-past (room-whole position leading trailing only room) l in
-      subst (λ (y : Bool). Room (told (afterComments g false position y)) c₁) o
-      (subst (λ (x : Bool). Room (told (afterComments g x position only)) c₁) (neither (waits g position (st c)) trailing e) after)
+      subst (λ (y : Bool). Room (stepAlone (afterComments g false position y)) c₁) o
+      (subst (λ (x : Bool). Room (stepAlone (afterComments g x position only)) c₁) (neither (waits g position (st c)) trailing e) after)
 
   pub laid-only : (position : ℕ) (leading trailing : Bool) {only : Bool} {s s₁ s₂ : List ℕ} {c c₁ c₂ : Cursor} {n : Newlines}
       → (trailing ≡ false) ⊎ (waits g position (st c) ≡ false) → only ≡ true
@@ -310,6 +310,7 @@ module _ (g : Given) where
   trailing-one s place p e f h = rw (e, popTrailingComment) (rw (f, popTrailingComment) (rw (eq-eqb (p .start) place h)))
 
 -- the image counts for nothing in `newlines`
-pub any-image : (s b b′ : List ℕ) (position : ℕ) {c : Cursor} → Room (told (newlines (given s b) position)) c → Room (told (newlines (given s b′) position)) c
+pub any-image : (s b b′ : List ℕ) (position : ℕ) {c : Cursor}
+    → Room (stepAlone (newlines (given s b) position)) c → Room (stepAlone (newlines (given s b′) position)) c
 unfolding newlines
 any-image s b b′ position room = room-same refl room

@@ -1,5 +1,5 @@
--- `pop_trailing_comment`, `pop_whitespace`, `newlines` and `ignore_newlines` of fmt.rs. Where these answer whether there is white space, the rules
--- hand on what was counted, with its place (request 1).
+-- `pop_trailing_comment`, `pop_whitespace`, `newlines` and `ignore_newlines` of fmt.rs. Where the Rust returns whether there is white space, the
+-- rules return what was counted, with its place (request 1).
 use Prim.Native.Nat.{ℕ, zero, suc, _+_, _-_, min}
 use mathlib.Core.Bool.{Bool, true, false, cond, _&&_, _||_}
 use mathlib.Core.List.{List, [], _∷_}
@@ -12,7 +12,7 @@ use Rattle.text.specs.declared.newlines.Newlines.{Newlines}
 use Rattle.text.specs.declared.space.Found.the-variants.{At, Nowhere}
 use Rattle.ast.specs.Syntax.{Span}
 use Rattle.rows.specs.Node.{comment, line, emptyLine}
-use Rattle.state.specs.Act.{Given, St, Act, Asking, _⨟_, _⨟!_, skip, push, moveTo, pop, told, answering, turning}
+use Rattle.acts.specs.Act.{Given, St, Act, Asking, _⨟_, _⨟!_, skip, push, moveTo, pop, stepAlone, answering, turning}
 use Rattle.comments.specs.declared.Gap.{Gap}
 
 -- the element of a list at a place
@@ -33,7 +33,7 @@ gapOf commented n = record { newlines = n; commented = commented }
 abbrev pub uncounted : ℕ → Gap
 uncounted position = gapOf false (record { count = 0; place = position })
 
--- what `pop_whitespace` of the Rust answers
+-- what `pop_whitespace` of the Rust returns
 abbrev pub whitespace : Gap → Bool
 whitespace x = x .commented || ltb 0 (x .newlines .count)
 
@@ -46,7 +46,7 @@ module _ (g : Given) where
   abbrev pub pushComment : Span → Act
   pushComment c = push (comment (record { origin = 0; start = c .start; size = trimEnd (g .source) (c .start) (c .end) - c .start }))
 
-  -- `newlines`: the line or the empty line for the newlines up to the position; it answers them, and the Rust whether there is any
+  -- `newlines`: the line or the empty line for the newlines up to the position; it returns them, and the Rust whether there is any
   unfoldable pub newlines : ℕ → Asking Newlines
   newlines position s =
       let n = countNewlines (g .source) (s .pos) position in
@@ -59,9 +59,9 @@ module _ (g : Given) where
   -- one comment of `pop_whitespace`; the position is then its end less 1
   unfoldable pub popComment : Bool → Span → Act
   popComment leading c =
-      pop ⨟ cond leading (told (newlines (c .start))) (ignoreNewlines (c .start)) ⨟ moveTo (c .end - 1) ⨟ pushComment c
+      pop ⨟ cond leading (stepAlone (newlines (c .start))) (ignoreNewlines (c .start)) ⨟ moveTo (c .end - 1) ⨟ pushComment c
 
-  -- a comment waits before the position
+  -- a comment waits before the position: after the loop, the Rust's `!first`
   abbrev pub waits : ℕ → St → Bool
   waits position s = elim (front s) [ none ↦ false | some c ↦ ltb (c .start) position ]
 
@@ -75,7 +75,7 @@ module _ (g : Given) where
         | some c ↦ cond (ltb (c .start) position) (popComment leading c ⨟ popComments n position true) skip s
       ]
 
-  -- what `pop_whitespace` does after its loop, where comments were placed and newlines after them are kept, or not
+  -- what `pop_whitespace` does after its loop; `commented` is the Rust's `!first && preserve_trailing_whitespace`
   abbrev pub afterComments : Bool → ℕ → Bool → Asking Gap
   afterComments commented position only =
       cond commented (turning (gapOf true) (newlines position))

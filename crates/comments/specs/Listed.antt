@@ -10,7 +10,7 @@ use Rattle.image.specs.Limits.{MAX-COMMENTS}
 use Rattle.image.specs.Bytes.{be16, be32}
 use Rattle.ast.specs.Syntax.{Span}
 use Rattle.tree.specs.CommentList.{commentsOf}
-use Rattle.state.specs.Act.{Given}
+use Rattle.acts.specs.Act.{Given}
 use Rattle.comments.specs.declared.Pending.{Pending}
 use Rattle.comments.specs.declared.Pending.the-variants.{Comment, Nothing}
 
@@ -29,7 +29,7 @@ pub record Listed (s b : List ℕ) : Type 0 where
   pub order : (k : ℕ) → k < be16 b 5 → be32 b (7 + 8 * k) < be32 b (7 + 8 * k + 4)
   pub range : (k : ℕ) → k < be16 b 5 → isRange s (be32 b (7 + 8 * k)) (be32 b (7 + 8 * k + 4)) ≡ true
 
--- what `front` answers for each comment, and for none
+-- what `front` returns for each comment, and for none
 abbrev pub pendingOf : Option Span → Pending
 pendingOf none = Nothing
 pendingOf (some p) = Comment (p .start) (p .end)

@@ -1,4 +1,4 @@
-// Comment placing, after `pop_trailing_comment`, `pop_whitespace`, `newlines` and `ignore_newlines` of fmt.rs. The comments stand in the
+// Comment placing, after `pop_trailing_comment`, `pop_whitespace`, `newlines` and `ignore_newlines` of fmt.rs. The comments are in the
 // image, and the cursor says how many of them are placed.
 ghost use mathlib.Core.Path.{_≡_};
 ghost use mathlib.Core.Bool.{cond};
@@ -6,8 +6,8 @@ ghost use mathlib.Core.List.{List, []};
 ghost use mathlib.Core.Option.{some};
 ghost use Prim.Native.Nat.{ℕ, _+_, _≤_};
 ghost use lib.ListN.{length};
-ghost use Rattle.state.specs.Act.{told};
-ghost use Rattle.state.specs.Laid.{cursor, st, Room, Laid, LaidAsking};
+ghost use Rattle.acts.specs.Act.{stepAlone};
+ghost use Rattle.acts.specs.Laid.{cursor, st, Room, Laid, LaidAsking};
 ghost use Rattle.comments.specs.Comments.{nth, breakLine, gapOf, uncounted, whitespace, pushComment, newlines, ignoreNewlines, popComment, waits};
 ghost use Rattle.comments.specs.Comments.{popComments, popWhitespace, popTrailingComment};
 ghost use Rattle.tree.specs.CommentList.{span, commentsOf};
@@ -17,14 +17,14 @@ mod reading;
 
 use crate::reading::newlines_from;
 use crate::reading::something_from;
+use acts::Cursor;
+use acts::leaves::empty_line;
+use acts::leaves::line;
+use acts::move_to;
+use acts::with_placed;
 use image::bytes::num16;
 use image::bytes::num32;
 use rows::units::Bytes;
-use state::Cursor;
-use state::leaves::empty_line;
-use state::leaves::line;
-use state::move_to;
-use state::with_placed;
 use text::newlines::Newlines;
 use text::space::Found;
 use text::space::trim_end;
@@ -88,7 +88,7 @@ fn push_comment(store: &mut [u32], c: Cursor, source: &[u8], start: u32, end: u3
 {
     let trimmed = trim_end(source, start as usize, end as usize);
     let size = Bytes(trimmed - start as usize);
-    state::leaves::comment(store, c, start, size)
+    acts::leaves::comment(store, c, start, size)
 }
 
 // A line for one newline, an empty line for more. Where the last of them is doesn't matter here.
@@ -105,9 +105,9 @@ fn break_line(store: &mut [u32], c: Cursor, n: Newlines) -> Cursor
     empty_line(store, c)
 }
 
-// A line for one newline up to the position, an empty line for more; it answers them.
+// A line for one newline up to the position, an empty line for more; it returns them.
 fn newlines(store: &mut [u32], c: Cursor, source: &[u8], position: u32) -> Counted
-    requires { ⌜ Room (told (newlines (given (now source) []) position)) c ⌝ }
+    requires { ⌜ Room (stepAlone (newlines (given (now source) []) position)) c ⌝ }
     ensures { λ r. ⌜ ((b : List ℕ) → LaidAsking (newlines (given (now (source .entry)) b) position) (now (store .entry)) c (now (store .exit)) (r .cursor) (r .newlines)) ⌝ }
 {
     let n = newlines_from(source, c.pos as usize, position as usize);
@@ -144,8 +144,8 @@ fn before_comment(
     start: u32,
 ) -> Cursor
     requires { ⌜ ListFits (now image) ⌝ }
-    requires { ⌜ Room (cond leading (told (newlines (given (now source) (now image)) start)) (ignoreNewlines (given (now source) (now image)) start)) c ⌝ }
-    ensures { λ r. ⌜ Laid (cond leading (told (newlines (given (now (source .entry)) (now (image .entry))) start)) (ignoreNewlines (given (now (source .entry)) (now (image .entry))) start)) (now (store .entry)) c (now (store .exit)) r ⌝ }
+    requires { ⌜ Room (cond leading (stepAlone (newlines (given (now source) (now image)) start)) (ignoreNewlines (given (now source) (now image)) start)) c ⌝ }
+    ensures { λ r. ⌜ Laid (cond leading (stepAlone (newlines (given (now (source .entry)) (now (image .entry))) start)) (ignoreNewlines (given (now (source .entry)) (now (image .entry))) start)) (now (store .entry)) c (now (store .exit)) r ⌝ }
 {
     if leading {
         let before = newlines(store, c, source, start);
@@ -243,7 +243,7 @@ fn place_comments(
     only: bool,
 ) -> Passed
     requires { ⌜ Listed (now source) (now image) ⌝ }
-    requires { ⌜ Room (told (popWhitespace (given (now source) (now image)) position leading trailing only)) c ⌝ }
+    requires { ⌜ Room (stepAlone (popWhitespace (given (now source) (now image)) position leading trailing only)) c ⌝ }
     ensures { λ r. ⌜ LaidAsking (popWhitespace (given (now (source .entry)) (now (image .entry))) position leading trailing only) (now (store .entry)) c (now (store .exit)) (r .cursor) (r .gap) ⌝ }
 {
     let waiting = is_waiting(image, c, position);
@@ -263,7 +263,7 @@ fn place_comments(
 }
 
 // Places the comments that start before the position, and goes there. The flags say which newlines are kept: `preserve_leading_whitespace`,
-// `preserve_trailing_whitespace` and `preserve_only_whitespace` of the Rust. It answers the gap up to the position.
+// `preserve_trailing_whitespace` and `preserve_only_whitespace` of the Rust. It returns the gap up to the position.
 pub fn pop_whitespace(
     store: &mut [u32],
     c: Cursor,
@@ -275,7 +275,7 @@ pub fn pop_whitespace(
     only: bool,
 ) -> Passed
     requires { ⌜ Listed (now source) (now image) ⌝ }
-    requires { ⌜ Room (told (popWhitespace (given (now source) (now image)) position leading trailing only)) c ⌝ }
+    requires { ⌜ Room (stepAlone (popWhitespace (given (now source) (now image)) position leading trailing only)) c ⌝ }
     ensures { λ r. ⌜ LaidAsking (popWhitespace (given (now (source .entry)) (now (image .entry))) position leading trailing only) (now (store .entry)) c (now (store .exit)) (r .cursor) (r .gap) ⌝ }
 {
     if only {
@@ -290,7 +290,7 @@ pub fn pop_whitespace(
     }
 }
 
-// What `pop_whitespace` of the Rust answers: whether there is white space that is kept.
+// What `pop_whitespace` of the Rust returns: whether there is white space that is kept.
 pub fn is_whitespace(gap: Gap) -> bool
     ensures { λ r. ⌜ r ≡ whitespace gap ⌝ }
 {

@@ -56,24 +56,25 @@ module _ (P : RuleParts) (L : LayoutPartLaws P) (listed : List Text) (K : Commen
   abbrev c₀ : Cursor
   c₀ = layoutFresh .cursor
 
-  laying-upTo : (n : ℕ) → n ≤ P .declarations → Laying listed c₀ (upTo P n)
-  laying-upTo zero h = record { counts = L .shebang-counts image c₀; places = K .shebang-places image c₀ (omega arith) }
-  laying-upTo (suc n) h =
-      let t = laying-upTo n (omega arith) in
-      let c = upTo P n .cursor in
+  laying-upTo : (k : LayoutChoice) (n : ℕ) → n ≤ P .declarations → Laying listed c₀ (upTo P k n)
+  laying-upTo k zero h = record { counts = L .shebang-counts image k c₀; places = K .shebang-places image k c₀ (omega arith) }
+  laying-upTo k (suc n) h =
+      let t = laying-upTo k n (omega arith) in
+      let c = upTo P k n .cursor in
       let l : 0 + n < P .declarations = omega arith in
-      laying-then listed c₀ (upTo P n) (P .declaration (0 + n)) t
-      (record { counts = L .declaration-counts image (0 + n) c l; places = K .declaration-places image (0 + n) c l (t .places .within) })
+      laying-then listed c₀ (upTo P k n) (P .declaration k (0 + n)) t
+      (record { counts = L .declaration-counts image k (0 + n) c l; places = K .declaration-places image k (0 + n) c l (t .places .within) })
 
-  laying-end : (b : Bool) (m n : ℕ) → n ≤ P .declarations → Laying listed c₀ (end P b m (upTo P n))
-  laying-end false m n h = laying-upTo n h
-  laying-end true m n h =
-      let t = laying-upTo n h in
-      laying-then listed c₀ (upTo P n) (P .final m) t
-      (record { counts = L .final-counts image m (upTo P n .cursor); places = K .final-places image m (upTo P n .cursor) (t .places .within) })
+  laying-end : (k : LayoutChoice) (b : Bool) (n : ℕ) → n ≤ P .declarations → Laying listed c₀ (end P k b (upTo P k n))
+  laying-end k false n h = laying-upTo k n h
+  laying-end k true n h =
+      let t = laying-upTo k n h in
+      let c = upTo P k n .cursor in
+      laying-then listed c₀ (upTo P k n) (P .final k) t
+      (record { counts = L .final-counts image k c; places = K .final-places image k c (t .places .within) })
 
   laying-due : (q : LayoutArgs LayoutChoice) → q .stop ≤ P .declarations → Laying listed c₀ (callPiece P layoutFresh q)
-  laying-due q h = subst (Laying listed c₀) (sym (from-fresh P q)) (laying-end (q .close) (q .choice .mode) (q .stop) h)
+  laying-due q h = subst (Laying listed c₀) (sym (from-fresh P q)) (laying-end (q .choice) (q .close) (q .stop) h)
 
 module _ (P : RuleParts) (L : LayoutPartLaws P) (listed : List Text) (K : CommentPartLaws P listed) where
   first-placed : (q : LayoutArgs LayoutChoice) → P .layout-image ≡ none → q .stop ≤ P .declarations

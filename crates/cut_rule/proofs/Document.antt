@@ -6,9 +6,9 @@ use mathlib.Core.List.{List}
 use Prim.Native.Nat.{ℕ, _*_, _≤_}
 use lib.ListN.{length}
 use Rattle.rows.specs.Places.{PLACES}
-use Rattle.cut_rule.specs.Rules.{LayoutArgs}
+use Rattle.cut_rule.specs.Rules.{LayoutArgs, RenderTo}
 use Rattle.cut_rule.specs.Run.{Call, start}
-use Rattle.cut_rule.specs.Plain.{RenderedTo, Progress, atFirst, laidDue, plain, AllReadLaid}
+use Rattle.cut_rule.specs.Plain.{Progress, atFirst, laidDue, plain, AllReadLaid}
 use Rattle.cut_rule.specs.States.{LayoutChoice, RenderChoice}
 use Rattle.rows.specs.Node.{Text}
 use Rattle.cut_rule.specs.CutRule.{CutRule}
@@ -37,9 +37,9 @@ module _ (P : RuleParts) (L : LayoutPartLaws P) (D : RenderPartLaws P) where
   LaidFits none = Unit {0}
   LaidFits (some q) = FitsParts P L q
 
-  abbrev pub RenderedRight : List ℕ → Option (RenderedTo RenderChoice) → Type 0
+  abbrev pub RenderedRight : List ℕ → Option (RenderTo RenderChoice) → Type 0
   RenderedRight rows none = Unit {0}
-  RenderedRight rows (some p) = (PLACES * p .stop ≤ length rows) × (P .wrong-row rows 0 (p .stop) ≡ none)
+  RenderedRight rows (some p) = (PLACES * p .stop ≤ length rows) × (P .wrong-row (p .choice) rows 0 (p .stop) ≡ none)
 
   pub record CameTo (f : Progress (rules P)) : Type 0 where
     pub laid : LaidFits (f .laid-to)
@@ -56,6 +56,6 @@ module _ (P : RuleParts) (L : LayoutPartLaws P) (D : RenderPartLaws P) where
       fits none k = tt
       fits (some q) k = fitting P L q k
 
-      right : (rows : List ℕ) (o : Option (RenderedTo RenderChoice)) → RenderedOk (rules P) (layout-laws P L) (render-laws P D) rows o → RenderedRight rows o
+      right : (rows : List ℕ) (o : Option (RenderTo RenderChoice)) → RenderedOk (rules P) (layout-laws P L) (render-laws P D) rows o → RenderedRight rows o
       right rows none k = tt
       right rows (some p) k = (k .0, whole P D (p .choice) rows (p .stop) (k .1) .right)

@@ -9,8 +9,9 @@ use lib.ListN.{length, drop}
 use lib.Seq.{take-append-seam}
 use Rattle.rows.specs.Places.{PLACES}
 use Rattle.refusals.specs.Refusals.{Refusal, unless}
+use Rattle.refusals.specs.Answers.{answerBy}
 use Rattle.cut_rule.specs.Rules.{LayoutArgs, RenderArgs, Rules}
-use Rattle.cut_rule.specs.Run.{writeFront, writeAt, Call, layoutCall, renderCall, Carried, accepted, call, answerBy, laidOut, written}
+use Rattle.cut_rule.specs.Run.{writeFront, writeAt, Call, layoutCall, renderCall, Carried, accepted, call, laidOut, written}
 use Rattle.cut_rule.specs.Entries.{layoutNext, renderNext, leftNext, writtenOf, renderGives, entryCall}
 
 module _ (R : Rules) (w : Carried R) (out : List ℕ) where
@@ -20,10 +21,10 @@ module _ (R : Rules) (w : Carried R) (out : List ℕ) where
       go : (o : Option Refusal) → _≡_ {A = Carried R} (record {
         store = unless o (w .store) (writeAt (PLACES * R .next-row (w .layout-state)) (R .layout (w .layout-state) q .rows) (w .store));
         marks = w .marks;
-        layout-state = layoutNext R (answerBy R o (laidOut (R .layout (w .layout-state) q .state) (R .layout (w .layout-state) q .left))) (w .layout-state);
+        layout-state = layoutNext R (answerBy o (laidOut (R .layout (w .layout-state) q .state) (R .layout (w .layout-state) q .left))) (w .layout-state);
         render-state = w .render-state;
         text = w .text;
-        left = leftNext R (answerBy R o (laidOut (R .layout (w .layout-state) q .state) (R .layout (w .layout-state) q .left))) (w .left);
+        left = leftNext R (answerBy o (laidOut (R .layout (w .layout-state) q .state) (R .layout (w .layout-state) q .left))) (w .left);
       }) (unless o w (accepted R w (layoutCall q)))
       go (some r) = refl
       go none = refl
@@ -44,8 +45,8 @@ module _ (R : Rules) (w : Carried R) (out : List ℕ) where
         store = w .store;
         marks = unless o (w .marks) (new .marks);
         layout-state = w .layout-state;
-        render-state = renderNext R (answerBy R o (written (new .render-state) (length txt))) (w .render-state);
-        text = w .text ++ writtenOf R (answerBy R o (written (new .render-state) (length txt))) (unless o out (writeFront txt out));
+        render-state = renderNext R (answerBy o (written (new .render-state) (length txt))) (w .render-state);
+        text = w .text ++ writtenOf R (answerBy o (written (new .render-state) (length txt))) (unless o out (writeFront txt out));
         left = w .left;
       }) (unless o w (accepted R w (renderCall q)))
       go (some r) = ap (withText w) (append-nil (w .text))

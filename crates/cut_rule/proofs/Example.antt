@@ -1,7 +1,7 @@
 -- A small instance: the laws of the parts can hold together, lists of calls compute, and the rule needs its hypothesis. Two declarations, each
 -- of which places a comment; rendering writes the nine numbers of each row that it reads.
 -- Assumes nothing.
-use mathlib.Core.Path.{_≡_, refl, sym, ap, _∙_}
+use mathlib.Core.Path.{_≡_, refl, sym, ap, ap₂, _∙_}
 use mathlib.Core.Bool.{Bool, true, false}
 use mathlib.Core.Option.{Option, none, some}
 use mathlib.Core.List.{List, [], _∷_, _++_}
@@ -13,8 +13,10 @@ use lib.ListN.{length, getD, take, drop, replicate, take-append-drop, length-tak
 use lib.Seq.{take-take}
 use Rattle.rows.specs.Places.{PLACES}
 use Rattle.renderer_rules.specs.Limits.{MAX-INDENT, MAX-COLUMN}
+use Rattle.renderer_rules.specs.declared.Pen.{Pen}
 use Rattle.refusals.specs.Refusals.{any}
-use Rattle.cut_rule.specs.Run.{Call, layoutCall, renderCall, Carried, start, run, Answer, refused, laidOut, written, answers}
+use Rattle.refusals.specs.Answers.{Answer, refused, accepted}
+use Rattle.cut_rule.specs.Run.{Call, layoutCall, renderCall, Carried, start, run, CallResult, laidOut, written, answers}
 use Rattle.cut_rule.specs.Plain.{atFirst, due, plain, AllReadLaid}
 use Rattle.rows.specs.Node.{Text}
 use Rattle.cut_rule.specs.CutRule.{commentsIn, CutRule}
@@ -51,13 +53,13 @@ small = record {
   declarations = 2;
   comments = 2;
   layout-image = none;
-  render-image = none;
-  shebang = λ c. record { cursor = c; rows = [] };
-  declaration = λ n c. placing (ltb (c .placed) 2) c;
-  final = λ mode. line;
-  wrong-row = λ store i n. inStore (leb (PLACES * n) (length store));
+  render-image = λ c. none;
+  shebang = λ k c. record { cursor = c; rows = [] };
+  declaration = λ k n c. placing (ltb (c .placed) 2) c;
+  final = λ k. line;
+  wrong-row = λ c store i n. inStore (leb (PLACES * n) (length store));
   needed = λ store i n. 1;
-  draw = λ w z marks store i n. record { pen = z; marks = marks; text = drop (PLACES * i) (take (PLACES * n) store) };
+  draw = λ s q marks store. record { pen = s .pen; marks = marks; text = drop (PLACES * s .row) (take (PLACES * q .stop) store) };
 }
 
 placing-counts : (b : Bool) (c : Cursor) → Counts c (placing b c)
@@ -66,9 +68,9 @@ placing-counts false c = record { row = omega arith }
 
 layout-parts : LayoutPartLaws small
 layout-parts = record {
-  shebang-counts = λ e c. record { row = omega arith };
-  declaration-counts = λ e n c l. placing-counts (ltb (c .placed) 2) c;
-  final-counts = λ e m c. record { row = omega arith };
+  shebang-counts = λ e k c. record { row = omega arith };
+  declaration-counts = λ e k n c l. placing-counts (ltb (c .placed) 2) c;
+  final-counts = λ e k c. record { row = omega arith };
 }
 
 none-more : (r k : ℕ) (rows : List ℕ) → commentsIn rows (r - r) ≡ take (k - k) (drop k listed)
@@ -95,9 +97,9 @@ placing-places false c e h = record { more = omega arith; within = h; next = non
 comment-parts : CommentPartLaws small listed
 comment-parts = record {
   all-listed = refl;
-  shebang-places = λ e c h. record { more = omega arith; within = h; next = none-more (c .row) (c .placed) [] };
-  declaration-places = λ e n c l h. placing-places (ltb (c .placed) 2) c refl h;
-  final-places = λ e m c h. record {
+  shebang-places = λ e k c h. record { more = omega arith; within = h; next = none-more (c .row) (c .placed) [] };
+  declaration-places = λ e k n c l h. placing-places (ltb (c .placed) 2) c refl h;
+  final-places = λ e k c h. record {
     more = omega arith;
     within = h;
     next = (let e : c .row + 1 - c .row ≡ 1 = omega arith in let f : c .placed - c .placed ≡ 0 = omega arith in rw (e, f));
@@ -122,17 +124,19 @@ parts-join store n m h =
 
 render-parts : RenderPartLaws small
 render-parts = record {
-  none-wrong = λ store. right-in 0 store (omega arith);
-  right-join = λ store n m h e f. f;
+  none-wrong = λ c store. right-in 0 store (omega arith);
+  right-join = λ c store n m h e f. f;
   needed-join = λ store n m h. refl;
-  right-local = λ store other n e f.
+  right-local = λ c store other n e f.
       let h : PLACES * n ≤ length store = stop-in n store f in
       right-in n other (omega (arith, ap length e, length-take (PLACES * n) store, length-take (PLACES * n) other));
   needed-local = λ store other i n e. refl;
-  draw-local = λ w z marks store other i n e. ap (λ (r : List ℕ). record { pen = z; marks = marks; text = drop (PLACES * i) r }) e;
-  draw-marks = λ w z marks store i n. refl;
-  draw-past = λ w z marks past store n e h. refl;
-  draw-join = λ w z marks store n m h e f g. ap (λ (t : List ℕ). record { pen = z; marks = marks; text = t }) (parts-join store n m h);
+  draw-local = λ s q marks store other e. ap (λ (r : List ℕ). record { pen = s .pen; marks = marks; text = drop (PLACES * s .row) r }) e;
+  draw-marks = λ s q marks store. refl;
+  draw-past = λ s q marks past store z e h. refl;
+  draw-join = λ s t p q marks store z a e f g h.
+      ap₂ (λ (y : Pen) (r : List ℕ). record { pen = y; marks = marks; text = r }) (sym (h .pen))
+      (rw (z, h .row) (parts-join store (p .stop) (q .stop) (a .not-past)));
 }
 
 -- the rule holds of the instance
@@ -148,17 +152,17 @@ abbrev layTo : ℕ → Bool → Call (rules small)
 layTo n b = layIn OLD-MODE n b
 
 abbrev renderAt : ℕ → ℕ → ℕ → Call (rules small)
-renderAt width n room = renderCall (record { stop = n; room = room; choice = record { width = width } })
+renderAt width n room = renderCall (record { to = record { stop = n; choice = record { width = width } }; room = room })
 
 abbrev renderTo : ℕ → ℕ → Call (rules small)
 renderTo n room = renderAt REFERENCE-WIDTH n room
 
 -- number and place of a refusal; 100 and the comments left; 200 and the bytes written
-abbrev asNumbers : List (Answer (rules small)) → List (List ℕ)
+abbrev asNumbers : List (Answer (CallResult (rules small))) → List (List ℕ)
 asNumbers [] = []
 asNumbers (refused r ∷ rest) = (r .number ∷ r .place ∷ []) ∷ asNumbers rest
-asNumbers (laidOut s n ∷ rest) = (100 ∷ n ∷ []) ∷ asNumbers rest
-asNumbers (written s n ∷ rest) = (200 ∷ n ∷ []) ∷ asNumbers rest
+asNumbers (accepted (laidOut s n) ∷ rest) = (100 ∷ n ∷ []) ∷ asNumbers rest
+asNumbers (accepted (written s n) ∷ rest) = (200 ∷ n ∷ []) ∷ asNumbers rest
 
 -- a store of three rows and two numbers, which held 9s, and two marks, which held 5s
 abbrev nines : List ℕ

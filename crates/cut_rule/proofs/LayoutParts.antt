@@ -29,75 +29,79 @@ module _ (P : RuleParts) where
   abbrev glue : Piece → Piece → Piece
   glue x y = record { cursor = y .cursor; rows = x .rows ++ y .rows }
 
-  glue-several : (k d : ℕ) (x : Piece) → glue x (several P k d (still (x .cursor))) ≡ several P k d x
-  glue-several zero d x = ap (piece (x .cursor)) (append-nil (x .rows))
-  glue-several (suc k) d x =
-      let y = several P k d (still (x .cursor)) in
-      ap (piece (P .declaration (d + k) (y .cursor) .cursor)) (sym (append-assoc (x .rows) (y .rows) (P .declaration (d + k) (y .cursor) .rows)))
-      ∙ ap (λ (z : Piece). andThen z (P .declaration (d + k))) (glue-several k d x)
+  module _ (k : LayoutChoice) where
+    glue-several : (n d : ℕ) (x : Piece) → glue x (several P k n d (still (x .cursor))) ≡ several P k n d x
+    glue-several zero d x = ap (piece (x .cursor)) (append-nil (x .rows))
+    glue-several (suc n) d x =
+        let y = several P k n d (still (x .cursor)) in
+        let one = P .declaration k (d + n) in
+        ap (piece (one (y .cursor) .cursor)) (sym (append-assoc (x .rows) (y .rows) (one (y .cursor) .rows)))
+        ∙ ap (λ (z : Piece). andThen z one) (glue-several n d x)
 
-  several-add : (k n d : ℕ) (x : Piece) → several P k (d + n) (several P n d x) ≡ several P (k + n) d x
-  several-add zero n d x = ap (λ (j : ℕ). several P j d x) (sym (zero-add n))
-  several-add (suc k) n d x =
-      let e : d + n + k ≡ d + (k + n) = omega arith in
-      ap (λ (j : ℕ). andThen (several P k (d + n) (several P n d x)) (P .declaration j)) e
-      ∙ ap (λ (y : Piece). andThen y (P .declaration (d + (k + n)))) (several-add k n d x)
-      ∙ ap (λ (j : ℕ). several P j d x) (sym (suc-add k n))
+    several-add : (i n d : ℕ) (x : Piece) → several P k i (d + n) (several P k n d x) ≡ several P k (i + n) d x
+    several-add zero n d x = ap (λ (j : ℕ). several P k j d x) (sym (zero-add n))
+    several-add (suc i) n d x =
+        let e : d + n + i ≡ d + (i + n) = omega arith in
+        ap (λ (j : ℕ). andThen (several P k i (d + n) (several P k n d x)) (P .declaration k j)) e
+        ∙ ap (λ (y : Piece). andThen y (P .declaration k (d + (i + n)))) (several-add i n d x)
+        ∙ ap (λ (j : ℕ). several P k j d x) (sym (suc-add i n))
 
-  glue-end : (b : Bool) (m : ℕ) (x y : Piece) → glue x (end P b m y) ≡ end P b m (glue x y)
-  glue-end false m x y = refl
-  glue-end true m x y = ap (piece (P .final m (y .cursor) .cursor)) (sym (append-assoc (x .rows) (y .rows) (P .final m (y .cursor) .rows)))
+    glue-end : (b : Bool) (x y : Piece) → glue x (end P k b y) ≡ end P k b (glue x y)
+    glue-end false x y = refl
+    glue-end true x y = ap (piece (P .final k (y .cursor) .cursor)) (sym (append-assoc (x .rows) (y .rows) (P .final k (y .cursor) .rows)))
 
-  -- ---- the document from fresh, before declaration n
-  abbrev pub upTo : ℕ → Piece
-  upTo n = several P n 0 (P .shebang (layoutFresh .cursor))
+    -- ---- the document from fresh, before declaration n
+    abbrev pub upTo : ℕ → Piece
+    upTo n = several P k n 0 (P .shebang k (layoutFresh .cursor))
 
-  pub from-fresh : (q : LayoutArgs LayoutChoice) → callPiece P layoutFresh q ≡ end P (q .close) (q .choice .mode) (upTo (q .stop))
-  from-fresh q = ap (λ (n : ℕ). end P (q .close) (q .choice .mode) (upTo n)) (sub-zero (q .stop))
+  pub from-fresh : (q : LayoutArgs LayoutChoice) → callPiece P layoutFresh q ≡ end P (q .choice) (q .close) (upTo (q .choice) (q .stop))
+  from-fresh q = ap (λ (n : ℕ). end P (q .choice) (q .close) (upTo (q .choice) n)) (sub-zero (q .stop))
 
   -- where a call to p, not closing, left layout
-  abbrev stoppedAt : ℕ → ℕ → LayoutState
-  stoppedAt n mode = record { begun = true; closed = false; declaration = n; cursor = upTo n .cursor; mode = mode }
+  abbrev stoppedAt : LayoutChoice → ℕ → ℕ → LayoutState
+  stoppedAt k n mode = record { begun = true; closed = false; declaration = n; cursor = upTo k n .cursor; mode = mode }
 
   piece-on : (n mode : ℕ) (q : LayoutArgs LayoutChoice) → n ≤ q .stop
-      → callPiece P layoutFresh q ≡ glue (upTo n) (callPiece P (stoppedAt n mode) q)
+      → callPiece P layoutFresh q ≡ glue (upTo (q .choice) n) (callPiece P (stoppedAt (q .choice) n mode) q)
   piece-on n mode q h =
-      let x = upTo n in
+      let k = q .choice in
+      let x = upTo k n in
       let m : (q .stop - n) + n ≡ q .stop = omega arith in
       from-fresh q
-      ∙ ap (λ (j : ℕ). end P (q .close) (q .choice .mode) (upTo j)) (sym m)
-      ∙ ap (λ (y : Piece). end P (q .close) (q .choice .mode) y)
-      (sym (several-add (q .stop - n) n 0 (P .shebang (layoutFresh .cursor)))
-      ∙ ap (λ (d : ℕ). several P (q .stop - n) d x) (zero-add n)
-      ∙ sym (glue-several (q .stop - n) n x))
-      ∙ sym (glue-end (q .close) (q .choice .mode) x (several P (q .stop - n) n (still (x .cursor))))
+      ∙ ap (λ (j : ℕ). end P k (q .close) (upTo k j)) (sym m)
+      ∙ ap (λ (y : Piece). end P k (q .close) y)
+      (sym (several-add k (q .stop - n) n 0 (P .shebang k (layoutFresh .cursor)))
+      ∙ ap (λ (d : ℕ). several P k (q .stop - n) d x) (zero-add n)
+      ∙ sym (glue-several k (q .stop - n) n x))
+      ∙ sym (glue-end k (q .close) x (several P k (q .stop - n) n (still (x .cursor))))
 
-  stopped : (p : LayoutArgs LayoutChoice) → p .close ≡ false → callPiece P layoutFresh p ≡ upTo (p .stop)
-  stopped p e = from-fresh p ∙ ap (λ (b : Bool). end P b (p .choice .mode) (upTo (p .stop))) e
+  stopped : (p : LayoutArgs LayoutChoice) → p .close ≡ false → callPiece P layoutFresh p ≡ upTo (p .choice) (p .stop)
+  stopped p e = from-fresh p ∙ ap (λ (b : Bool). end P (p .choice) b (upTo (p .choice) (p .stop))) e
 
   -- ---- the next row counts the rows
   module _ (L : LayoutPartLaws P) (image : P .layout-image ≡ none) where
-    counts-several : (n d : ℕ) (c : Cursor) (p : Piece) → d + n ≤ P .declarations → Counts c p → Counts c (several P n d p)
-    counts-several zero d c p h k = k
-    counts-several (suc n) d c p h k =
-        counts-then c (several P n d p) (P .declaration (d + n)) (counts-several n d c p (omega arith) k)
-        (L .declaration-counts image (d + n) (several P n d p .cursor) (omega arith))
+    counts-several : (k : LayoutChoice) (n d : ℕ) (c : Cursor) (p : Piece) → d + n ≤ P .declarations → Counts c p → Counts c (several P k n d p)
+    counts-several k zero d c p h u = u
+    counts-several k (suc n) d c p h u =
+        counts-then c (several P k n d p) (P .declaration k (d + n)) (counts-several k n d c p (omega arith) u)
+        (L .declaration-counts image k (d + n) (several P k n d p .cursor) (omega arith))
 
-    counts-begin : (b : Bool) (c : Cursor) → Counts c (begin P b c)
-    counts-begin true c = record { row = omega arith }
-    counts-begin false c = L .shebang-counts image c
+    counts-begin : (k : LayoutChoice) (b : Bool) (c : Cursor) → Counts c (begin P k b c)
+    counts-begin k true c = record { row = omega arith }
+    counts-begin k false c = L .shebang-counts image k c
 
-    counts-end : (b : Bool) (m : ℕ) (c : Cursor) (p : Piece) → Counts c p → Counts c (end P b m p)
-    counts-end false m c p k = k
-    counts-end true m c p k = counts-then c p (P .final m) k (L .final-counts image m (p .cursor))
+    counts-end : (k : LayoutChoice) (b : Bool) (c : Cursor) (p : Piece) → Counts c p → Counts c (end P k b p)
+    counts-end k false c p u = u
+    counts-end k true c p u = counts-then c p (P .final k) u (L .final-counts image k (p .cursor))
 
     pub counts-piece : (s : LayoutState) (q : LayoutArgs LayoutChoice) → s .declaration ≤ q .stop → q .stop ≤ P .declarations
         → Counts (s .cursor) (callPiece P s q)
     counts-piece s q h g =
+        let k = q .choice in
         let d = s .declaration in
-        let p = begin P (s .begun) (s .cursor) in
-        counts-end (q .close) (q .choice .mode) (s .cursor) (several P (q .stop - d) d p)
-        (counts-several (q .stop - d) d (s .cursor) p (omega arith) (counts-begin (s .begun) (s .cursor)))
+        let p = begin P k (s .begun) (s .cursor) in
+        counts-end k (q .close) (s .cursor) (several P k (q .stop - d) d p)
+        (counts-several k (q .stop - d) d (s .cursor) p (omega arith) (counts-begin k (s .begun) (s .cursor)))
 
   module _ (L : LayoutPartLaws P) where
     pub record FitsParts (q : LayoutArgs LayoutChoice) : Type 0 where
@@ -106,7 +110,9 @@ module _ (P : RuleParts) where
       pub closes-at-end : q .close ≡ true → q .stop ≡ P .declarations
 
     goes-on : (p q : LayoutArgs LayoutChoice) → LayoutAfter p q → laidOf P layoutFresh q ≡ thenLaid (laidOf P layoutFresh p) (λ s. laidOf P s q)
-    goes-on p q a = ap laidAs (piece-on (p .stop) (p .choice .mode) q (a .not-past)) ∙ ap parted (sym (stopped p (a .not-closed)))
+    goes-on p q a =
+        ap laidAs (piece-on (p .stop) (p .choice .mode) q (a .not-past))
+        ∙ ap parted (ap (λ (k : LayoutChoice). upTo k (p .stop)) (sym (a .same)) ∙ sym (stopped p (a .not-closed)))
       where
         laidAs : Piece → LayoutResult LayoutState
         laidAs y = record {

@@ -9,10 +9,11 @@ use native.Mathlib.Omega.{arith}
 use lib.ListN.{length, drop}
 use Rattle.rows.specs.Places.{PLACES}
 use Rattle.refusals.specs.Refusals.{Refusal, unless}
-use Rattle.cut_rule.specs.Rules.{LayoutArgs, Rules}
+use Rattle.refusals.specs.Answers.{Answer}
+use Rattle.cut_rule.specs.Rules.{LayoutArgs, RenderTo, Rules}
 use Rattle.cut_rule.specs.Run.{Call, layoutCall, renderCall, Carried, start, refusal, rendered, accepted, call, run}
-use Rattle.cut_rule.specs.Run.{Answer, answer, answers}
-use Rattle.cut_rule.specs.Plain.{RenderedTo, Progress, atFirst, layoutDue, leftDue, due, plainCall, plain, answersDue, IsAccepted, AllReadLaid}
+use Rattle.cut_rule.specs.Run.{CallResult, answer, answers}
+use Rattle.cut_rule.specs.Plain.{Progress, atFirst, layoutDue, leftDue, due, plainCall, plain, answersDue, IsAccepted, AllReadLaid}
 use Rattle.cut_rule.specs.Plain.{AllReadDue}
 use Rattle.rows.specs.Node.{Text}
 use Rattle.cut_rule.specs.CutRule.{CommentsKept, SameRoom}
@@ -55,7 +56,7 @@ module _ (R : Rules) (L : LayoutLaws R) (D : RenderLaws R) where
   answers-from s m [] f k a = refl
   answers-from s m (c ∷ cs) f k a =
       let t = one-call R L D s m f c k (a .0) in
-      ap (λ (rest : List (Answer R)). answer R (due R s m f) c ∷ rest)
+      ap (λ (rest : List (Answer (CallResult R))). answer R (due R s m f) c ∷ rest)
       (ap (λ (w : Carried R). answers R w cs) (t .0)
       ∙ answers-from s m cs (plainCall R s m f c) (t .1) (subst (λ (w : Carried R). AllReadLaid R w cs) (t .0) (a .1)))
 
@@ -96,7 +97,7 @@ module _ (R : Rules) (L : LayoutLaws R) (D : RenderLaws R) where
 
   -- ---- the comments
   module _ (listed : List Text) (K : CommentLaws R L listed) where
-    kept-due : (s m : List ℕ) (o : Option (LayoutArgs (R .LayoutChoice))) (d : Option (RenderedTo (R .RenderChoice))) → LaidOk R L D o
+    kept-due : (s m : List ℕ) (o : Option (LayoutArgs (R .LayoutChoice))) (d : Option (RenderTo (R .RenderChoice))) → LaidOk R L D o
         → (n : ℕ) → leftDue R o ≡ some n → CommentsKept R listed (due R s m (record { laid-to = o; rendered-to = d })) n
     kept-due s m none d k n e = let z : _≡_ {A = ℕ} 0 1 = cc in absurd (omega arith)
     kept-due s m (some q) d k n e =

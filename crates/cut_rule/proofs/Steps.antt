@@ -10,9 +10,9 @@ use native.Mathlib.Decide.{decLt}
 use lib.ListN.{length, take, drop, length-append}
 use Rattle.rows.specs.Places.{PLACES}
 use Rattle.refusals.specs.Refusals.{Refusal, unless}
-use Rattle.cut_rule.specs.Rules.{LayoutArgs, RenderArgs, LayoutResult, RenderResult, Rules}
+use Rattle.cut_rule.specs.Rules.{LayoutArgs, RenderTo, RenderArgs, LayoutResult, RenderResult, Rules}
 use Rattle.cut_rule.specs.Run.{writeFront, Call, layoutCall, renderCall, Carried, refusal, rendered, accepted, call}
-use Rattle.cut_rule.specs.Plain.{RenderedTo, Progress, layoutDue, renderDue, leftDue, laidDue, renderedDue, due, onward, plainCall, IsAccepted}
+use Rattle.cut_rule.specs.Plain.{Progress, layoutDue, renderDue, leftDue, laidDue, renderedDue, due, onward, plainCall, IsAccepted}
 use Rattle.cut_rule.specs.Plain.{ReadsLaid}
 use Rattle.cut_rule.specs.Laws.{thenLaid, LayoutLaws, SameBefore, thenRendered, RenderLaws}
 use Rattle.cut_rule.proofs.Memory.{write-behind, write-again, take-front, same-before}
@@ -22,7 +22,7 @@ module _ (R : Rules) (L : LayoutLaws R) (D : RenderLaws R) where
   LaidTo = Option (LayoutArgs (R .LayoutChoice))
 
   abbrev pub ShownTo : Type 0
-  ShownTo = Option (RenderedTo (R .RenderChoice))
+  ShownTo = Option (RenderTo (R .RenderChoice))
 
   -- ---- what stays true on the way
   abbrev pub LaidOk : LaidTo → Type 0
@@ -54,7 +54,7 @@ module _ (R : Rules) (L : LayoutLaws R) (D : RenderLaws R) where
       → renderDue R (rows ++ more) o ≡ renderDue R rows o
   rendered-more none rows more k = refl
   rendered-more (some p) rows more k =
-      D .render-local (p .choice) (R .render-fresh) [] (rows ++ more) rows (p .stop) (same-before (p .stop) rows more (k .0))
+      D .render-local (R .render-fresh) p [] (rows ++ more) rows (same-before (p .stop) rows more (k .0))
 
   rendered-ok-more : (o : ShownTo) (rows more : List ℕ) → RenderedOk rows o → RenderedOk (rows ++ more) o
   rendered-ok-more none rows more k = tt
@@ -104,12 +104,12 @@ module _ (R : Rules) (L : LayoutLaws R) (D : RenderLaws R) where
 
   rendered-row : (rows : List ℕ) (o : ShownTo) → RenderedOk rows o → R .reads-from (renderDue R rows o .state) ≡ stopOf o
   rendered-row rows none k = D .fresh-row
-  rendered-row rows (some p) k = D .due-row (p .choice) rows (p .stop) (k .1)
+  rendered-row rows (some p) k = D .due-row p rows (k .1)
 
   rendered-use : (rows : List ℕ) (o : ShownTo) → RenderedOk rows o
       → R .in-use (renderDue R rows o .state) ≡ length (renderDue R rows o .marks)
   rendered-use rows none k = D .fresh-use
-  rendered-use rows (some p) k = D .due-use (p .choice) rows (p .stop) (k .1)
+  rendered-use rows (some p) k = D .due-use p rows (k .1)
 
   rendered-laid : (rows : List ℕ) (o : ShownTo) → RenderedOk rows o → PLACES * stopOf o ≤ length rows
   rendered-laid rows none k = omega arith
@@ -117,19 +117,17 @@ module _ (R : Rules) (L : LayoutLaws R) (D : RenderLaws R) where
 
   -- the rows rendered so far are whole under the choice of the next accepted call
   rendered-whole : (rows : List ℕ) (o : ShownTo) (q : RenderArgs (R .RenderChoice)) (store marks : List ℕ) → RenderedOk rows o
-      → R .render-refusal q (renderDue R rows o .state) store marks ≡ none → D .WholeRows (q .choice) rows (stopOf o)
-  rendered-whole rows none q store marks k e = D .whole-local (q .choice) store rows 0 refl (D .accepted-none q _ store marks e)
+      → R .render-refusal q (renderDue R rows o .state) store marks ≡ none → D .WholeRows (q .to .choice) rows (stopOf o)
+  rendered-whole rows none q store marks k e = D .whole-local (q .to .choice) store rows 0 refl (D .accepted-none q _ store marks e)
   rendered-whole rows (some p) q store marks k e =
-      subst (λ (c : R .RenderChoice). D .WholeRows c rows (p .stop)) (D .accepted-same (p .choice) rows (p .stop) q store marks (k .1) e) (k .1)
+      subst (λ (c : R .RenderChoice). D .WholeRows c rows (p .stop)) (D .accepted-same p rows q store marks (k .1) e) (k .1)
 
   rendered-on : (rows : List ℕ) (o : ShownTo) (q : RenderArgs (R .RenderChoice)) (store marks : List ℕ) → RenderedOk rows o
-      → R .render-refusal q (renderDue R rows o .state) store marks ≡ none → stopOf o ≤ q .stop → D .WholeRows (q .choice) rows (q .stop)
-      → R .render (q .choice) (R .render-fresh) [] rows (q .stop)
-      ≡ thenRendered (renderDue R rows o) (λ s ms. R .render (q .choice) s ms rows (q .stop))
+      → R .render-refusal q (renderDue R rows o .state) store marks ≡ none → stopOf o ≤ q .to .stop → D .WholeRows (q .to .choice) rows (q .to .stop)
+      → R .render (R .render-fresh) (q .to) [] rows ≡ thenRendered (renderDue R rows o) (λ s ms. R .render s (q .to) ms rows)
   rendered-on rows none q store marks k e h w = refl
   rendered-on rows (some p) q store marks k e h w =
-      rw (D .accepted-same (p .choice) rows (p .stop) q store marks (k .1) e)
-      (D .goes-on (q .choice) rows (p .stop) (q .stop) h (rendered-whole rows (some p) q store marks k e) w)
+      D .goes-on p (q .to) rows (record { not-past = h; same = D .accepted-same p rows q store marks (k .1) e }) (k .1) w
 
   module _ (s m : List ℕ) (f : Progress R) (q : RenderArgs (R .RenderChoice)) (k : ProgressOk f) (e : IsAccepted R (due R s m f) (renderCall q))
       (reads : ReadsLaid R (due R s m f) (renderCall q)) where
@@ -139,15 +137,15 @@ module _ (R : Rules) (L : LayoutLaws R) (D : RenderLaws R) where
     row-due : R .reads-from (due R s m f .render-state) ≡ stopOf (f .rendered-to)
     row-due = rendered-row rows (f .rendered-to) (k .rendered-ok)
 
-    not-past : stopOf (f .rendered-to) ≤ q .stop
+    not-past : stopOf (f .rendered-to) ≤ q .to .stop
     not-past = omega (arith, row-due, D .accepted-not-past q _ _ _ e)
 
     -- the stop is among the rows laid out
-    stop-laid : PLACES * q .stop ≤ length rows
-    stop-laid = go (decLt (R .reads-from (due R s m f .render-state)) (q .stop))
+    stop-laid : PLACES * q .to .stop ≤ length rows
+    stop-laid = go (decLt (R .reads-from (due R s m f .render-state)) (q .to .stop))
       where
-        go : Dec (R .reads-from (due R s m f .render-state) < q .stop) → PLACES * q .stop ≤ length rows
-        go (yes h) = omega (arith, reads (q .stop - 1) (omega arith) (omega arith), laid-row (f .laid-to) (k .laid-ok))
+        go : Dec (R .reads-from (due R s m f .render-state) < q .to .stop) → PLACES * q .to .stop ≤ length rows
+        go (yes h) = omega (arith, reads (q .to .stop - 1) (omega arith) (omega arith), laid-row (f .laid-to) (k .laid-ok))
         go (no h) = omega (arith, row-due, D .accepted-not-past q _ _ _ e, rendered-laid _ (f .rendered-to) (k .rendered-ok))
 
     -- what the store holds before the stop are the rows due
@@ -157,12 +155,12 @@ module _ (R : Rules) (L : LayoutLaws R) (D : RenderLaws R) where
     marks-due : take (R .in-use (due R s m f .render-state)) (due R s m f .marks) ≡ renderedDue R f .marks
     marks-due = take-front _ (renderedDue R f .marks) m (rendered-use rows (f .rendered-to) (k .rendered-ok))
 
-    whole : D .WholeRows (q .choice) rows (q .stop)
+    whole : D .WholeRows (q .to .choice) rows (q .to .stop)
     whole =
-        D .whole-local (q .choice) (due R s m f .store) rows (q .stop) (same-rows (q .stop) stop-laid)
+        D .whole-local (q .to .choice) (due R s m f .store) rows (q .to .stop) (same-rows (q .to .stop) stop-laid)
         (D .accepted-whole q _ (due R s m f .store) _ e
-        (subst (D .WholeRows (q .choice) (due R s m f .store)) (sym row-due)
-        (D .whole-local (q .choice) rows (due R s m f .store) (stopOf (f .rendered-to))
+        (subst (D .WholeRows (q .to .choice) (due R s m f .store)) (sym row-due)
+        (D .whole-local (q .to .choice) rows (due R s m f .store) (stopOf (f .rendered-to))
         (sym (same-rows _ (rendered-laid rows (f .rendered-to) (k .rendered-ok))))
         (rendered-whole rows (f .rendered-to) q _ _ (k .rendered-ok) e))))
 
@@ -170,7 +168,7 @@ module _ (R : Rules) (L : LayoutLaws R) (D : RenderLaws R) where
     render-step =
         ap (λ (d : RenderResult (R .RenderState)). filled (writeFront (d .marks) (writeFront (one .marks) m)) (d .state) (one .text ++ d .text)) same-two
         ∙ ap (λ (ms : List ℕ). filled ms (two .state) (one .text ++ two .text))
-        (write-again (one .marks) (two .marks) m (D .grows (q .choice) (one .state) (one .marks) rows (q .stop)))
+        (write-again (one .marks) (two .marks) m (D .grows (one .state) (q .to) (one .marks) rows))
         ∙ ap (λ (d : RenderResult (R .RenderState)). filled (writeFront (d .marks) m) (d .state) (d .text))
         (sym (rendered-on rows (f .rendered-to) q _ _ (k .rendered-ok) e not-past whole))
       where
@@ -178,12 +176,12 @@ module _ (R : Rules) (L : LayoutLaws R) (D : RenderLaws R) where
         one = renderedDue R f
 
         two : RenderResult (R .RenderState)
-        two = R .render (q .choice) (one .state) (one .marks) rows (q .stop)
+        two = R .render (one .state) (q .to) (one .marks) rows
 
         same-two : rendered R (due R s m f) q ≡ two
         same-two =
-            ap (λ (ms : List ℕ). R .render (q .choice) (one .state) ms (due R s m f .store) (q .stop)) marks-due
-            ∙ D .render-local (q .choice) (one .state) (one .marks) (due R s m f .store) rows (q .stop) (same-rows (q .stop) stop-laid)
+            ap (λ (ms : List ℕ). R .render (one .state) (q .to) ms (due R s m f .store)) marks-due
+            ∙ D .render-local (one .state) (q .to) (one .marks) (due R s m f .store) rows (same-rows (q .to .stop) stop-laid)
 
         filled : List ℕ → R .RenderState → List ℕ → Carried R
         filled ms st t =

@@ -17,8 +17,10 @@ use Rattle.cut_rule.specs.Limits.{MIN-WIDTH, MAX-WIDTH}
 use Rattle.cut_rule.specs.Rules.{LayoutArgs, RenderArgs}
 use Rattle.renderer_rules.specs.declared.Pen.{Pen}
 use Rattle.cut_rule.specs.States.{LayoutChoice, RenderChoice, LayoutState, RenderState, NEW-MODE}
-use Rattle.cut_rule.specs.Tests.{rowsIn, oddMark, placesTests, limitTests, begunTests, stopTests, modeTests, layoutTestsIn, rowTests, penTests, markTests, renderTests, widthTests}
-use Rattle.cut_rule.specs.Parts.{RuleParts, layoutTests, rowsNeeded, beforeRows, rowsLine, layoutTable, widthLine, marksFor, beforeMarks, marksLine, beforeText, textLine, renderTable}
+use Rattle.cut_rule.specs.Tests.{rowsIn, oddMark, placesTests, limitTests, begunTests, stopTests, modeTests}
+use Rattle.cut_rule.specs.Tests.{layoutTestsIn, rowTests, penTests, markTests, renderTests, widthTests}
+use Rattle.cut_rule.specs.Parts.{RuleParts, layoutTests, rowsNeeded, beforeRows, rowsLine, layoutTable, widthLine}
+use Rattle.cut_rule.specs.Parts.{marksFor, beforeMarks, marksLine, beforeText, textLine, renderTable}
 
 -- no test of a list holds, and the first is one of two numbers
 first-within : (a b : ℕ) (rest : Bool) → (ltb a b || rest) ≡ false → b ≤ a
@@ -158,19 +160,19 @@ marks-fit marks used e = record {
 }
 
 pub record RenderFits (q : RenderArgs RenderChoice) (s : RenderState) (store marks : List ℕ) : Type 0 where
-  pub row : RowFits (rowsIn store) (q .stop) (s .row)
+  pub row : RowFits (rowsIn store) (q .to .stop) (s .row)
   pub pen : PenFits (s .pen)
   pub used : MarksFit marks (s .in-use)
 
 pub render-fits : (q : RenderArgs RenderChoice) (s : RenderState) (store marks : List ℕ) → any (renderTests q s store marks) ≡ false
     → RenderFits q s store marks
 render-fits q s store marks e =
-    let row = rowTests (rowsIn store) (q .stop) (s .row) in
+    let row = rowTests (rowsIn store) (q .to .stop) (s .row) in
     let pen = penTests (s .pen) in
     let mark = markTests marks (s .in-use) in
     let e2 = none-right row (pen ++ mark) e in
     record {
-      row = row-fits (rowsIn store) (q .stop) (s .row) (none-left row (pen ++ mark) e);
+      row = row-fits (rowsIn store) (q .to .stop) (s .row) (none-left row (pen ++ mark) e);
       pen = pen-fits (s .pen) (none-left pen mark e2);
       used = marks-fit marks (s .in-use) (none-right pen mark e2);
     }
@@ -220,27 +222,26 @@ module _ (P : RuleParts) where
 
   -- what the lines before 9 tell
   pub record RenderChecked (q : RenderArgs RenderChoice) (s : RenderState) (store marks : List ℕ) : Type 0 where
-    pub right : P .wrong-row store (s .row) (q .stop) ≡ none
+    pub right : P .wrong-row (q .to .choice) store (s .row) (q .to .stop) ≡ none
     pub fits : RenderFits q s store marks
-    pub width : WidthFits (q .choice .width) (s .width)
+    pub width : WidthFits (q .to .choice .width) (s .width)
 
   pub render-checked : (q : RenderArgs RenderChoice) (s : RenderState) (store marks : List ℕ) → first (beforeMarks P q s store marks) ≡ none
       → RenderChecked q s store marks
   render-checked q s store marks e =
-      let found = P .wrong-row store (s .row) (q .stop) in
+      let c = q .to .choice in
+      let found = P .wrong-row c store (s .row) (q .to .stop) in
       let tests = any (renderTests q s store marks) in
       let line-11 = refuseAt found 11 in
       let line-12 = refuseIf tests 12 0 in
-      let line-15 = widthLine (q .choice) s in
-      let behind = passes-others (P .render-image) (line-11 ∷ line-12 ∷ line-15 ∷ []) e in
+      let line-15 = widthLine c s in
+      let behind = passes-others (P .render-image c) (line-11 ∷ line-12 ∷ line-15 ∷ []) e in
       let after-11 = passes-others line-11 (line-12 ∷ line-15 ∷ []) behind in
       let after-12 = passes-others line-12 (line-15 ∷ []) after-11 in
       record {
         right = not-at found 11 (passes-line line-11 (line-12 ∷ line-15 ∷ []) behind);
         fits = render-fits q s store marks (not-if tests 12 0 (passes-line line-12 (line-15 ∷ []) after-11));
-        width =
-            width-fits (q .choice .width) (s .width)
-            (not-if (any (widthTests (q .choice .width) (s .width))) 15 0 (passes-line line-15 [] after-12));
+        width = width-fits (c .width) (s .width) (not-if (any (widthTests (c .width) (s .width))) 15 0 (passes-line line-15 [] after-12));
       }
 
   -- and 9

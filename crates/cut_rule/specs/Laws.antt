@@ -6,13 +6,18 @@ use mathlib.Core.List.{List, [], _++_}
 use Prim.Native.Nat.{ℕ, _+_, _*_, _≤_}
 use lib.ListN.{length, take, drop}
 use Rattle.rows.specs.Places.{PLACES}
-use Rattle.cut_rule.specs.Rules.{LayoutArgs, RenderArgs, LayoutResult, RenderResult, Rules}
+use Rattle.cut_rule.specs.Rules.{LayoutArgs, RenderTo, RenderArgs, LayoutResult, RenderResult, Rules}
 use Rattle.rows.specs.Node.{Text}
 use Rattle.cut_rule.specs.CutRule.{commentsIn}
 
 -- q can go on where p stopped: p did not close, its stop is not past q's, and both chose the same
 pub record LayoutAfter {C : Type 0} (p q : LayoutArgs C) : Type 0 where
   pub not-closed : p .close ≡ false
+  pub not-past : p .stop ≤ q .stop
+  pub same : p .choice ≡ q .choice
+
+-- the same of rendering: p's stop is not past q's, and both chose the same
+pub record RenderAfter {C : Type 0} (p q : RenderTo C) : Type 0 where
   pub not-past : p .stop ≤ q .stop
   pub same : p .choice ≡ q .choice
 
@@ -52,29 +57,30 @@ pub record RenderLaws (R : Rules) : Type 1 where
   pub WholeRows : R .RenderChoice → List ℕ → ℕ → Type 0
   -- from the table: 11, read from the next row on "as if none stood ahead"; 12, the next row past the stop; a choice that differs
   pub accepted-none : (q : RenderArgs (R .RenderChoice)) (s : R .RenderState) (store marks : List ℕ)
-      → R .render-refusal q s store marks ≡ none → WholeRows (q .choice) store 0
+      → R .render-refusal q s store marks ≡ none → WholeRows (q .to .choice) store 0
   pub accepted-whole : (q : RenderArgs (R .RenderChoice)) (s : R .RenderState) (store marks : List ℕ)
-      → R .render-refusal q s store marks ≡ none → WholeRows (q .choice) store (R .reads-from s) → WholeRows (q .choice) store (q .stop)
+      → R .render-refusal q s store marks ≡ none → WholeRows (q .to .choice) store (R .reads-from s) → WholeRows (q .to .choice) store (q .to .stop)
   pub accepted-not-past : (q : RenderArgs (R .RenderChoice)) (s : R .RenderState) (store marks : List ℕ)
-      → R .render-refusal q s store marks ≡ none → R .reads-from s ≤ q .stop
-  pub accepted-same : (c : R .RenderChoice) (rows : List ℕ) (n : ℕ) (q : RenderArgs (R .RenderChoice)) (store marks : List ℕ) → WholeRows c rows n
-      → R .render-refusal q (R .render c (R .render-fresh) [] rows n .state) store marks ≡ none → c ≡ q .choice
+      → R .render-refusal q s store marks ≡ none → R .reads-from s ≤ q .to .stop
+  pub accepted-same : (p : RenderTo (R .RenderChoice)) (rows : List ℕ) (q : RenderArgs (R .RenderChoice)) (store marks : List ℕ)
+      → WholeRows (p .choice) rows (p .stop)
+      → R .render-refusal q (R .render (R .render-fresh) p [] rows .state) store marks ≡ none → p .choice ≡ q .to .choice
   -- the next row is the stop, the marks in use are as many as the state says, and they only grow
   pub fresh-row : R .reads-from (R .render-fresh) ≡ 0
-  pub due-row : (c : R .RenderChoice) (rows : List ℕ) (n : ℕ) → WholeRows c rows n
-      → R .reads-from (R .render c (R .render-fresh) [] rows n .state) ≡ n
+  pub due-row : (p : RenderTo (R .RenderChoice)) (rows : List ℕ) → WholeRows (p .choice) rows (p .stop)
+      → R .reads-from (R .render (R .render-fresh) p [] rows .state) ≡ p .stop
   pub fresh-use : R .in-use (R .render-fresh) ≡ 0
-  pub due-use : (c : R .RenderChoice) (rows : List ℕ) (n : ℕ) → WholeRows c rows n
-      → R .in-use (R .render c (R .render-fresh) [] rows n .state) ≡ length (R .render c (R .render-fresh) [] rows n .marks)
-  pub grows : (c : R .RenderChoice) (s : R .RenderState) (marks rows : List ℕ) (n : ℕ)
-      → length marks ≤ length (R .render c s marks rows n .marks)
+  pub due-use : (p : RenderTo (R .RenderChoice)) (rows : List ℕ) → WholeRows (p .choice) rows (p .stop)
+      → R .in-use (R .render (R .render-fresh) p [] rows .state) ≡ length (R .render (R .render-fresh) p [] rows .marks)
+  pub grows : (s : R .RenderState) (p : RenderTo (R .RenderChoice)) (marks rows : List ℕ) → length marks ≤ length (R .render s p marks rows .marks)
   -- rows from the stop on are not read
   pub whole-local : (c : R .RenderChoice) (rows others : List ℕ) (n : ℕ) → SameBefore n rows others → WholeRows c rows n → WholeRows c others n
-  pub render-local : (c : R .RenderChoice) (s : R .RenderState) (marks rows others : List ℕ) (n : ℕ) → SameBefore n rows others
-      → R .render c s marks rows n ≡ R .render c s marks others n
-  -- rendering to row m in one go is rendering to row n and then, from the state and the marks there, to m
-  pub goes-on : (c : R .RenderChoice) (rows : List ℕ) (n m : ℕ) → n ≤ m → WholeRows c rows n → WholeRows c rows m
-      → R .render c (R .render-fresh) [] rows m ≡ thenRendered (R .render c (R .render-fresh) [] rows n) (λ s marks. R .render c s marks rows m)
+  pub render-local : (s : R .RenderState) (p : RenderTo (R .RenderChoice)) (marks rows others : List ℕ) → SameBefore (p .stop) rows others
+      → R .render s p marks rows ≡ R .render s p marks others
+  -- rendering to q in one go is rendering to p and then, from the state and the marks there, to q
+  pub goes-on : (p q : RenderTo (R .RenderChoice)) (rows : List ℕ) → RenderAfter p q
+      → WholeRows (p .choice) rows (p .stop) → WholeRows (q .choice) rows (q .stop)
+      → R .render (R .render-fresh) q [] rows ≡ thenRendered (R .render (R .render-fresh) p [] rows) (λ s marks. R .render s q marks rows)
 
 -- `listed` is the comment list, trailing white space cut.
 pub record CommentLaws (R : Rules) (L : LayoutLaws R) (listed : List Text) : Type 0 where
@@ -91,4 +97,4 @@ pub record RoomLaws (R : Rules) : Type 0 where
   pub rows-fit : (q : LayoutArgs (R .LayoutChoice)) (s : R .LayoutState) (store : List ℕ) → R .layout-refusal q s store ≡ none
       → PLACES * R .next-row s + length (R .layout s q .rows) ≤ length store
   pub marks-fit : (q : RenderArgs (R .RenderChoice)) (s : R .RenderState) (store marks : List ℕ) → R .render-refusal q s store marks ≡ none
-      → length (R .render (q .choice) s (take (R .in-use s) marks) store (q .stop) .marks) ≤ length marks
+      → length (R .render s (q .to) (take (R .in-use s) marks) store .marks) ≤ length marks

@@ -7,7 +7,7 @@ use Prim.Native.Nat.{ℕ, zero, suc, _+_, _-_, max}
 use lib.Dec.{ltb}
 use lib.ListN.{length, take, replicate}
 use Rattle.refusals.specs.Refusals.{Refusal, refuseIf, refuseAt, any, first}
-use Rattle.cut_rule.specs.Rules.{LayoutArgs, RenderArgs, LayoutResult, RenderResult, Rules}
+use Rattle.cut_rule.specs.Rules.{LayoutArgs, RenderTo, RenderArgs, LayoutResult, RenderResult, Rules}
 use Rattle.renderer_rules.specs.declared.Pen.{Pen}
 use Rattle.cut_rule.specs.States.{LayoutChoice, RenderChoice, Cursor, LayoutState, RenderState, layoutFresh, renderFresh}
 use Rattle.cut_rule.specs.Tests.{rowsIn, layoutTestsIn, renderTests, widthTests}
@@ -23,24 +23,24 @@ pub record Drawn : Type 0 where
   pub marks : List ℕ
   pub text : List ℕ
 
--- What is open here, for one source and one image.
+-- What is open here, for one source and one image. What depends on what a call chooses gets the whole choice.
 pub record RuleParts : Type 0 where
   pub source-size : ℕ
   pub declarations : ℕ
   pub comments : ℕ
   -- 1 to 7; and of these 1 and 3, "by the same tests"
   pub layout-image : Option Refusal
-  pub render-image : Option Refusal
-  -- the shebang, declaration n, and what closing adds by the mode, from a cursor
-  pub shebang : Cursor → Piece
-  pub declaration : ℕ → Cursor → Piece
-  pub final : ℕ → Cursor → Piece
+  pub render-image : RenderChoice → Option Refusal
+  -- the shebang, declaration n, and what closing adds, from a cursor
+  pub shebang : LayoutChoice → Cursor → Piece
+  pub declaration : LayoutChoice → ℕ → Cursor → Piece
+  pub final : LayoutChoice → Cursor → Piece
   -- 11's place, "0 for the stop, tested first", for the rows of a store from one up to a stop; none if all is right
-  pub wrong-row : List ℕ → ℕ → ℕ → Option ℕ
+  pub wrong-row : RenderChoice → List ℕ → ℕ → ℕ → Option ℕ
   -- "largest number in the rows plus 1", for the rows of a store from one up to a stop; 0 if none has one
   pub needed : List ℕ → ℕ → ℕ → ℕ
-  -- `Renderer` with a width, its three numbers and marks enough, over the rows of a store from one up to a stop
-  pub draw : ℕ → Pen → List ℕ → List ℕ → ℕ → ℕ → Drawn
+  -- `Renderer` with marks enough, over the rows of a store from a state's next row up to the stop
+  pub draw : RenderState → RenderTo RenderChoice → List ℕ → List ℕ → Drawn
 
 -- the piece that adds nothing
 abbrev pub still : Cursor → Piece
@@ -56,23 +56,23 @@ widthLine c s = refuseIf (any (widthTests (c .width) (s .width))) 15 0
 
 module _ (P : RuleParts) where
   -- "The first call lays the shebang"
-  abbrev pub begin : Bool → Cursor → Piece
-  begin true c = still c
-  begin false c = P .shebang c
+  abbrev pub begin : LayoutChoice → Bool → Cursor → Piece
+  begin k true c = still c
+  begin k false c = P .shebang k c
 
   -- n declarations more, from declaration d on
-  abbrev pub several : ℕ → ℕ → Piece → Piece
-  several zero d p = p
-  several (suc n) d p = andThen (several n d p) (P .declaration (d + n))
+  abbrev pub several : LayoutChoice → ℕ → ℕ → Piece → Piece
+  several k zero d p = p
+  several k (suc n) d p = andThen (several k n d p) (P .declaration k (d + n))
 
-  -- "closing .. adds the final `Line`", in the mode that the call chose
-  abbrev pub end : Bool → ℕ → Piece → Piece
-  end true mode p = andThen p (P .final mode)
-  end false mode p = p
+  -- "closing .. adds the final `Line`"
+  abbrev pub end : LayoutChoice → Bool → Piece → Piece
+  end k true p = andThen p (P .final k)
+  end k false p = p
 
   -- what a layout call lays: "The rows and state due at a stop are those `fmt_parsed` has when its loop reaches that declaration."
   abbrev pub callPiece : LayoutState → LayoutArgs LayoutChoice → Piece
-  callPiece s q = end (q .close) (q .choice .mode) (several (q .stop - s .declaration) (s .declaration) (begin (s .begun) (s .cursor)))
+  callPiece s q = end (q .choice) (q .close) (several (q .choice) (q .stop - s .declaration) (s .declaration) (begin (q .choice) (s .begun) (s .cursor)))
 
   -- "Its answer is the new state with the number of comments left."
   abbrev pub laidOf : LayoutState → LayoutArgs LayoutChoice → LayoutResult LayoutState
@@ -104,37 +104,37 @@ module _ (P : RuleParts) where
   abbrev pub withCleared : List ℕ → ℕ → List ℕ
   withCleared marks n = marks ++ replicate (n - length marks) 0
 
-  -- what the rows from the state's next row up to a stop give, with a width
-  abbrev pub drawnOf : ℕ → RenderState → List ℕ → List ℕ → ℕ → Drawn
-  drawnOf width s marks store stop = P .draw width (s .pen) (withCleared marks (P .needed store (s .row) stop)) store (s .row) stop
+  -- what the rows from the state's next row up to the stop give
+  abbrev pub drawnOf : RenderState → RenderTo RenderChoice → List ℕ → List ℕ → Drawn
+  drawnOf s q marks store = P .draw s q (withCleared marks (P .needed store (s .row) (q .stop))) store
 
   -- "carried in the rendering state": the state after an accepted call holds the width that it chose
-  abbrev pub renderedOf : RenderChoice → RenderState → List ℕ → List ℕ → ℕ → RenderResult RenderState
-  renderedOf c s marks store stop = record {
+  abbrev pub renderedOf : RenderState → RenderTo RenderChoice → List ℕ → List ℕ → RenderResult RenderState
+  renderedOf s q marks store = record {
     state = record {
-      pen = drawnOf (c .width) s marks store stop .pen;
-      in-use = max (s .in-use) (P .needed store (s .row) stop);
-      row = stop;
-      width = c .width;
+      pen = drawnOf s q marks store .pen;
+      in-use = max (s .in-use) (P .needed store (s .row) (q .stop));
+      row = q .stop;
+      width = q .choice .width;
     };
-    marks = drawnOf (c .width) s marks store stop .marks;
-    text = drawnOf (c .width) s marks store stop .text;
+    marks = drawnOf s q marks store .marks;
+    text = drawnOf s q marks store .text;
   }
 
   -- "largest number in the rows plus 1", and the bytes of the text, for the rows that a call reads
   abbrev pub marksFor : RenderArgs RenderChoice → RenderState → List ℕ → ℕ
-  marksFor q s store = P .needed store (s .row) (q .stop)
+  marksFor q s store = P .needed store (s .row) (q .to .stop)
 
   abbrev pub bytesNeeded : RenderArgs RenderChoice → RenderState → List ℕ → List ℕ → ℕ
-  bytesNeeded q s store marks = length (renderedOf (q .choice) s (take (s .in-use) marks) store (q .stop) .text)
+  bytesNeeded q s store marks = length (renderedOf s (q .to) (take (s .in-use) marks) store .text)
 
   -- "rendering 1, 3 by the same tests, then 11, 12, 9, 10", with 15 "directly after 12", in parts: the lines before marks are counted, 9, and 10, which alone needs the text
   abbrev pub beforeMarks : RenderArgs RenderChoice → RenderState → List ℕ → List ℕ → List (Option Refusal)
   beforeMarks q s store marks =
-      P .render-image
-      ∷ refuseAt (P .wrong-row store (s .row) (q .stop)) 11
+      P .render-image (q .to .choice)
+      ∷ refuseAt (P .wrong-row (q .to .choice) store (s .row) (q .to .stop)) 11
       ∷ refuseIf (any (renderTests q s store marks)) 12 0
-      ∷ widthLine (q .choice) s
+      ∷ widthLine (q .to .choice) s
       ∷ []
 
   abbrev pub marksLine : RenderArgs RenderChoice → RenderState → List ℕ → List ℕ → List (Option Refusal)

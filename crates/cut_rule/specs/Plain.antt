@@ -3,20 +3,17 @@ use mathlib.Core.Path.{_≡_}
 use mathlib.Core.Option.{Option, none, some}
 use mathlib.Core.List.{List, [], _∷_}
 use Prim.Native.Nat.{ℕ, _≤_, _<_}
-use Rattle.cut_rule.specs.Rules.{LayoutArgs, LayoutResult, RenderResult, Rules}
+use Rattle.cut_rule.specs.Rules.{LayoutArgs, RenderTo, LayoutResult, RenderResult, Rules}
 use Rattle.refusals.specs.Refusals.{unless}
-use Rattle.cut_rule.specs.Run.{writeFront, Call, layoutCall, renderCall, Carried, refusal, call, Answer, answer}
-
--- How far rendering came: its stop, and "what else the accepted calls of a kind chose".
-pub record RenderedTo (Choice : Type 0) : Type 0 where
-  pub stop : ℕ
-  pub choice : Choice
+use Rattle.refusals.specs.Answers.{Answer}
+use Rattle.cut_rule.specs.Run.{writeFront, Call, layoutCall, renderCall, Carried, refusal, call, CallResult, answer}
 
 module _ (R : Rules) where
-  -- "It keeps how far layout and rendering came"; none where no call of the kind was accepted yet.
+  -- "It keeps how far layout and rendering came", with "what else the accepted calls of a kind chose"; none where no call of the kind was
+  -- accepted yet.
   pub record Progress : Type 0 where
     pub laid-to : Option (LayoutArgs (R .LayoutChoice))
-    pub rendered-to : Option (RenderedTo (R .RenderChoice))
+    pub rendered-to : Option (RenderTo (R .RenderChoice))
 
   -- "both fresh at first"
   abbrev pub atFirst : Progress
@@ -28,9 +25,9 @@ module _ (R : Rules) where
   layoutDue (some q) = R .layout (R .layout-fresh) q
 
   -- "the marks in use, text and rendering state that the rows before the other stop give from fresh in one go"
-  abbrev pub renderDue : List ℕ → Option (RenderedTo (R .RenderChoice)) → RenderResult (R .RenderState)
+  abbrev pub renderDue : List ℕ → Option (RenderTo (R .RenderChoice)) → RenderResult (R .RenderState)
   renderDue rows none = record { state = R .render-fresh; marks = []; text = [] }
-  renderDue rows (some p) = R .render (p .choice) (R .render-fresh) [] rows (p .stop)
+  renderDue rows (some p) = R .render (R .render-fresh) p [] rows
 
   -- the comments left, once a layout call is accepted
   abbrev pub leftDue : Option (LayoutArgs (R .LayoutChoice)) → Option ℕ
@@ -58,7 +55,7 @@ module _ (R : Rules) where
   -- "An accepted layout call sets the one to its stop, closed or not, an accepted rendering call the other to its stop"
   abbrev pub onward : Progress → Call R → Progress
   onward f (layoutCall q) = record { laid-to = some q; rendered-to = f .rendered-to }
-  onward f (renderCall q) = record { laid-to = f .laid-to; rendered-to = some (record { stop = q .stop; choice = q .choice }) }
+  onward f (renderCall q) = record { laid-to = f .laid-to; rendered-to = some (q .to) }
 
   -- "the table below, read on what is due before a call, says whether it is accepted"; "a refused one neither"
   abbrev pub plainCall : List ℕ → List ℕ → Progress → Call R → Progress
@@ -69,7 +66,7 @@ module _ (R : Rules) where
   plain store₀ marks₀ f (c ∷ cs) = plain store₀ marks₀ (plainCall store₀ marks₀ f c) cs
 
   -- the answers that the table and the rules give on what is due before each call
-  abbrev pub answersDue : List ℕ → List ℕ → Progress → List (Call R) → List (Answer R)
+  abbrev pub answersDue : List ℕ → List ℕ → Progress → List (Call R) → List (Answer (CallResult R))
   answersDue store₀ marks₀ f [] = []
   answersDue store₀ marks₀ f (c ∷ cs) = answer R (due store₀ marks₀ f) c ∷ answersDue store₀ marks₀ (plainCall store₀ marks₀ f c) cs
 
@@ -79,7 +76,7 @@ module _ (R : Rules) where
   -- each row that a call reads, from its next row to its stop, is laid out
   abbrev pub ReadsLaid : Carried R → Call R → Type 0
   ReadsLaid w (layoutCall q) = Unit {0}
-  ReadsLaid w (renderCall q) = (k : ℕ) → R .reads-from (w .render-state) ≤ k → k < q .stop → k < R .next-row (w .layout-state)
+  ReadsLaid w (renderCall q) = (k : ℕ) → R .reads-from (w .render-state) ≤ k → k < q .to .stop → k < R .next-row (w .layout-state)
 
   -- No accepted call reads rows not yet laid out. What the store held at first may pass for rows: once a call has rendered them and layout has
   -- overwritten them, the text is not the one that the rows due give (proofs/Example.antt has such a list).

@@ -12,11 +12,15 @@ pub record LayoutArgs (Choice : Type 0) : Type 0 where
   pub close : Bool
   pub choice : Choice
 
--- "A rendering call names the row to stop before"; `room` is the length of the output that it is lent.
-pub record RenderArgs (Choice : Type 0) : Type 0 where
+-- How far a rendering goes, and what it chooses: "A rendering call names the row to stop before".
+pub record RenderTo (Choice : Type 0) : Type 0 where
   pub stop : ℕ
-  pub room : ℕ
   pub choice : Choice
+
+-- `room` is the length of the output that a rendering call is lent.
+pub record RenderArgs (Choice : Type 0) : Type 0 where
+  pub to : RenderTo Choice
+  pub room : ℕ
 
 -- What layout gives: the new state, the rows that it adds (nine numbers a row), "the number of comments left".
 pub record LayoutResult (State : Type 0) : Type 0 where
@@ -46,8 +50,8 @@ pub record Rules : Type 1 where
   pub in-use : RenderState → ℕ
   -- layout from a state to the stop
   pub layout : LayoutState → LayoutArgs LayoutChoice → LayoutResult LayoutState
-  -- rendering from a state, with the marks in use: of a store, the rows from where the state reads up to the stop
-  pub render : RenderChoice → RenderState → List ℕ → List ℕ → ℕ → RenderResult RenderState
+  -- rendering from a state to the stop, with the marks in use: of a store, the rows from where the state reads up to there
+  pub render : RenderState → RenderTo RenderChoice → List ℕ → List ℕ → RenderResult RenderState
   -- the table: the refusal of a call that meets this state, store and marks, or none
   pub layout-refusal : LayoutArgs LayoutChoice → LayoutState → List ℕ → Option Refusal
   pub render-refusal : RenderArgs RenderChoice → RenderState → List ℕ → List ℕ → Option Refusal

@@ -5,6 +5,7 @@ use Prim.Native.Nat.{ℕ, _*_}
 use lib.ListN.{length, take, drop}
 use Rattle.rows.specs.Places.{PLACES}
 use Rattle.refusals.specs.Refusals.{Refusal, unless}
+use Rattle.refusals.specs.Answers.{Answer, answerBy}
 use Rattle.cut_rule.specs.Rules.{LayoutArgs, RenderArgs, RenderResult, Rules}
 
 -- xs written over the front of a memory: "Memory past what is written is untouched."
@@ -41,7 +42,7 @@ module _ (R : Rules) where
 
   -- what an accepted rendering call gives
   abbrev pub rendered : Carried → RenderArgs (R .RenderChoice) → RenderResult (R .RenderState)
-  rendered w q = R .render (q .choice) (w .render-state) (take (R .in-use (w .render-state)) (w .marks)) (w .store) (q .stop)
+  rendered w q = R .render (w .render-state) (q .to) (take (R .in-use (w .render-state)) (w .marks)) (w .store)
 
   -- what an accepted call leaves
   abbrev pub accepted : Carried → Call → Carried
@@ -71,23 +72,19 @@ module _ (R : Rules) where
   run w [] = w
   run w (c ∷ cs) = run (call w c) cs
 
-  -- What a call answers: number and place; "the new state with the number of comments left"; "the new state and the bytes written".
-  pub data Answer : Type 0 where
-    refused : Refusal → Answer
-    laidOut : R .LayoutState → ℕ → Answer
-    written : R .RenderState → ℕ → Answer
+  -- What an accepted call gives: "the new state with the number of comments left"; "the new state and the bytes written".
+  pub data CallResult : Type 0 where
+    laidOut : R .LayoutState → ℕ → CallResult
+    written : R .RenderState → ℕ → CallResult
 
-  abbrev pub answerBy : Option Refusal → Answer → Answer
-  answerBy (some r) a = refused r
-  answerBy none a = a
+  abbrev pub callResult : Carried → Call → CallResult
+  callResult w (layoutCall q) = laidOut (R .layout (w .layout-state) q .state) (R .layout (w .layout-state) q .left)
+  callResult w (renderCall q) = written (rendered w q .state) (length (rendered w q .text))
 
-  abbrev pub acceptedAnswer : Carried → Call → Answer
-  acceptedAnswer w (layoutCall q) = laidOut (R .layout (w .layout-state) q .state) (R .layout (w .layout-state) q .left)
-  acceptedAnswer w (renderCall q) = written (rendered w q .state) (length (rendered w q .text))
+  -- what a call answers
+  abbrev pub answer : Carried → Call → Answer CallResult
+  answer w c = answerBy (refusal w c) (callResult w c)
 
-  abbrev pub answer : Carried → Call → Answer
-  answer w c = answerBy (refusal w c) (acceptedAnswer w c)
-
-  abbrev pub answers : Carried → List Call → List Answer
+  abbrev pub answers : Carried → List Call → List (Answer CallResult)
   answers w [] = []
   answers w (c ∷ cs) = answer w c ∷ answers (call w c) cs

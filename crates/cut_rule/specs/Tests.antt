@@ -82,7 +82,7 @@ markTests marks used = ltb (length marks) used ∷ oddMark (take used marks) ∷
 
 -- 12, as far as it is of rendering
 abbrev pub renderTests : RenderArgs RenderChoice → RenderState → List ℕ → List ℕ → List Bool
-renderTests q s store marks = rowTests (rowsIn store) (q .stop) (s .row) ++ (penTests (s .pen) ++ markTests marks (s .in-use))
+renderTests q s store marks = rowTests (rowsIn store) (q .to .stop) (s .row) ++ (penTests (s .pen) ++ markTests marks (s .in-use))
 
 -- 15: "a chosen width outside 40 to 200, or one that differs from a carried width other than 0"
 abbrev pub widthTests : ℕ → ℕ → List Bool

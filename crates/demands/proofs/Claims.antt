@@ -3,15 +3,18 @@
 use Rattle.image.proofs.Numbers.{read-numbers}
 use Rattle.rows.proofs.Table.{words-there}
 use Rattle.renderer_rules.proofs.Call.{call-as-rust}
+use Rattle.renderer_rules.proofs.Checked.{fault-of-part}
 use Rattle.renderer_rules.proofs.Holds.{writes-pieces, no-slash-around}
+use Rattle.layout_facts.proofs.Binop.{binop-as-rust}
+use Rattle.layout_facts.proofs.BlankLines.{blank-lines}
 use Rattle.layout_facts.proofs.Limits.{few-rows, words-due}
 use Rattle.layout_facts.proofs.Tokens.{says-the-program, fmt-parsed-says-the-program, slash-words}
-use Rattle.plain_run.proofs.Demands.{rules-cut, due-is-fmt-parsed, laid-within-limits}
-use Rattle.plain_run.proofs.Edges.{edges-hold, widths-hold, empty-line-holds}
-use Rattle.plain_run.proofs.File.{old-mode-is-fmt-parsed, new-mode-leaves-none}
-use Rattle.plain_run.proofs.FileLimits.{file-text-limited, file-column-limited}
-use Rattle.plain_run.proofs.Foot.{closing-places-all, closed-holds-all}
-use Rattle.plain_run.proofs.Reference.{reference-holds}
+use Rattle.whole_run.proofs.Demands.{rules-cut, due-is-fmt-parsed, laid-within-limits}
+use Rattle.whole_run.proofs.Edges.{edges-hold, widths-hold, empty-line-holds}
+use Rattle.whole_run.proofs.File.{old-mode-is-fmt-parsed, new-mode-leaves-none}
+use Rattle.whole_run.proofs.FileLimits.{file-text-limited, file-column-limited}
+use Rattle.whole_run.proofs.Foot.{closing-places-all, closed-holds-all}
+use Rattle.whole_run.proofs.Reference.{reference-holds}
 use Rattle.figures.proofs.Order.{totals-are-sums, same-in-any-order, first-are-counted, same-feed-in-any-order}
 use Rattle.tallies.proofs.Ratio.{always-reduced}
 use Rattle.steps.proofs.Claims.{exactly-one, written-reads-back}
@@ -24,8 +27,9 @@ use Rattle.demands.proofs.Demand3.{calls-hold-all, closing-leaves-none}
 use Rattle.demands.proofs.Generator.{generator-1, generator-lists}
 use Rattle.demands.proofs.Saves.{saves-1}
 use Rattle.demands.proofs.Linked.{linked-promises, linked-1, linked-2, linked-3, linked-calls-hold-all, linked-lists, linked-singles}
-use Rattle.demands.proofs.Text.{file-is-the-program, file-holds, new-mode-file-holds-all, linked-file-is-the-program, reply-is-the-program, calls-are-the-program, linked-calls-are-the-program}
-use Rattle.demands.proofs.Text.{calls-hold, closed-calls-hold-all, batch-is-the-programs, linked-batch-is-the-programs}
+use Rattle.demands.proofs.Text.{file-is-the-program, file-holds, new-mode-file-holds-all, linked-file-is-the-program}
+use Rattle.demands.proofs.Text.{reply-is-the-program, calls-are-the-program, linked-calls-are-the-program, calls-hold}
+use Rattle.demands.proofs.Text.{closed-calls-hold-all, batch-is-the-programs, linked-batch-is-the-programs}
 
 pub claims : Claims
 claims = record {
@@ -38,12 +42,14 @@ claims = record {
   };
   rules = record {
     call-as-rust = call-as-rust;
+    binop-as-rust = binop-as-rust;
     due-is-fmt-parsed = due-is-fmt-parsed;
     cut-rule = rules-cut;
     within-limits = laid-within-limits;
     few-rows = few-rows;
     words-there = words-there;
     words-due = words-due;
+    fault-of-part = fault-of-part;
     read-numbers = read-numbers;
   };
   text = record {
@@ -62,6 +68,7 @@ claims = record {
     slash-words = slash-words;
   };
   requests = record {
+    blank-lines = blank-lines;
     totals-are-sums = totals-are-sums;
     same-in-any-order = same-in-any-order;
     first-are-counted = first-are-counted;

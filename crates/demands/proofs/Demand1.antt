@@ -4,38 +4,36 @@ use mathlib.Core.Path.{_≡_, refl, sym, ap, _∙_}
 use mathlib.Core.Bool.{Bool, true, false, not, _||_}
 use mathlib.Core.Option.{Option, none, some}
 use mathlib.Core.List.{List, [], _∷_, _++_}
-use Prim.Native.Nat.{ℕ, _+_, _≤_}
+use Prim.Native.Nat.{ℕ}
 use native.Mathlib.Omega.{arith}
 use lib.Dec.{eqb, ltb}
 use lib.ListN.{length, take, drop}
-use lib.Seq.{sets, sets-eq, drop-at}
+use lib.Seq.{drop-at}
 use Rattle.refusals.specs.Refusals.{Refusal, refuseIf, refuseAt, any, first, isOneOf, unless}
-use Rattle.image.specs.Read.{Read, got, bad, Image, readAll, readNumbers, outcome, header, sourceFits}
+use Rattle.refusals.specs.Answers.{refusalOf}
+use Rattle.refusals.proofs.Answers.{by-table}
+use Rattle.image.specs.Read.{Read, got, bad, readAll, readRefusal, readNumbers, header, sourceFits}
 use Rattle.image.proofs.Numbers.{read-numbers}
-use Rattle.cut_rule.specs.Run.{answerBy, laidOut, written}
+use Rattle.image.proofs.Answers.{read-refusal}
 use Rattle.cut_rule.specs.Rules as rules
 use Rattle.cut_rule.specs.States as states
 use Rattle.cut_rule.specs.Tests as tests
 use Rattle.cut_rule.specs.Parts as cut
-use Rattle.plain_run.specs.Parts.{partsOf, readRefusal, renderImage}
-use Rattle.plain_run.specs.Demands.{rulesOf}
-use Rattle.plain_run.specs.File.{FileChoice, referenceChoice, layoutChoice, modeLine, renderChoice, fileRows, fileMarks, fileAnswerBy, formatted, laidRefusal, fileRefusal, drawnDue, rowsDue, marksDue}
-use Rattle.file.specs.Whole.{sourceOf, imageOf, frameFits, frameRefusal}
+use Rattle.whole_run.specs.Parts.{partsOf, renderImage}
+use Rattle.whole_run.specs.Demands.{rulesOf}
+use Rattle.whole_run.specs.Built.{FileChoice, layoutChoice, referenceChoice, drawnDue, rowsDue, marksDue}
+use Rattle.whole_run.specs.File.{fileRows, fileMarks, fileBeforeRows, fileRowsLine, fileBeforeMarks, fileMarksLine, fileBeforeText, fileTextLine}
+use Rattle.whole_run.specs.File.{fileTable, fileRefusal}
+use Rattle.file.specs.Whole.{sourceOf, imageOf, frameFits, frameRefusal, frameTable}
 use Rattle.layout_call.specs.Calls as layout
 use Rattle.render_call.specs.Calls as render
-use Rattle.reply.specs.Reply.{frameTable, programRoom, replyBy, reply}
+use Rattle.file.specs.Reply.{programRoom, replyBy, reply}
 use Rattle.cut_rule.proofs.Memory.{take-front}
-use Rattle.demands.specs.Demand1.{layoutNumbers, renderNumbers, fileNumbers, referenceNumbers, frameNumbers, countNumbers, readTold, callTold, fileTold, countTold, Answered, CheckAnswered, LayoutAnswered, RenderAnswered, FileAnswered, FrameAnswered, ProgramAnswered, CountAnswered, Demand1}
-use Rattle.tallies.specs.declared.Figures.{Figures}
+use Rattle.demands.specs.Demand1.{layoutNumbers, renderNumbers, fileNumbers, referenceNumbers, frameNumbers, countNumbers, Answered, CheckAnswered}
+use Rattle.demands.specs.Demand1.{LayoutAnswered, RenderAnswered, FileAnswered, FrameAnswered, ProgramAnswered, CountAnswered, Demand1}
 use Rattle.tallies.specs.declared.Tallies.{Tallies}
 use Rattle.tallies.specs.Tallies.{tallyTests, tallyRefusal}
-use Rattle.figures.specs.Figures.{FILE-OUTPUT, figuresOf, countRefusal, countAnswerBy}
-
--- numbers stored from the start of an array that has room for them stand at its start
-pub sets-front : (vs out : List ℕ) → length vs ≤ length out → sets out 0 vs ≡ vs ++ drop (length vs) out
-sets-front vs out h =
-    let from : 0 + length vs ≡ length vs = omega arith in
-    sets-eq vs out 0 (omega arith) ∙ ap (λ (k : ℕ). vs ++ drop k out) from
+use Rattle.figures.specs.Figures.{FILE-OUTPUT, countRefusal}
 
 -- ---- refusals under a list of numbers
 pub record Under (ns : List ℕ) (o : Option Refusal) : Type 0 where
@@ -68,6 +66,15 @@ under-first ns [] h = under-none ns
 under-first ns (some q ∷ os) h = h .0
 under-first ns (none ∷ os) h = under-first ns os (h .1)
 
+pub all-append : (ns : List ℕ) (os ps : List (Option Refusal)) → AllUnder ns os → AllUnder ns ps → AllUnder ns (os ++ ps)
+all-append ns [] ps h k = k
+all-append ns (o ∷ os) ps h k = (h .0, all-append ns os ps (h .1) k)
+
+-- what was read of something
+pub under-read : {A : Type 0} (ns : List ℕ) (x : Read A) → ((n p : ℕ) → x ≡ bad n p → isOneOf n ns ≡ true) → Under ns (readRefusal x)
+under-read ns (got a end) h = under-none ns
+under-read ns (bad n p) h = under-if ns true n p (h n p refl)
+
 -- more numbers
 one-more : (a b : Bool) → b ≡ true → (a || b) ≡ true
 one-more true b e = refl
@@ -89,11 +96,7 @@ under-before k ns o u = record { of = λ r e. one-more (eqb (r .number) k) (isOn
 
 -- ---- the tables
 pub read-under : (s b : List ℕ) → Under readNumbers (readRefusal (readAll s b))
-read-under s b = go (readAll s b) refl
-  where
-    go : (x : Read Image) → readAll s b ≡ x → Under readNumbers (readRefusal x)
-    go (got i end) e = under-none readNumbers
-    go (bad n p) e = under-if readNumbers true n p (read-numbers s b n p e)
+read-under s b = under-read readNumbers (readAll s b) (read-numbers s b)
 
 module _ (s b : List ℕ) where
   pub layout-under : (q : rules.LayoutArgs states.LayoutChoice) (z : states.LayoutState) (store : List ℕ)
@@ -122,11 +125,11 @@ module _ (s b : List ℕ) where
       under-first renderNumbers (cut.renderTable (partsOf s b) q z store marks) (
         image-under,
         (
-          under-at renderNumbers (partsOf s b .wrong-row store (z .row) (q .stop)) 11 refl,
+          under-at renderNumbers (partsOf s b .wrong-row (q .to .choice) store (z .row) (q .to .stop)) 11 refl,
           (
             under-if renderNumbers (any (tests.renderTests q z store marks)) 12 0 refl,
             (
-              under-if renderNumbers (any (tests.widthTests (q .choice .width) (z .width))) 15 0 refl,
+              under-if renderNumbers (any (tests.widthTests (q .to .choice .width) (z .width))) 15 0 refl,
               (
                 under-if renderNumbers (ltb (length marks) needed) 9 needed refl,
                 (under-if renderNumbers (ltb (q .room) bytes) 10 bytes refl, tt),
@@ -136,48 +139,45 @@ module _ (s b : List ℕ) where
         ),
       )
 
-  -- 9 and 10 behind what refuses before
-  later-under : (numbers : List ℕ) → isOneOf 9 numbers ≡ true → isOneOf 10 numbers ≡ true → (c : FileChoice) (room : ℕ)
-      → Under numbers (laidRefusal s b c fileRows)
-      → Under numbers (fileRefusal s b c room)
-  later-under numbers nine ten c room laid =
-      let text = length (drawnDue s b c .text) in
-      under-first numbers
-      (laidRefusal s b c fileRows ∷ refuseIf (ltb fileMarks (marksDue s b c)) 9 (marksDue s b c) ∷ refuseIf (ltb room text) 10 text ∷ [])
-      (laid, (under-if numbers (ltb fileMarks (marksDue s b c)) 9 (marksDue s b c) nine, (under-if numbers (ltb room text) 10 text ten, tt)))
+  -- ---- a whole file
+  -- 1 to 7, 12 and 15
+  pub before-under : (ns : List ℕ) → isOneOf 12 ns ≡ true → isOneOf 15 ns ≡ true → Under ns (readRefusal (readAll s b)) → (c : FileChoice)
+      → AllUnder ns (fileBeforeRows s b c)
+  before-under ns twelve fifteen read c = (
+    read,
+    (
+      under-if ns (any (tests.modeTests (layoutChoice c) states.layoutFresh)) 12 0 twelve,
+      (under-if ns (any (tests.widthTests (c .width) 0)) 15 0 fifteen, tt),
+    ),
+  )
 
-  -- 1 to 7, 12, 15 and 8
-  pub laid-under : (numbers : List ℕ) → isOneOf 12 numbers ≡ true → isOneOf 15 numbers ≡ true → isOneOf 8 numbers ≡ true
-      → Under numbers (readRefusal (readAll s b))
-      → (c : FileChoice)
-      → Under numbers (laidRefusal s b c fileRows)
-  laid-under numbers twelve fifteen eight read c =
-      under-first numbers
-      (readRefusal (readAll s b)
-      ∷ modeLine c
-      ∷ cut.widthLine (renderChoice c) states.renderFresh
-      ∷ refuseIf (ltb fileRows (rowsDue s b c)) 8 (rowsDue s b c)
-      ∷ []) (
-        read,
-        (
-          under-if numbers (any (tests.modeTests (layoutChoice c) states.layoutFresh)) 12 0 twelve,
-          (
-            under-if numbers (any (tests.widthTests (c .width) 0)) 15 0 fifteen,
-            (under-if numbers (ltb fileRows (rowsDue s b c)) 8 (rowsDue s b c) eight, tt),
-          ),
-        ),
-      )
+  -- and 8 and 9
+  pub early-under : (ns : List ℕ) → isOneOf 8 ns ≡ true → isOneOf 9 ns ≡ true → (c : FileChoice) → AllUnder ns (fileBeforeRows s b c)
+      → AllUnder ns (fileBeforeText s b c fileRows fileMarks)
+  early-under ns eight nine c before =
+      all-append ns (fileBeforeMarks s b c fileRows) (fileMarksLine s b c fileMarks)
+      (all-append ns (fileBeforeRows s b c) (fileRowsLine s b c fileRows) before (under-if ns (ltb fileRows (rowsDue s b c)) 8 (rowsDue s b c) eight, tt))
+      (under-if ns (ltb fileMarks (marksDue s b c)) 9 (marksDue s b c) nine, tt)
+
+  -- and 10
+  whole-under : (ns : List ℕ) → isOneOf 10 ns ≡ true → (c : FileChoice) (room : ℕ) → AllUnder ns (fileBeforeText s b c fileRows fileMarks)
+      → Under ns (fileRefusal s b c room)
+  whole-under ns ten c room early =
+      let text = length (drawnDue s b c .text) in
+      under-first ns (fileTable s b c fileRows fileMarks room)
+      (all-append ns (fileBeforeText s b c fileRows fileMarks) (fileTextLine s b c room) early (under-if ns (ltb room text) 10 text ten, tt))
 
   pub file-under : (c : FileChoice) (room : ℕ) → Under fileNumbers (fileRefusal s b c room)
-  file-under c room = later-under fileNumbers refl refl c room (laid-under fileNumbers refl refl refl (under-more readNumbers _ _ (read-under s b)) c)
+  file-under c room =
+      let read = under-more readNumbers (12 ∷ 15 ∷ 8 ∷ 9 ∷ 10 ∷ []) (readRefusal (readAll s b)) (read-under s b) in
+      whole-under fileNumbers refl c room (early-under fileNumbers refl refl c (before-under fileNumbers refl refl read c))
 
   -- in the old mode at 80 the lines of 12 and 15 compute to none
   pub reference-under : (room : ℕ) → Under referenceNumbers (fileRefusal s b referenceChoice room)
   reference-under room =
       let read : Under referenceNumbers (readRefusal (readAll s b)) = under-more readNumbers (8 ∷ 9 ∷ 10 ∷ []) (readRefusal (readAll s b)) (read-under s b) in
-      later-under referenceNumbers refl refl referenceChoice room
-      (under-first referenceNumbers (readRefusal (readAll s b) ∷ refuseIf (ltb fileRows (rowsDue s b referenceChoice)) 8 (rowsDue s b referenceChoice) ∷ [])
-      (read, (under-if referenceNumbers (ltb fileRows (rowsDue s b referenceChoice)) 8 (rowsDue s b referenceChoice) refl, tt)))
+      whole-under referenceNumbers refl referenceChoice room
+      (early-under referenceNumbers refl refl referenceChoice (read, (under-none referenceNumbers, (under-none referenceNumbers, tt))))
 
 frame-under : (frame : List ℕ) (room : ℕ) → Under frameNumbers (frameTable frame room)
 frame-under frame room =
@@ -188,74 +188,42 @@ frame-under frame room =
     )
 
 -- ---- answers by a table
-pub answered : {ns : List ℕ} {table told : Option Refusal} {Kept : Type 0} → told ≡ table → Under ns table → ((r : Refusal) → table ≡ some r → Kept)
-    → Answered ns table told Kept
+pub answered : {ns : List ℕ} {table refusal : Option Refusal} {Kept : Type 0} → refusal ≡ table → Under ns table
+    → ((r : Refusal) → table ≡ some r → Kept)
+    → Answered ns table refusal Kept
 answered e u k = record { as-table = e; listed = λ r f. u .of r (sym e ∙ f); kept = λ r f. k r (sym e ∙ f) }
-
-laid-told : (s b : List ℕ) (o : Option Refusal) (t : states.LayoutState) (n : ℕ) → callTold s b (answerBy (rulesOf s b) o (laidOut t n)) ≡ o
-laid-told s b (some r) t n = refl
-laid-told s b none t n = refl
-
-written-told : (s b : List ℕ) (o : Option Refusal) (t : states.RenderState) (n : ℕ) → callTold s b (answerBy (rulesOf s b) o (written t n)) ≡ o
-written-told s b (some r) t n = refl
-written-told s b none t n = refl
-
-file-told : (o : Option Refusal) (bytes left rows numbers : ℕ) → fileTold (fileAnswerBy o (formatted bytes left rows numbers)) ≡ o
-file-told (some r) bytes left rows numbers = refl
-file-told none bytes left rows numbers = refl
-
-frame-told : (o u : Option Refusal) (bytes left rows numbers : ℕ)
-    → fileTold (fileAnswerBy o (fileAnswerBy u (formatted bytes left rows numbers))) ≡ first (o ∷ u ∷ [])
-frame-told (some r) u bytes left rows numbers = refl
-frame-told none (some r) bytes left rows numbers = refl
-frame-told none none bytes left rows numbers = refl
-
-count-told : (o : Option Refusal) (f : Figures) (t : Tallies) → countTold (countAnswerBy o f t) ≡ o
-count-told (some r) f t = refl
-count-told none f t = refl
 
 -- what stands where a call is refused
 pub left-same : (o : Option Refusal) (r : Refusal) (old new : List ℕ) → o ≡ some r → unless o old new ≡ old
 left-same (some q) r old new e = refl
 left-same none r old new e = never r e
 
-frame-same : (o u : Option Refusal) (r : Refusal) (old new : List ℕ) → first (o ∷ u ∷ []) ≡ some r → unless o old (unless u old new) ≡ old
-frame-same (some q) u r old new e = refl
-frame-same none (some q) r old new e = refl
-frame-same none none r old new e = never r e
-
 -- ---- the entries
-read-told : (x : Read Image) → readTold (outcome x) ≡ readRefusal x
-read-told (got i end) = refl
-read-told (bad n p) = refl
-
 check : CheckAnswered
-check s b r e = answered (ap readTold e ∙ read-told (readAll s b)) (read-under s b) (λ r f. tt)
+check s b r e = answered (ap refusalOf e ∙ read-refusal (readAll s b)) (read-under s b) (λ r f. tt)
 
 layout-call : LayoutAnswered
 layout-call s b state args store r store2 p =
-    answered (ap (callTold s b) (p .answer) ∙ laid-told s b (rulesOf s b .layout-refusal (layout.toArgs args) (layout.toState state) store) _ _)
+    answered (ap refusalOf (p .answer) ∙ by-table (rulesOf s b .layout-refusal (layout.toArgs args) (layout.toState state) store) _)
     (layout-under s b (layout.toArgs args) (layout.toState state) store)
     (λ r f. p .store-left ∙ left-same _ r store _ f)
 
 render-call : RenderAnswered
 render-call s b state args store marks out r store2 marks2 out2 p =
     answered
-    (ap (callTold s b) (p .answer) ∙ written-told s b (rulesOf s b .render-refusal (render.toArgs args (length out)) (render.toState state) store marks) _ _)
+    (ap refusalOf (p .answer) ∙ by-table (rulesOf s b .render-refusal (render.toArgs args (length out)) (render.toState state) store marks) _)
     (render-under s b (render.toArgs args (length out)) (render.toState state) store marks)
     (λ r f. (p .store-left, p .marks-left ∙ left-same _ r marks _ f, p .output-left ∙ left-same _ r out _ f))
 
 format-file : FileAnswered
 format-file s b c out r out2 p =
-    answered (ap fileTold (p .answer) ∙ file-told (fileRefusal s b c (length out)) _ _ _ _) (file-under s b c (length out))
+    answered (ap refusalOf (p .answer) ∙ by-table (fileRefusal s b c (length out)) _) (file-under s b c (length out))
     (λ r f. p .output-left ∙ left-same _ r out _ f)
 
 format-frame : FrameAnswered
 format-frame frame out r out2 p =
-    let s = sourceOf frame in
-    let b = imageOf frame in
-    answered (ap fileTold (p .answer) ∙ frame-told (frameRefusal frame) (fileRefusal s b referenceChoice (length out)) _ _ _ _) (frame-under frame (length out))
-    (λ r f. p .output-left ∙ frame-same (frameRefusal frame) (fileRefusal s b referenceChoice (length out)) r out _ f)
+    answered (ap refusalOf (p .answer) ∙ by-table (frameTable frame (length out)) _) (frame-under frame (length out))
+    (λ r f. p .output-left ∙ left-same _ r out _ f)
 
 pub count-under : (s b : List ℕ) (t : Tallies) → Under countNumbers (countRefusal s b t)
 count-under s b t =
@@ -265,7 +233,7 @@ count-under s b t =
     )
 
 count-file : CountAnswered
-count-file s b t r e = answered (ap countTold e ∙ count-told (countRefusal s b t) (figuresOf s b) t) (count-under s b t) (λ r f. tt)
+count-file s b t r e = answered (ap refusalOf e ∙ by-table (countRefusal s b t) _) (count-under s b t) (λ r f. tt)
 
 program-wrote : ProgramAnswered
 unfolding reply

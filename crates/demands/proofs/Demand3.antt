@@ -4,25 +4,25 @@ use mathlib.Core.Path.{_≡_, refl, sym, ap, ap₂, subst, _∙_}
 use mathlib.Core.List.{List, [], _∷_, map, append-nil}
 use Prim.Native.Nat.{ℕ}
 use lib.ListN.{length}
-use Rattle.image.specs.Read.{readAll}
-use Rattle.cut_rule.specs.Run.{Call, Carried, Answer, layoutCall, renderCall, start, call, run, answer, answers}
+use Rattle.refusals.specs.Answers.{Answer}
+use Rattle.image.specs.Read.{readAll, readRefusal}
+use Rattle.cut_rule.specs.Run.{Call, Carried, CallResult, layoutCall, renderCall, start, call, run, answer, answers}
 use Rattle.cut_rule.specs.Entries.{entryCall}
 use Rattle.cut_rule.specs.CutRule.{CommentsKept, CutRule}
 use Rattle.cut_rule.specs.Callers.{afterAll, AllKept}
 use Rattle.cut_rule.proofs.Entries.{entries-are-calls}
-use Rattle.cut_rule.proofs.Answers.{all-held}
+use Rattle.cut_rule.proofs.Answers.{laid-by, all-held}
 use mathlib.Core.Bool.{false}
 use mathlib.Core.Option.{none}
 use Rattle.refusals.specs.Refusals.{any, refuseIf}
 use Rattle.refusals.proofs.Groups.{passes-left, passes-line, passes-others, not-if}
 use Rattle.cut_rule.specs.States as states
 use Rattle.cut_rule.specs.Parts.{layoutTests, beforeRows, rowsLine, laidOf}
-use Rattle.cut_rule.proofs.Answers.{laid-told}
-use Rattle.plain_run.specs.Parts.{readRefusal, listed, partsOf}
-use Rattle.plain_run.specs.Demands.{rulesOf}
-use Rattle.plain_run.specs.Foot.{HoldsAll}
-use Rattle.plain_run.proofs.Demands.{rules-cut}
-use Rattle.plain_run.proofs.Foot.{closing-places-all, closed-holds-all}
+use Rattle.whole_run.specs.Parts.{listed, partsOf}
+use Rattle.whole_run.specs.Demands.{rulesOf}
+use Rattle.whole_run.specs.Foot.{HoldsAll}
+use Rattle.whole_run.proofs.Demands.{rules-cut}
+use Rattle.whole_run.proofs.Foot.{closing-places-all, closed-holds-all}
 use Rattle.layout_call.specs.declared.LayoutArgs.{LayoutArgs}
 use Rattle.layout_call.specs.declared.Laying.{Laying}
 use Rattle.layout_call.specs.declared.Laying.the-variants as laying
@@ -33,7 +33,8 @@ use Rattle.render_call.specs.declared.Rendering.{Rendering}
 use Rattle.render_call.specs.declared.Rendering.the-variants as rendering
 use Rattle.render_call.specs.Calls as render
 use Rattle.render_call.specs.Whole.{RenderCalled}
-use Rattle.demands.specs.Demand3.{Caller, freshCaller, Made, laid, rendered, Promised, afterMade, callMade, answerMade, held, HeldAsDue, Demand3, CallsHoldAll, ClosingLeavesNone}
+use Rattle.demands.specs.Demand3.{Caller, freshCaller, Made, laid, rendered, Promised, afterMade, callMade}
+use Rattle.demands.specs.Demand3.{answerMade, held, HeldAsDue, Demand3, CallsHoldAll, ClosingLeavesNone}
 
 module _ (s b : List ℕ) where
   -- one call
@@ -47,7 +48,8 @@ module _ (s b : List ℕ) where
 
   render-held : (w : Caller) (args : RenderArgs) (out : List ℕ) (r : Rendering) (store2 marks2 out2 : List ℕ)
       → RenderCalled s b (w .render-state) args (w .store) (w .marks) out r store2 marks2 out2
-      → held s b (afterMade w (rendered args out r store2 marks2 out2)) ≡ entryCall (rulesOf s b) (held s b w) out (renderCall (render.toArgs args (length out)))
+      → held s b (afterMade w (rendered args out r store2 marks2 out2))
+      ≡ entryCall (rulesOf s b) (held s b w) out (renderCall (render.toArgs args (length out)))
   render-held w args out (rendering.Written t n) store2 marks2 out2 p = rw (sym (p .answer), p .store-left, p .marks-left, p .output-left)
   render-held w args out (rendering.Refused n q) store2 marks2 out2 p =
       ap (withText (held s b (afterMade w (rendered args out (rendering.Refused n q) store2 marks2 out2)))) (sym (append-nil (w .text)))
@@ -63,10 +65,11 @@ module _ (s b : List ℕ) where
   one-answer w (rendered args out r store2 marks2 out2) p = p .answer
 
   -- the list
-  all-answers : (w : Caller) (ms : List Made) → AllKept afterMade (Promised s b) w ms → map (answerMade s b) ms ≡ answers (rulesOf s b) (held s b w) (map (callMade s b) ms)
+  all-answers : (w : Caller) (ms : List Made) → AllKept afterMade (Promised s b) w ms
+      → map (answerMade s b) ms ≡ answers (rulesOf s b) (held s b w) (map (callMade s b) ms)
   all-answers w [] p = refl
   all-answers w (m ∷ ms) p =
-      ap₂ (λ (x : Answer (rulesOf s b)) (xs : List (Answer (rulesOf s b))). x ∷ xs) (one-answer w m (p .0))
+      ap₂ (λ (x : Answer (CallResult (rulesOf s b))) (xs : List (Answer (CallResult (rulesOf s b)))). x ∷ xs) (one-answer w m (p .0))
       (all-answers (afterMade w m) ms (p .1) ∙ ap (λ (v : Carried (rulesOf s b)). answers (rulesOf s b) v (map (callMade s b) ms)) (one-held w m (p .0)))
 
 -- the cut rule, of what is held after calls that make the run
@@ -111,8 +114,8 @@ closing-leaves-none s b state args store t left store2 p closes new =
     let z = layout.toState state in
     let P = partsOf s b in
     let given = laidOf P z q in
-    let told = laid-told (rulesOf s b) (rulesOf s b .layout-refusal q z store) (layout.toState t) left (given .state) (given .left) (p .answer) in
-    let lines = passes-left (beforeRows P q z store) (rowsLine P q z store) (told .passes) in
+    let laid-out = laid-by (rulesOf s b) (rulesOf s b .layout-refusal q z store) (layout.toState t) left (given .state) (given .left) (p .answer) in
+    let lines = passes-left (beforeRows P q z store) (rowsLine P q z store) (laid-out .passes) in
     let twelve = refuseIf (any (layoutTests P q z store)) 12 0 in
     let read : readRefusal (readAll s b) ≡ none = passes-line (P .layout-image) (twelve ∷ []) lines in
     let tests : any (layoutTests P q z store) ≡ false =
@@ -120,7 +123,7 @@ closing-leaves-none s b state args store t left store2 p closes new =
     in
     let all = closing-places-all s b store q z read tests closes new in
     record {
-      none-left = told .left ∙ all .left;
-      placed = ap (λ (x : states.LayoutState). x .cursor .placed) (told .state) ∙ all .placed;
-      position = ap (λ (x : states.LayoutState). x .cursor .position) (told .state) ∙ all .position;
+      none-left = laid-out .left ∙ all .left;
+      placed = ap (λ (x : states.LayoutState). x .cursor .placed) (laid-out .state) ∙ all .placed;
+      position = ap (λ (x : states.LayoutState). x .cursor .position) (laid-out .state) ∙ all .position;
     }

@@ -4,31 +4,29 @@ use mathlib.Core.Path.{_≡_, refl, sym, ap, ap₂, subst, subst₂, _∙_}
 use mathlib.Core.Bool.{Bool, true, false, cond}
 use mathlib.Core.Option.{Option, none, some}
 use mathlib.Core.List.{List, [], _∷_, _++_, map, append-nil}
-use Prim.Native.Nat.{ℕ, _+_, _≤_}
+use Prim.Native.Nat.{ℕ, suc, _≤_}
 use native.Mathlib.Omega.{arith}
 use lib.Dec.{eqb}
 use lib.ListN.{length, getD, take, drop}
-use lib.Seq.{sets}
 use borrow.Author.Tests.{eqb-true}
-use Rattle.laws.proofs.Options as options
 use Rattle.refusals.specs.Refusals.{Refusal, isOneOf}
-use Rattle.image.specs.Read.{Read, got, bad, Image, readAll, readNumbers, outcome, outcomeOf}
-use Rattle.image.specs.declared.Answer.{Answer as Checked}
+use Rattle.refusals.specs.Answers.{Answer, refused, accepted, answerBy, numbersOf}
+use Rattle.refusals.proofs.Answers.{told-zero, told-refusal}
+use Rattle.image.specs.Read.{Read, got, bad, Image, readAll, readRefusal, readNumbers, documentOf, outcome, checkedAnswer}
+use Rattle.image.specs.declared.Document.{Document}
 use Rattle.image.specs.declared.Answer.the-variants as checked
-use Rattle.cut_rule.specs.Run.{Call, Answer, answerBy, laidOut, written, Carried, start, run}
+use Rattle.cut_rule.specs.Run.{Call, CallResult, laidOut, written, Carried, start, run}
 use Rattle.cut_rule.specs.Plain.{atFirst, answersDue, AllReadLaid}
 use Rattle.cut_rule.specs.Callers.{afterAll, AllKept}
 use Rattle.cut_rule.specs.States as states
 use Rattle.cut_rule.specs.States.{NEW-MODE}
-use Rattle.plain_run.specs.Parts.{readRefusal}
-use Rattle.plain_run.specs.Demands.{rulesOf}
-use Rattle.plain_run.specs.Foot.{HoldsAll}
-use Rattle.plain_run.specs.File.{fileRefusal, FileAnswer, fileAnswerBy}
-use Rattle.plain_run.specs.File as file
+use Rattle.whole_run.specs.Built.{declared}
+use Rattle.whole_run.specs.Demands.{rulesOf}
+use Rattle.whole_run.specs.File.{fileRefusal, FileResult, fileResult}
+use Rattle.whole_run.specs.Foot.{HoldsAll}
 use Rattle.layout_call.specs.declared.Laying.{Laying}
 use Rattle.layout_call.specs.declared.Laying.the-variants as laying
 use Rattle.layout_call.specs.Calls as layout
-use Rattle.layout_call.specs.Steps.{declared}
 use Rattle.layout_call.specs.Whole.{LayoutCalled}
 use Rattle.render_call.specs.declared.Rendering.{Rendering}
 use Rattle.render_call.specs.declared.Rendering.the-variants as rendering
@@ -37,42 +35,38 @@ use Rattle.render_call.specs.Whole.{RenderCalled}
 use Rattle.file.specs.declared.Formatted.{Formatted}
 use Rattle.file.specs.declared.Formatted.the-variants as formatted
 use Rattle.file.specs.Whole.{toChoice, formattedAnswer, Formats}
-use Rattle.figures.specs.declared.Counted.{Counted}
 use Rattle.figures.specs.declared.Counted.the-variants as counted
-use Rattle.figures.specs.Figures.{figuresOf, countRefusal, countAnswerBy, countedAnswer}
-use Rattle.tallies.specs.declared.Figures.{Figures}
-use Rattle.tallies.specs.declared.Tallies.{Tallies}
-use Rattle.tallies.specs.declared.Fraction.{Fraction}
-use Rattle.tallies.specs.Tallies.{added}
-use Rattle.tallies.specs.Fraction.{reduced}
-use Rattle.steps.specs.Writer.{WriterAnswer, writerRefusal, writerAnswerBy, imageDue}
+use Rattle.figures.specs.Figures.{figuresOf, countRefusal, CountResult, countResult, countedAnswer}
+use Rattle.steps.specs.Writer.{writerRefusal, imageDue}
 use Rattle.steps.specs.OfImage.{stepsOfRefusal, stepsDue}
 use Rattle.writer.specs.declared.Wrote.{Wrote}
 use Rattle.writer.specs.declared.Wrote.the-variants as wrote
 use Rattle.writer.specs.Wrote.{wroteAnswer, Writes, Lists}
-use Rattle.batch.specs.Batch.{BatchAnswer, batchRefusal, batchAnswerBy, allSaves, savesBy, textsDue}
+use Rattle.batch.specs.Batch.{batchRefusal, BatchResult, batchResult}
 use Rattle.batch.specs.Whole.{batchedAnswer, Batches}
 use Rattle.batch.specs.declared.Batch.{Batch}
 use Rattle.batch.specs.declared.Batch.the-variants as batch
 use Rattle.batch.proofs.Singles.{as-singles}
-use Rattle.exports.specs.Numbers.{flag, bit, layoutState, layoutArgs, renderState, renderArgs, fileChoice, toldCall, toldRead, toldFile, figuresFrom, talliesFrom, toldCount}
-use Rattle.exports.specs.Calls.{Lays, Renders, FormatsFile}
-use Rattle.exports.specs.Generator.{toldWriter}
+use Rattle.exports.specs.Numbers.{flag, bit, layoutState, layoutArgs, renderState, renderArgs}
+use Rattle.exports.specs.Numbers.{fileChoice, talliesFrom, toldDocument, toldCall, toldFile, toldCounted}
+use Rattle.exports.specs.Calls.{ChecksFile, Lays, Renders, FormatsFile}
+use Rattle.exports.specs.Generator.{toldBytes}
 use Rattle.exports.specs.Saves.{toldBatch, FormatsBatch}
-use Rattle.demands.specs.Demand1.{layoutNumbers, renderNumbers, fileNumbers, countNumbers, readTold, callTold, fileTold, countTold, Answered}
+use Rattle.demands.specs.Demand1.{layoutNumbers, renderNumbers, fileNumbers, countNumbers}
 use Rattle.demands.specs.Demand3.{Caller, freshCaller, Made, Promised, afterMade, callMade, answerMade, held, HeldAsDue}
 use Rattle.demands.specs.Demand3 as made
-use Rattle.demands.specs.Generator.{writerNumbers, stepsNumbers, writerTold}
-use Rattle.demands.specs.Saves.{batchNumbers, batchTold}
-use Rattle.demands.specs.Linked.{answerFrom, checkedFrom, layingFrom, renderingFrom, formattedFrom, countedFrom, wroteFrom, batchFrom, LinkedPromises, Told, Linked1, Linked2}
-use Rattle.demands.specs.Linked.{Holder, freshHolder, LinkedCall, laid, rendered, LinkedPromised, afterLinked, callLinked, heldLinked, madeLinked, LinkedCut, Linked3, LinkedCallsHoldAll, LinkedLists, LinkedSingles}
-use Rattle.demands.proofs.Demand1.{sets-front, Under, read-under, layout-under, render-under, file-under, count-under, demand-1}
+use Rattle.demands.specs.Generator.{writerNumbers, stepsNumbers}
+use Rattle.demands.specs.Saves.{batchNumbers}
+use Rattle.demands.specs.Linked.{answerFrom, checkedFrom, layingFrom, renderingFrom, formattedFrom, countedFrom, wroteFrom, batchFrom}
+use Rattle.demands.specs.Linked.{LinkedPromises, Told, Linked1, Linked2, Holder, freshHolder, LinkedCall, laid, rendered, LinkedPromised}
+use Rattle.demands.specs.Linked.{afterLinked, callLinked, heldLinked, madeLinked, LinkedCut, Linked3, LinkedCallsHoldAll, LinkedLists, LinkedSingles}
+use Rattle.demands.proofs.Demand1.{Under, read-under, layout-under, render-under, file-under, count-under, left-same}
 use Rattle.demands.proofs.Demand2.{demand-2}
 use Rattle.demands.proofs.Demand3.{made-run, demand-3, calls-hold-all}
-use Rattle.demands.proofs.Generator.{write-under, list-under, generator-1, generator-lists}
-use Rattle.demands.proofs.Saves.{batch-under, saves-1}
+use Rattle.demands.proofs.Generator.{write-under, list-under, generator-lists}
+use Rattle.demands.proofs.Saves.{batch-under}
 
--- ---- a refusal in the first two places, or 0 in the first
+-- ---- numbers and answers
 -- an entry's number is not 0
 not-zero : (ns : List ℕ) (r : Refusal) → isOneOf 0 ns ≡ false → isOneOf (r .number) ns ≡ true → eqb (r .number) 0 ≡ false
 not-zero ns r f e = go (eqb (r .number) 0) refl
@@ -84,107 +78,153 @@ not-zero ns r f e = go (eqb (r .number) 0) refl
         let z : _≡_ {A = Bool} true false = sym e ∙ ap (λ (k : ℕ). isOneOf k ns) n ∙ f in
         absurd (let y : _≡_ {A = ℕ} 0 1 = cc in omega arith)
 
-from-refused : {A : Type 0} (refused : ℕ → ℕ → A) (told : A) (ns : List ℕ) (r : Refusal) (out out2 : List ℕ) → isOneOf 0 ns ≡ false
-    → isOneOf (r .number) ns ≡ true → 2 ≤ length out → out2 ≡ sets out 0 (r .number ∷ r .place ∷ [])
-    → answerFrom refused told out2 ≡ refused (r .number) (r .place)
-from-refused {A} refused told ns r out out2 z u h e =
-    let at : out2 ≡ (r .number ∷ r .place ∷ []) ++ drop 2 out = e ∙ sets-front (r .number ∷ r .place ∷ []) out h in
-    ap (λ (l : List ℕ). answerFrom refused told l) at ∙ ap (λ (x : Bool). cond x told (refused (r .number) (r .place))) (not-zero ns r z u)
-
-from-accepted : {A : Type 0} (refused : ℕ → ℕ → A) (told : A) (out2 : List ℕ) → getD out2 0 0 ≡ 0 → answerFrom refused told out2 ≡ told
-from-accepted refused told out2 e = ap (λ (n : ℕ). cond (eqb n 0) told (refused n (getD out2 1 0))) e
+from-accepted : {X : Type 0} (refusing : ℕ → ℕ → X) (x : X) (out2 : List ℕ) → getD out2 0 0 ≡ 0 → answerFrom refusing x out2 ≡ x
+from-accepted refusing x out2 e = ap (λ (n : ℕ). cond (eqb n 0) x (refusing n (getD out2 1 0))) e
 
 flag-bit : (t : Bool) → flag (bit t) ≡ t
 flag-bit true = refl
 flag-bit false = refl
 
+-- a refusal, read from its number and place
+refusal-from : {X A : Type 0} (answer : X → Answer A) (refusing : ℕ → ℕ → X) (x : X) (r : Refusal) (rest : List ℕ)
+    → answer (refusing (r .number) (r .place)) ≡ refused r
+    → eqb (r .number) 0 ≡ false
+    → answer (answerFrom refusing x (r .number ∷ r .place ∷ rest)) ≡ refused r
+refusal-from answer refusing x r rest e f = ap (λ (t : Bool). answer (cond t x (refusing (r .number) (r .place)))) f ∙ e
+
+-- what numbers that begin with 0 tell, and what others tell
+record Reads {X A : Type 0} (answer : X → Answer A) (from : List ℕ → X) (told : A → List ℕ) (a : A) : Type 0 where
+  pub refusal : (r : Refusal) (rest : List ℕ) → eqb (r .number) 0 ≡ false → answer (from (r .number ∷ r .place ∷ rest)) ≡ refused r
+  pub given : (rest : List ℕ) → answer (from ((0 ∷ told a) ++ rest)) ≡ accepted a
+
+-- so the numbers of an answer by a table tell that answer
+read-back : {X A : Type 0} (answer : X → Answer A) (from : List ℕ → X) (told : A → List ℕ) (ns : List ℕ) (o : Option Refusal) (a : A) (out out2 : List ℕ)
+    → isOneOf 0 ns ≡ false
+    → Under ns o
+    → 2 ≤ length out
+    → suc (length (told a)) ≤ length out
+    → Reads answer from told a
+    → out2 ≡ numbersOf told (answerBy o a) out
+    → answer (from out2) ≡ answerBy o a
+read-back {X} {A} answer from told ns o a out out2 z u two all back e = go o refl
+  where
+    go : (x : Option Refusal) → o ≡ x → answer (from out2) ≡ answerBy x a
+    go none f = ap (λ (l : List ℕ). answer (from l)) (e ∙ told-zero told o a out all f) ∙ back .given (drop (suc (length (told a))) out)
+    go (some r) f =
+        ap (λ (l : List ℕ). answer (from l)) (e ∙ told-refusal told o a out r two f)
+        ∙ back .refusal r (drop 2 out) (not-zero ns r z (u .of r f))
+
+-- the first numbers of it
+told-first : {A : Type 0} (told : A → List ℕ) (ns : List ℕ) (o : Option Refusal) (a : A) (out out2 : List ℕ) (Kept : Type 0) → Under ns o
+    → 2 ≤ length out
+    → suc (length (told a)) ≤ length out
+    → ((r : Refusal) → o ≡ some r → Kept)
+    → out2 ≡ numbersOf told (answerBy o a) out
+    → Told ns o out2 Kept
+told-first told ns o a out out2 Kept u two all kept e = record {
+  accepted = λ f. ap (λ (l : List ℕ). getD l 0 0) (e ∙ told-zero told o a out all f);
+  refused =
+      λ r f.
+      let at = e ∙ told-refusal told o a out r two f in
+      record {
+        number-told = ap (λ (l : List ℕ). getD l 0 0) at;
+        place-told = ap (λ (l : List ℕ). getD l 1 0) at;
+        listed-one = u .of r f;
+        kept = kept r f;
+      };
+}
+
+-- ---- the reader's check: its answer is one by a table
+abbrev documentBy : Read Image → Document
+documentBy (got i end) = documentOf i
+documentBy (bad n p) = record { comments = 0; tree = 0 }
+
+outcome-by : (x : Read Image) → outcome x ≡ answerBy (readRefusal x) (documentBy x)
+outcome-by (got i end) = refl
+outcome-by (bad n p) = refl
+
+check-told : (s b out out2 : List ℕ) → ChecksFile s b out out2
+    → out2 ≡ numbersOf (toldDocument (length (declared s b))) (answerBy (readRefusal (readAll s b)) (documentBy (readAll s b))) out
+check-told s b out out2 e =
+    e ∙ ap (λ (a : Answer Document). numbersOf (toldDocument (length (declared s b))) a out) (outcome-by (readAll s b))
+
+-- ---- what the numbers of each entry tell
+checked-reads : (d : ℕ) (a : Document) → Reads checkedAnswer checkedFrom (toldDocument d) a
+checked-reads d a = record { refusal = λ r rest. refusal-from checkedAnswer checked.Refused _ r rest refl; given = λ rest. refl }
+
+laying-reads : (s b : List ℕ) (t : states.LayoutState) (n : ℕ) → Reads (layout.layingAnswer s b) layingFrom (toldCall s b) (laidOut t n)
+laying-reads s b t n = record {
+  refusal = λ r rest. refusal-from (layout.layingAnswer s b) laying.Refused _ r rest refl;
+  given =
+      λ rest i.
+      accepted
+      (laidOut
+      (record {
+        begun = flag-bit (t .begun) i;
+        closed = flag-bit (t .closed) i;
+        declaration = t .declaration;
+        cursor = t .cursor;
+        mode = t .mode;
+      })
+      n);
+}
+
+rendering-reads : (s b : List ℕ) (t : states.RenderState) (n : ℕ) → Reads (render.renderingAnswer s b) renderingFrom (toldCall s b) (written t n)
+rendering-reads s b t n = record {
+  refusal = λ r rest. refusal-from (render.renderingAnswer s b) rendering.Refused _ r rest refl;
+  given = λ rest. refl;
+}
+
+formatted-reads : (a : FileResult) → Reads formattedAnswer formattedFrom toldFile a
+formatted-reads a = record { refusal = λ r rest. refusal-from formattedAnswer formatted.Refused _ r rest refl; given = λ rest. refl }
+
+counted-reads : (a : CountResult) → Reads countedAnswer countedFrom toldCounted a
+counted-reads a = record { refusal = λ r rest. refusal-from countedAnswer counted.Refused _ r rest refl; given = λ rest. refl }
+
+wrote-reads : (n : ℕ) → Reads wroteAnswer wroteFrom toldBytes n
+wrote-reads n = record { refusal = λ r rest. refusal-from wroteAnswer wrote.Refused _ r rest refl; given = λ rest. refl }
+
+batch-reads : (a : BatchResult) → Reads batchedAnswer batchFrom toldBatch a
+batch-reads a = record { refusal = λ r rest. refusal-from batchedAnswer batch.Refused _ r rest refl; given = λ rest. refl }
+
 -- ---- the promises
-read-from : (x : Read Image) (d : ℕ) (out out2 : List ℕ) → Under readNumbers (readRefusal x) → 4 ≤ length out → out2 ≡ toldRead (outcome x) d out
-    → outcomeOf (checkedFrom out2) ≡ outcome x
-read-from (got i end) d out out2 u h e =
-    let at : out2 ≡ (0 ∷ i .comments ∷ i .at ∷ d ∷ []) ++ drop 4 out = e ∙ sets-front (0 ∷ i .comments ∷ i .at ∷ d ∷ []) out h in
-    ap (λ (l : List ℕ). outcomeOf (checkedFrom l)) at
-read-from (bad n p) d out out2 u h e =
-    ap outcomeOf (from-refused checked.Refused _ readNumbers (record { number = n; place = p }) out out2 refl (u .of _ refl) (omega arith) e)
-
-module _ (s b : List ℕ) where
-  abbrev laidNumbers : states.LayoutState → ℕ → List ℕ
-  laidNumbers t n =
-      0 ∷ n ∷ bit (t .begun) ∷ bit (t .closed) ∷ t .declaration ∷ t .cursor .row ∷ t .cursor .number ∷ t .cursor .placed ∷ t .cursor .position ∷ t .mode ∷ []
-
-  abbrev writtenNumbers : states.RenderState → ℕ → List ℕ
-  writtenNumbers t n = 0 ∷ n ∷ t .pen .indent ∷ t .pen .«next_indent» ∷ t .pen .column .0 ∷ t .in-use ∷ t .row ∷ t .width ∷ []
-
-  laid-from : (o : Option Refusal) (t : states.LayoutState) (n : ℕ) (out out2 : List ℕ) → Under layoutNumbers o → 10 ≤ length out
-      → out2 ≡ toldCall s b (answerBy (rulesOf s b) o (laidOut t n)) out
-      → layout.layingAnswer s b (layingFrom out2) ≡ answerBy (rulesOf s b) o (laidOut t n)
-  laid-from (some r) t n out out2 u h e =
-      ap (layout.layingAnswer s b) (from-refused laying.Refused _ layoutNumbers r out out2 refl (u .of r refl) (omega arith) e)
-  laid-from none t n out out2 u h e =
-      let at : out2 ≡ laidNumbers t n ++ drop 10 out = e ∙ sets-front (laidNumbers t n) out h in
-      ap (λ (l : List ℕ). layout.layingAnswer s b (layingFrom l)) at
-      ∙ ap₂ (λ (x y : Bool). laidOut (record { begun = x; closed = y; declaration = t .declaration; cursor = t .cursor; mode = t .mode }) n) (flag-bit (t .begun)) (flag-bit (t .closed))
-
-  written-from : (o : Option Refusal) (t : states.RenderState) (n : ℕ) (out out2 : List ℕ) → Under renderNumbers o → 8 ≤ length out
-      → out2 ≡ toldCall s b (answerBy (rulesOf s b) o (written t n)) out
-      → render.renderingAnswer s b (renderingFrom out2) ≡ answerBy (rulesOf s b) o (written t n)
-  written-from (some r) t n out out2 u h e =
-      ap (render.renderingAnswer s b) (from-refused rendering.Refused _ renderNumbers r out out2 refl (u .of r refl) (omega arith) e)
-  written-from none t n out out2 u h e =
-      let at : out2 ≡ writtenNumbers t n ++ drop 8 out = e ∙ sets-front (writtenNumbers t n) out h in
-      ap (λ (l : List ℕ). render.renderingAnswer s b (renderingFrom l)) at
-
-file-from : (o : Option Refusal) (n l k m : ℕ) (out out2 : List ℕ) → Under fileNumbers o → 5 ≤ length out
-    → out2 ≡ toldFile (fileAnswerBy o (file.formatted n l k m)) out
-    → formattedAnswer (formattedFrom out2) ≡ fileAnswerBy o (file.formatted n l k m)
-file-from (some r) n l k m out out2 u h e =
-    ap formattedAnswer (from-refused formatted.Refused _ fileNumbers r out out2 refl (u .of r refl) (omega arith) e)
-file-from none n l k m out out2 u h e =
-    ap (λ (x : List ℕ). formattedAnswer (formattedFrom x)) (e ∙ sets-front (0 ∷ n ∷ l ∷ k ∷ m ∷ []) out h)
-
--- the numbers of a file that is counted
-abbrev countedNumbers : Figures → Tallies → Fraction → List ℕ
-countedNumbers f t q =
-    0 ∷ f .bytes ∷ f .newlines ∷ f .column ∷ f .given ∷ f .wrapped ∷ f .placed ∷ f .left ∷ t .files ∷ t .all .bytes ∷ t .all .newlines ∷ t .all .column
-    ∷ t .all .given ∷ t .all .wrapped ∷ t .all .placed ∷ t .all .left ∷ q .over ∷ q .under ∷ []
-
-count-from : (o : Option Refusal) (f : Figures) (t : Tallies) (out out2 : List ℕ) → Under countNumbers o → 18 ≤ length out
-    → out2 ≡ toldCount (countAnswerBy o f t) out
-    → countedAnswer (countedFrom out2) ≡ countAnswerBy o f t
-count-from (some r) f t out out2 u h e =
-    ap countedAnswer (from-refused counted.Refused _ countNumbers r out out2 refl (u .of r refl) (omega arith) e)
-count-from none f t out out2 u h e =
-    ap (λ (x : List ℕ). countedAnswer (countedFrom x))
-    (e ∙ sets-front (countedNumbers f (added f t) (reduced (added f t .all .wrapped) (added f t .all .given))) out h)
-
-wrote-from : (ns : List ℕ) (o : Option Refusal) (n : ℕ) (out out2 : List ℕ) → isOneOf 0 ns ≡ false → Under ns o → 2 ≤ length out
-    → out2 ≡ toldWriter (writerAnswerBy o n) out
-    → wroteAnswer (wroteFrom out2) ≡ writerAnswerBy o n
-wrote-from ns (some r) n out out2 z u h e = ap wroteAnswer (from-refused wrote.Refused _ ns r out out2 z (u .of r refl) h e)
-wrote-from ns none n out out2 z u h e = ap (λ (x : List ℕ). wroteAnswer (wroteFrom x)) (e ∙ sets-front (0 ∷ n ∷ []) out h)
-
-batch-from : (o : Option Refusal) (files bytes : ℕ) (out out2 : List ℕ) → Under batchNumbers o → 3 ≤ length out
-    → out2 ≡ toldBatch (batchAnswerBy o files bytes) out
-    → batchedAnswer (batchFrom out2) ≡ batchAnswerBy o files bytes
-batch-from (some r) files bytes out out2 u h e =
-    ap batchedAnswer (from-refused batch.Refused _ batchNumbers r out out2 refl (u .of r refl) (omega arith) e)
-batch-from none files bytes out out2 u h e =
-    ap (λ (x : List ℕ). batchedAnswer (batchFrom x)) (e ∙ sets-front (0 ∷ files ∷ bytes ∷ []) out h)
-
 pub linked-promises : LinkedPromises
 linked-promises = record {
-  check = λ s b out out2 h e. read-from (readAll s b) (length (declared s b)) out out2 (read-under s b) (omega arith) e;
+  check =
+      λ s b out out2 h e.
+      let x = readAll s b in
+      read-back checkedAnswer checkedFrom (toldDocument (length (declared s b))) readNumbers (readRefusal x) (documentBy x) out out2 refl (read-under s b)
+      (omega arith)
+      (omega arith)
+      (checked-reads (length (declared s b)) (documentBy x))
+      (check-told s b out out2 e)
+      ∙ sym (outcome-by x);
   layout =
       λ s b store state args out store2 out2 h p.
       let q = layout.toArgs (layoutArgs args) in
       let z = layout.toState (layoutState state) in
-      record { answer = laid-from s b _ _ _ out out2 (layout-under s b q z store) (omega arith) (p .told-as); store-left = p .store-left };
+      let o = rulesOf s b .layout-refusal q z store in
+      record {
+        answer =
+            read-back (layout.layingAnswer s b) layingFrom (toldCall s b) layoutNumbers o (laidOut _ _) out out2 refl (layout-under s b q z store)
+            (omega arith)
+            (omega arith)
+            (laying-reads s b _ _)
+            (p .told-as);
+        store-left = p .store-left;
+      };
   render =
       λ s b store marks output state args out store2 marks2 output2 out2 h p.
       let q = render.toArgs (renderArgs args) (length output) in
       let z = render.toState (renderState state) in
+      let o = rulesOf s b .render-refusal q z store marks in
       record {
-        answer = written-from s b _ _ _ out out2 (render-under s b q z store marks) (omega arith) (p .told-as);
+        answer =
+            read-back (render.renderingAnswer s b) renderingFrom (toldCall s b) renderNumbers o (written _ _) out out2 refl (render-under s b q z store marks)
+            (omega arith)
+            (omega arith)
+            (rendering-reads s b _ _)
+            (p .told-as);
         store-left = p .store-left;
         marks-left = p .marks-left;
         output-left = p .output-left;
@@ -192,112 +232,122 @@ linked-promises = record {
   format =
       λ s b choice output out output2 out2 h p.
       let c = toChoice (fileChoice choice) in
-      record { answer = file-from (fileRefusal s b c (length output)) _ _ _ _ out out2 (file-under s b c (length output)) (omega arith) (p .told-as); output-left = p .output-left };
+      let o = fileRefusal s b c (length output) in
+      record {
+        answer =
+            read-back formattedAnswer formattedFrom toldFile fileNumbers o (fileResult s b c) out out2 refl (file-under s b c (length output))
+            (omega arith)
+            (omega arith)
+            (formatted-reads (fileResult s b c))
+            (p .told-as);
+        output-left = p .output-left;
+      };
   count =
       λ s b from out out2 h e.
-      count-from (countRefusal s b (talliesFrom from)) (figuresOf s b) (talliesFrom from) out out2 (count-under s b (talliesFrom from)) (omega arith) e;
+      let t = talliesFrom from in
+      read-back countedAnswer countedFrom toldCounted countNumbers (countRefusal s b t) (countResult (figuresOf s b) t) out out2 refl (count-under s b t)
+      (omega arith)
+      (omega arith)
+      (counted-reads (countResult (figuresOf s b) t))
+      e;
   write =
-      λ l output out output2 out2 h p. (
-        wrote-from writerNumbers (writerRefusal l (length output)) (length (imageDue l)) out out2 refl (write-under l (length output)) (omega arith) (p .1),
+      λ l output out output2 out2 h p.
+      let o = writerRefusal l (length output) in (
+        read-back wroteAnswer wroteFrom toldBytes writerNumbers o (length (imageDue l)) out out2 refl (write-under l (length output))
+            (omega arith)
+            (omega arith)
+            (wrote-reads (length (imageDue l)))
+            (p .1),
         p .0,
       );
   steps =
-      λ s b output out output2 out2 h p. (
-        wrote-from stepsNumbers (stepsOfRefusal s b (length output)) (length (stepsDue s b)) out out2 refl (list-under s b (length output)) (omega arith) (p .1),
+      λ s b output out output2 out2 h p.
+      let o = stepsOfRefusal s b (length output) in (
+        read-back wroteAnswer wroteFrom toldBytes stepsNumbers o (length (stepsDue s b)) out out2 refl (list-under s b (length output))
+            (omega arith)
+            (omega arith)
+            (wrote-reads (length (stepsDue s b)))
+            (p .1),
         p .0,
       );
   batch =
       λ f choice table output out table2 output2 out2 h p.
       let c = toChoice (fileChoice choice) in
+      let o = batchRefusal c f (length table) (length output) in
       record {
-        answer = batch-from (batchRefusal c f (length table) (length output)) _ _ out out2 (batch-under c f (length table) (length output)) (omega arith) (p .told-as);
+        answer =
+            read-back batchedAnswer batchFrom toldBatch batchNumbers o (batchResult c f) out out2 refl (batch-under c f (length table) (length output))
+            (omega arith)
+            (omega arith)
+            (batch-reads (batchResult c f))
+            (p .told-as);
         table-left = p .table-left;
         texts-left = p .texts-left;
       };
 }
 
 -- ---- demand 1
--- what an answer tells, by the numbers: none where 0 is first, else number and place
-abbrev refusalFrom : List ℕ → Refusal
-refusalFrom out2 = record { number = getD out2 0 0; place = getD out2 1 0 }
-
-abbrev refusalAt : ℕ → ℕ → Option Refusal
-refusalAt n p = some (record { number = n; place = p })
-
-abbrev toldFrom : List ℕ → Option Refusal
-toldFrom out2 = answerFrom refusalAt none out2
-
--- a function of an answer that is none of what is told and a refusal of a refusal
-told-by : {A : Type 0} (f : A → Option Refusal) (refused : ℕ → ℕ → A) (told : A) (out2 : List ℕ) → f told ≡ none
-    → ((n p : ℕ) → f (refused n p) ≡ refusalAt n p)
-    → f (answerFrom refused told out2) ≡ toldFrom out2
-told-by {A} f refused told out2 e g = go (eqb (getD out2 0 0) 0)
-  where
-    go : (x : Bool) → f (cond x told (refused (getD out2 0 0) (getD out2 1 0))) ≡ cond x none (refusalAt (getD out2 0 0) (getD out2 1 0))
-    go true = e
-    go false = g (getD out2 0 0) (getD out2 1 0)
-
-told-first : (out2 : List ℕ) → toldFrom out2 ≡ none → getD out2 0 0 ≡ 0
-told-first out2 e = go (eqb (getD out2 0 0) 0) refl e
-  where
-    go : (x : Bool) → eqb (getD out2 0 0) 0 ≡ x → cond {A = Option Refusal} x none (some (refusalFrom out2)) ≡ none → getD out2 0 0 ≡ 0
-    go true p f = eqb-true (getD out2 0 0) 0 p
-    go false p f = absurd (options.never _ f)
-
-told-two : (out2 : List ℕ) (r : Refusal) → toldFrom out2 ≡ some r → refusalFrom out2 ≡ r
-told-two out2 r e = go (eqb (getD out2 0 0) 0) e
-  where
-    go : (x : Bool) → cond {A = Option Refusal} x none (some (refusalFrom out2)) ≡ some r → refusalFrom out2 ≡ r
-    go true f = absurd (options.never r (sym f))
-    go false f = cc
-
-told-as : (ns : List ℕ) (table told : Option Refusal) (out2 : List ℕ) (Kept : Type 0) → Answered ns table told Kept → told ≡ toldFrom out2
-    → Told ns table out2 Kept
-told-as ns table told out2 Kept a e = record {
-  accepted = λ f. told-first out2 (sym e ∙ a .as-table ∙ f);
-  refused =
-      λ r f.
-      let g = a .as-table ∙ f in
-      let two = told-two out2 r (sym e ∙ g) in
-      record { number-told = ap (λ (x : Refusal). x .number) two; place-told = ap (λ (x : Refusal). x .place) two; listed-one = a .listed r g; kept = a .kept r g };
-}
-
 pub linked-1 : Linked1
 linked-1 = record {
   check =
       λ s b out out2 h e.
-      told-as readNumbers _ _ out2 _ (demand-1 .check s b (checkedFrom out2) (linked-promises .check s b out out2 h e))
-      (told-by (λ (r : Checked). readTold (outcomeOf r)) checked.Refused _ out2 refl (λ n p. refl));
+      let x = readAll s b in
+      told-first (toldDocument (length (declared s b))) readNumbers (readRefusal x) (documentBy x) out out2 _ (read-under s b) (omega arith) (omega arith)
+      (λ r f. tt)
+      (check-told s b out out2 e);
   layout =
       λ s b store state args out store2 out2 h p.
-      told-as layoutNumbers _ _ out2 _ (demand-1 .layout s b _ _ store _ store2 (linked-promises .layout s b store state args out store2 out2 h p))
-      (told-by (λ (r : Laying). callTold s b (layout.layingAnswer s b r)) laying.Refused _ out2 refl (λ n q. refl));
+      let q = layout.toArgs (layoutArgs args) in
+      let z = layout.toState (layoutState state) in
+      told-first (toldCall s b) layoutNumbers (rulesOf s b .layout-refusal q z store) (laidOut _ _) out out2 _ (layout-under s b q z store)
+      (omega arith)
+      (omega arith)
+      (λ r f. p .store-left ∙ left-same _ r store _ f)
+      (p .told-as);
   render =
       λ s b store marks output state args out store2 marks2 output2 out2 h p.
-      told-as renderNumbers _ _ out2 _
-      (demand-1 .render s b _ _ store marks output _ store2 marks2 output2
-      (linked-promises .render s b store marks output state args out store2 marks2 output2 out2 h p))
-      (told-by (λ (r : Rendering). callTold s b (render.renderingAnswer s b r)) rendering.Refused _ out2 refl (λ n q. refl));
+      let q = render.toArgs (renderArgs args) (length output) in
+      let z = render.toState (renderState state) in
+      told-first (toldCall s b) renderNumbers (rulesOf s b .render-refusal q z store marks) (written _ _) out out2 _ (render-under s b q z store marks)
+      (omega arith)
+      (omega arith)
+      (λ r f. (p .store-left, p .marks-left ∙ left-same _ r marks _ f, p .output-left ∙ left-same _ r output _ f))
+      (p .told-as);
   format =
       λ s b choice output out output2 out2 h p.
-      told-as fileNumbers _ _ out2 _ (demand-1 .file s b _ output _ output2 (linked-promises .format s b choice output out output2 out2 h p))
-      (told-by (λ (r : Formatted). fileTold (formattedAnswer r)) formatted.Refused _ out2 refl (λ n q. refl));
+      let c = toChoice (fileChoice choice) in
+      told-first toldFile fileNumbers (fileRefusal s b c (length output)) (fileResult s b c) out out2 _ (file-under s b c (length output))
+      (omega arith)
+      (omega arith)
+      (λ r f. p .output-left ∙ left-same _ r output _ f)
+      (p .told-as);
   count =
       λ s b from out out2 h e.
-      told-as countNumbers _ _ out2 _ (demand-1 .count s b (talliesFrom from) (countedFrom out2) (linked-promises .count s b from out out2 h e))
-      (told-by (λ (r : Counted). countTold (countedAnswer r)) counted.Refused _ out2 refl (λ n p. refl));
+      let t = talliesFrom from in
+      told-first toldCounted countNumbers (countRefusal s b t) (countResult (figuresOf s b) t) out out2 _ (count-under s b t) (omega arith) (omega arith)
+      (λ r f. tt)
+      e;
   write =
       λ l output out output2 out2 h p.
-      told-as writerNumbers _ _ out2 _ (generator-1 .write l output (wroteFrom out2) output2 (linked-promises .write l output out output2 out2 h p))
-      (told-by (λ (r : Wrote). writerTold (wroteAnswer r)) wrote.Refused (wrote.Bytes (getD out2 1 0)) out2 refl (λ n q. refl));
+      told-first toldBytes writerNumbers (writerRefusal l (length output)) (length (imageDue l)) out out2 _ (write-under l (length output))
+      (omega arith)
+      (omega arith)
+      (λ r f. p .0 ∙ left-same _ r output _ f)
+      (p .1);
   steps =
       λ s b output out output2 out2 h p.
-      told-as stepsNumbers _ _ out2 _ (generator-1 .list s b output (wroteFrom out2) output2 (linked-promises .steps s b output out output2 out2 h p))
-      (told-by (λ (r : Wrote). writerTold (wroteAnswer r)) wrote.Refused (wrote.Bytes (getD out2 1 0)) out2 refl (λ n q. refl));
+      told-first toldBytes stepsNumbers (stepsOfRefusal s b (length output)) (length (stepsDue s b)) out out2 _ (list-under s b (length output))
+      (omega arith)
+      (omega arith)
+      (λ r f. p .0 ∙ left-same _ r output _ f)
+      (p .1);
   batch =
       λ f choice table output out table2 output2 out2 h p.
-      told-as batchNumbers _ _ out2 _ (saves-1 .batch f _ table output _ table2 output2 (linked-promises .batch f choice table output out table2 output2 out2 h p))
-      (told-by (λ (r : Batch). batchTold (batchedAnswer r)) batch.Refused _ out2 refl (λ n q. refl));
+      let c = toChoice (fileChoice choice) in
+      let o = batchRefusal c f (length table) (length output) in
+      told-first toldBatch batchNumbers o (batchResult c f) out out2 _ (batch-under c f (length table) (length output)) (omega arith) (omega arith)
+      (λ r g. (p .table-left ∙ left-same o r table _ g, p .texts-left ∙ left-same o r output _ g))
+      (p .told-as);
 }
 
 -- ---- demand 2: where 0 is first, the answer is the accepted one
@@ -316,7 +366,8 @@ pub linked-render : (s b store marks output state args out store2 marks2 output2
     marks2
     output2
 linked-render s b store marks output state args out store2 marks2 output2 out2 h p e =
-    subst (λ (r : Rendering). RenderCalled s b (renderState state) (renderArgs args) store marks output r store2 marks2 output2) (from-accepted rendering.Refused _ out2 e)
+    subst (λ (r : Rendering). RenderCalled s b (renderState state) (renderArgs args) store marks output r store2 marks2 output2)
+    (from-accepted rendering.Refused _ out2 e)
     (linked-promises .render s b store marks output state args out store2 marks2 output2 out2 h p)
 
 pub linked-file : (s b choice output out output2 out2 : List ℕ) → length out ≡ 5 → FormatsFile s b choice output out output2 out2 → getD out2 0 0 ≡ 0
@@ -364,8 +415,16 @@ after-one w (laid args out store2 out2) = go (eqb (getD out2 0 0) 0)
     new = take 8 (drop 2 out2)
 
     go : (x : Bool)
-        → callerOf (record { store = store2; marks = w .marks; layout-state = cond x new (w .layout-state); render-state = w .render-state; text = w .text; left = cond x (some (getD out2 1 0)) (w .left) })
-        ≡ afterMade (callerOf w) (made.laid (layoutArgs args) (cond x (laying.Laid (layoutState new) (getD out2 1 0)) (laying.Refused (getD out2 0 0) (getD out2 1 0))) store2)
+        → callerOf (record {
+          store = store2;
+          marks = w .marks;
+          layout-state = cond x new (w .layout-state);
+          render-state = w .render-state;
+          text = w .text;
+          left = cond x (some (getD out2 1 0)) (w .left);
+        })
+        ≡ afterMade (callerOf w)
+        (made.laid (layoutArgs args) (cond x (laying.Laid (layoutState new) (getD out2 1 0)) (laying.Refused (getD out2 0 0) (getD out2 1 0))) store2)
     go true = refl
     go false = refl
 after-one w (rendered args output out store2 marks2 output2 out2) = go (eqb (getD out2 0 0) 0)
@@ -377,11 +436,25 @@ after-one w (rendered args output out store2 marks2 output2 out2) = go (eqb (get
     answer x = cond x (rendering.Written (renderState new) (record { 0 = getD out2 1 0 })) (rendering.Refused (getD out2 0 0) (getD out2 1 0))
 
     go : (x : Bool)
-        → callerOf (record { store = store2; marks = marks2; layout-state = w .layout-state; render-state = cond x new (w .render-state); text = w .text ++ cond x (take (getD out2 1 0) output2) []; left = w .left })
+        → callerOf (record {
+          store = store2;
+          marks = marks2;
+          layout-state = w .layout-state;
+          render-state = cond x new (w .render-state);
+          text = w .text ++ cond x (take (getD out2 1 0) output2) [];
+          left = w .left;
+        })
         ≡ afterMade (callerOf w) (made.rendered (renderArgs args) output (answer x) store2 marks2 output2)
     go true = refl
     go false =
-        ap (λ (t : List ℕ). record { store = store2; marks = marks2; layout-state = layoutState (w .layout-state); render-state = renderState (w .render-state); text = t; left = w .left })
+        ap (λ (t : List ℕ). record {
+          store = store2;
+          marks = marks2;
+          layout-state = layoutState (w .layout-state);
+          render-state = renderState (w .render-state);
+          text = t;
+          left = w .left;
+        })
         (append-nil (w .text))
 
 after-linked : (w : Holder) (ms : List LinkedCall) → callerOf (afterAll afterLinked w ms) ≡ afterAll afterMade (callerOf w) (map madeLinked ms)
@@ -412,7 +485,7 @@ module _ (s b : List ℕ) where
 
   same-answers : (ms : List LinkedCall) → map (answerMade s b) (map madeLinked ms) ≡ map (λ m. answerMade s b (madeLinked m)) ms
   same-answers [] = refl
-  same-answers (m ∷ ms) = ap (λ (xs : List (Answer (rulesOf s b))). answerMade s b (madeLinked m) ∷ xs) (same-answers ms)
+  same-answers (m ∷ ms) = ap (λ (xs : List (Answer (CallResult (rulesOf s b)))). answerMade s b (madeLinked m) ∷ xs) (same-answers ms)
 
   -- linked calls that keep their promises make the run of the rules
   module _ (store₀ marks₀ : List ℕ) (calls : List LinkedCall) (p : AllKept afterLinked (LinkedPromised s b) (freshHolder store₀ marks₀) calls) where
@@ -435,7 +508,9 @@ module _ (s b : List ℕ) where
     linked-cut : AllReadLaid (rulesOf s b) (start (rulesOf s b) store₀ marks₀) (map (callLinked s b) calls) → LinkedCut s b store₀ marks₀ calls
     linked-cut h =
         let R = rulesOf s b in
-        let d = demand-3 s b store₀ marks₀ made-calls kept-all (subst (λ (cs : List (Call R)). AllReadLaid R (start R store₀ marks₀) cs) (sym (same-calls calls)) h) in
+        let d =
+        demand-3 s b store₀ marks₀ made-calls kept-all (subst (λ (cs : List (Call R)). AllReadLaid R (start R store₀ marks₀) cs) (sym (same-calls calls)) h)
+        in
         record {
           as-due = subst₂ (λ (cs : List (Call R)) (v : Carried R). HeldAsDue s b store₀ marks₀ cs v) (same-calls calls) (sym held-same) (d .as-due);
           answered = sym (same-answers calls) ∙ d .answered ∙ ap (λ (cs : List (Call R)). answersDue R store₀ marks₀ (atFirst R) cs) (same-calls calls);
@@ -463,11 +538,13 @@ linked-lists = record {
   one =
       λ s b output out output2 out2 h small p z.
       generator-lists .one s b output (getD out2 1 0) output2 small
-      (subst (λ (r : Wrote). Lists s b output r output2) (from-accepted wrote.Refused (wrote.Bytes (getD out2 1 0)) out2 z) (linked-promises .steps s b output out output2 out2 h p));
+      (subst (λ (r : Wrote). Lists s b output r output2) (from-accepted wrote.Refused (wrote.Bytes (getD out2 1 0)) out2 z)
+      (linked-promises .steps s b output out output2 out2 h p));
   back =
       λ l output out output2 out2 h small p z.
       generator-lists .back l output (getD out2 1 0) output2 small
-      (subst (λ (r : Wrote). Writes l output r output2) (from-accepted wrote.Refused (wrote.Bytes (getD out2 1 0)) out2 z) (linked-promises .write l output out output2 out2 h p));
+      (subst (λ (r : Wrote). Writes l output r output2) (from-accepted wrote.Refused (wrote.Bytes (getD out2 1 0)) out2 z)
+      (linked-promises .write l output out output2 out2 h p));
 }
 
 pub linked-singles : LinkedSingles

@@ -7,29 +7,30 @@ use mathlib.Core.List.{List, [], _∷_, _++_, map}
 use Prim.Native.Nat.{ℕ, suc, _*_, _+_, _-_, _≤_}
 use native.Mathlib.Omega.{arith}
 use native.Mathlib.Nat.{sub-zero}
-use lib.Dec.{ltb}
 use lib.ListN.{length, take, length-append}
-use Rattle.refusals.specs.Refusals.{Refusal, unless, refuseIf}
-use Rattle.image.specs.Read.{readAll}
+use Rattle.refusals.specs.Refusals.{Refusal, unless}
+use Rattle.refusals.specs.Answers.{Answer, refused, accepted, answerBy}
+use Rattle.refusals.proofs.Answers.{accepted-by}
+use Rattle.image.specs.Read.{readAll, readRefusal}
 use Rattle.cut_rule.specs.Run.{writeFront, Carried}
-use Rattle.cut_rule.specs.States.{renderFresh}
-use Rattle.cut_rule.specs.Parts.{widthLine}
 use Rattle.cut_rule.proofs.Memory.{take-front}
-use Rattle.tree.specs.CommentList.{commentsOf}
-use Rattle.refusals.proofs.Groups.{passes-line}
-use Rattle.plain_run.specs.Parts.{readRefusal, listed}
-use Rattle.plain_run.specs.Demands.{rulesOf}
-use Rattle.plain_run.specs.File.{FileChoice, FileAnswer, refused, formatted, referenceChoice, renderChoice, modeLine, built, rowsDue, marksDue, drawnDue, fileRows, fileMarks, laidRefusal, fileRefusal, fileAnswerBy, fileAnswer}
-use Rattle.plain_run.specs.Text.{IsProgram, TextKept}
-use Rattle.plain_run.proofs.File.{new-mode-leaves-none}
-use Rattle.plain_run.proofs.Text.{kept-comments-held, text-is-the-program, new-mode-places-all, output-is-the-program, calls-keep-the-text}
+use Rattle.whole_run.specs.Parts.{listed}
+use Rattle.whole_run.specs.Built.{FileChoice, referenceChoice, built, drawnDue}
+use Rattle.whole_run.specs.Demands.{rulesOf}
+use Rattle.whole_run.specs.File.{fileRows, fileMarks, fileRefusal, FileResult, fileResult}
+use Rattle.whole_run.specs.Text.{IsProgram, TextKept}
+use Rattle.whole_run.proofs.FileTable.{laid-passed, before-marks}
+use Rattle.whole_run.proofs.File.{new-mode-leaves-none}
+use Rattle.whole_run.proofs.Text.{kept-comments-held, text-is-the-program, new-mode-places-all, output-is-the-program, calls-keep-the-text}
 use Rattle.file.specs.Whole.{sourceOf, imageOf}
-use Rattle.reply.specs.Reply.{reply, replyBy, programRefusal}
-use Rattle.batch.specs.Batch.{Save, allSaves, savesBy, rowOf, textBy, rendered, single, tableOf, textsOf, tableDue, textsDue, batched, batchRefusal, batchAnswerBy, tableLeft, textsLeft}
+use Rattle.file.specs.Reply.{reply, replyBy, programRefusal}
+use Rattle.batch.specs.Batch.{Save, allSaves, savesBy, rowOf, textBy, rendered, single, tableOf, textsOf, tableDue}
+use Rattle.batch.specs.Batch.{textsDue, batchRefusal, BatchResult, batchResult, batchAnswer, tableLeft, textsLeft}
 use Rattle.demands.specs.Demand3.{callMade}
 use Rattle.demands.specs.Linked.{callLinked}
-use Rattle.demands.specs.Text.{FileIsTheProgram, FileHolds, NewModeFileHoldsAll, LinkedFileIsTheProgram, ReplyIsTheProgram, CallsAreTheProgram, LinkedCallsAreTheProgram}
-use Rattle.demands.specs.Text.{CallsHold, ClosedCallsHoldAll, SaveKept, EachKept, noFile, refusedOne, textOfOne, BatchIsThePrograms, LinkedBatchIsThePrograms}
+use Rattle.demands.specs.Text.{FileIsTheProgram, FileHolds, NewModeFileHoldsAll, LinkedFileIsTheProgram, ReplyIsTheProgram}
+use Rattle.demands.specs.Text.{CallsAreTheProgram, LinkedCallsAreTheProgram, CallsHold, ClosedCallsHoldAll, SaveKept}
+use Rattle.demands.specs.Text.{EachKept, noFile, refusedOne, textOfOne, BatchIsThePrograms, LinkedBatchIsThePrograms}
 use Rattle.demands.proofs.Demand3.{made-run}
 use Rattle.demands.proofs.Linked.{linked-run, linked-file, linked-batch}
 
@@ -37,14 +38,14 @@ use Rattle.demands.proofs.Linked.{linked-run, linked-file, linked-batch
 pub file-is-the-program : FileIsTheProgram
 file-is-the-program s b c out n left rows numbers out2 f =
     subst (λ (o : List ℕ). IsProgram s b (length (listed s b) - left) (take (n .0) o)) (sym (f .output-left))
-    (output-is-the-program s b c out (n .0) left rows numbers (sym (f .answer)))
+    (output-is-the-program s b c out _ (sym (f .answer)))
 
 pub file-holds : FileHolds
 file-holds s b c out n left rows numbers out2 f = kept-comments-held s b _ _ _ (file-is-the-program s b c out n left rows numbers out2 f)
 
 pub new-mode-file-holds-all : NewModeFileHoldsAll
 new-mode-file-holds-all s b c out n left rows numbers out2 new f =
-    let none-left : left ≡ 0 = new-mode-leaves-none s b c _ _ (length out) (n .0) left rows numbers new (sym (f .answer)) in
+    let none-left : left ≡ 0 = new-mode-leaves-none s b c _ _ (length out) _ new (sym (f .answer)) in
     let all : length (listed s b) - left ≡ length (listed s b) = omega (arith, none-left) in
     subst (λ (k : ℕ). IsProgram s b k (take (n .0) out2)) all (file-is-the-program s b c out n left rows numbers out2 f)
 
@@ -83,11 +84,7 @@ closed-calls-hold-all s b w k e closed new = kept-comments-held s b _ _ _ (k .al
 
 -- ---- a batch
 accepted-read : (s b : List ℕ) (c : FileChoice) (room : ℕ) → fileRefusal s b c room ≡ noRefusal → readRefusal (readAll s b) ≡ noRefusal
-accepted-read s b c room e =
-    let text = length (drawnDue s b c .text) in
-    let later = refuseIf (ltb fileMarks (marksDue s b c)) 9 (marksDue s b c) ∷ refuseIf (ltb room text) 10 text ∷ [] in
-    let others = modeLine c ∷ widthLine (renderChoice c) renderFresh ∷ refuseIf (ltb fileRows (rowsDue s b c)) 8 (rowsDue s b c) ∷ [] in
-    passes-line (readRefusal (readAll s b)) others (passes-line (laidRefusal s b c fileRows) later e)
+accepted-read s b c room e = laid-passed s b c fileRows (before-marks s b c fileRows fileMarks room e) .read
 
 module _ (c : FileChoice) where
   one-kept : (x : Save) {xs : List Save} {table texts : List ℕ} → EachKept c xs table texts
@@ -103,8 +100,8 @@ module _ (c : FileChoice) where
       text : List ℕ
       text = rendered c x
 
-      answered : Option Refusal → FileAnswer
-      answered o = fileAnswerBy o (formatted (length text) (length (commentsOf b) - built s b c .placed) (rowsDue s b c) (built s b c .taken))
+      answered : Option Refusal → Answer FileResult
+      answered o = answerBy o (fileResult s b c)
 
       go : (o : Option Refusal) → fileRefusal s b c (length text) ≡ o
           → EachKept c (x ∷ xs) (rowOf (answered o) ++ table) (textBy (answered o) text ++ texts)
@@ -123,37 +120,37 @@ module _ (c : FileChoice) where
   each-kept [] = noFile
   each-kept (x ∷ xs) = one-kept x (each-kept xs)
 
-  three : (a : FileAnswer) → length (rowOf a) ≡ 3
+  three : (a : Answer FileResult) → length (rowOf a) ≡ 3
   three (refused r) = refl
-  three (formatted n l k m) = refl
+  three (accepted x) = refl
 
   table-size : (xs : List Save) → length (tableOf c xs) ≡ 3 * length xs
   unfolding tableOf
   table-size [] = refl
   table-size (x ∷ xs) = omega (arith, table-size xs, three (single c x), length-append (rowOf (single c x)) (tableOf c xs))
 
-  kept-in : (f table out : List ℕ) (files bytes : ℕ) → batchAnswerBy (batchRefusal c f (length table) (length out)) (length (savesBy (allSaves f))) (length (textsDue c f)) ≡ batched files bytes
-      → EachKept c (savesBy (allSaves f)) (take (3 * files) (tableLeft c f table out)) (take bytes (textsLeft c f table out))
-  kept-in f table out files bytes e = go (batchRefusal c f (length table) (length out)) e
-    where
-      xs : List Save
-      xs = savesBy (allSaves f)
-
-      go : (o : Option Refusal) → batchAnswerBy o (length xs) (length (textsDue c f)) ≡ batched files bytes
-          → EachKept c xs (take (3 * files) (unless o table (writeFront (tableDue c f) table))) (take bytes (unless o out (writeFront (textsDue c f) out)))
-      go (some r) h = let z : _≡_ {A = ℕ} 0 1 = cc in absurd (omega arith)
-      go noRefusal h =
-          let count : length xs ≡ files = cc in
-          let size : length (textsDue c f) ≡ bytes = cc in
-          let cells : 3 * files ≡ length (tableDue c f) = omega (arith, table-size xs, count) in
-          subst₂ (λ (x y : List ℕ). EachKept c xs x y) (sym (take-front (3 * files) (tableDue c f) table cells))
-          (sym (take-front bytes (textsDue c f) out (sym size)))
-          (each-kept xs)
+  kept-in : (f table out : List ℕ) (r : BatchResult) → batchAnswer c f (length table) (length out) ≡ accepted r
+      → EachKept c (savesBy (allSaves f)) (take (3 * r .files) (tableLeft c f table out)) (take (r .bytes) (textsLeft c f table out))
+  kept-in f table out r e =
+      let xs = savesBy (allSaves f) in
+      let a = accepted-by (batchRefusal c f (length table) (length out)) r (batchResult c f) (sym e) in
+      let count : r .files ≡ length xs = ap (λ (x : BatchResult). x .files) (a .is) in
+      let size : r .bytes ≡ length (textsDue c f) = ap (λ (x : BatchResult). x .bytes) (a .is) in
+      let cells : 3 * r .files ≡ length (tableDue c f) = omega (arith, table-size xs, count) in
+      let rows : take (3 * r .files) (tableLeft c f table out) ≡ tableDue c f =
+      ap (λ (o : Option Refusal). take (3 * r .files) (unless o table (writeFront (tableDue c f) table))) (a .passes)
+      ∙ take-front (3 * r .files) (tableDue c f) table cells
+      in
+      let texts : take (r .bytes) (textsLeft c f table out) ≡ textsDue c f =
+      ap (λ (o : Option Refusal). take (r .bytes) (unless o out (writeFront (textsDue c f) out))) (a .passes)
+      ∙ take-front (r .bytes) (textsDue c f) out size
+      in
+      subst₂ (λ (x y : List ℕ). EachKept c xs x y) (sym rows) (sym texts) (each-kept xs)
 
 pub batch-is-the-programs : BatchIsThePrograms
 batch-is-the-programs f c table out files bytes table2 out2 p =
     subst₂ (λ (x y : List ℕ). EachKept c (savesBy (allSaves f)) (take (3 * files) x) (take bytes y)) (sym (p .table-left)) (sym (p .texts-left))
-    (kept-in c f table out files bytes (sym (p .answer)))
+    (kept-in c f table out _ (sym (p .answer)))
 
 pub linked-batch-is-the-programs : LinkedBatchIsThePrograms
 linked-batch-is-the-programs f choice table output out table2 output2 out2 h p e =

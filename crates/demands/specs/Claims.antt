@@ -1,17 +1,22 @@
 -- All that is claimed, in one place: a field for each claim, under the sentence of the document that it is. proofs/Claims.antt has the one proof of it, so that a claim that
 -- goes breaks the build. What each says is read in the file that its name is brought from; nothing is assumed but what README.md lists.
+use Prim.Native.Nat.{ℕ}
 use Rattle.image.specs.Read.{ReadNumbers}
 use Rattle.rows.specs.Words.{WordsThere}
+use Rattle.acts.specs.Act.{Given, St}
 use Rattle.renderer_rules.specs.Call.{CallAsRust}
+use Rattle.renderer_rules.specs.Check.{FaultOfPart}
 use Rattle.renderer_rules.specs.Holds.{WritesPieces, NoSlashAround}
 use Rattle.layout_facts.specs.Accepted.{FewRows, WordsDue}
+use Rattle.layout_facts.specs.BlankLines.{BlankLines}
+use Rattle.layout_facts.specs.Binop.{BinopAsRust}
 use Rattle.layout_facts.specs.Tokens.{SaysTheProgram, FmtParsedSaysTheProgram, SlashWords}
-use Rattle.plain_run.specs.Demands.{RulesCut, DueIsFmtParsed, LaidWithinLimits}
-use Rattle.plain_run.specs.Edges.{EdgesHold, WidthsHold, EmptyLineHolds}
-use Rattle.plain_run.specs.File.{OldModeIsFmtParsed, NewModeLeavesNone}
-use Rattle.plain_run.specs.FileLimits.{FileTextLimited, FileColumnLimited}
-use Rattle.plain_run.specs.Foot.{ClosingPlacesAll, ClosedHoldsAll}
-use Rattle.plain_run.specs.Reference.{ReferenceHolds}
+use Rattle.whole_run.specs.Demands.{RulesCut, DueIsFmtParsed, LaidWithinLimits}
+use Rattle.whole_run.specs.Edges.{EdgesHold, WidthsHold, EmptyLineHolds}
+use Rattle.whole_run.specs.File.{OldModeIsFmtParsed, NewModeLeavesNone}
+use Rattle.whole_run.specs.FileLimits.{FileTextLimited, FileColumnLimited}
+use Rattle.whole_run.specs.Foot.{ClosingPlacesAll, ClosedHoldsAll}
+use Rattle.whole_run.specs.Reference.{ReferenceHolds}
 use Rattle.figures.specs.Order.{TotalsAreSums, SameInAnyOrder, FirstAreCounted, SameFeedInAnyOrder}
 use Rattle.tallies.specs.Fraction.{AlwaysReduced}
 use Rattle.steps.specs.Exact.{ExactlyOne, WrittenReadsBack}
@@ -42,6 +47,8 @@ pub record TheDemands : Type 0 where
 pub record TheRules : Type 0 where
   -- "`Call`'s made-up group: a function over its two row ranges": the rule is that of fmt.rs
   pub call-as-rust : CallAsRust
+  -- the rule for operators is `binop` of fmt.rs, with its stack and its two loops
+  pub binop-as-rust : BinopAsRust
   -- "The rows and state due at a stop are those `fmt_parsed` has when its loop reaches that declaration."
   pub due-is-fmt-parsed : DueIsFmtParsed
   pub cut-rule : RulesCut
@@ -52,6 +59,8 @@ pub record TheRules : Type 0 where
   -- "the word due is there"
   pub words-there : WordsThere
   pub words-due : WordsDue
+  -- 11: a part that goes past the end of its `Call` is at fault, and not the `Call`
+  pub fault-of-part : FaultOfPart
   -- the reader refuses under 1 to 7 alone
   pub read-numbers : ReadNumbers
 
@@ -75,6 +84,8 @@ pub record TheText : Type 0 where
 
 -- the tickets of document 02 that have landed
 pub record TheRequests : Type 0 where
+  -- 1: "the gap that made a blank line": which gaps do, before each declaration, from every state of layout
+  pub blank-lines : (g : Given) (name : ℕ) (s : St) → BlankLines g name s
   -- 2: "totals, the same in any order of the files counted"; "a reduced fraction"
   pub totals-are-sums : TotalsAreSums
   pub same-in-any-order : SameInAnyOrder

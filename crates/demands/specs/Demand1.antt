@@ -10,15 +10,12 @@ use mathlib.Core.List.{List, [], _∷_, _++_}
 use Prim.Native.Nat.{ℕ}
 use lib.ListN.{length, take, drop}
 use Rattle.refusals.specs.Refusals.{Refusal, isOneOf}
-use Rattle.image.specs.Read.{readAll, readNumbers, Outcome, outcomeOf, Checks}
-use Rattle.image.specs.Read as image
+use Rattle.refusals.specs.Answers.{refusalOf}
+use Rattle.image.specs.Read.{readAll, readRefusal, readNumbers, checkedAnswer, Checks}
 use Rattle.image.specs.declared.Answer as check
-use Rattle.cut_rule.specs.Run.{Answer, laidOut, written}
-use Rattle.cut_rule.specs.Run as cut
-use Rattle.plain_run.specs.Parts.{readRefusal}
-use Rattle.plain_run.specs.Demands.{rulesOf}
-use Rattle.plain_run.specs.File.{FileChoice, FileAnswer, referenceChoice, drawnDue, formatted, fileRefusal}
-use Rattle.plain_run.specs.File as file
+use Rattle.whole_run.specs.Demands.{rulesOf}
+use Rattle.whole_run.specs.Built.{FileChoice, referenceChoice, drawnDue}
+use Rattle.whole_run.specs.File.{fileRefusal}
 use Rattle.layout_call.specs.declared.LayoutState.{LayoutState}
 use Rattle.layout_call.specs.declared.LayoutArgs.{LayoutArgs}
 use Rattle.layout_call.specs.declared.Laying.{Laying}
@@ -30,8 +27,8 @@ use Rattle.render_call.specs.declared.Rendering.{Rendering}
 use Rattle.render_call.specs.Calls as render
 use Rattle.render_call.specs.Whole.{RenderCalled}
 use Rattle.file.specs.declared.Formatted.{Formatted}
-use Rattle.file.specs.Whole.{formattedAnswer, Formats, FormatsFrame, sourceOf, imageOf}
-use Rattle.reply.specs.Reply.{frameTable, programRefusal, Replies}
+use Rattle.file.specs.Whole.{formattedAnswer, Formats, FormatsFrame, sourceOf, imageOf, frameTable}
+use Rattle.file.specs.Reply.{programRefusal, Replies}
 use Rattle.lines.specs.Lines.{refusedLine}
 use Rattle.tallies.specs.declared.Tallies.{Tallies}
 use Rattle.figures.specs.declared.Counted.{Counted}
@@ -62,43 +59,26 @@ frameNumbers = 13 ∷ referenceNumbers
 abbrev pub countNumbers : List ℕ
 countNumbers = referenceNumbers ++ (14 ∷ [])
 
--- ---- what an answer tells: the refusal, or none
-abbrev pub readTold : Outcome → Option Refusal
-readTold (image.accepted n at) = none
-readTold (image.refused r) = some r
-
-abbrev pub callTold : (s b : List ℕ) → Answer (rulesOf s b) → Option Refusal
-callTold s b (cut.refused r) = some r
-callTold s b (laidOut t n) = none
-callTold s b (written t n) = none
-
-abbrev pub fileTold : FileAnswer → Option Refusal
-fileTold (file.refused r) = some r
-fileTold (formatted bytes left rows numbers) = none
-
-abbrev pub countTold : count.CountAnswer → Option Refusal
-countTold (count.refused r) = some r
-countTold (count.counted f t q) = none
-
 -- ---- the demand
--- an entry that refuses under these numbers, for arguments of which the table says `table`, told `told`; `Kept` says that its buffers are as they were
-pub record Answered (numbers : List ℕ) (table told : Option Refusal) (Kept : Type 0) : Type 0 where
+-- an entry that refuses under these numbers, for arguments of which the table says `table`, answered with `refusal` or none; `Kept` says that its
+-- buffers are as they were
+pub record Answered (numbers : List ℕ) (table refusal : Option Refusal) (Kept : Type 0) : Type 0 where
   -- "No other cause refuses, and each listed one does": accepted, or refused with the table's number and place
-  pub as-table : told ≡ table
-  pub listed : (r : Refusal) → told ≡ some r → isOneOf (r .number) numbers ≡ true
+  pub as-table : refusal ≡ table
+  pub listed : (r : Refusal) → refusal ≡ some r → isOneOf (r .number) numbers ≡ true
   -- the table's column "Left as it was": all
-  pub kept : (r : Refusal) → told ≡ some r → Kept
+  pub kept : (r : Refusal) → refusal ≡ some r → Kept
 
 -- `image::check`, which is lent nothing to change
 abbrev pub CheckAnswered : Type 0
 CheckAnswered = (s b : List ℕ) (r : check.Answer) → Checks s b r
-    → Answered readNumbers (readRefusal (readAll s b)) (readTold (outcomeOf r)) (Unit {0})
+    → Answered readNumbers (readRefusal (readAll s b)) (refusalOf (checkedAnswer r)) (Unit {0})
 
 -- `layout_call::layout_call`
 abbrev pub LayoutAnswered : Type 0
 LayoutAnswered = (s b : List ℕ) (state : LayoutState) (args : LayoutArgs) (store : List ℕ) (r : Laying) (store2 : List ℕ)
     → LayoutCalled s b state args store r store2
-    → Answered layoutNumbers (rulesOf s b .layout-refusal (layout.toArgs args) (layout.toState state) store) (callTold s b (layout.layingAnswer s b r))
+    → Answered layoutNumbers (rulesOf s b .layout-refusal (layout.toArgs args) (layout.toState state) store) (refusalOf (layout.layingAnswer s b r))
     (store2 ≡ store)
 
 -- `render_call::render_call`
@@ -106,20 +86,20 @@ abbrev pub RenderAnswered : Type 0
 RenderAnswered = (s b : List ℕ) (state : RenderState) (args : RenderArgs) (store marks out : List ℕ) (r : Rendering) (store2 marks2 out2 : List ℕ)
     → RenderCalled s b state args store marks out r store2 marks2 out2
     → Answered renderNumbers (rulesOf s b .render-refusal (render.toArgs args (length out)) (render.toState state) store marks)
-    (callTold s b (render.renderingAnswer s b r))
+    (refusalOf (render.renderingAnswer s b r))
     ((store2 ≡ store) × (marks2 ≡ marks) × (out2 ≡ out))
 
 -- `file::format_file`, whatever its caller chose
 abbrev pub FileAnswered : Type 0
 FileAnswered = (s b : List ℕ) (c : FileChoice) (out : List ℕ) (r : Formatted) (out2 : List ℕ) → Formats s b c out r out2
-    → Answered fileNumbers (fileRefusal s b c (length out)) (fileTold (formattedAnswer r)) (out2 ≡ out)
+    → Answered fileNumbers (fileRefusal s b c (length out)) (refusalOf (formattedAnswer r)) (out2 ≡ out)
 
 -- `file::format_frame`
 abbrev pub FrameAnswered : Type 0
 FrameAnswered = (frame out : List ℕ) (r : Formatted) (out2 : List ℕ) → FormatsFrame frame out r out2
-    → Answered frameNumbers (frameTable frame (length out)) (fileTold (formattedAnswer r)) (out2 ≡ out)
+    → Answered frameNumbers (frameTable frame (length out)) (refusalOf (formattedAnswer r)) (out2 ≡ out)
 
--- `reply::reply`, which is lent the output: the n bytes that the program writes for a frame are the line of its refusal, with a number of the list, or the text of the
+-- `file::reply::reply`, which is lent the output: the n bytes that the program writes for a frame are the line of its refusal, with a number of the list, or the text of the
 -- frame's file; behind them the output is as it was
 pub record ProgramWrote (frame out : List ℕ) (n : ℕ) (out2 : List ℕ) : Type 0 where
   pub refused : (r : Refusal) → programRefusal frame ≡ some r → (take n out2 ≡ refusedLine r) × (isOneOf (r .number) frameNumbers ≡ true)
@@ -132,7 +112,7 @@ ProgramAnswered = (frame out : List ℕ) (n : ℕ) (out2 : List ℕ) → Replies
 -- `figures::count_file`, which is lent nothing to change
 abbrev pub CountAnswered : Type 0
 CountAnswered = (s b : List ℕ) (t : Tallies) (r : Counted) → count.Counts s b t r
-    → Answered countNumbers (count.countRefusal s b t) (countTold (count.countedAnswer r)) (Unit {0})
+    → Answered countNumbers (count.countRefusal s b t) (refusalOf (count.countedAnswer r)) (Unit {0})
 
 pub record Demand1 : Type 0 where
   pub check : CheckAnswered

@@ -1,10 +1,10 @@
 -- Demand 2: for an accepted tree the rows, marks, text and comments left equal what `fmt_parsed` builds and renders. proofs/Demand2.antt proves it.
 --
 -- Of the two calls and of a whole file, by what they promise. What `fmt_parsed` builds: `fmtParsed` (crates/layout/specs/Layout.antt), what it has
--- when its loop reaches a declaration: `upTo` (crates/layout_facts/specs/Accepted.antt); what `Renderer` makes of it: `renderNodes`
--- (crates/renderer_rules/specs/Renderer.antt), for a whole document `drawnDue` (crates/plain_run/specs/File.antt), in each mode and at every width
+-- when its loop reaches a declaration: `upTo` (crates/layout/specs/Closing.antt); what `Renderer` makes of it: `renderNodes`
+-- (crates/renderer_rules/specs/Renderer.antt), for a whole document `drawnDue` (crates/whole_run/specs/Built.antt), in each mode and at every width
 -- that is accepted. The old mode is the Rust's; of the new one it is said what closing adds, and that no comment is left.
--- That the Rust's own choices give what there was before one could be made is `ReferenceHolds` (crates/plain_run/specs/Reference.antt).
+-- That the Rust's own choices give what there was before one could be made is `ReferenceHolds` (crates/whole_run/specs/Reference.antt).
 use mathlib.Core.Path.{_≡_}
 use mathlib.Core.Bool.{true, false}
 use mathlib.Core.List.{List}
@@ -12,19 +12,19 @@ use Prim.Native.Nat.{ℕ, _-_}
 use lib.ListN.{length, take}
 use Rattle.rows.specs.Rows.{sizes, rows}
 use Rattle.rows.specs.declared.units.Bytes.{Bytes}
-use Rattle.state.specs.Act.{Out}
+use Rattle.acts.specs.Act.{Out}
 use Rattle.tree.specs.CommentList.{commentsOf}
 use Rattle.comments.specs.Listed.{given}
 use Rattle.layout.specs.Layout.{fmtParsed}
-use Rattle.layout_facts.specs.Accepted.{fresh, upTo, wholeRule}
+use Rattle.layout.specs.Closing.{fresh, upTo, wholeRule}
 use Rattle.cut_rule.specs.Run.{writeFront}
 use Rattle.cut_rule.specs.States.{OLD-MODE, NEW-MODE}
-use Rattle.plain_run.specs.Demands.{LaidWithinLimits}
-use Rattle.plain_run.specs.Reference.{ReferenceHolds}
-use Rattle.plain_run.specs.File.{FileChoice, built, drawnDue, OldModeIsFmtParsed, NewModeLeavesNone}
+use Rattle.whole_run.specs.Demands.{LaidWithinLimits}
+use Rattle.whole_run.specs.Reference.{ReferenceHolds}
+use Rattle.whole_run.specs.File.{OldModeIsFmtParsed, NewModeLeavesNone}
+use Rattle.whole_run.specs.Built.{FileChoice, built, drawnDue, tree, declared}
 use Rattle.layout_call.specs.declared.LayoutState.{LayoutState}
 use Rattle.layout_call.specs.declared.Laying.the-variants as laying
-use Rattle.layout_call.specs.Steps.{tree, declared}
 use Rattle.layout_call.specs.Whole.{LayoutCalled}
 use Rattle.render_call.specs.declared.RenderState.{RenderState}
 use Rattle.render_call.specs.declared.Rendering.the-variants as rendering

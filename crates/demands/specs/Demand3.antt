@@ -1,21 +1,22 @@
 -- Demand 3, the cut rule, of the two public calls, `layout_call::layout_call` and `render_call::render_call`, by what they promise and nothing else:
 -- whatever list of calls a caller makes, refused ones included, in which no accepted call reads rows not yet laid out, what it then holds is what
 -- the plain run of document 01 has due, in both modes. proofs/Demand3.antt proves it. (Without that condition it is false: crates/cut_rule/proofs/Example.antt.)
--- What is due: crates/cut_rule/specs/Plain.antt; by which rules and which table: crates/plain_run/specs/Parts.antt.
+-- What is due: crates/cut_rule/specs/Plain.antt; by which rules and which table: crates/whole_run/specs/Parts.antt.
 use mathlib.Core.Path.{_≡_}
 use mathlib.Core.Bool.{true}
 use mathlib.Core.Option.{Option, none, some}
 use mathlib.Core.List.{List, [], _++_, map}
 use Prim.Native.Nat.{ℕ}
 use lib.ListN.{length, take}
-use Rattle.cut_rule.specs.Run.{Call, layoutCall, renderCall, Carried, Answer, start}
+use Rattle.refusals.specs.Answers.{Answer}
+use Rattle.cut_rule.specs.Run.{Call, layoutCall, renderCall, Carried, CallResult, start}
 use Rattle.cut_rule.specs.Plain.{AllReadLaid, atFirst, due, plain, answersDue}
 use Rattle.cut_rule.specs.CutRule.{CommentsKept}
 use Rattle.cut_rule.specs.Callers.{afterAll, AllKept}
 use Rattle.cut_rule.specs.States.{NEW-MODE}
-use Rattle.plain_run.specs.Parts.{listed}
-use Rattle.plain_run.specs.Demands.{rulesOf}
-use Rattle.plain_run.specs.Foot.{HoldsAll}
+use Rattle.whole_run.specs.Parts.{listed}
+use Rattle.whole_run.specs.Demands.{rulesOf}
+use Rattle.whole_run.specs.Foot.{HoldsAll}
 use Rattle.layout_call.specs.declared.LayoutState.{LayoutState}
 use Rattle.layout_call.specs.declared.LayoutArgs.{LayoutArgs}
 use Rattle.layout_call.specs.declared.Laying.{Laying}
@@ -99,7 +100,7 @@ abbrev pub callMade : (s b : List ℕ) → Made → Call (rulesOf s b)
 callMade s b (laid args r store2) = layoutCall (layout.toArgs args)
 callMade s b (rendered args out r store2 marks2 out2) = renderCall (render.toArgs args (length out))
 
-abbrev pub answerMade : (s b : List ℕ) → Made → Answer (rulesOf s b)
+abbrev pub answerMade : (s b : List ℕ) → Made → Answer (CallResult (rulesOf s b))
 answerMade s b (laid args r store2) = layout.layingAnswer s b r
 answerMade s b (rendered args out r store2 marks2 out2) = render.renderingAnswer s b r
 

@@ -1,4 +1,4 @@
--- "Fresh is all 0."
+-- The two states from which a caller starts: "Fresh is all 0."
 use mathlib.Core.Bool.{false}
 use Rattle.layout_call.specs.declared.LayoutState.{LayoutState}
 use Rattle.render_call.specs.declared.RenderState.{RenderState}

@@ -2,14 +2,14 @@
 -- request's two sentences on lists. proofs/Generator.antt proves it.
 use mathlib.Core.Path.{_≡_}
 use mathlib.Core.Bool.{true}
-use mathlib.Core.Option.{Option, none, some}
 use mathlib.Core.List.{List, [], _∷_, _++_}
 use Prim.Native.Nat.{ℕ, _≤_}
 use lib.ListN.{length, take}
 use lib.Seq.{sets}
 use Rattle.refusals.specs.Refusals.{Refusal, isOneOf}
+use Rattle.refusals.specs.Answers.{refused, accepted, refusalOf}
 use Rattle.image.specs.Read.{readNumbers}
-use Rattle.steps.specs.Writer.{WriterAnswer, refused, wrote, writerRefusal}
+use Rattle.steps.specs.Writer.{writerRefusal}
 use Rattle.steps.specs.OfImage.{stepsOfRefusal}
 use Rattle.steps.specs.Exact.{Bytes}
 use Rattle.writer.specs.declared.Wrote.{Wrote}
@@ -26,23 +26,18 @@ writerNumbers = 16 ∷ 17 ∷ []
 abbrev pub stepsNumbers : List ℕ
 stepsNumbers = readNumbers ++ (17 ∷ [])
 
--- what an answer tells: the refusal, or none
-abbrev pub writerTold : WriterAnswer → Option Refusal
-writerTold (refused r) = some r
-writerTold (wrote n) = none
-
 -- ---- demand 1
 pub record Generator1 : Type 0 where
   pub write : (l out : List ℕ) (r : Wrote) (out2 : List ℕ) → Writes l out r out2
-      → Answered writerNumbers (writerRefusal l (length out)) (writerTold (wroteAnswer r)) (out2 ≡ out)
+      → Answered writerNumbers (writerRefusal l (length out)) (refusalOf (wroteAnswer r)) (out2 ≡ out)
   pub list : (s b out : List ℕ) (r : Wrote) (out2 : List ℕ) → Lists s b out r out2
-      → Answered stepsNumbers (stepsOfRefusal s b (length out)) (writerTold (wroteAnswer r)) (out2 ≡ out)
+      → Answered stepsNumbers (stepsOfRefusal s b (length out)) (refusalOf (wroteAnswer r)) (out2 ≡ out)
 
 -- ---- the two sentences
 -- "exactly one list of steps that the writer, given room, turns into it": l is turned into b wherever the output has room for b, and no other is
 pub record TheList (b l : List ℕ) : Type 0 where
   pub turned : (out : List ℕ) (r : Wrote) (out2 : List ℕ) → Writes l out r out2 → length b ≤ length out
-      → (wroteAnswer r ≡ wrote (length b)) × (out2 ≡ sets out 0 b)
+      → (wroteAnswer r ≡ accepted (length b)) × (out2 ≡ sets out 0 b)
   pub only : (l2 out : List ℕ) (n : ℕ) (out2 : List ℕ) → Bytes l2 → Writes l2 out (answer.Bytes n) out2 → take n out2 ≡ b → l2 ≡ l
 
 -- "read with a source it fits (by 01's 1, 2, 6 and 7), gives those steps": the image b of the list l, with any source; 17 where the steps have no room

@@ -9,26 +9,25 @@ use Prim.Native.Nat.{ℕ, _-_}
 use lib.Dec.{eqb}
 use lib.ListN.{length, getD, take, drop, replicate}
 use Rattle.refusals.specs.Refusals.{Refusal, isOneOf}
-use Rattle.image.specs.Read.{readAll, readNumbers, Checks}
+use Rattle.image.specs.Read.{readAll, readNumbers, Checks, readRefusal}
 use Rattle.image.specs.declared.Answer.{Answer as Checked}
 use Rattle.image.specs.declared.Answer.the-variants as checked
 use Rattle.rows.specs.Rows.{sizes}
 use Rattle.tree.specs.CommentList.{commentsOf}
 use Rattle.comments.specs.Listed.{given}
 use Rattle.layout.specs.Layout.{fmtParsed}
-use Rattle.layout_facts.specs.Accepted.{fresh, upTo, wholeRule}
+use Rattle.layout.specs.Closing.{fresh, upTo, wholeRule}
 use Rattle.cut_rule.specs.Run.{Call, layoutCall, renderCall, Carried, start}
 use Rattle.cut_rule.specs.Plain.{atFirst, answersDue, AllReadLaid}
 use Rattle.cut_rule.specs.Callers.{afterAll, AllKept}
 use Rattle.cut_rule.specs.States.{OLD-MODE, NEW-MODE}
-use Rattle.plain_run.specs.Parts.{readRefusal}
-use Rattle.plain_run.specs.Demands.{rulesOf}
-use Rattle.plain_run.specs.File.{FileChoice, fileRefusal}
-use Rattle.plain_run.specs.Foot.{HoldsAll}
+use Rattle.whole_run.specs.Demands.{rulesOf}
+use Rattle.whole_run.specs.File.{fileRefusal}
+use Rattle.whole_run.specs.Foot.{HoldsAll}
+use Rattle.whole_run.specs.Built.{tree, declared}
 use Rattle.layout_call.specs.declared.Laying.{Laying}
 use Rattle.layout_call.specs.declared.Laying.the-variants as laying
 use Rattle.layout_call.specs.Calls as layout
-use Rattle.layout_call.specs.Steps.{tree, declared}
 use Rattle.layout_call.specs.Whole.{LayoutCalled}
 use Rattle.render_call.specs.declared.Rendering.{Rendering}
 use Rattle.render_call.specs.declared.Rendering.the-variants as rendering
@@ -72,7 +71,7 @@ abbrev pub answerFrom : {A : Type 0} → (ℕ → ℕ → A) → A → List ℕ 
 answerFrom refused told out2 = ifAccepted out2 told (refused (getD out2 0 0) (getD out2 1 0))
 
 abbrev pub checkedFrom : List ℕ → Checked
-checkedFrom o = answerFrom checked.Refused (checked.Accepted (getD o 1 0) (getD o 2 0)) o
+checkedFrom o = answerFrom checked.Refused (checked.Accepted (record { comments = getD o 1 0; tree = getD o 2 0 })) o
 
 abbrev pub layingFrom : List ℕ → Laying
 layingFrom o = answerFrom laying.Refused (laying.Laid (layoutState (take 8 (drop 2 o))) (getD o 1 0)) o

@@ -2,14 +2,14 @@
 -- proofs/Saves.antt proves it.
 use mathlib.Core.Path.{_≡_}
 use mathlib.Core.Bool.{true}
-use mathlib.Core.Option.{Option, none, some}
 use mathlib.Core.List.{List, [], _∷_, _++_}
 use Prim.Native.Nat.{ℕ}
 use lib.ListN.{length}
 use Rattle.refusals.specs.Refusals.{Refusal, isOneOf}
+use Rattle.refusals.specs.Answers.{refused, refusalOf}
 use Rattle.image.specs.Read.{readNumbers}
-use Rattle.plain_run.specs.File.{FileChoice, refused}
-use Rattle.batch.specs.Batch.{Save, single, BatchAnswer, turnedDown, batched, batchRefusal}
+use Rattle.whole_run.specs.Built.{FileChoice}
+use Rattle.batch.specs.Batch.{Save, single, batchRefusal}
 use Rattle.batch.specs.Whole.{batchedAnswer, Batches}
 use Rattle.batch.specs.Singles.{AsSingles}
 use Rattle.batch.specs.declared.Batch.{Batch}
@@ -23,14 +23,9 @@ batchNumbers = 18 ∷ 19 ∷ []
 abbrev pub rowNumbers : List ℕ
 rowNumbers = readNumbers ++ (12 ∷ 15 ∷ 8 ∷ 9 ∷ [])
 
--- what an answer tells: the refusal, or none
-abbrev pub batchTold : BatchAnswer → Option Refusal
-batchTold (turnedDown r) = some r
-batchTold (batched files bytes) = none
-
 pub record Saves1 : Type 0 where
   pub batch : (f : List ℕ) (c : FileChoice) (table out : List ℕ) (r : Batch) (table2 out2 : List ℕ) → Batches f c table out r table2 out2
-      → Answered batchNumbers (batchRefusal c f (length table) (length out)) (batchTold (batchedAnswer r)) ((table2 ≡ table) × (out2 ≡ out))
+      → Answered batchNumbers (batchRefusal c f (length table) (length out)) (refusalOf (batchedAnswer r)) ((table2 ≡ table) × (out2 ≡ out))
   -- a file of the batch that is refused, in its row of the table
   pub row : (c : FileChoice) (x : Save) (r : Refusal) → single c x ≡ refused r → isOneOf (r .number) rowNumbers ≡ true
   -- "The result is that of single calls in the same order"

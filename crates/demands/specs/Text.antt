@@ -1,5 +1,5 @@
 -- The text holds every comment, and it is the program that was read: of what each entry writes, by what it promises and nothing else. proofs/Text.antt proves it.
--- What is said of a text: `HoldsFirst`, `IsProgram` and `TextKept` (crates/plain_run/specs/Text.antt); what a program is written of: `tokensOf`
+-- What is said of a text: `HoldsFirst`, `IsProgram` and `TextKept` (crates/whole_run/specs/Text.antt); what a program is written of: `tokensOf`
 -- (crates/layout_facts/specs/Tokens.antt).
 use mathlib.Core.Path.{_≡_}
 use mathlib.Core.Bool.{true}
@@ -9,17 +9,18 @@ use Prim.Native.Nat.{ℕ, _*_, _-_}
 use lib.ListN.{length, getD, take}
 use Rattle.rows.specs.declared.units.Bytes.{Bytes}
 use Rattle.refusals.specs.Refusals.{Refusal}
+use Rattle.refusals.specs.Answers.{refused}
 use Rattle.cut_rule.specs.Run.{Carried, start}
 use Rattle.cut_rule.specs.Plain.{AllReadLaid}
 use Rattle.cut_rule.specs.Callers.{afterAll, AllKept}
 use Rattle.cut_rule.specs.States.{NEW-MODE}
-use Rattle.plain_run.specs.Parts.{listed}
-use Rattle.plain_run.specs.Demands.{rulesOf}
-use Rattle.plain_run.specs.File.{FileChoice, refused, referenceChoice, built}
-use Rattle.plain_run.specs.Text.{HoldsFirst, IsProgram, AllRendered, TextKept}
+use Rattle.whole_run.specs.Parts.{listed}
+use Rattle.whole_run.specs.Demands.{rulesOf}
+use Rattle.whole_run.specs.Text.{HoldsFirst, IsProgram, AllRendered, TextKept}
+use Rattle.whole_run.specs.Built.{FileChoice, referenceChoice, built}
 use Rattle.file.specs.declared.Formatted.the-variants as answer
 use Rattle.file.specs.Whole.{Formats, toChoice, sourceOf, imageOf}
-use Rattle.reply.specs.Reply.{programRefusal, Replies}
+use Rattle.file.specs.Reply.{programRefusal, Replies}
 use Rattle.batch.specs.Batch.{Save, allSaves, savesBy, single}
 use Rattle.batch.specs.Whole.{Batches}
 use Rattle.batch.specs.declared.Batch.the-variants as batch

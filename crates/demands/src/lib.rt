@@ -1,1 +1,1 @@
-// Theory only: demand 3 of the two public calls by what they promise.
+// Theory only: the three demands of the entries by what they promise, and all that is claimed.

@@ -3,18 +3,17 @@ use Prim.Native.Nat.{ℕ}
 use mathlib.Core.List.{List, [], _∷_}
 use mathlib.Core.Path.{_≡_}
 use lib.ListN.{length}
-use lib.Seq.{sets}
-use Rattle.steps.specs.Writer.{WriterAnswer, refused, wrote, writerAnswer, writerOutput}
+use Rattle.refusals.specs.Answers.{numbersOf}
+use Rattle.steps.specs.Writer.{writerAnswer, writerOutput}
 use Rattle.steps.specs.OfImage.{stepsOfAnswer, stepsOfOutput}
 
--- a refusal's number and place; or 0 and the bytes written
-abbrev pub toldWriter : WriterAnswer → List ℕ → List ℕ
-toldWriter (refused r) out = sets out 0 (r .number ∷ r .place ∷ [])
-toldWriter (wrote n) out = sets out 0 (0 ∷ n ∷ [])
+-- the bytes written
+abbrev pub toldBytes : ℕ → List ℕ
+toldBytes n = n ∷ []
 
 -- an image from a list of steps, and the steps of an image: the output, and the answer's numbers
 abbrev pub WritesImage : List ℕ → List ℕ → List ℕ → List ℕ → List ℕ → Type 0
-WritesImage l output out output2 out2 = (output2 ≡ writerOutput l output) × (out2 ≡ toldWriter (writerAnswer l (length output)) out)
+WritesImage l output out output2 out2 = (output2 ≡ writerOutput l output) × (out2 ≡ numbersOf toldBytes (writerAnswer l (length output)) out)
 
 abbrev pub ListsSteps : List ℕ → List ℕ → List ℕ → List ℕ → List ℕ → List ℕ → Type 0
-ListsSteps s b output out output2 out2 = (output2 ≡ stepsOfOutput s b output) × (out2 ≡ toldWriter (stepsOfAnswer s b (length output)) out)
+ListsSteps s b output out output2 out2 = (output2 ≡ stepsOfOutput s b output) × (out2 ≡ numbersOf toldBytes (stepsOfAnswer s b (length output)) out)

@@ -1,29 +1,24 @@
--- The numbers that the exported functions take and leave, in arrays of as many places as an answer or a state has. A refusal takes two places,
--- and leaves the others as they were.
+-- The numbers that the exported functions take and leave, in arrays of as many places as an answer or a state has. An answer begins with a
+-- refusal's number and place, or with 0 and what is told below of what is given (`numbersOf`).
 use Prim.Native.Nat.{ℕ, _+_}
 use mathlib.Core.Bool.{Bool, cond, not}
 use mathlib.Core.List.{List, [], _∷_}
 use lib.Dec.{eqb}
 use lib.ListN.{getD}
-use lib.Seq.{sets}
 use Rattle.text.specs.declared.newlines.Newlines.{Newlines}
-use Rattle.image.specs.Read as image
-use Rattle.cut_rule.specs.Run.{Answer, refused, laidOut, written}
-use Rattle.plain_run.specs.Demands.{rulesOf}
-use Rattle.plain_run.specs.File as file
-use Rattle.figures.specs.Figures as count
+use Rattle.image.specs.declared.Document.{Document}
+use Rattle.cut_rule.specs.Run.{CallResult, laidOut, written}
+use Rattle.whole_run.specs.Demands.{rulesOf}
+use Rattle.whole_run.specs.File.{FileResult}
+use Rattle.figures.specs.Figures.{CountResult}
 use Rattle.tallies.specs.declared.Figures.{Figures}
 use Rattle.tallies.specs.declared.Tallies.{Tallies}
+use Rattle.tallies.specs.declared.Fraction.{Fraction}
 use Rattle.layout_call.specs.declared.LayoutState.{LayoutState}
 use Rattle.layout_call.specs.declared.LayoutArgs.{LayoutArgs}
 use Rattle.render_call.specs.declared.RenderState.{RenderState}
 use Rattle.render_call.specs.declared.RenderArgs.{RenderArgs}
 use Rattle.file.specs.declared.FileChoice.{FileChoice}
-
--- a refusal's number and place; or 0, the number of comments, the tree's offset and the number of declarations
-abbrev pub toldRead : image.Outcome → ℕ → List ℕ → List ℕ
-toldRead (image.refused r) declarations out = sets out 0 (r .number ∷ r .place ∷ [])
-toldRead (image.accepted n at) declarations out = sets out 0 (0 ∷ n ∷ at ∷ declarations ∷ [])
 
 -- ---- states, in document 01's order, and what a request adds behind
 -- a flag is yes for every number but 0
@@ -69,13 +64,14 @@ abbrev pub fileChoice : List ℕ → FileChoice
 fileChoice l = record { width = record { 0 = getD l 0 0 }; mode = getD l 1 0 }
 
 -- ---- answers
--- a call's answer: a refusal's number and place; or 0, the comments left or the bytes written, and the new state
-abbrev pub toldCall : (s b : List ℕ) → Answer (rulesOf s b) → List ℕ → List ℕ
-toldCall s b (refused r) out = sets out 0 (r .number ∷ r .place ∷ [])
-toldCall s b (laidOut t n) out =
-    sets out 0
-    (0
-    ∷ n
+-- the number of comments, the tree's offset, and the number of declarations
+abbrev pub toldDocument : ℕ → Document → List ℕ
+toldDocument declarations d = d .comments ∷ d .tree ∷ declarations ∷ []
+
+-- the comments left or the bytes written, and the new state
+abbrev pub toldCall : (s b : List ℕ) → CallResult (rulesOf s b) → List ℕ
+toldCall s b (laidOut t n) =
+    n
     ∷ bit (t .begun)
     ∷ bit (t .closed)
     ∷ t .declaration
@@ -84,18 +80,16 @@ toldCall s b (laidOut t n) out =
     ∷ t .cursor .placed
     ∷ t .cursor .position
     ∷ t .mode
-    ∷ [])
-toldCall s b (written t n) out =
-    sets out 0 (0 ∷ n ∷ t .pen .indent ∷ t .pen .«next_indent» ∷ t .pen .column .0 ∷ t .in-use ∷ t .row ∷ t .width ∷ [])
+    ∷ []
+toldCall s b (written t n) = n ∷ t .pen .indent ∷ t .pen .«next_indent» ∷ t .pen .column .0 ∷ t .in-use ∷ t .row ∷ t .width ∷ []
 
--- a whole file's answer: a refusal's number and place; or 0, the bytes written, the comments left, the rows and the group numbers
-abbrev pub toldFile : file.FileAnswer → List ℕ → List ℕ
-toldFile (file.refused r) out = sets out 0 (r .number ∷ r .place ∷ [])
-toldFile (file.formatted bytes left rows numbers) out = sets out 0 (0 ∷ bytes ∷ left ∷ rows ∷ numbers ∷ [])
+-- of a whole file the bytes written, the comments left, the rows and the group numbers
+abbrev pub toldFile : FileResult → List ℕ
+toldFile x = x .bytes ∷ x .left ∷ x .rows ∷ x .numbers ∷ []
 
 -- the newlines of a range: how many, and the place of the last or the range's end
-abbrev pub toldNewlines : Newlines → List ℕ → List ℕ
-toldNewlines found out = sets out 0 (found .count ∷ found .place ∷ [])
+abbrev pub toldNewlines : Newlines → List ℕ
+toldNewlines found = found .count ∷ found .place ∷ []
 
 -- ---- request 2
 -- the seven figures, in document 02's order
@@ -114,13 +108,10 @@ figuresFrom at l = record {
 abbrev pub talliesFrom : List ℕ → Tallies
 talliesFrom l = record { files = getD l 0 0; all = figuresFrom 1 l }
 
--- a count's answer: a refusal's number and place; or 0, the file's figures, the new tallies, and wrapped over given of all
-abbrev pub toldCount : count.CountAnswer → List ℕ → List ℕ
-toldCount (count.refused r) out = sets out 0 (r .number ∷ r .place ∷ [])
-toldCount (count.counted f t q) out =
-    sets out 0
-    (0
-    ∷ f .bytes
+-- of a file that is counted its figures, the new tallies, and wrapped over given of all
+abbrev pub toldCount : Figures → Tallies → Fraction → List ℕ
+toldCount f t q =
+    f .bytes
     ∷ f .newlines
     ∷ f .column
     ∷ f .given
@@ -137,4 +128,7 @@ toldCount (count.counted f t q) out =
     ∷ t .all .left
     ∷ q .over
     ∷ q .under
-    ∷ [])
+    ∷ []
+
+abbrev pub toldCounted : CountResult → List ℕ
+toldCounted x = toldCount (x .figures) (x .tallies) (x .fraction)

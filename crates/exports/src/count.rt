@@ -1,7 +1,8 @@
 // Figures and tallies in and out of the arrays that `rrufthim_count` is lent.
 ghost use mathlib.Core.Path.{_≡_};
+ghost use mathlib.Core.List.{_∷_};
+ghost use lib.Seq.{sets};
 ghost use Rattle.exports.specs.Numbers.{talliesFrom, toldCount};
-ghost use Rattle.figures.specs.Figures.{counted};
 use tallies::Figures;
 use tallies::Fraction;
 use tallies::Tallies;
@@ -27,7 +28,7 @@ pub(crate) fn tallies_from(l: &[u64; 8]) -> Tallies
 
 // What a file that is counted tells.
 pub(crate) fn put_counted(out: &mut [u64; 18], f: Figures, t: Tallies, q: Fraction)
-    ensures { λ r. ⌜ now (out .exit) ≡ toldCount (counted f t q) (now (out .entry)) ⌝ }
+    ensures { λ r. ⌜ now (out .exit) ≡ sets (now (out .entry)) 0 (0 ∷ toldCount f t q) ⌝ }
 {
     out[0] = 0;
     out[1] = f.bytes as u64;

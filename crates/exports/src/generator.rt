@@ -1,14 +1,15 @@
 // Request 5: an image from a list of steps, and the steps of an image.
 ghost use mathlib.Core.Path.{_≡_};
+ghost use Rattle.refusals.specs.Answers.{numbersOf};
 ghost use Rattle.writer.specs.Wrote.{wroteAnswer};
-ghost use Rattle.exports.specs.Generator.{toldWriter, WritesImage, ListsSteps};
+ghost use Rattle.exports.specs.Generator.{toldBytes, WritesImage, ListsSteps};
 use writer::Wrote;
 use writer::steps_of;
 use writer::write_image;
 
 // What either answers.
 fn put_wrote(out: &mut [u64; 2], answer: Wrote)
-    ensures { λ r. ⌜ now (out .exit) ≡ toldWriter (wroteAnswer answer) (now (out .entry)) ⌝ }
+    ensures { λ r. ⌜ now (out .exit) ≡ numbersOf toldBytes (wroteAnswer answer) (now (out .entry)) ⌝ }
 {
     match answer {
         Wrote::Refused(n, p) => {

@@ -6,6 +6,7 @@ mod numbers;
 mod saves;
 
 ghost use mathlib.Core.Path.{_≡_};
+ghost use lib.Seq.{sets};
 ghost use Rattle.text.specs.Newlines.{countNewlines};
 ghost use Rattle.exports.specs.Numbers.{toldNewlines};
 ghost use Rattle.exports.specs.Calls.{ChecksFile, CountsFile, Lays, Renders, FormatsFile};
@@ -24,7 +25,6 @@ use figures::count_file;
 use file::Formatted;
 use file::format_file;
 use image::Answer;
-use layout_call::Document;
 use layout_call::Laying;
 use layout_call::layout_call;
 use layout_call::steps::count_declarations;
@@ -43,14 +43,10 @@ pub extern "C" fn rrufthim_check_s1(source: &[u8], image: &[u8], out: &mut [u64;
             out[0] = n as u64;
             out[1] = p as u64;
         }
-        Answer::Accepted { comments, tree } => {
+        Answer::Accepted(doc) => {
             out[0] = 0;
-            out[1] = comments as u64;
-            out[2] = tree as u64;
-            let doc = Document {
-                comments: comments,
-                tree: tree,
-            };
+            out[1] = doc.comments as u64;
+            out[2] = doc.tree as u64;
             out[3] = count_declarations(source, image, doc) as u64;
         }
     }
@@ -137,7 +133,7 @@ pub extern "C" fn rrufthim_format_s1(
 // none; none is counted where the range is outside the source, reversed or off a boundary.
 #[no_mangle]
 pub extern "C" fn rrufthim_newlines_s1(source: &[u8], start: u64, end: u64, out: &mut [u64; 2])
-    ensures { λ r. ⌜ now (out .exit) ≡ toldNewlines (countNewlines (now (source .entry)) start end) (now (out .entry)) ⌝ }
+    ensures { λ r. ⌜ now (out .exit) ≡ sets (now (out .entry)) 0 (toldNewlines (countNewlines (now (source .entry)) start end)) ⌝ }
 {
     let found = count_newlines(source, start as usize, end as usize);
     out[0] = found.count as u64;

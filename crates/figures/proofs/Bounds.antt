@@ -2,18 +2,14 @@
 -- Assumes nothing.
 use mathlib.Core.Path.{_≡_, _∙_}
 use mathlib.Core.Bool.{true}
-use mathlib.Core.Option.{Option, none}
-use mathlib.Core.List.{List, [], _∷_}
+use mathlib.Core.Option.{none}
+use mathlib.Core.List.{List}
 use Prim.Native.Nat.{ℕ, _≤_}
 use native.Mathlib.Omega.{arith}
-use borrow.Author.Tests.{ltb-false}
-use lib.Dec.{ltb}
 use lib.ListN.{length, getD, replicate, length-replicate}
 use Rattle.image.specs.Read.{readAll}
 use Rattle.tree.specs.CommentList.{commentsOf}
 use Rattle.comments.specs.Listed.{given}
-use Rattle.refusals.specs.Refusals.{Refusal, first, refuseIf}
-use Rattle.refusals.proofs.Groups.{passes-line, passes-others, not-if}
 use Rattle.renderer_rules.proofs.Names.{renders-same}
 use Rattle.cut_rule.specs.States.{renderFresh, OLD-MODE}
 use Rattle.layout_facts.specs.Accepted.{Stands}
@@ -21,12 +17,14 @@ use Rattle.layout_facts.specs.Accepted as limits
 use Rattle.layout_facts.proofs.Limits.{closed-within}
 use Rattle.layout_facts.proofs.Numbers.{whole-below}
 use Rattle.cut_rule.specs.Limits.{REFERENCE-WIDTH}
-use Rattle.plain_run.specs.Parts.{acceptedTree, keepsWaiting, page, rendererOf}
-use Rattle.plain_run.specs.File.{referenceChoice, fileRows, fileMarks, built, marksDue, drawnDue, laidRefusal, fileRefusal}
-use Rattle.plain_run.specs.FileLimits.{AreBytes}
-use Rattle.plain_run.proofs.Past.{renders-length}
-use Rattle.plain_run.proofs.Limits.{stood}
-use Rattle.plain_run.proofs.FileLimits.{laid-read, file-column-limited}
+use Rattle.whole_run.specs.Parts.{acceptedTree, keepsWaiting, page, rendererOf}
+use Rattle.whole_run.specs.File.{fileRows, fileMarks, laidRefusal, fileRefusal}
+use Rattle.whole_run.specs.FileLimits.{AreBytes}
+use Rattle.whole_run.specs.Built.{referenceChoice, renderChoice, built, marksDue, drawnDue}
+use Rattle.whole_run.proofs.Past.{renders-length}
+use Rattle.whole_run.proofs.Limits.{stood}
+use Rattle.whole_run.proofs.FileTable.{laid-passed, before-marks, marks-fit, text-fit}
+use Rattle.whole_run.proofs.FileLimits.{file-column-limited}
 use Rattle.tallies.specs.Tallies.{Within}
 use Rattle.tallies.specs.Order.{Small}
 use Rattle.figures.specs.Figures.{FILE-OUTPUT, figuresOf}
@@ -37,32 +35,21 @@ module _ (s b : List ℕ) where
   textDue = length (drawnDue s b referenceChoice .text)
 
   -- ---- what 9 and 10 let pass
-  abbrev tens : List (Option Refusal)
-  tens = refuseIf (ltb FILE-OUTPUT textDue) 10 textDue ∷ []
-
-  abbrev pub nines : List (Option Refusal)
-  nines = refuseIf (ltb fileMarks (marksDue s b referenceChoice)) 9 (marksDue s b referenceChoice) ∷ tens
-
   module _ (passes : fileRefusal s b referenceChoice FILE-OUTPUT ≡ none) where
     laid-passes : laidRefusal s b referenceChoice fileRows ≡ none
-    laid-passes = passes-line (laidRefusal s b referenceChoice fileRows) nines passes
+    laid-passes = before-marks s b referenceChoice fileRows fileMarks FILE-OUTPUT passes
 
-    later : first nines ≡ none
-    later = passes-others (laidRefusal s b referenceChoice fileRows) nines passes
-
-    marks-fit : marksDue s b referenceChoice ≤ fileMarks
-    marks-fit = ltb-false fileMarks (marksDue s b referenceChoice) (not-if (ltb fileMarks (marksDue s b referenceChoice)) 9 (marksDue s b referenceChoice) (passes-line _ tens later))
+    marks-enough : marksDue s b referenceChoice ≤ fileMarks
+    marks-enough = marks-fit s b referenceChoice fileRows fileMarks FILE-OUTPUT passes
 
     text-fits : textDue ≤ FILE-OUTPUT
-    text-fits =
-        ltb-false FILE-OUTPUT textDue
-        (not-if (ltb FILE-OUTPUT textDue) 10 textDue
-        (passes-line _ [] (passes-others (refuseIf (ltb fileMarks (marksDue s b referenceChoice)) 9 (marksDue s b referenceChoice)) tens later)))
+    text-fits = text-fit s b referenceChoice fileRows fileMarks FILE-OUTPUT passes
 
   -- as many marks as are needed
   marks-many : length (drawnDue s b referenceChoice .marks) ≡ marksDue s b referenceChoice
   marks-many =
-      renders-length (page REFERENCE-WIDTH s b) (built s b referenceChoice .nodes) true (rendererOf (renderFresh .pen) (replicate (marksDue s b referenceChoice) 0))
+      renders-length (page (renderChoice referenceChoice) s b) (built s b referenceChoice .nodes) true
+      (rendererOf (renderFresh .pen) (replicate (marksDue s b referenceChoice) 0))
       ∙ length-replicate (marksDue s b referenceChoice) 0
 
   -- ---- what is known of a tree that stands in its image
@@ -77,7 +64,7 @@ module _ (s b : List ℕ) where
       pub within : Within (figuresOf s b)
       within =
           let t = text-fits passes in
-          let m = marks-fit passes in
+          let m = marks-enough passes in
           let n = occurs-few 0x0A (drawnDue s b referenceChoice .text) in
           let w = occurs-few 1 (drawnDue s b referenceChoice .marks) in
           let l = marks-many in
@@ -99,7 +86,8 @@ module _ (s b : List ℕ) where
         where
           cleared : (i : ℕ) → built s b referenceChoice .taken ≤ i → getD (drawnDue s b referenceChoice .marks) i 0 ≡ 0
           cleared i h =
-              renders-same i (built s b referenceChoice .nodes) (page REFERENCE-WIDTH s b) true (rendererOf (renderFresh .pen) (replicate (marksDue s b referenceChoice) 0))
+              renders-same i (built s b referenceChoice .nodes) (page (renderChoice referenceChoice) s b) true
+              (rendererOf (renderFresh .pen) (replicate (marksDue s b referenceChoice) 0))
               (whole-below (given s b) (acceptedTree b (readAll s b)) (keepsWaiting OLD-MODE) i h) .mark
               ∙ cleared-at (marksDue s b referenceChoice) i
 
@@ -123,5 +111,5 @@ module _ (s b : List ℕ) where
 
   pub small : AreBytes b → fileRefusal s b referenceChoice FILE-OUTPUT ≡ none → Small (figuresOf s b)
   small bytes passes =
-      let a = stood s b (laid-read s b referenceChoice (laid-passes passes)) in
+      let a = stood s b (laid-passed s b referenceChoice fileRows (laid-passes passes) .read) in
       small-in (a .at) (a .stood) passes bytes

@@ -1,4 +1,4 @@
 pub mod Occurring
 pub mod Bounds
-pub mod Told
+pub mod Counting
 pub mod Order

@@ -4,20 +4,21 @@ use mathlib.Core.Path.{_≡_, refl, sym, ap, _∙_}
 use mathlib.Core.Option.{Option, none, some}
 use mathlib.Core.List.{List, [], _∷_, map}
 use Prim.Native.Nat.{ℕ}
-use Rattle.refusals.specs.Refusals.{Refusal, unless, first}
+use Rattle.refusals.specs.Refusals.{Refusal, unless}
+use Rattle.refusals.specs.Answers.{answerBy}
 use Rattle.cut_rule.specs.Callers.{afterAll, AllKept}
 use Rattle.tallies.specs.declared.Figures.{Figures}
 use Rattle.tallies.specs.declared.Tallies.{Tallies}
 use Rattle.tallies.specs.Tallies.{freshTallies, added}
 use Rattle.tallies.specs.Order.{AllSmall, refusedOn, countedOn, totals, accepted}
 use Rattle.tallies.proofs.Order.{sums, any-order, first-counted, any-order-of-few}
-use Rattle.figures.specs.Figures.{countAnswerBy, countAnswer}
+use Rattle.figures.specs.Figures.{countResult, countAnswer}
 use Rattle.figures.specs.Order.{File, refusalOf, figuresIn, acceptedFiles, Made, talliesAfter, after, Keeps, files}
 use Rattle.figures.specs.Order.{TotalsAreSums, SameInAnyOrder, FirstAreCounted, SameFeedInAnyOrder}
 use Rattle.figures.proofs.Bounds.{small}
 
 -- ---- one file, by what is promised of it
-held : (o : Option Refusal) (f : Figures) (t : Tallies) → talliesAfter t (countAnswerBy o f t) ≡ unless o t (added f t)
+held : (o : Option Refusal) (f : Figures) (t : Tallies) → talliesAfter t (answerBy o (countResult f t)) ≡ unless o t (added f t)
 held (some r) f t = refl
 held none f t = refl
 

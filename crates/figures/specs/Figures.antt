@@ -1,6 +1,6 @@
 -- Document 02, 2/14: the figures of one file, and what counting it answers.
 use mathlib.Core.Path.{_≡_}
-use mathlib.Core.Option.{Option, none, some}
+use mathlib.Core.Option.{Option}
 use mathlib.Core.Bool.{cond}
 use mathlib.Core.List.{List, [], _∷_}
 use Prim.Native.Nat.{ℕ, suc, _-_}
@@ -8,7 +8,9 @@ use lib.Dec.{eqb}
 use lib.ListN.{length}
 use Rattle.tree.specs.CommentList.{commentsOf}
 use Rattle.refusals.specs.Refusals.{Refusal, first}
-use Rattle.plain_run.specs.File.{referenceChoice, built, drawnDue, columnDue, fileRefusal}
+use Rattle.refusals.specs.Answers.{Answer, refused, accepted, answerBy}
+use Rattle.whole_run.specs.Built.{referenceChoice, built, drawnDue, columnDue}
+use Rattle.whole_run.specs.File.{fileRefusal}
 use Rattle.tallies.specs.declared.Figures.{Figures}
 use Rattle.tallies.specs.declared.Tallies.{Tallies}
 use Rattle.tallies.specs.declared.Fraction.{Fraction}
@@ -43,21 +45,21 @@ figuresOf s b = record {
 abbrev pub countRefusal : List ℕ → List ℕ → Tallies → Option Refusal
 countRefusal s b t = first (fileRefusal s b referenceChoice FILE-OUTPUT ∷ tallyRefusal t ∷ [])
 
--- the answer: the file's figures, the new tallies, and wrapped over given of all; or number and place
-pub data CountAnswer : Type 0 where
-  refused : Refusal → CountAnswer
-  counted : Figures → Tallies → Fraction → CountAnswer
+-- what a file that is counted gives: its figures, the new tallies, and wrapped over given of all
+pub record CountResult : Type 0 where
+  pub figures : Figures
+  pub tallies : Tallies
+  pub fraction : Fraction
 
-abbrev pub countAnswerBy : Option Refusal → Figures → Tallies → CountAnswer
-countAnswerBy (some r) f t = refused r
-countAnswerBy none f t = counted f (added f t) (reduced (added f t .all .wrapped) (added f t .all .given))
+abbrev pub countResult : Figures → Tallies → CountResult
+countResult f t = record { figures = f; tallies = added f t; fraction = reduced (added f t .all .wrapped) (added f t .all .given) }
 
-abbrev pub countAnswer : List ℕ → List ℕ → Tallies → CountAnswer
-countAnswer s b t = countAnswerBy (countRefusal s b t) (figuresOf s b) t
+abbrev pub countAnswer : List ℕ → List ℕ → Tallies → Answer CountResult
+countAnswer s b t = answerBy (countRefusal s b t) (countResult (figuresOf s b) t)
 
 -- an answer, case by case
-abbrev pub countedAnswer : Counted → CountAnswer
-countedAnswer (answer.File f t q) = counted f t q
+abbrev pub countedAnswer : Counted → Answer CountResult
+countedAnswer (answer.File f t q) = accepted (record { figures = f; tallies = t; fraction = q })
 countedAnswer (answer.Refused n p) = refused (record { number = n; place = p })
 
 -- what `count_file` promises of its answer

@@ -6,15 +6,17 @@ use mathlib.Core.List.{List, map}
 use Prim.Native.Nat.{ℕ, _≤_}
 use lib.ListN.{length, take}
 use Rattle.refusals.specs.Refusals.{Refusal}
+use Rattle.refusals.specs.Answers.{Answer, refused, accepted}
 use Rattle.cut_rule.specs.Callers.{afterAll, AllKept}
-use Rattle.plain_run.specs.File.{referenceChoice, fileRefusal}
-use Rattle.plain_run.specs.FileLimits.{AreBytes}
+use Rattle.whole_run.specs.File.{fileRefusal}
+use Rattle.whole_run.specs.FileLimits.{AreBytes}
+use Rattle.whole_run.specs.Built.{referenceChoice}
 use Rattle.tallies.specs.declared.Figures.{Figures}
 use Rattle.tallies.specs.declared.Tallies.{Tallies}
 use Rattle.tallies.specs.Tallies.{MAX-FILES, freshTallies}
 use Rattle.tallies.specs.Order as tallied
 use Rattle.tallies.specs.Order.{Reordered, sum}
-use Rattle.figures.specs.Figures.{FILE-OUTPUT, figuresOf, CountAnswer, refused, counted, countedAnswer, Counts}
+use Rattle.figures.specs.Figures.{FILE-OUTPUT, figuresOf, CountResult, countedAnswer, Counts}
 use Rattle.figures.specs.declared.Counted.{Counted}
 
 -- A source and an image of bytes. (The column is bounded because widths stand in two bytes; of the source nothing is asked.)
@@ -48,9 +50,9 @@ pub record Made : Type 0 where
   pub answer : Counted
 
 -- the tallies that it holds then: the new ones, or where the file was refused, those that it had
-abbrev pub talliesAfter : Tallies → CountAnswer → Tallies
+abbrev pub talliesAfter : Tallies → Answer CountResult → Tallies
 talliesAfter t (refused r) = t
-talliesAfter t (counted f new q) = new
+talliesAfter t (accepted x) = x .tallies
 
 abbrev pub after : Tallies → Made → Tallies
 after t m = talliesAfter t (countedAnswer (m .answer))

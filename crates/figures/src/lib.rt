@@ -3,9 +3,10 @@ mod occurrences;
 
 ghost use mathlib.Core.Path.{_≡_};
 ghost use lib.ListN.{length};
-ghost use Rattle.layout_call.specs.Steps.{Accepts};
+ghost use Rattle.image.specs.Read.{Accepts};
 ghost use Rattle.tallies.specs.Tallies.{Within, tallyRefusal};
-ghost use Rattle.figures.specs.Figures.{FILE-OUTPUT, countAnswerBy, countAnswer, countedAnswer, Counts};
+ghost use Rattle.refusals.specs.Answers.{answerBy};
+ghost use Rattle.figures.specs.Figures.{FILE-OUTPUT, countResult, countAnswer, countedAnswer, Counts};
 use crate::occurrences::occurrences;
 use file::FileChoice;
 use file::FileRun;
@@ -14,8 +15,8 @@ use file::marks;
 use file::rows as no_rows;
 use file::run_file;
 use image::Answer;
+use image::Document;
 use image::check;
-use layout_call::Document;
 use layout_call::modes::OLD_MODE;
 use rows::units::Columns;
 use tallies::Figures;
@@ -50,7 +51,7 @@ fn output() -> [u8; OUTPUT]
 // Counts figures with those before, or refuses them with 14.
 fn count_figures(t: Tallies, f: Figures) -> Counted
     requires { ⌜ Within f ⌝ }
-    ensures { λ r. ⌜ countedAnswer r ≡ countAnswerBy (tallyRefusal t) f t ⌝ }
+    ensures { λ r. ⌜ countedAnswer r ≡ answerBy (tallyRefusal t) (countResult f t) ⌝ }
 {
     if !tallies_fit(t) {
         return Counted::Refused(14, 0);
@@ -102,12 +103,6 @@ pub fn count_file(source: &[u8], image: &[u8], t: Tallies) -> Counted
 {
     match check(source, image) {
         Answer::Refused(number, place) => Counted::Refused(number, place),
-        Answer::Accepted { comments, tree } => {
-            let doc = Document {
-                comments: comments,
-                tree: tree,
-            };
-            count_accepted(source, image, doc, t)
-        }
+        Answer::Accepted(doc) => count_accepted(source, image, doc, t),
     }
 }

@@ -3,15 +3,18 @@
 use mathlib.Core.Path.{_≡_}
 use mathlib.Core.Bool.{Bool, not, _&&_}
 use mathlib.Core.Option.{Option}
-use mathlib.Core.List.{List}
+use mathlib.Core.List.{List, [], _∷_}
 use Prim.Native.Nat.{ℕ, _+_}
 use lib.Dec.{leb}
 use lib.ListN.{length, take, drop}
 use Rattle.image.specs.Bytes.{be32}
-use Rattle.refusals.specs.Refusals.{Refusal, unless, refuseIf}
+use Rattle.refusals.specs.Refusals.{Refusal, unless, first, refuseIf}
+use Rattle.refusals.specs.Answers.{Answer, refused, accepted, answerBy}
+use Rattle.cut_rule.specs.Run.{writeFront}
 use Rattle.cut_rule.specs.Tests.{rowsIn}
-use Rattle.plain_run.specs.File as plain
-use Rattle.plain_run.specs.File.{FileAnswer, refused, formatted, referenceChoice, fileAnswerBy, answerIn, fileAnswer, fileOutput, columnDue, refusalIn, storeLeft, marksLeft, outputLeft}
+use Rattle.whole_run.specs.Built as plain
+use Rattle.whole_run.specs.Built.{referenceChoice, drawnDue, columnDue}
+use Rattle.whole_run.specs.File.{FileResult, fileResult, answerIn, fileAnswer, fileRefusal, fileOutput, refusalIn, storeLeft, marksLeft, outputLeft}
 use Rattle.file.specs.declared.FileChoice.{FileChoice}
 use Rattle.file.specs.declared.Formatted.{Formatted}
 use Rattle.file.specs.declared.Formatted.the-variants as answer
@@ -23,8 +26,8 @@ abbrev pub toChoice : FileChoice → plain.FileChoice
 toChoice c = record { width = c .width .0; mode = c .mode }
 
 -- An answer, case by case: the bytes written, the comments left, the rows and the group numbers; "Number and place are all that comes back."
-abbrev pub formattedAnswer : Formatted → FileAnswer
-formattedAnswer (answer.Text bytes left rows numbers) = formatted (bytes .0) left rows numbers
+abbrev pub formattedAnswer : Formatted → Answer FileResult
+formattedAnswer (answer.Text bytes left rows numbers) = accepted (record { bytes = bytes .0; left = left; rows = rows; numbers = numbers })
 formattedAnswer (answer.Refused n p) = refused (record { number = n; place = p })
 
 -- A run with its greatest column: the answer of the entries above it, which refuse where it stops; and that column, 0 where it stops.
@@ -61,16 +64,20 @@ imageOf frame = drop (4 + be32 frame 0) frame
 abbrev pub frameFits : List ℕ → Bool
 frameFits frame = leb (length frame) 32768 && leb 4 (length frame) && leb (4 + be32 frame 0) (length frame)
 
--- "tested before all else"
 abbrev pub frameRefusal : List ℕ → Option Refusal
 frameRefusal frame = refuseIf (not (frameFits frame)) 13 0
 
--- the answer, and the output at exit, for one frame: "The program .. keep 80 and, in every later choice, what equals the Rust"
-abbrev pub frameAnswer : List ℕ → ℕ → FileAnswer
-frameAnswer frame room = fileAnswerBy (frameRefusal frame) (fileAnswer (sourceOf frame) (imageOf frame) referenceChoice room)
+-- "tested before all else"; then what refuses the frame's file: "The program .. keep 80 and, in every later choice, what equals the Rust"
+abbrev pub frameTable : List ℕ → ℕ → Option Refusal
+frameTable frame room = first (frameRefusal frame ∷ fileRefusal (sourceOf frame) (imageOf frame) referenceChoice room ∷ [])
+
+-- the answer, and the output at exit, for one frame
+abbrev pub frameAnswer : List ℕ → ℕ → Answer FileResult
+frameAnswer frame room = answerBy (frameTable frame room) (fileResult (sourceOf frame) (imageOf frame) referenceChoice)
 
 abbrev pub frameOutput : List ℕ → List ℕ → List ℕ
-frameOutput frame out = unless (frameRefusal frame) out (fileOutput (sourceOf frame) (imageOf frame) referenceChoice out)
+frameOutput frame out =
+    unless (frameTable frame (length out)) out (writeFront (drawnDue (sourceOf frame) (imageOf frame) referenceChoice .text) out)
 
 pub record FormatsFrame (frame out : List ℕ) (r : Formatted) (out2 : List ℕ) : Type 0 where
   pub answer : formattedAnswer r ≡ frameAnswer frame (length out)

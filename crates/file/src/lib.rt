@@ -1,19 +1,21 @@
 // Module 8: the whole run of one file, and of a frame that the program reads.
+pub mod reply;
+
 ghost use mathlib.Core.Path.{_≡_};
 ghost use Prim.Native.Nat.{_*_};
 ghost use lib.ListN.{replicate};
+ghost use Rattle.image.specs.Read.{Accepts};
 ghost use Rattle.rows.specs.Places.{PLACES};
 ghost use Rattle.cut_rule.specs.States.{layoutFresh, renderFresh};
-ghost use Rattle.plain_run.specs.Demands.{closingAt};
-ghost use Rattle.plain_run.specs.File.{fileRows, fileMarks};
+ghost use Rattle.whole_run.specs.Demands.{closingAt};
+ghost use Rattle.whole_run.specs.File.{fileRows, fileMarks};
 ghost use Rattle.layout_call.specs.Calls.{toState as laidState, toArgs as laidArgs};
-ghost use Rattle.layout_call.specs.Steps.{Accepts};
 ghost use Rattle.render_call.specs.Calls.{toState as renderedState};
 ghost use Rattle.file.specs.Whole.{toChoice, formattedOf, RunsFile, Formats, FormatsFrame};
 use image::Answer;
+use image::Document;
 use image::bytes::num32;
 use image::check;
-use layout_call::Document;
 use layout_call::Laying;
 use layout_call::LayoutArgs;
 use layout_call::LayoutState;
@@ -113,7 +115,7 @@ fn layout_fresh() -> LayoutState
 
 // A call that lays the declarations up to a stop, and closes.
 fn closing_at(mode: usize, stop: usize) -> LayoutArgs
-    ensures { λ r. ⌜ laidArgs r ≡ closingAt mode stop ⌝ }
+    ensures { λ r. ⌜ laidArgs r ≡ closingAt (record { mode = mode }) stop ⌝ }
 {
     LayoutArgs {
         stop: stop,
@@ -216,13 +218,7 @@ pub fn format_file(source: &[u8], image: &[u8], out: &mut [u8], choice: FileChoi
 {
     match check(source, image) {
         Answer::Refused(number, place) => Formatted::Refused(number, place),
-        Answer::Accepted { comments, tree } => {
-            let doc = Document {
-                comments: comments,
-                tree: tree,
-            };
-            format_accepted(source, image, out, doc, choice)
-        }
+        Answer::Accepted(doc) => format_accepted(source, image, out, doc, choice),
     }
 }
 

@@ -10,10 +10,12 @@ use lib.Dec.{ltb, leb, eqb}
 use borrow.Author.Tests.{leb-true, eqb-true, ltb-false}
 use Rattle.text.specs.Utf8.{wellFormed, prefix}
 use Rattle.laws.proofs.Booleans.{and-left, and-right}
+use Rattle.refusals.specs.Answers.{accepted as given}
 use Rattle.image.specs.Bytes.{be16, be32}
-use Rattle.image.specs.Read.{Read, got, bad, bind, Tree, Image, header, comments, recordAt, treeAt, readTree, readImage, sourceFits, readAll, stepOf, answerOf}
+use Rattle.image.specs.Read.{Read, got, bad, bind, Tree, Image, header, comments, recordAt, treeAt, readTree}
+use Rattle.image.specs.Read.{readImage, sourceFits, readAll, stepOf, documentOf, outcome, Accepts}
 use Rattle.image.specs.declared.records.Step.the-variants.{Next}
-use Rattle.image.specs.declared.Answer.the-variants.{Accepted}
+use Rattle.image.specs.declared.Document.{Document}
 use Rattle.image.proofs.Shapes.{isGot}
 use Rattle.image.proofs.Reading.{record-within}
 use Rattle.image.proofs.CommentList.{Comments, listed}
@@ -98,16 +100,19 @@ tree-root ordered s b a n at q i hd c whole en ea =
       whole = whole ∙ named i (l .tree) (be16 b 5) n a at q (length b) (l .is) count same here;
     }
 
-pub rooted : (ordered : Bool) (s b : List ℕ) (n at : ℕ) → answerOf (readImage ordered s b) ≡ Accepted n at → Root ordered s b n at
+pub rooted : (ordered : Bool) (s b : List ℕ) (d : Document) → outcome (readImage ordered s b) ≡ given d → Root ordered s b (d .comments) (d .tree)
 unfolding readImage
-rooted ordered s b n at h = go (header b) refl (comments ordered s b) refl (readImage ordered s b) refl h
+rooted ordered s b d h = go (header b) refl (comments ordered s b) refl (readImage ordered s b) refl h
   where
     go : (x : Bool) → header b ≡ x → (y : Read Unit) → comments ordered s b ≡ y → (r : Read Image) → readImage ordered s b ≡ r
-        → answerOf r ≡ Accepted n at → Root ordered s b n at
+        → outcome r ≡ given d → Root ordered s b (d .comments) (d .tree)
     go x hd y c (bad m q) whole h = let z : _≡_ {A = ℕ} 0 1 = cc in absurd (omega arith)
     go false hd y c (got i q) whole h = absurd (false≢true (ap isGot (rw hd at whole)))
     go true hd (bad m p) c (got i q) whole h = absurd (false≢true (ap isGot (rw (hd, c) at whole)))
-    go true hd (got t a) c (got i q) whole h = tree-root ordered s b a n at q i hd (ap stepOf c) whole (cc) (cc)
+    go true hd (got t a) c (got i q) whole h =
+        let same : documentOf i ≡ d = cc in
+        tree-root ordered s b a (d .comments) (d .tree) q i hd (ap stepOf c) whole (ap (λ (x : Document). x .comments) same)
+        (ap (λ (x : Document). x .tree) same)
 
 -- ---- source and image
 pub record Input (s b : List ℕ) (n at : ℕ) : Type 0 where
@@ -115,12 +120,12 @@ pub record Input (s b : List ℕ) (n at : ℕ) : Type 0 where
   pub well : wellFormed s ≡ true
   pub root : Root false s b n at
 
-pub accepted : (s b : List ℕ) (n at : ℕ) → answerOf (readAll s b) ≡ Accepted n at → Input s b n at
+pub accepted : (s b : List ℕ) (d : Document) → Accepts s b d → Input s b (d .comments) (d .tree)
 unfolding readAll sourceFits
-accepted s b n at h = go (leb (length s) 65536) refl (wellFormed s) refl h
+accepted s b d h = go (leb (length s) 65536) refl (wellFormed s) refl (h .answer)
   where
     go : (x : Bool) → leb (length s) 65536 ≡ x → (y : Bool) → wellFormed s ≡ y
-        → answerOf (cond (not x) (bad 1 0) (cond (not y) (bad 2 (prefix s)) (readImage false s b))) ≡ Accepted n at → Input s b n at
-    go true e true f h = record { short = leb-true (length s) 65536 e; well = f; root = rooted false s b n at h }
+        → outcome (cond (not x) (bad 1 0) (cond (not y) (bad 2 (prefix s)) (readImage false s b))) ≡ given d → Input s b (d .comments) (d .tree)
+    go true e true f h = record { short = leb-true (length s) 65536 e; well = f; root = rooted false s b d h }
     go true e false f h = let z : _≡_ {A = ℕ} 0 1 = cc in absurd (omega arith)
     go false e y f h = let z : _≡_ {A = ℕ} 0 1 = cc in absurd (omega arith)

@@ -14,7 +14,8 @@ use borrow.Author.Tests.{ltb-false}
 use Rattle.image.specs.Bytes.{be32, part}
 use Rattle.image.specs.Grammar.{bare, place, after, complete}
 use Rattle.image.specs.Write.{bytes4, content, framed, written, writtens, plain, plains}
-use Rattle.image.specs.Read.{Read, got, bad, bind, headAt, stopAt, kindAt, Tree, Trees, absent, nil, _▸_, skips, childBy, childAt, recordAt, childrenAt, treeAt, stepOf}
+use Rattle.image.specs.Read.{Read, got, bad, bind, headAt, stopAt, kindAt, Tree, Trees, absent, nil}
+use Rattle.image.specs.Read.{_▸_, skips, childBy, childAt, recordAt, childrenAt, treeAt, stepOf}
 use Rattle.image.proofs.Shapes.{isGot, skips-within, opened-after, opened-order}
 use Rattle.image.proofs.Reading.{record-within}
 use Rattle.image.proofs.Inside.{inside, none-deep}

@@ -4,30 +4,37 @@ use mathlib.Core.Path.{_≡_, refl}
 use mathlib.Core.List.{List, [], _∷_, _++_}
 use Prim.Native.Nat.{ℕ, zero, suc}
 use lib.ListN.{length}
+use Rattle.refusals.specs.Answers.{Answer, refused, accepted}
 use Rattle.text.specs.Utf8.{within, rowIn, followed, sequence, run, prefix, wellFormed, boundary}
 use Rattle.text.specs.Newlines.{isRange}
 use Rattle.image.specs.Bytes.{be16, be32}
 use Rattle.image.specs.Grammar.{rowOf, rowUnder, kindFits, payloadFits, firstChild}
-use Rattle.image.specs.Read.{header, commentFits, commentsFrom, comments, shape, opens, childrenAt, skips, recordAt, treeAt, readTree, readImage, sourceFits, readAll, answerOf}
+use Rattle.image.specs.Read.{header, commentFits, commentsFrom, comments, shape, opens, childrenAt}
+use Rattle.image.specs.Read.{skips, recordAt, treeAt, readTree, readImage, sourceFits, readAll, outcome}
 use Rattle.image.specs.Write.{Plain, Plains, without, plainly, done, _next_, bytes4, written}
-use Rattle.image.specs.declared.Answer.{Answer}
-use Rattle.image.specs.declared.Answer.the-variants.{Accepted, Refused}
+use Rattle.image.specs.declared.Document.{Document}
 
 record Example : Type 0 where
   source : List ℕ
   image : List ℕ
-  answer : Answer
+  answer : Answer Document
 
-abbrev reads : List ℕ → List ℕ → Answer → Example
+abbrev reads : List ℕ → List ℕ → Answer Document → Example
 reads s b a = record { source = s; image = b; answer = a }
 
-abbrev answers : List Example → List Answer
+abbrev answers : List Example → List (Answer Document)
 answers [] = []
-answers (x ∷ xs) = answerOf (readAll (x .source) (x .image)) ∷ answers xs
+answers (x ∷ xs) = outcome (readAll (x .source) (x .image)) ∷ answers xs
 
-abbrev due : List Example → List Answer
+abbrev due : List Example → List (Answer Document)
 due [] = []
 due (x ∷ xs) = x .answer ∷ due xs
+
+abbrev wrong : ℕ → ℕ → Answer Document
+wrong n p = refused (record { number = n; place = p })
+
+abbrev right : ℕ → ℕ → Answer Document
+right n at = accepted (record { comments = n; tree = at })
 
 -- ---- document 01's worked input, and the same with version 2
 shebang : List ℕ
@@ -36,7 +43,7 @@ shebang =
     0x00 ∷ 0x00 ∷ 0x0F ∷ 0x02 ∷ 0x00 ∷ 0x00 ∷ 0x00 ∷ 0x00 ∷ 0x00 ∷ 0x00 ∷ 0x00 ∷ 0x00 ∷ 0x00 ∷ 0x04 ∷ 0x23 ∷ 0x21 ∷ 0x2F ∷ 0x78 ∷ []
 
 worked : List Example
-worked = reads [] (0x01 ∷ shebang) (Accepted 0 7) ∷ reads [] (0x02 ∷ shebang) (Refused 3 0) ∷ []
+worked = reads [] (0x01 ∷ shebang) (right 0 7) ∷ reads [] (0x02 ∷ shebang) (wrong 3 0) ∷ []
 
 -- ---- the parts of the images below
 image : List ℕ → List ℕ
@@ -100,52 +107,52 @@ empty = only (tree (without next done))
 more : List Example
 more =
     -- 2: the first byte of the bad sequence
-    reads (0x61 ∷ 0xC3 ∷ 0x28 ∷ []) empty (Refused 2 1) ∷
+    reads (0x61 ∷ 0xC3 ∷ 0x28 ∷ []) empty (wrong 2 1) ∷
     -- 3: too short; a byte more than the length says
-    reads [] (1 ∷ 0 ∷ 0 ∷ 0 ∷ []) (Refused 3 0) ∷
-    reads [] (empty ++ 0 ∷ []) (Refused 3 0) ∷
+    reads [] (1 ∷ 0 ∷ 0 ∷ 0 ∷ []) (wrong 3 0) ∷
+    reads [] (empty ++ 0 ∷ []) (wrong 3 0) ∷
     -- 7 at the count: no count, no pair, over 8,192
-    reads abc (image []) (Refused 7 5) ∷
-    reads abc (listing 1 [] []) (Refused 7 5) ∷
-    reads abc (image (0x20 ∷ 0x01 ∷ [])) (Refused 7 5) ∷
+    reads abc (image []) (wrong 7 5) ∷
+    reads abc (listing 1 [] []) (wrong 7 5) ∷
+    reads abc (image (0x20 ∷ 0x01 ∷ [])) (wrong 7 5) ∷
     -- 7 at a pair: empty, reversed, past the source, off a boundary
-    reads abc (listing 2 (pair 0 1 ++ pair 2 2) []) (Refused 7 15) ∷
-    reads abc (listing 1 (pair 2 1) []) (Refused 7 7) ∷
-    reads abc (listing 1 (pair 2 4) []) (Refused 7 7) ∷
-    reads acute (listing 1 (pair 1 2) []) (Refused 7 7) ∷
+    reads abc (listing 2 (pair 0 1 ++ pair 2 2) []) (wrong 7 15) ∷
+    reads abc (listing 1 (pair 2 1) []) (wrong 7 7) ∷
+    reads abc (listing 1 (pair 2 4) []) (wrong 7 7) ∷
+    reads acute (listing 1 (pair 1 2) []) (wrong 7 7) ∷
     -- comments may run backwards
-    reads abc (listing 2 (pair 2 3 ++ pair 0 3) (written (tree (without next done)))) (Accepted 2 23) ∷
+    reads abc (listing 2 (pair 2 3 ++ pair 0 3) (written (tree (without next done)))) (right 2 23) ∷
     -- 4: no tree; a byte after the tree
-    reads [] (image (0 ∷ 0 ∷ [])) (Refused 4 7) ∷
-    reads [] (listing 0 [] (written (tree (without next done)) ++ 0 ∷ [])) (Refused 4 24) ∷
+    reads [] (image (0 ∷ 0 ∷ [])) (wrong 4 7) ∷
+    reads [] (listing 0 [] (written (tree (without next done)) ++ 0 ∷ [])) (wrong 4 24) ∷
     -- 4: an optional child is never left out
-    reads [] (only (tree done)) (Refused 4 20) ∷
+    reads [] (only (tree done)) (wrong 4 20) ∷
     -- 4: a text that is not UTF-8, or is shorter than its width
-    reads [] (only (tree (text (0 ∷ 1 ∷ 0x80 ∷ []) next done))) (Refused 4 20) ∷
-    reads [] (only (tree (text (0 ∷ []) next done))) (Refused 4 20) ∷
+    reads [] (only (tree (text (0 ∷ 1 ∷ 0x80 ∷ []) next done))) (wrong 4 20) ∷
+    reads [] (only (tree (text (0 ∷ []) next done))) (wrong 4 20) ∷
     -- 4: three bytes where a child may stand, length 0 at a place without `?`, a wrong kind
-    reads [] (only (plainly 1 0 0 (bytes4 0 ++ 0 ∷ 0 ∷ 0 ∷ []) done)) (Refused 4 24) ∷
-    reads [] (declares without) (Refused 4 24) ∷
-    reads [] (declares name) (Refused 4 24) ∷
+    reads [] (only (plainly 1 0 0 (bytes4 0 ++ 0 ∷ 0 ∷ 0 ∷ []) done)) (wrong 4 24) ∷
+    reads [] (declares without) (wrong 4 24) ∷
+    reads [] (declares name) (wrong 4 24) ∷
     -- 4: payload bytes, an operator's by its parent
-    reads [] (constant (literal 3)) (Accepted 0 7) ∷
-    reads [] (constant (literal 4)) (Refused 4 79) ∷
-    reads [] (constant (plainly 50 0 0 (3 ∷ []) (without next done))) (Refused 4 66) ∷
-    reads [] (constant (assigns 4)) (Accepted 0 7) ∷
-    reads [] (constant (assigns 5)) (Refused 4 108) ∷
-    reads [] (constant (joins 13)) (Accepted 0 7) ∷
-    reads [] (constant (joins 14)) (Refused 4 106) ∷
+    reads [] (constant (literal 3)) (right 0 7) ∷
+    reads [] (constant (literal 4)) (wrong 4 79) ∷
+    reads [] (constant (plainly 50 0 0 (3 ∷ []) (without next done))) (wrong 4 66) ∷
+    reads [] (constant (assigns 4)) (right 0 7) ∷
+    reads [] (constant (assigns 5)) (wrong 4 108) ∷
+    reads [] (constant (joins 13)) (right 0 7) ∷
+    reads [] (constant (joins 14)) (wrong 4 106) ∷
     -- 5: a record 65 deep; an absent child there is none
-    reads [] (declares (imports 31)) (Accepted 0 7) ∷
-    reads [] (declares (imports 32)) (Refused 5 971) ∷
+    reads [] (declares (imports 31)) (right 0 7) ∷
+    reads [] (declares (imports 32)) (wrong 5 971) ∷
     -- 6: reversed, past the source, off a boundary; an empty span is right
-    reads abc (only (plainly 1 2 1 [] (without next done))) (Refused 6 7) ∷
-    reads abc (only (plainly 1 0 4 [] (without next done))) (Refused 6 7) ∷
-    reads acute (only (plainly 1 1 2 [] (without next done))) (Refused 6 7) ∷
-    reads acute (only (plainly 1 2 2 [] (without next done))) (Accepted 0 7) ∷
+    reads abc (only (plainly 1 2 1 [] (without next done))) (wrong 6 7) ∷
+    reads abc (only (plainly 1 0 4 [] (without next done))) (wrong 6 7) ∷
+    reads acute (only (plainly 1 1 2 [] (without next done))) (wrong 6 7) ∷
+    reads acute (only (plainly 1 2 2 [] (without next done))) (right 0 7) ∷
     -- 4 before 6 at one place; a parent's 6 before its child's 4
-    reads abc (only (plainly 2 2 1 [] done)) (Refused 4 7) ∷
-    reads abc (only (plainly 1 2 1 [] done)) (Refused 6 7) ∷
+    reads abc (only (plainly 2 2 1 [] done)) (wrong 4 7) ∷
+    reads abc (only (plainly 1 2 1 [] done)) (wrong 6 7) ∷
     []
 
 examples-right : answers (worked ++ more) ≡ due (worked ++ more)

@@ -10,7 +10,8 @@ use native.Mathlib.Nat.{le-refl, le-of-suc-le-suc, not-suc-le-zero}
 use lib.Dec.{ltb, eqb}
 use borrow.Author.Tests.{ne-eqb, ltb-true, ltb-false}
 use Rattle.image.specs.Grammar.{bare, isMany, place, after, complete}
-use Rattle.image.specs.Read.{Read, got, bad, bind, Head, headAt, stopAt, Tree, Trees, absent, node, nil, _▸_, opens, skips, childBy, childAt, recordAt, childrenAt}
+use Rattle.image.specs.Read.{Read, got, bad, bind, Head, headAt, stopAt, Tree, Trees, absent, node}
+use Rattle.image.specs.Read.{nil, _▸_, opens, skips, childBy, childAt, recordAt, childrenAt}
 use Rattle.image.proofs.Shapes.{Opened, opened, isGot}
 use Rattle.image.proofs.Reading.{EndsAt, within, record-bad, record-opens, children-end}
 

@@ -11,7 +11,8 @@ use Rattle.text.specs.Utf8.{wellFormed}
 use Rattle.text.specs.Newlines.{isRange}
 use Rattle.image.specs.Bytes.{be16, be32}
 use Rattle.image.specs.Grammar.{bare, place, after, complete, rowUnder}
-use Rattle.image.specs.Read.{Read, got, bad, bind, Tree, absent, nil, header, widthBytes, commentFits, commentsFrom, comments, shape, opens, skips, childAt, recordAt, childrenAt, treeAt, readTree, readImage, sourceFits, readAll, readNumbers, ReadNumbers}
+use Rattle.image.specs.Read.{Read, got, bad, bind, Tree, absent, nil, header, widthBytes, commentFits, commentsFrom, comments, shape, opens}
+use Rattle.image.specs.Read.{skips, childAt, recordAt, childrenAt, treeAt, readTree, readImage, sourceFits, readAll, readNumbers, ReadNumbers}
 
 -- read, or refused with a number of the reader
 abbrev Known : {A : Type 0} → Read A → Type 0

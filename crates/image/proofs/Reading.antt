@@ -12,7 +12,8 @@ use borrow.Author.Tests.{lt-ltb, le-ltb, eq-eqb, ne-eqb}
 use Rattle.image.specs.Bytes.{be32}
 use Rattle.image.specs.Kinds.{TEXT}
 use Rattle.image.specs.Grammar.{bare, place, after, complete, rowOf, rowUnder, firstChild}
-use Rattle.image.specs.Read.{Read, got, bad, bind, Head, headAt, stopAt, kindAt, Tree, Trees, absent, node, nil, _▸_, opens, skips, childAt, recordAt, childrenAt, openOf, stepOf}
+use Rattle.image.specs.Read.{Read, got, bad, bind, Head, headAt, stopAt, kindAt, Tree, Trees, absent, node}
+use Rattle.image.specs.Read.{nil, _▸_, opens, skips, childAt, recordAt, childrenAt, openOf, stepOf}
 use Rattle.image.specs.declared.records.Step.{Step}
 use Rattle.image.specs.declared.records.Step.the-variants.{Next, Fault}
 use Rattle.image.specs.declared.records.Open.the-variants.{Record, Wrong}

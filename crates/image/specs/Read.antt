@@ -1,12 +1,14 @@
 -- What a source and an image read as: document 01, "The tree image", and refusals 1 to 7 of "When a call is turned down".
 -- s is the source and b the image. An offset `at` counts from b's first byte.
 use mathlib.Core.Path.{_≡_}
+use mathlib.Core.Option.{Option, none, some}
 use mathlib.Core.List.{List, [], _∷_}
 use mathlib.Core.Bool.{Bool, true, false, cond, not, _&&_}
 use Prim.Native.Nat.{ℕ, zero, suc, _+_, _*_}
 use lib.ListN.{length, getD}
 use lib.Dec.{ltb, leb, eqb}
 use Rattle.refusals.specs.Refusals.{Refusal, isOneOf}
+use Rattle.refusals.specs.Answers.{Answer, refused, accepted}
 use Rattle.text.specs.Utf8.{prefix, wellFormed}
 use Rattle.text.specs.Newlines.{isRange}
 use Rattle.image.specs.Bytes.{be16, be32}
@@ -16,7 +18,8 @@ use Rattle.image.specs.declared.records.Open.{Open}
 use Rattle.image.specs.declared.records.Open.the-variants.{Record, Wrong}
 use Rattle.image.specs.declared.records.Step.{Step}
 use Rattle.image.specs.declared.records.Step.the-variants.{Next, Fault}
-use Rattle.image.specs.declared.Answer.{Answer}
+use Rattle.image.specs.declared.Document.{Document}
+use Rattle.image.specs.declared.Answer.{Answer as Checked}
 use Rattle.image.specs.declared.Answer.the-variants.{Accepted, Refused}
 
 -- ---- what is read
@@ -173,23 +176,32 @@ unfoldable pub readAll : List ℕ → List ℕ → Read Image
 readAll s b = cond (not (sourceFits s)) (bad 1 0) (cond (not (wellFormed s)) (bad 2 (prefix s)) (readImage false s b))
 
 -- ---- the answer of `check`
--- accepted, with the number of comments and the tree's offset; or refused: "Number and place are all that comes back."
-pub data Outcome : Type 0 where
-  accepted : ℕ → ℕ → Outcome
-  refused : Refusal → Outcome
+-- the number of comments, and the tree's offset
+abbrev pub documentOf : Image → Document
+documentOf i = record { comments = i .comments; tree = i .at }
 
-abbrev pub outcome : Read Image → Outcome
-outcome (got i end) = accepted (i .comments) (i .at)
+-- "Number and place are all that comes back."
+abbrev pub outcome : Read Image → Answer Document
+outcome (got i end) = accepted (documentOf i)
 outcome (bad n p) = refused (record { number = n; place = p })
 
--- what each answer stands for, case by case
-abbrev pub outcomeOf : Answer → Outcome
-outcomeOf (Accepted n at) = accepted n at
-outcomeOf (Refused n p) = refused (record { number = n; place = p })
+-- the refusal of what was read, an image or another thing
+abbrev pub readRefusal : {A : Type 0} → Read A → Option Refusal
+readRefusal (got a end) = none
+readRefusal (bad n p) = some (record { number = n; place = p })
+
+-- what the code answers, case by case
+abbrev pub checkedAnswer : Checked → Answer Document
+checkedAnswer (Accepted d) = accepted d
+checkedAnswer (Refused n p) = refused (record { number = n; place = p })
+
+-- source and image are accepted, with so many comments and the tree there
+pub record Accepts (s b : List ℕ) (d : Document) : Type 0 where
+  pub answer : outcome (readAll s b) ≡ accepted d
 
 -- what `check` promises of its answer
-abbrev pub Checks : List ℕ → List ℕ → Answer → Type 0
-Checks s b r = outcomeOf r ≡ outcome (readAll s b)
+abbrev pub Checks : List ℕ → List ℕ → Checked → Type 0
+Checks s b r = checkedAnswer r ≡ outcome (readAll s b)
 
 -- the numbers under which the reader refuses, in the table's order; proofs/Numbers.antt shows that there is no other
 abbrev pub readNumbers : List ℕ
@@ -199,10 +211,6 @@ abbrev pub ReadNumbers : Type 0
 ReadNumbers = (s b : List ℕ) (n p : ℕ) → readAll s b ≡ bad n p → isOneOf n readNumbers ≡ true
 
 -- ---- the code's answers to a part
-abbrev pub answerOf : Read Image → Answer
-answerOf (got i end) = Accepted (i .comments) (i .at)
-answerOf (bad n p) = Refused n p
-
 -- what the reading of a part answers, and the reading of one record's head at place p
 abbrev pub stepOf : {A : Type 0} → Read A → Step
 stepOf (got a n) = Next n

@@ -9,7 +9,7 @@ mod records;
 ghost use mathlib.Core.Path.{_≡_};
 ghost use Prim.Native.Nat.{_≤_};
 ghost use lib.ListN.{length};
-ghost use Rattle.image.specs.Read.{sourceFits, header, readTree, readImage, answerOf, Checks};
+ghost use Rattle.image.specs.Read.{sourceFits, header, readTree, readImage, outcome, checkedAnswer, Checks};
 use bytes::num16;
 use bytes::num32;
 use bytes::wide;
@@ -21,9 +21,14 @@ use records::Step;
 use records::read_record;
 use text::utf8::Checked;
 
+// A source and an image that are accepted: how many comments there are, and where the tree stands.
+pub struct Document {
+    pub comments: usize,
+    pub tree: usize,
+}
+
 pub enum Answer {
-    // the number of comments, and the tree's offset
-    Accepted { comments: usize, tree: usize },
+    Accepted(Document),
     // the number and the place
     Refused(u8, usize),
 }
@@ -54,7 +59,7 @@ pub fn header_fits(b: &[u8]) -> bool
 
 fn read_tree(s: &[u8], b: &[u8], v: usize, at: usize) -> Answer
     requires { ⌜ (7 ≤ at) × (at ≤ length (now b)) ⌝ }
-    ensures { λ r. ⌜ r ≡ answerOf (readTree (now (s .entry)) (now (b .entry)) v at) ⌝ }
+    ensures { λ r. ⌜ checkedAnswer r ≡ outcome (readTree (now (s .entry)) (now (b .entry)) v at) ⌝ }
 {
     match read_record(s, b, v, MAX_RECORDS_DEEP, 1, at, b.len()) {
         Step::Fault(n, q) => Answer::Refused(n, q),
@@ -62,16 +67,17 @@ fn read_tree(s: &[u8], b: &[u8], v: usize, at: usize) -> Answer
             if next < b.len() {
                 return Answer::Refused(4, next);
             }
-            Answer::Accepted {
+            let doc = Document {
                 comments: num16(b, 5),
                 tree: at,
-            }
+            };
+            Answer::Accepted(doc)
         }
     }
 }
 
 fn read_image(s: &[u8], b: &[u8], ordered: bool) -> Answer
-    ensures { λ r. ⌜ r ≡ answerOf (readImage ordered (now (s .entry)) (now (b .entry))) ⌝ }
+    ensures { λ r. ⌜ checkedAnswer r ≡ outcome (readImage ordered (now (s .entry)) (now (b .entry))) ⌝ }
 {
     if !header_fits(b) {
         return Answer::Refused(3, 0);

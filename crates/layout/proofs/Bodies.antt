@@ -11,16 +11,20 @@ use lib.Dec.{eqb, leb}
 use borrow.Author.Tests.{eq-eqb, ne-eqb}
 use Rattle.image.specs.Bytes.{be32}
 use Rattle.image.specs.Read.{stopAt, kindAt}
-use Rattle.ast.specs.Syntax.{Span, Ident, TypeExpr, Import, Expr, expr, MaybeExpr, noExpr, someExpr, Block, braces, Stmts, noStmts, _∷ˢ_, Stmt, stmt, StmtForm, let′, importStmt, does, Parts, noParts, string, value}
-use Rattle.tree.specs.At.{Head, Record, Done, Before, Ends, ImportAt, ExprAt, MaybeExprAt, BlockAt, StmtsAt, StmtAt, PartsAt, formKind}
+use Rattle.ast.specs.Syntax.{Span, Ident, TypeExpr, Import, Expr, expr, MaybeExpr, noExpr, someExpr, Block, braces, Stmts, noStmts, _∷ˢ_, Stmt, stmt, StmtForm}
+use Rattle.ast.specs.Syntax.{let′, importStmt, does, Parts, noParts, string, value, Form, return′, literal, block, match′, functionCall, access, path, record′}
+use Rattle.ast.specs.Syntax.{typedRecord, list, not′, assign, compoundAssign, binOp, negate, ifElse, while, for, questionMark, fString, parentheses}
+use Rattle.tree.specs.FormKinds.{formKind}
+use Rattle.tree.specs.At.{Head, Record, Done, Before, Ends, ImportAt, ExprAt, MaybeExprAt, BlockAt, StmtsAt, StmtAt, PartsAt}
 use Rattle.rows.specs.Node.{line}
-use Rattle.state.specs.Act.{Act, _⨟_, push, says, grouped, indented, when, Given}
-use Rattle.state.specs.Laid.{Room, Opened}
-use Rattle.state.specs.declared.Cursor.{Cursor}
-use Rattle.state.proofs.Laws.{Lays, lays-then, lays-skip, room-first, room-next}
-use Rattle.state.proofs.Nested.{lays-group, lays-indent}
+use Rattle.acts.specs.Act.{Act, _⨟_, push, says, grouped, indented, when, Given}
+use Rattle.acts.specs.Laid.{Room, Opened}
+use Rattle.acts.specs.declared.Cursor.{Cursor}
+use Rattle.acts.proofs.Laws.{Lays, lays-then, lays-skip, room-first, room-next}
+use Rattle.acts.proofs.Nested.{lays-group, lays-indent}
 use Rattle.comments.specs.Listed.{given}
-use Rattle.layout.specs.Layout.{importPath, isBraced, noneOf, isEmpty, gap, stmtsRule, stmtRule, stmtForm, beforeStmt, afterStmt, blockStart, blockRule, partsRule, placeholder}
+use Rattle.layout.specs.Layout.{importPath, isBraced, noneOf, isEmpty, gap, stmtsRule, stmtRule, stmtForm}
+use Rattle.layout.specs.Layout.{beforeStmt, afterStmt, blockStart, blockRule, partsRule, placeholder}
 use Rattle.layout.specs.Contracts.{Has, HasAll, InImage, Whole, Readable}
 use Rattle.layout.specs.Forms.{exprWith, stmtsFrom, lastFrom, LetAt, letRule, SpanAt, contentRule, Part, text, PartAt, partRule}
 use Rattle.layout.specs.Forms as forms
@@ -300,8 +304,32 @@ module _ {s b : List ℕ} {at : ℕ} where
 abbrev pub Braced : List ℕ → ℕ → Bool
 Braced b at = eqb (kindAt b at) 52 || eqb (kindAt b at) 53 || (leb 65 (kindAt b at) && leb (kindAt b at) 67)
 
+-- by the kind's number as by its name
+by-name : (p : Span) (f : Form) → (eqb (formKind f) 52 || eqb (formKind f) 53 || (leb 65 (formKind f) && leb (formKind f) 67)) ≡ isBraced (expr p f)
+by-name q (return′ k e) = refl
+by-name q (literal s w) = refl
+by-name q (block b) = refl
+by-name q (match′ e s a) = refl
+by-name q (functionCall e s es) = refl
+by-name q (access e i) = refl
+by-name q (path p) = refl
+by-name q (record′ s es) = refl
+by-name q (typedRecord p s es) = refl
+by-name q (list es) = refl
+by-name q (not′ e) = refl
+by-name q (assign p e) = refl
+by-name q (compoundAssign p o e) = refl
+by-name q (binOp l s o r) = refl
+by-name q (negate e) = refl
+by-name q (ifElse c b e) = refl
+by-name q (while c b) = refl
+by-name q (for i e b) = refl
+by-name q (questionMark e) = refl
+by-name q (fString ps) = refl
+by-name q (parentheses e) = refl
+
 is-braced : (s b : List ℕ) (at : ℕ) (e : Expr) → ExprAt s b e at → Braced b at ≡ isBraced e
-is-braced s b at (expr p f) a = ap (λ (n : ℕ). eqb n 52 || eqb n 53 || (leb 65 n && leb n 67)) (kind-of s b at p f a)
+is-braced s b at (expr p f) a = ap (λ (n : ℕ). eqb n 52 || eqb n 53 || (leb 65 n && leb n 67)) (kind-of s b at p f a) ∙ by-name p f
 
 -- an expression as a statement, with its semicolon by that test
 abbrev pub doesSteps : List ℕ → ℕ → Given → Span × Expr → Act

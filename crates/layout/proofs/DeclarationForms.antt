@@ -14,15 +14,16 @@ use Rattle.image.specs.Read.{stopAt, kindAt}
 use Rattle.ast.specs.Syntax.{Ident, Idents, TypeExpr, Import, import, Declaration, filterMap, const, recordDecl, enumDecl, function, test, importDecl}
 use Rattle.tree.specs.At.{Done, Before, IdentAt, IdentsAt, ListAt, Maybe, TypeAt, ImportAt, DeclarationAt, DeclarationsAt}
 use Rattle.rows.specs.Node.{str, emptyLine}
-use Rattle.state.specs.Act.{Given, Act, _⨟_, push, says}
-use Rattle.state.specs.Laid.{text, Room}
-use Rattle.state.specs.declared.Cursor.{Cursor}
-use Rattle.state.proofs.Laws.{Lays, lays-then, lays-skip, room-first, room-next}
+use Rattle.acts.specs.Act.{Given, Act, _⨟_, push, says}
+use Rattle.acts.specs.Laid.{text, Room}
+use Rattle.acts.specs.declared.Cursor.{Cursor}
+use Rattle.acts.proofs.Laws.{Lays, lays-then, lays-skip, room-first, room-next}
 use Rattle.comments.specs.Listed.{given}
 use Rattle.layout.specs.Layout.{typeExpr, unlessEmpty, someTypeParams, returnType, declaration, shebangRule, declarationsRule}
 use Rattle.layout.specs.Contracts.{Has, HasAll, Whole, Readable}
 use Rattle.layout.specs.Elems.{typeParamsRule}
-use Rattle.layout.specs.Forms.{two, three, four, five, OfDeclaration, declarationRule, anyDeclaration, MaybeListAt, MaybeTypeAt, MaybeIdentAt, declarationsFrom}
+use Rattle.layout.specs.Forms.{two, three, four, five, OfDeclaration, declarationRule, anyDeclaration}
+use Rattle.layout.specs.Forms.{MaybeListAt, MaybeTypeAt, MaybeIdentAt, declarationsFrom}
 use Rattle.layout.proofs.Places.{head-whole, type-whole, import-whole}
 use Rattle.layout.proofs.Lays.{LaysAll, LaysAs}
 

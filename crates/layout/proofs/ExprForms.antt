@@ -8,17 +8,19 @@ use native.Mathlib.Omega.{arith}
 use lib.Dec.{eqb}
 use Rattle.image.specs.Bytes.{be32}
 use Rattle.image.specs.Read.{stopAt, kindAt}
-use Rattle.ast.specs.Syntax.{Span, Expr, expr, Form, return′, literal, block, match′, functionCall, access, path, record′, typedRecord, list, not′, assign, compoundAssign, binOp, negate, ifElse, while, for, questionMark, fString, parentheses}
-use Rattle.tree.specs.At.{Head, formKind, ExprAt}
-use Rattle.state.specs.Act.{Given, Act, _⨟_, when}
-use Rattle.state.specs.Laid.{Room}
-use Rattle.state.specs.declared.Cursor.{Cursor}
+use Rattle.ast.specs.Syntax.{Span, Expr, expr, Form, return′, literal, block, match′, functionCall, access, path, record′, typedRecord}
+use Rattle.ast.specs.Syntax.{list, not′, assign, compoundAssign, binOp, negate, ifElse, while, for, questionMark, fString, parentheses}
+use Rattle.tree.specs.FormKinds.{formKind}
+use Rattle.tree.specs.At.{Head, ExprAt}
+use Rattle.acts.specs.Act.{Given, Act, _⨟_, when}
+use Rattle.acts.specs.Laid.{Room}
+use Rattle.acts.specs.declared.Cursor.{Cursor}
 use Rattle.comments.specs.Comments.{popTrailingComment}
 use Rattle.comments.specs.Listed.{given}
 use Rattle.layout.specs.Layout.{exprWithPrecedence, isBlock, isBraced}
 use Rattle.layout.specs.Contracts.{Has}
 use Rattle.layout.specs.Forms.{two, three, four, Of, formRule, formWith, exprWith}
-use Rattle.state.proofs.Laws.{Lays, lays-then}
+use Rattle.acts.proofs.Laws.{Lays, lays-then}
 use Rattle.layout.proofs.Lays.{LaysAs}
 
 -- e is of the form mk

@@ -14,10 +14,10 @@ use Rattle.image.specs.Bytes.{be32}
 use Rattle.image.specs.Read.{stopAt}
 use Rattle.ast.specs.Syntax.{Span, Path, Import, import, ImportGroup, noGroup, group, Imports, noImports, _∷ⁱ_}
 use Rattle.tree.specs.At.{Head, Absent, Ends, PathAt, Maybe, ImportAt, ImportGroupAt, ImportsAt}
-use Rattle.state.specs.Act.{Given, Act, _⨟_, when, says}
-use Rattle.state.specs.Laid.{Room}
-use Rattle.state.specs.declared.Cursor.{Cursor}
-use Rattle.state.proofs.Laws.{Lays, lays-then, lays-skip}
+use Rattle.acts.specs.Act.{Given, Act, _⨟_, when, says}
+use Rattle.acts.specs.Laid.{Room}
+use Rattle.acts.specs.declared.Cursor.{Cursor}
+use Rattle.acts.proofs.Laws.{Lays, lays-then, lays-skip}
 use Rattle.comments.specs.Listed.{given}
 use Rattle.layout.specs.Layout.{pathRule, isSome, isGroup, importFirst, importPath, importGroup, importItems, importElems, separated}
 use Rattle.layout.specs.Contracts.{Has, InImage, Whole}

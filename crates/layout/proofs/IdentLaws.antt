@@ -11,10 +11,10 @@ use Rattle.image.specs.Read.{stopAt}
 use Rattle.ast.specs.Syntax.{Ident}
 use Rattle.tree.specs.At.{Done, Before, IdentAt, IdentsAt}
 use Rattle.rows.specs.Node.{str}
-use Rattle.state.specs.Act.{Act, push, _⨟_}
-use Rattle.state.specs.Laid.{text, Room}
-use Rattle.state.specs.declared.Cursor.{Cursor}
-use Rattle.state.proofs.Laws.{Lays, lays-then, lays-skip, room-first, room-next}
+use Rattle.acts.specs.Act.{Act, push, _⨟_}
+use Rattle.acts.specs.Laid.{text, Room}
+use Rattle.acts.specs.declared.Cursor.{Cursor}
+use Rattle.acts.proofs.Laws.{Lays, lays-then, lays-skip, room-first, room-next}
 use Rattle.comments.specs.Listed.{given}
 use Rattle.layout.specs.Layout.{ident, pathNext, pathMore}
 use Rattle.layout.specs.Contracts.{Readable, Has, HasAll}

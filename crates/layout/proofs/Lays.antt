@@ -7,10 +7,10 @@ use Prim.Native.Nat.{ℕ, _≤_}
 use lib.ListN.{length}
 use Rattle.ast.specs.Syntax.{Span, Expr}
 use Rattle.tree.specs.At.{ExprAt}
-use Rattle.state.specs.Act.{Given, Act}
-use Rattle.state.specs.Laid.{Room}
-use Rattle.state.specs.declared.Cursor.{Cursor}
-use Rattle.state.proofs.Laws.{Lays}
+use Rattle.acts.specs.Act.{Given, Act}
+use Rattle.acts.specs.Laid.{Room}
+use Rattle.acts.specs.declared.Cursor.{Cursor}
+use Rattle.acts.proofs.Laws.{Lays}
 use Rattle.comments.specs.Listed.{given}
 use Rattle.layout.specs.declared.forms.ListForm.{ListForm}
 use Rattle.layout.specs.Layout.{Elem, leftmost}

@@ -12,14 +12,15 @@ use lib.ListN.{getD, length, set}
 use lib.Seq.{getD-set-same, getD-set-other}
 use Rattle.image.specs.Bytes.{be32}
 use Rattle.image.specs.Read.{stopAt, kindAt}
-use Rattle.ast.specs.Syntax.{Span, Expr, expr, Form, return′, literal, block, match′, functionCall, access, path, record′, typedRecord, list, not′, assign, compoundAssign, binOp, negate, ifElse, while, for, questionMark, fString, parentheses}
+use Rattle.ast.specs.Syntax.{Span, Expr, expr, Form, return′, literal, block, match′, functionCall, access, path, record′, typedRecord}
+use Rattle.ast.specs.Syntax.{list, not′, assign, compoundAssign, binOp, negate, ifElse, while, for, questionMark, fString, parentheses}
 use Rattle.tree.specs.At.{Head, ByteAt, ExprAt, leftDepth}
 use Rattle.rows.specs.Node.{lineOrSpace}
-use Rattle.state.specs.Act.{Given, Act, push, grouped, indented, _⨟_}
-use Rattle.state.specs.Laid.{Room, Opened}
-use Rattle.state.specs.declared.Cursor.{Cursor}
-use Rattle.state.proofs.Laws.{Lays, lays-then, room-first, room-next}
-use Rattle.state.proofs.Nested.{lays-group, lays-indent}
+use Rattle.acts.specs.Act.{Given, Act, push, grouped, indented, _⨟_}
+use Rattle.acts.specs.Laid.{Room, Opened}
+use Rattle.acts.specs.declared.Cursor.{Cursor}
+use Rattle.acts.proofs.Laws.{Lays, lays-then, room-first, room-next}
+use Rattle.acts.proofs.Nested.{lays-group, lays-indent}
 use Rattle.comments.specs.Listed.{given}
 use Rattle.layout.specs.Layout.{Operands, leftmost, popped, binop, binopPrecedence, exprWithPrecedence, exprForm, operands, operator}
 use Rattle.layout.specs.Contracts.{InImage, Whole, Readable, Has}

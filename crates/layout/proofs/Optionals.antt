@@ -8,12 +8,13 @@ use Prim.Native.Nat.{ℕ, _+_, _≤_, _<_}
 use native.Mathlib.Omega.{arith}
 use Rattle.image.specs.Bytes.{be32}
 use Rattle.image.specs.Read.{stopAt, kindAt}
-use Rattle.ast.specs.Syntax.{Idents, TypeExpr, Expr, expr, Pattern, underscore, enumVariant, MaybeExpr, noExpr, someExpr, Block, MaybeBlock, noBlock, someBlock, Ident}
+use Rattle.ast.specs.Syntax.{Idents, TypeExpr, Expr, expr, Pattern, underscore, enumVariant, MaybeExpr}
+use Rattle.ast.specs.Syntax.{noExpr, someExpr, Block, MaybeBlock, noBlock, someBlock, Ident}
 use Rattle.tree.specs.At.{Head, Ends, IdentAt, ListAt, Maybe, TypeAt, PatternAt, ExprAt, MaybeExprAt, BlockAt, MaybeBlockAt}
-use Rattle.state.specs.Act.{Act, _⨟_, says}
-use Rattle.state.specs.Laid.{Room}
-use Rattle.state.specs.declared.Cursor.{Cursor}
-use Rattle.state.proofs.Laws.{Lays, lays-then, lays-skip, room-first, room-next}
+use Rattle.acts.specs.Act.{Act, _⨟_, says}
+use Rattle.acts.specs.Laid.{Room}
+use Rattle.acts.specs.declared.Cursor.{Cursor}
+use Rattle.acts.proofs.Laws.{Lays, lays-then, lays-skip, room-first, room-next}
 use Rattle.comments.specs.Comments.{popTrailingComment}
 use Rattle.comments.specs.Listed.{given}
 use Rattle.layout.specs.Layout.{ident, typeExpr, identElems, letType, maybeExpr, otherwise, lastRule, beforeStmt, blockRule, pattern}
@@ -241,4 +242,5 @@ module _ {s b : List ℕ} {at : ℕ} where
       go (enumVariant i (some is)) a =
           lays-then (l .of i (a .1))
           (m .of (identElems (given s b) (is .elems))
-          (list-of (a .2 .head) (ident-elems s b (stopAt b (stopAt b (at + 13))) (stopAt b (at + 13) + 13) (is .elems) (a .2 .elems))) (is .span) (a .2 .head .end))
+          (list-of (a .2 .head) (ident-elems s b (stopAt b (stopAt b (at + 13))) (stopAt b (at + 13) + 13) (is .elems) (a .2 .elems)))
+          (is .span) (a .2 .head .end))

@@ -11,8 +11,10 @@ use lib.Dec.{eqb}
 use borrow.Author.Tests.{eqb-true, eqb-false}
 use Rattle.image.specs.Bytes.{be32}
 use Rattle.image.specs.Read.{stopAt}
-use Rattle.ast.specs.Syntax.{Span, Ident, Path, TypeExpr, type, TypeArgs, noArgs, args, Import, import, ImportGroup, noGroup, group, Idents, Expr, expr, Block, braces, Stmt, stmt, Pattern, underscore, enumVariant, MaybeExpr, noExpr, someExpr, MaybeBlock, noBlock, someBlock}
-use Rattle.tree.specs.At.{Head, Absent, IdentAt, PathAt, Maybe, TypeAt, TypeArgsAt, ImportAt, ImportGroupAt, ListAt, ExprAt, BlockAt, StmtAt, PatternAt, MaybeExprAt, MaybeBlockAt}
+use Rattle.ast.specs.Syntax.{Span, Ident, Path, TypeExpr, type, TypeArgs, noArgs, args, Import, import, ImportGroup, noGroup, group, Idents, Expr, expr}
+use Rattle.ast.specs.Syntax.{Block, braces, Stmt, stmt, Pattern, underscore, enumVariant, MaybeExpr, noExpr, someExpr, MaybeBlock, noBlock, someBlock}
+use Rattle.tree.specs.At.{Head, Absent, IdentAt, PathAt, Maybe, TypeAt, TypeArgsAt, ImportAt, ImportGroupAt}
+use Rattle.tree.specs.At.{ListAt, ExprAt, BlockAt, StmtAt, PatternAt, MaybeExprAt, MaybeBlockAt}
 use Rattle.layout.specs.Layout.{importSpan}
 use Rattle.layout.specs.Contracts.{InImage, Whole}
 

@@ -8,14 +8,15 @@ use native.Mathlib.Omega.{arith}
 use lib.ListN.{length, getD, set}
 use Rattle.image.specs.Bytes.{be32}
 use Rattle.image.specs.Read.{stopAt}
-use Rattle.ast.specs.Syntax.{Span, Ident, TypeExpr, type, Types, noTypes, _∷ᵗ_, Fields, noFields, field, Import, import, Imports, noImports, _∷ⁱ_, Variants, noVariants, variant, Expr, expr, Exprs, noExprs, _∷ᵉ_, Entries, noEntries, entry, Arms, noArms, arm}
+use Rattle.ast.specs.Syntax.{Span, Ident, TypeExpr, type, Types, noTypes, _∷ᵗ_, Fields, noFields, field, Import, import, Imports, noImports}
+use Rattle.ast.specs.Syntax.{_∷ⁱ_, Variants, noVariants, variant, Expr, expr, Exprs, noExprs, _∷ᵉ_, Entries, noEntries, entry, Arms, noArms, arm}
 use Rattle.tree.specs.At.{Head, Done, Before, IdentsAt, TypeAt, TypesAt, FieldsAt, ImportAt, ImportsAt, VariantsAt, ExprAt, ExprsAt, EntriesAt, ArmsAt}
 use Rattle.rows.specs.Words.{table}
-use Rattle.state.specs.Act.{Given, Act, _⨟_, says, grouped, indented}
-use Rattle.state.specs.Laid.{Room, Laid}
-use Rattle.state.specs.declared.Cursor.{Cursor}
-use Rattle.state.proofs.Laws.{Lays, lays, lays-then, lays-skip, room-first, room-next}
-use Rattle.state.proofs.Nested.{room-group, laid-group, room-indent, lays-indent}
+use Rattle.acts.specs.Act.{Given, Act, _⨟_, says, grouped, indented}
+use Rattle.acts.specs.Laid.{Room, Laid}
+use Rattle.acts.specs.declared.Cursor.{Cursor}
+use Rattle.acts.proofs.Laws.{Lays, lays, lays-then, lays-skip, room-first, room-next}
+use Rattle.acts.proofs.Nested.{room-group, laid-group, room-indent, lays-indent}
 use Rattle.comments.specs.Comments.{popTrailingComment}
 use Rattle.tree.specs.CommentList.{span}
 use Rattle.comments.specs.Listed.{given}
@@ -23,7 +24,8 @@ use Rattle.layout.specs.declared.forms.ListForm.{ListForm}
 use Rattle.layout.specs.declared.forms.WrapStyle.the-variants.{Tight}
 use Rattle.layout.specs.declared.forms.TypeElement.the-variants as types
 use Rattle.layout.specs.declared.forms.ExprElement.the-variants as exprs
-use Rattle.layout.specs.Layout.{Elem, elements, separated, inside, beforeElem, identElems, typeElems, fieldElems, importElems, variantElems, exprElems, groupedElems, entryElems, armElems, edge, ends}
+use Rattle.layout.specs.Layout.{Elem, elements, separated, inside, beforeElem, identElems, typeElems, fieldElems}
+use Rattle.layout.specs.Layout.{importElems, variantElems, exprElems, groupedElems, entryElems, armElems, edge, ends}
 use Rattle.layout.specs.Contracts.{Has, HasAll, Whole, Readable}
 use Rattle.layout.specs.Elems.{Is, elemRule, IdentElem, ImportElem, VariantElem, TypeElem, ExprElem, ElemAt, ElemsAt, mark, elementsRule, ListOf}
 use Rattle.layout.specs.Elems.{starts, listRule, HasList, HasEmpty, Begins, Begun, HasElems, LaidElems}

@@ -9,12 +9,13 @@ use lib.ListN.{length}
 use lib.Dec.{eqb}
 use Rattle.image.specs.Bytes.{be32}
 use Rattle.image.specs.Read.{stopAt, kindAt}
-use Rattle.ast.specs.Syntax.{Span, Path, TypeExpr, type, TypeForm, option, typePath, never, unit, recordType, TypeArgs, noArgs, args, Types, noTypes, _∷ᵗ_, Fields}
+use Rattle.ast.specs.Syntax.{Span, Path, TypeExpr, type, TypeForm, option, typePath, never, unit}
+use Rattle.ast.specs.Syntax.{recordType, TypeArgs, noArgs, args, Types, noTypes, _∷ᵗ_, Fields}
 use Rattle.tree.specs.At.{Head, TypeAt, TypeArgsAt, TypesAt}
-use Rattle.state.specs.Act.{Given, Act}
-use Rattle.state.specs.Laid.{Room}
-use Rattle.state.specs.declared.Cursor.{Cursor}
-use Rattle.state.proofs.Laws.{Lays, lays-skip}
+use Rattle.acts.specs.Act.{Given, Act}
+use Rattle.acts.specs.Laid.{Room}
+use Rattle.acts.specs.declared.Cursor.{Cursor}
+use Rattle.acts.proofs.Laws.{Lays, lays-skip}
 use Rattle.comments.specs.Listed.{given}
 use Rattle.layout.proofs.Places.{head-whole, type-whole}
 use Rattle.layout.proofs.Runs.{list-of, type-elems, parens, brackets}

@@ -1,19 +1,19 @@
--- A chain of operators of one precedence, from its top down to the leftmost operand.
+-- The contracts of `binop`'s code: a chain of operators of one precedence, from its top down to the leftmost operand.
 use mathlib.Core.Path.{_≡_}
 use mathlib.Core.List.{List}
 use Prim.Native.Nat.{ℕ, _+_, _*_, _≤_, _<_}
 use lib.ListN.{getD, length}
 use Rattle.ast.specs.Syntax.{Span, Expr, expr, Form, binOp}
 use Rattle.tree.specs.At.{ExprAt}
-use Rattle.state.specs.Act.{Act}
-use Rattle.state.specs.Laid.{Room, Laid}
-use Rattle.state.specs.declared.Cursor.{Cursor}
+use Rattle.acts.specs.Act.{Act}
+use Rattle.acts.specs.Laid.{Room, Laid}
+use Rattle.acts.specs.declared.Cursor.{Cursor}
 use Rattle.comments.specs.Listed.{given}
 use Rattle.layout.specs.Layout.{Operands, leftmost, popped, binopPrecedence, operands}
 use Rattle.layout.specs.Contracts.{Readable}
 use Rattle.layout.specs.Forms.{four, Of, exprWith}
 
--- x at p stands below the top e at `at`, by left operands of operators of precedence q
+-- x at p is below the top e at `at`, by left operands of operators of precedence q
 pub data Above (q : ℕ) (s b : List ℕ) (e : Expr) (at : ℕ) : ℕ → Expr → Type 0 where
   top : Above q s b e at at e
   up : {p p′ o : ℕ} {x r : Expr} {m t : Span} → p′ ≡ p + 13 → binopPrecedence o ≡ q → ExprAt s b (expr m (binOp x t o r)) p

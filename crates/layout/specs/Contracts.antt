@@ -1,4 +1,4 @@
--- The contracts of the layout functions: a part of the syntax tree stands at an offset of the image, and its rule is laid.
+-- The contracts of the layout functions: a part of the syntax tree is at an offset of the image, and its rule is laid.
 use Prim.Native.Nat.{ℕ, _+_, _≤_}
 use mathlib.Core.Path.{_≡_}
 use mathlib.Core.Bool.{Bool, cond}
@@ -8,9 +8,9 @@ use Rattle.image.specs.Bytes.{be32}
 use Rattle.image.specs.Read.{stopAt}
 use Rattle.ast.specs.Syntax.{Span}
 use Rattle.rows.specs.Words.{table}
-use Rattle.state.specs.Act.{Given, Act}
-use Rattle.state.specs.Laid.{Room, Laid}
-use Rattle.state.specs.declared.Cursor.{Cursor}
+use Rattle.acts.specs.Act.{Given, Act}
+use Rattle.acts.specs.Laid.{Room, Laid}
+use Rattle.acts.specs.declared.Cursor.{Cursor}
 use Rattle.comments.specs.Listed.{given, Listed}
 
 -- what layout needs of an accepted image besides its tree: the comment list, and the size, which a place in a row can hold
@@ -18,14 +18,14 @@ pub record Readable (s b : List ℕ) : Type 0 where
   pub listed : Listed s b
   pub small : length b ≤ 1048581
 
--- a part of the syntax tree stands at `at`, and there is room for what its rule lays
+-- a part of the syntax tree is at `at`, and there is room for what its rule lays
 pub record Has {T : Type 0} (R : List ℕ → List ℕ → T → ℕ → Type 0) (rule : Given → T → Act) (s b : List ℕ) (at : ℕ) (c : Cursor) : Type 0 where
   pub accepted : Readable s b
   pub tree : T
   pub held : R s b tree at
   pub room : Room (rule (given s b) tree) c
 
--- the part that stands at `at` is laid by its rule
+-- the part that is at `at` is laid by its rule
 pub record LaidAs {T : Type 0} (R : List ℕ → List ℕ → T → ℕ → Type 0) (rule : Given → T → Act)
     (s b : List ℕ) (at : ℕ) (store : List ℕ) (c : Cursor) (store′ : List ℕ) (c′ : Cursor) : Type 0 where
   pub of : (h : Has R rule s b at c) → Laid (rule (given s b) (h .tree)) store c store′ c′

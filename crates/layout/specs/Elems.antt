@@ -1,8 +1,8 @@
--- The elements of `separated` in the image, and how a list of them is laid.
+-- The contracts of lists: the elements of `separated` in the image, and how a list of them is laid.
 use Prim.Native.Nat.{ℕ, _+_, _≤_}
 use Prim.Native.String.{String}
 use mathlib.Core.Path.{_≡_}
-use mathlib.Core.Bool.{Bool, true, cond, not}
+use mathlib.Core.Bool.{Bool, true, cond}
 use mathlib.Core.List.{List, [], _∷_}
 use lib.ListN.{length, getD}
 use Rattle.image.specs.Bytes.{be32}
@@ -12,9 +12,9 @@ use Rattle.ast.specs.Syntax.{Span, Ident, Idents, TypeExpr, Types, Fields, Patt
 use Rattle.tree.specs.At.{Head, Record, firstAt, secondAt, thirdAt, Ends, Done, Before, IdentAt, TypeAt, TypesAt, FieldsAt, ImportAt, PatternAt, MaybeExprAt, ExprAt, ExprsAt, EntriesAt}
 use Rattle.rows.specs.Kinds.{GROUP, INDENT}
 use Rattle.rows.specs.Words.{table}
-use Rattle.state.specs.Act.{Given, Act, _⨟_, says, when, grouped, indented}
-use Rattle.state.specs.Laid.{Room, Laid, Opened}
-use Rattle.state.specs.declared.Cursor.{Cursor}
+use Rattle.acts.specs.Act.{Given, Act, _⨟_, grouped, indented}
+use Rattle.acts.specs.Laid.{Room, Laid, Opened}
+use Rattle.acts.specs.declared.Cursor.{Cursor}
 use Rattle.comments.specs.Listed.{given}
 use Rattle.layout.specs.declared.forms.ListForm.{ListForm}
 use Rattle.layout.specs.declared.forms.TypeElement.{TypeElement}
@@ -24,7 +24,7 @@ use Rattle.layout.specs.declared.forms.ExprElement.the-variants as exprs
 use Rattle.layout.specs.declared.forms.WrapStyle.{WrapStyle}
 use Rattle.layout.specs.Contracts.{Readable}
 use Rattle.layout.specs.Layout.{Elem, ident, named, typeExpr, importPath, opens, elements, separated, params, typeParams, recordTypeRule, functionArgs, recordRule}
-use Rattle.layout.specs.Layout.{identElems, fieldElems, exprElems, entryElems, variantTypes, pattern, maybeExpr, exprRule, isBlock}
+use Rattle.layout.specs.Layout.{identElems, fieldElems, exprElems, entryElems, variantSteps, armSteps, maybeExpr, exprRule, isBlock}
 
 -- a name and its type
 abbrev pub FieldAt : List ℕ → List ℕ → Span × Ident × TypeExpr → ℕ → Type 0
@@ -44,7 +44,7 @@ VariantAt s b v at =
     × Ends s b (secondAt s b at) at
 
 abbrev pub variantRule : Given → Span × Ident × Types → Act
-variantRule g v = ident g (v .1) ⨟ variantTypes g (v .2)
+variantRule g v = variantSteps g (v .1) (v .2)
 
 -- a name and its value
 abbrev pub EntryAt : List ℕ → List ℕ → Span × Ident × Expr → ℕ → Type 0
@@ -64,14 +64,13 @@ ArmAt s b a at =
     × Ends s b (thirdAt s b at) at
 
 abbrev pub armRule : Given → Span × Pattern × MaybeExpr × Expr → Act
-armRule g a =
-    pattern g (a .1) ⨟ maybeExpr g " if " (a .2) ⨟ says " => " ⨟ exprRule g (a .3) ⨟ when (not (isBlock (a .3))) (says ",")
+armRule g a = armSteps g (a .1) (maybeExpr g " if " (a .2)) (exprRule g (a .3)) (isBlock (a .3))
 
 -- an expression in a group of its own
 abbrev pub groupedRule : Given → Expr → Act
 groupedRule g e = grouped (λ id. exprRule g e)
 
--- a part of the syntax tree stands at `at`, and the element e lays it
+-- a part of the syntax tree is at `at`, and the element e lays it
 pub record Is {T : Type 0} (R : List ℕ → List ℕ → T → ℕ → Type 0) (rule : Given → T → Act) (s b : List ℕ) (e : Elem) (at : ℕ) : Type 0 where
   pub tree : T
   pub held : R s b tree at
@@ -134,7 +133,7 @@ abbrev pub listRule : ListForm → Given → List Elem → Span → Act
 listRule form g es span =
     separated g (getD table (form .left) "") (getD table (form .right) "") (mark (form .commas)) es span (form .style)
 
--- a list stands at `at`, and there is room for `separated` over a span that ends at `end`
+-- a list is at `at`, and there is room for `separated` over a span that ends at `end`
 pub record HasList (P : List ℕ → List ℕ → Elem → ℕ → Type 0) (form : ListForm) (end : ℕ) (s b : List ℕ) (at : ℕ) (c : Cursor) : Type 0 where
   pub accepted : Readable s b
   pub tree : List Elem

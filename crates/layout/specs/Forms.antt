@@ -1,4 +1,4 @@
--- The forms of types and expressions, as the records at an offset hold them, and the rule of each.
+-- The contracts by forms: each form of types, expressions, statements and declarations at an offset of the image, and its rule.
 use Prim.Native.Nat.{ℕ, _+_, _≤_, _<_}
 use mathlib.Core.Path.{_≡_}
 use mathlib.Core.Bool.{Bool}
@@ -9,9 +9,9 @@ use Rattle.image.specs.Kinds.{TEXT-PART, EXPR-PART, OPERATOR, LITERAL}
 use Rattle.image.specs.Read.{stopAt}
 use Rattle.ast.specs.Syntax.{Span, Ident, Path, TypeExpr, type, TypeForm, Types, _∷ᵗ_, Expr, expr, Form, MaybeExpr, Block, Stmts, stmt, let′, Idents, Declaration}
 use Rattle.tree.specs.At.{Head, Record, Done, Ends, ByteAt, PathAt, Maybe, TypeAt, TypesAt, ExprAt, BlockAt, StmtAt, IdentAt, ListAt, DeclarationAt}
-use Rattle.rows.specs.Node.{ascii, line}
+use Rattle.rows.specs.Node.{ascii}
 use Rattle.rows.specs.Words.{table}
-use Rattle.state.specs.Act.{Given, Act, _⨟_, says, push, content}
+use Rattle.acts.specs.Act.{Given, Act, _⨟_, says, push, content}
 use Rattle.layout.specs.Layout as layout
 
 -- a constructor of two or more arguments, as one of a tuple
@@ -109,12 +109,12 @@ PartAt s b (text p) at = Head s b TEXT-PART p at × Done (at + 13) (stopAt b at)
 PartAt s b (value e) at = Record s b EXPR-PART at × ExprAt s b e (at + 13) × Ends s b (at + 13) at
 
 abbrev pub partRule : Given → Part → Act
-partRule g (text p) = push (ascii (content p))
+partRule g (text p) = layout.textPart p
 partRule g (value e) = layout.placeholder (exprWith 0 g e)
 
 -- the field of an access, after its dot
 abbrev pub fieldName : Given → Ident → Act
-fieldName g i = push line ⨟ says "." ⨟ layout.ident g i
+fieldName g i = layout.fieldName g i
 
 -- ---- blocks and statements
 -- the statements, of which the next is the first or not; and the last expression, before which there is a statement or not

@@ -5,10 +5,10 @@ use mathlib.Core.Bool.{Bool, true, false, cond, not, _&&_, _||_}
 use mathlib.Core.List.{List, [], _∷_}
 use mathlib.Core.Option.{Option, none, some}
 use lib.ListN.{getD}
-use lib.Dec.{ltb, leb, eqb}
+use lib.Dec.{ltb, eqb}
 use lib.Text.{eqt}
 use Rattle.text.specs.Space.{trimEnd}
-use Rattle.image.specs.Kinds.{BLOCK-EXPR, MATCH, IF-ELSE, FOR}
+use Rattle.image.specs.Kinds.{BLOCK-EXPR, MATCH, IF-ELSE, WHILE, FOR}
 use Rattle.ast.specs.Syntax.{Span, Ident, Path, Idents, TypeExpr, type, TypeForm, option, typePath, never, unit, recordType, TypeArgs, noArgs, args}
 use Rattle.ast.specs.Syntax.{Types, noTypes, _∷ᵗ_, Fields, noFields, field, Import, import, ImportGroup, noGroup, group, Imports, noImports, _∷ⁱ_}
 use Rattle.ast.specs.Syntax.{Pattern, underscore, enumVariant, Expr, expr, Form, return′, literal, block, match′, functionCall, access, path, record′}
@@ -17,10 +17,10 @@ use Rattle.ast.specs.Syntax.{Exprs, noExprs, _∷ᵉ_, MaybeExpr, noExpr, someE
 use Rattle.ast.specs.Syntax.{value, Block, braces, MaybeBlock, noBlock, someBlock, Stmts, noStmts, _∷ˢ_, Stmt, stmt, StmtForm, let′, importStmt, does}
 use Rattle.ast.specs.Syntax.{Variants, noVariants, variant, Declaration, filterMap, const, recordDecl, enumDecl, function, test, importDecl}
 use Rattle.ast.specs.Syntax.{SyntaxTree}
-use Rattle.tree.specs.At.{formKind}
+use Rattle.tree.specs.FormKinds.{formKind}
 use Rattle.rows.specs.Node.{Text, str, ascii, line, emptyLine, lineOrSpace, wrapParent, ifWrap}
 use Rattle.rows.specs.Words.{word}
-use Rattle.state.specs.Act.{Given, St, Out, Act, Asking, _⨟_, _⨟?_, skip, when, push, told, grouped, indented, indentedNext, called, says, content}
+use Rattle.acts.specs.Act.{Given, St, Out, Act, Asking, _⨟_, _⨟?_, skip, when, push, stepAlone, grouped, indented, indentedNext, called, says, content}
 use Rattle.comments.specs.Comments.{whitespace, popWhitespace, popTrailingComment}
 use Rattle.layout.specs.declared.forms.WrapStyle.{WrapStyle}
 use Rattle.layout.specs.declared.forms.WrapStyle.the-variants.{Tight, Spaced, Wrap}
@@ -30,9 +30,27 @@ pub record Elem : Type 0 where
   pub start : ℕ
   pub act : Act
 
--- `Precedence`, in the order of its variants
+-- `Precedence`, its variants in order
 abbrev pub Bottom : ℕ
 Bottom = 0
+
+abbrev pub LogicalOr : ℕ
+LogicalOr = 1
+
+abbrev pub LogicalAnd : ℕ
+LogicalAnd = 2
+
+abbrev pub Comparison : ℕ
+Comparison = 3
+
+abbrev pub AddSub : ℕ
+AddSub = 4
+
+abbrev pub MulDiv : ℕ
+MulDiv = 5
+
+abbrev pub Exp : ℕ
+Exp = 6
 
 abbrev pub Not′ : ℕ
 Not′ = 7
@@ -43,11 +61,19 @@ Chain = 8
 abbrev pub Unit′ : ℕ
 Unit′ = 9
 
--- `binop_precedence`, by the place in `BinOp`
+-- `binop_precedence`, by the place in `BinOp`: And, Or; Eq, Ne, Lt, Le, Gt, Ge; Add, Sub; Mul, Div, Mod; Exp
 abbrev pub binopPrecedence : ℕ → ℕ
-binopPrecedence op = getD (2 ∷ 1 ∷ 3 ∷ 3 ∷ 3 ∷ 3 ∷ 3 ∷ 3 ∷ 4 ∷ 4 ∷ 5 ∷ 5 ∷ 5 ∷ 6 ∷ []) op 0
+binopPrecedence op =
+    getD
+    (LogicalAnd ∷ LogicalOr
+    ∷ Comparison ∷ Comparison ∷ Comparison ∷ Comparison ∷ Comparison ∷ Comparison
+    ∷ AddSub ∷ AddSub
+    ∷ MulDiv ∷ MulDiv ∷ MulDiv
+    ∷ Exp
+    ∷ [])
+    op Bottom
 
--- the symbols of `binop`, of `CompoundAssign` and of `Return`, by the place
+-- the symbols of `binop`, of `CompoundAssign` and of `Return`, by the place in `BinOp`, in `CompoundAssignOp` and in `ReturnKind`
 abbrev pub symbol : ℕ → String
 symbol op = getD ("&&" ∷ "||" ∷ "==" ∷ "!=" ∷ "<" ∷ "<=" ∷ ">" ∷ ">=" ∷ "+" ∷ "-" ∷ "*" ∷ "/" ∷ "%" ∷ "**" ∷ []) op ""
 
@@ -85,7 +111,7 @@ abbrev pub exprPrecedence : Expr → ℕ
 exprPrecedence (expr s f) = formPrecedence f
 
 -- What the first loop of `binop` leaves: the leftmost operand, what is laid for the operators on the stack, and whether the next operator is
--- the first.
+-- the first. (That the whole is the Rust's two loops over a stack is claimed in layout_facts/specs/Binop.antt.)
 pub record Operands : Type 0 where
   pub left : Act
   pub ops : Act
@@ -126,13 +152,14 @@ abbrev pub isEmpty : Stmts → MaybeExpr → Bool
 isEmpty ss noExpr = noneOf ss
 isEmpty ss (someExpr e) = false
 
--- a block, which needs no `,` in an arm; and the expressions that need no `;` as a statement: block, match, if, while and for
+-- a block, which needs no `,` in an arm; and the five variants that need no `;` as a statement
 abbrev pub isBlock : Expr → Bool
 isBlock (expr s f) = eqb (formKind f) BLOCK-EXPR
 
 abbrev pub isBraced : Expr → Bool
 isBraced (expr s f) =
-    eqb (formKind f) BLOCK-EXPR || eqb (formKind f) MATCH || (leb IF-ELSE (formKind f) && leb (formKind f) FOR)
+    let k = formKind f in
+    eqb k BLOCK-EXPR || eqb k MATCH || eqb k IF-ELSE || eqb k WHILE || eqb k FOR
 
 abbrev pub unlessEmpty : List Ident → Act → Act
 unlessEmpty [] a = skip
@@ -153,18 +180,17 @@ isWrap Wrap = true
 unfoldable pub opens : String → WrapStyle → Act
 opens start style = when (isWrap style) (push wrapParent) ⨟ says start ⨟ edge style
 
--- `binop`: no operator is on the stack; one of two; and what it lays after its first loop
+-- `binop`: no operator is on the stack; and what it lays after its first loop
 abbrev pub leftmost : Act → Operands
 leftmost a = record { left = a; ops = skip; first = true }
-
-abbrev pub pickOperands : Bool → Operands → Operands → Operands
-pickOperands true a b = a
-pickOperands false a b = b
 
 unfoldable pub binop : Operands → Act
 binop c = grouped (λ id. c .left ⨟ push lineOrSpace ⨟ indented (c .ops))
 
--- a value in an f-string
+-- the parts of an f-string: a text of the source, and a value
+abbrev pub textPart : Span → Act
+textPart s = push (ascii (content s))
+
 unfoldable pub placeholder : Act → Act
 placeholder a = says "{" ⨟ a ⨟ says "}"
 
@@ -177,9 +203,9 @@ unfoldable pub blockStart : Bool → Act
 blockStart empty = says "{" ⨟ push line ⨟ when (not empty) (push wrapParent)
 
 module _ (g : Given) where
-  -- `pop_whitespace` where its answer isn't looked at
+  -- `pop_whitespace` where what it returns isn't looked at
   abbrev pub gap : ℕ → Bool → Bool → Bool → Act
-  gap position a b c = told (popWhitespace g position a b c)
+  gap position a b c = stepAlone (popWhitespace g position a b c)
 
   -- `Node::str`, of the image's texts: so many of its bytes, with the width that it supplies for them
   abbrev pub imageStr : ℕ → ℕ → ℕ → Act
@@ -330,15 +356,22 @@ module _ (g : Given) where
   abbrev pub popped : Operands → Span → ℕ → Act → Operands
   popped c s op right = record { left = c .left; ops = c .ops ⨟ operator (c .first) s op ⨟ right; first = false }
 
-  -- `literal`
+  -- `literal`, by its payload byte: 0 as it is in the source, then `Bool(true)`, `Bool(false)` and `Unit`
   unfoldable pub literalRule : Span → ℕ → Act
   literalRule s which =
       gap (s .end) true true false
       ⨟ getD (push (ascii (content s)) ∷ says "true" ∷ says "false" ∷ says "()" ∷ []) which skip
 
-  -- `access`, after its expression, and `r#match`, with its expression and the elements of its closure
+  -- `access`: its field, and the whole
+  abbrev pub fieldName : Ident → Act
+  fieldName i = push line ⨟ says "." ⨟ ident i
+
   abbrev pub accessRule : Act → Ident → Act
-  accessRule e i = e ⨟ push line ⨟ says "." ⨟ ident i
+  accessRule e i = e ⨟ fieldName i
+
+  -- `r#match`: its closure, with the arm's guard and body, and whether that is a block; and the whole
+  abbrev pub armSteps : Pattern → Act → Act → Bool → Act
+  armSteps p guard body ends = pattern p ⨟ guard ⨟ says " => " ⨟ body ⨟ when (not ends) (says ",")
 
   abbrev pub matchRule : Act → List Elem → Span → Act
   matchRule e arms span = says "match " ⨟ e ⨟ says " " ⨟ separated "{" "}" "" arms span Wrap
@@ -388,14 +421,15 @@ module _ (g : Given) where
     exprForm s (parentheses e) outer = gap (s .start) true true false ⨟ says "(" ⨟ exprWithPrecedence e Bottom ⨟ says ")"
 
     -- the first loop of `binop`, down the left operands: an operator of the same precedence goes onto the stack, and is popped after those
-    -- to its left; anything else is the leftmost operand, and is laid as a whole
+    -- to its left; anything else is the leftmost operand, and is laid as a whole (`whole` is its `exprWithPrecedence`, written out since
+    -- recursion is on parts)
     pub operands : ℕ → Expr → Operands
     operands precedence (expr s f) = operandsForm precedence f (exprForm s f precedence ⨟ popTrailingComment g)
 
     pub operandsForm : ℕ → Form → Act → Operands
     operandsForm precedence (binOp l t op r) whole =
         let longer = popped (operands precedence l) t op (exprWithPrecedence r Bottom) in
-        pickOperands (eqb (formPrecedence (binOp l t op r)) precedence) longer (leftmost whole)
+        cond (eqb (formPrecedence (binOp l t op r)) precedence) longer (leftmost whole)
     operandsForm precedence (return′ kind e) whole = leftmost whole
     operandsForm precedence (literal t which) whole = leftmost whole
     operandsForm precedence (block b) whole = leftmost whole
@@ -443,19 +477,15 @@ module _ (g : Given) where
     pub armElems : Arms → List Elem
     armElems noArms = []
     armElems (arm s p guard body arms) =
-        record {
-          start = s .start;
-          act = pattern p ⨟ maybeExpr " if " guard ⨟ says " => " ⨟ exprWithPrecedence body Bottom ⨟ when (not (isBlock body)) (says ",");
-        }
-        ∷ armElems arms
+        record { start = s .start; act = armSteps p (maybeExpr " if " guard) (exprWithPrecedence body Bottom) (isBlock body) } ∷ armElems arms
 
     -- the parts of an f-string
     pub partsRule : Parts → Act
     partsRule noParts = skip
-    partsRule (string s ps) = push (ascii (content s)) ⨟ partsRule ps
+    partsRule (string s ps) = textPart s ⨟ partsRule ps
     partsRule (value e ps) = placeholder (exprWithPrecedence e Bottom) ⨟ partsRule ps
 
-    -- `block`
+    -- `block`. The Rust's `first` is an argument of `stmtsRule`, after the statements `noneOf ss`, and after the last expression `isEmpty ss last`.
     pub blockRule : Block → Act
     blockRule (braces s ss last) =
         grouped (λ id.
@@ -505,9 +535,13 @@ module _ (g : Given) where
   variantTypes noTypes = skip
   variantTypes (t ∷ᵗ ts) = separated "(" ")" "," (typeElems (t ∷ᵗ ts)) (lastSpan t ts) Tight
 
+  -- the closure of an enum's variants, and the variants
+  abbrev pub variantSteps : Ident → Types → Act
+  variantSteps i ts = ident i ⨟ variantTypes ts
+
   unfoldable pub variantElems : Variants → List Elem
   variantElems noVariants = []
-  variantElems (variant s i ts vs) = record { start = s .start; act = ident i ⨟ variantTypes ts } ∷ variantElems vs
+  variantElems (variant s i ts vs) = record { start = s .start; act = variantSteps i ts } ∷ variantElems vs
 
   -- the start of each declaration but `import`: its word and its name
   unfoldable pub declares : String → Bool → Ident → Act

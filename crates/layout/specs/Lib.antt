@@ -1,4 +1,5 @@
 pub mod Layout
+pub mod Closing
 pub mod Contracts
 pub mod Elems
 pub mod Forms

@@ -8,8 +8,8 @@ ghost use lib.Dec.{eqb, leb};
 ghost use Rattle.image.specs.Bytes.{be32};
 ghost use Rattle.image.specs.Kinds.{BLOCK-EXPR, MATCH, IF-ELSE, FOR};
 ghost use Rattle.image.specs.Read.{stopAt, kindAt};
-ghost use Rattle.state.specs.Act.{when, says};
-ghost use Rattle.state.specs.Laid.{Room, Laid};
+ghost use Rattle.acts.specs.Act.{when, says};
+ghost use Rattle.acts.specs.Laid.{Room, Laid};
 ghost use Rattle.comments.specs.Listed.{given};
 ghost use Rattle.layout.specs.Layout.{beforeStmt, afterStmt, blockStart, assignSymbol, letType};
 ghost use Rattle.layout.specs.Contracts.{Readable, Has, LaidAs, InImage, Whole};
@@ -21,17 +21,17 @@ use crate::numbers::payload;
 use crate::numbers::second;
 use crate::pieces::gap;
 use crate::types::type_expr;
+use acts::Cursor;
+use acts::leaves::line;
+use acts::leaves::wrap_parent;
+use acts::words::ADD_ASSIGN;
+use acts::words::BRACE_OPEN;
+use acts::words::COLON;
+use acts::words::COMMA;
+use acts::words::SEMICOLON;
+use acts::words::word;
 use comments::pop_trailing_comment;
 use image::kinds;
-use state::Cursor;
-use state::leaves::line;
-use state::leaves::wrap_parent;
-use state::words::ADD_ASSIGN;
-use state::words::BRACE_OPEN;
-use state::words::COLON;
-use state::words::COMMA;
-use state::words::SEMICOLON;
-use state::words::word;
 
 // Whether the block at `at` has no statements.
 pub(crate) fn no_stmts(b: &[u8], at: usize) -> bool

@@ -7,8 +7,8 @@ ghost use Rattle.image.specs.Read.{stopAt};
 ghost use Rattle.rows.specs.Node.{lineOrSpace};
 ghost use Rattle.rows.specs.Words.{table};
 ghost use Rattle.ast.specs.Syntax.{binOp};
-ghost use Rattle.state.specs.Act.{when, push};
-ghost use Rattle.state.specs.Laid.{Room, Laid};
+ghost use Rattle.acts.specs.Act.{when, push};
+ghost use Rattle.acts.specs.Laid.{Room, Laid};
 ghost use Rattle.comments.specs.Comments.{whitespace};
 ghost use Rattle.layout.specs.Layout.{symbol, binopPrecedence};
 ghost use Rattle.layout.specs.Contracts.{Has, LaidAs, InImage};
@@ -19,16 +19,16 @@ use crate::numbers::kind;
 use crate::numbers::payload;
 use crate::numbers::second;
 use crate::numbers::start;
+use acts::Cursor;
+use acts::leaves::line_or_space;
+use acts::words::AND;
+use acts::words::MINUS;
+use acts::words::SPACE;
+use acts::words::word;
 use comments::Gap;
 use comments::is_whitespace;
 use comments::pop_whitespace;
 use image::kinds;
-use state::Cursor;
-use state::leaves::line_or_space;
-use state::words::AND;
-use state::words::MINUS;
-use state::words::SPACE;
-use state::words::word;
 
 // `binop_precedence`, by the place in `BinOp`.
 const PRECEDENCES: [usize; 14] = [2, 1, 3, 3, 3, 3, 3, 3, 4, 4, 5, 5, 5, 6];
@@ -39,7 +39,7 @@ fn binop_precedence(op: usize) -> usize
     if op < 14 { PRECEDENCES[op] } else { 0 }
 }
 
-// The place among the words of an operator's symbol. The minus is a word that stands elsewhere too, so it is not listed with the others.
+// The place among the words of an operator's symbol. The minus is a word that is used elsewhere too, so it is not listed with the others.
 fn symbol(op: usize) -> usize
     requires { ⌜ op < 14 ⌝ }
     ensures { λ r. ⌜ getD table r "" ≡ symbol op ⌝ }

@@ -1,10 +1,10 @@
 // What the layout functions are given besides offsets: precedences, and what `separated` needs to know of its list.
-use state::words::BRACE_CLOSE;
-use state::words::BRACE_OPEN;
-use state::words::BRACKET_CLOSE;
-use state::words::BRACKET_OPEN;
-use state::words::PAREN_CLOSE;
-use state::words::PAREN_OPEN;
+use acts::words::BRACE_CLOSE;
+use acts::words::BRACE_OPEN;
+use acts::words::BRACKET_CLOSE;
+use acts::words::BRACKET_OPEN;
+use acts::words::PAREN_CLOSE;
+use acts::words::PAREN_OPEN;
 
 // `Precedence::Bottom`, `Precedence::Chain` and `Precedence::Unit`
 pub const BOTTOM: usize = 0;

@@ -20,10 +20,10 @@ use crate::pieces::before_elem;
 use crate::pieces::begin_list;
 use crate::pieces::empty_list;
 use crate::pieces::finish_list;
+use acts::Cursor;
+use acts::words::UNDERSCORE;
+use acts::words::word;
 use image::kinds;
-use state::Cursor;
-use state::words::UNDERSCORE;
-use state::words::word;
 
 // `separated` over identifiers: the list at `at`, whose span ends at `to`.
 fn separated(

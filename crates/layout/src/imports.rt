@@ -6,8 +6,8 @@ ghost use Prim.Native.Nat.{_+_};
 ghost use Rattle.image.specs.Bytes.{be32};
 ghost use Rattle.image.specs.Read.{stopAt};
 ghost use Rattle.tree.specs.At.{ImportAt, ImportGroupAt};
-ghost use Rattle.state.specs.Act.{when, says};
-ghost use Rattle.state.specs.Laid.{Room, Laid};
+ghost use Rattle.acts.specs.Act.{when, says};
+ghost use Rattle.acts.specs.Laid.{Room, Laid};
 ghost use Rattle.layout.specs.Layout.{importFirst, importPath, importGroup};
 ghost use Rattle.layout.specs.Contracts.{Has, LaidAs, InImage, Whole};
 ghost use Rattle.layout.specs.Elems.{ImportElem, HasList, LaidList};
@@ -25,9 +25,9 @@ use crate::pieces::before_elem;
 use crate::pieces::begin_list;
 use crate::pieces::empty_list;
 use crate::pieces::finish_list;
-use state::Cursor;
-use state::words::DOT;
-use state::words::word;
+use acts::Cursor;
+use acts::words::DOT;
+use acts::words::word;
 
 // The path of an import, where there is one.
 fn import_first(store: &mut [u32], c: Cursor, s: &[u8], b: &[u8], at: usize) -> Cursor

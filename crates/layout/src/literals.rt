@@ -6,13 +6,13 @@ use crate::numbers::end;
 use crate::numbers::payload;
 use crate::numbers::start;
 use crate::pieces::gap;
+use acts::Cursor;
+use acts::leaves::ascii;
+use acts::words::FALSE;
+use acts::words::TRUE;
+use acts::words::UNIT;
+use acts::words::word;
 use rows::units::Bytes;
-use state::Cursor;
-use state::leaves::ascii;
-use state::words::FALSE;
-use state::words::TRUE;
-use state::words::UNIT;
-use state::words::word;
 
 // `Node::Ascii` of `span_content`: the source between the ends of the record's span.
 pub(crate) fn content(store: &mut [u32], c: Cursor, s: &[u8], b: &[u8], at: usize) -> Cursor

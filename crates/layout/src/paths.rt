@@ -2,8 +2,8 @@
 ghost use mathlib.Core.Path.{_≡_};
 ghost use Rattle.tree.specs.At.{IdentAt, IdentsAt, PathAt};
 ghost use Rattle.rows.specs.Node.{line};
-ghost use Rattle.state.specs.Act.{when, push};
-ghost use Rattle.state.specs.Laid.{Room, Laid};
+ghost use Rattle.acts.specs.Act.{when, push};
+ghost use Rattle.acts.specs.Laid.{Room, Laid};
 ghost use Rattle.layout.specs.Layout.{ident, pathNext, pathMore, pathRule};
 ghost use Rattle.layout.specs.Contracts.{Has, LaidAs, HasAll, LaidAll};
 ghost use Rattle.layout.specs.Forms.{fieldName};
@@ -12,18 +12,18 @@ use crate::numbers::end;
 use crate::numbers::past;
 use crate::numbers::second;
 use crate::pieces::gap;
+use acts::Cursor;
+use acts::leaves::line;
+use acts::leaves::str;
+use acts::parts::close;
+use acts::parts::open_group;
+use acts::parts::open_indent;
+use acts::words::DOT;
+use acts::words::word;
 use comments::pop_trailing_comment;
 use image::bytes::num16;
 use rows::units::Bytes;
 use rows::units::Columns;
-use state::Cursor;
-use state::leaves::line;
-use state::leaves::str;
-use state::parts::close;
-use state::parts::open_group;
-use state::parts::open_indent;
-use state::words::DOT;
-use state::words::word;
 
 // `Node::ident`: the text at `at`, with its width.
 pub(crate) fn ident(store: &mut [u32], c: Cursor, s: &[u8], b: &[u8], at: usize) -> Cursor

@@ -3,8 +3,8 @@ ghost use mathlib.Core.Path.{_≡_};
 ghost use lib.ListN.{getD};
 ghost use Rattle.rows.specs.Words.{table};
 ghost use Rattle.rows.specs.Node.{wrapParent};
-ghost use Rattle.state.specs.Act.{_⨟_, says, when, push};
-ghost use Rattle.state.specs.Laid.{Room, Laid};
+ghost use Rattle.acts.specs.Act.{_⨟_, says, when, push};
+ghost use Rattle.acts.specs.Laid.{Room, Laid};
 ghost use Rattle.comments.specs.Comments.{popTrailingComment};
 ghost use Rattle.tree.specs.CommentList.{span};
 ghost use Rattle.comments.specs.Listed.{given};
@@ -13,20 +13,20 @@ ghost use Rattle.layout.specs.Contracts.{Readable};
 ghost use Rattle.layout.specs.Elems.{mark, starts, Begins, Begun, HasElems, LaidElems, HasEmpty, LaidEmpty};
 use crate::forms::ListForm;
 use crate::forms::WrapStyle;
+use acts::Cursor;
+use acts::leaves::line;
+use acts::leaves::line_or_space;
+use acts::leaves::wrap_parent;
+use acts::parts::close;
+use acts::parts::open_group;
+use acts::parts::open_indent;
+use acts::words::COMMA;
+use acts::words::if_wrap;
+use acts::words::word;
 use comments::pop_trailing_comment;
 use comments::pop_whitespace;
-use state::Cursor;
-use state::leaves::line;
-use state::leaves::line_or_space;
-use state::leaves::wrap_parent;
-use state::parts::close;
-use state::parts::open_group;
-use state::parts::open_indent;
-use state::words::COMMA;
-use state::words::if_wrap;
-use state::words::word;
 
-// `pop_whitespace` where its answer isn't looked at.
+// `pop_whitespace` where what it returns isn't looked at.
 pub(crate) fn gap(
     store: &mut [u32],
     c: Cursor,

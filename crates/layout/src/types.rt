@@ -26,15 +26,15 @@ use crate::pieces::before_elem;
 use crate::pieces::begin_list;
 use crate::pieces::empty_list;
 use crate::pieces::finish_list;
+use acts::Cursor;
+use acts::words::BRACE_CLOSE;
+use acts::words::BRACE_OPEN;
+use acts::words::COLON;
+use acts::words::NOT;
+use acts::words::QUESTION;
+use acts::words::UNIT;
+use acts::words::word;
 use image::kinds;
-use state::Cursor;
-use state::words::BRACE_CLOSE;
-use state::words::BRACE_OPEN;
-use state::words::COLON;
-use state::words::NOT;
-use state::words::QUESTION;
-use state::words::UNIT;
-use state::words::word;
 
 // `separated` over types or fields: the list at `at`, whose span ends at `to`.
 pub(crate) fn separated(

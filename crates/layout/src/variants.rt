@@ -18,7 +18,7 @@ use crate::pieces::begin_list;
 use crate::pieces::empty_list;
 use crate::pieces::finish_list;
 use crate::types;
-use state::Cursor;
+use acts::Cursor;
 
 // Where the span of the last type ends, of those from `from` up to `to`.
 fn last_end(b: &[u8], from: usize, to: usize) -> u32

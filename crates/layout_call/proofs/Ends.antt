@@ -10,37 +10,37 @@ use lib.ListN.{length, take, drop}
 use lib.Dec.{ltb, eqb}
 use borrow.Author.Tests.{lt-ltb, le-ltb, not-true, not-false}
 use Rattle.rows.specs.Places.{PLACES}
-use Rattle.image.specs.Read as image
-use Rattle.image.specs.Read.{readAll}
-use Rattle.image.specs.declared.Answer.the-variants as read
+use Rattle.image.specs.Read.{readAll, readRefusal, outcome, Accepts}
+use Rattle.image.specs.declared.Document.{Document}
+use Rattle.image.proofs.Answers.{read-refusal}
 use Rattle.rows.specs.Limits.{CELL-LIMIT}
 use Rattle.rows.specs.Rows.{sizes, rows}
 use Rattle.rows.proofs.Sizes.{length-rows}
-use Rattle.state.specs.Act.{Act}
-use Rattle.state.specs.Laid.{cursor, st, Room, Laid}
-use Rattle.state.specs.declared.Cursor.{Cursor}
+use Rattle.acts.specs.Act.{Act}
+use Rattle.acts.specs.Laid.{cursor, st, Room, Laid}
+use Rattle.acts.specs.declared.Cursor.{Cursor}
 use Rattle.tree.specs.CommentList.{commentsOf}
 use Rattle.comments.specs.Listed.{given}
 use Rattle.layout_facts.proofs.InOrder.{places-call}
 use Rattle.cut_rule.specs.Rules as cut
 use Rattle.refusals.specs.Refusals.{Refusal, unless, any, first, refuseIf}
+use Rattle.refusals.specs.Answers.{refused, accepted, answerBy, refusalOf}
 use Rattle.refusals.proofs.Groups.{refuses-left, left-to}
-use Rattle.cut_rule.specs.Run.{writeAt, refused, laidOut, answerBy}
+use Rattle.cut_rule.specs.Run.{writeAt, CallResult, laidOut}
 use Rattle.cut_rule.specs.States as states
 use Rattle.cut_rule.specs.Tests.{rowsIn, layoutTestsIn}
 use Rattle.cut_rule.specs.Parts.{Piece, layoutTests, beforeRows, rowsLine, layoutTable, rowsNeeded, callPiece, laidOf}
 use Rattle.cut_rule.proofs.Memory.{write-sets}
 use Rattle.cut_rule.proofs.Table.{LayoutFits, layout-fits}
-use Rattle.plain_run.specs.Parts.{readRefusal, keepsWaiting, partsOf, actPiece}
-use Rattle.plain_run.specs.Demands.{rulesOf}
-use Rattle.plain_run.proofs.Refused.{read-refused, read-accepted}
-use Rattle.plain_run.proofs.Whole.{call-piece}
+use Rattle.whole_run.specs.Parts.{keepsWaiting, partsOf, actPiece}
+use Rattle.whole_run.specs.Demands.{rulesOf}
+use Rattle.whole_run.specs.Built.{tree, declared}
+use Rattle.whole_run.proofs.Whole.{call-piece}
 use Rattle.layout_call.specs.Calls.{toState, toArgs, layingAnswer}
 use Rattle.layout_call.specs.Whole.{LayoutCalled}
-use Rattle.layout_call.specs.Steps.{Accepts, SmallCursor, StateFits, Roomy, tree, declared, callAct}
+use Rattle.layout_call.specs.Steps.{SmallCursor, StateFits, Roomy, callAct}
 use Rattle.layout_call.specs.declared.LayoutState.{LayoutState}
 use Rattle.layout_call.specs.declared.LayoutArgs.{LayoutArgs}
-use Rattle.layout_call.specs.declared.Document.{Document}
 use Rattle.layout_call.specs.declared.Laying.{Laying}
 use Rattle.layout_call.specs.declared.Laying.the-variants as laying
 use Rattle.layout_call.proofs.Standing.{comments-count, few-comments, source-short, room}
@@ -77,13 +77,15 @@ module _ (s b : List ℕ) (state : LayoutState) (q : LayoutArgs) (store : List �
   refused-by : (r : Refusal) (x : Laying) → table ≡ some r → layingAnswer s b x ≡ refused r → LayoutCalled s b state q store x store
   refused-by r x e f =
       record {
-        answer = f ∙ ap (λ (t : Option Refusal). answerBy (rulesOf s b) t (laidOut (gives .state) (gives .left))) (sym e);
+        answer = f ∙ ap (λ (t : Option Refusal). answerBy {A = CallResult (rulesOf s b)} t (laidOut (gives .state) (gives .left))) (sym e);
         store-left = ap (λ (t : Option Refusal). unless t store (writeAt (PLACES * state .row) (gives .rows) store)) (sym e);
       }
 
   -- 1 to 7
-  pub ends-unread : (n p : ℕ) → image.answerOf (readAll s b) ≡ read.Refused n p → LayoutCalled s b state q store (laying.Refused n p) store
-  ends-unread n p e = refused-by _ _ (refuses-left _ before behind (before-by _ unfit (read-refused (readAll s b) n p e) refl)) refl
+  pub ends-unread : (n p : ℕ) → outcome (readAll s b) ≡ refused (record { number = n; place = p })
+      → LayoutCalled s b state q store (laying.Refused n p) store
+  ends-unread n p e =
+      refused-by _ _ (refuses-left _ before behind (before-by _ unfit (sym (read-refusal (readAll s b)) ∙ ap refusalOf e) refl)) refl
 
   module _ {d : Document} (a : Accepts s b d) where
     -- what the test of the state answers, by how much there is of all
@@ -92,7 +94,7 @@ module _ (s b : List ℕ) (state : LayoutState) (q : LayoutArgs) (store : List �
     fits-told x declarations e f = rw (sym e, comments-count a) f
 
     reads : readRefusal (readAll s b) ≡ none
-    reads = read-accepted (readAll s b) (d .comments) (d .tree) (a .answer)
+    reads = sym (read-refusal (readAll s b)) ∙ ap refusalOf (a .answer)
 
     -- 12
     pub ends-unfit : (x : Bool) → x ≡ not unfit → not x ≡ true → LayoutCalled s b state q store (laying.Refused 12 0) store
@@ -179,8 +181,8 @@ module _ (s b : List ℕ) (state : LayoutState) (q : LayoutArgs) (store : List �
         ends-laid t left q1 q2 q3 q4 q5 q6 q7 q8 q9 =
             record {
               answer =
-                  ap₂ laidOut same-state same-left
-                  ∙ ap (λ (z : Option Refusal). answerBy (rulesOf s b) z (laidOut (gives .state) (gives .left))) (sym none-left);
+                  (λ i. accepted (laidOut (same-state i) (same-left i)))
+                  ∙ ap (λ (z : Option Refusal). answerBy {A = CallResult (rulesOf s b)} z (laidOut (gives .state) (gives .left))) (sym none-left);
               store-left = stored ∙ ap (λ (z : Option Refusal). unless z store (writeAt (PLACES * state .row) (gives .rows) store)) (sym none-left);
             }
           where

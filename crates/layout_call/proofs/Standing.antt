@@ -8,14 +8,15 @@ use native.Mathlib.Omega.{arith}
 use lib.ListN.{length, take, drop, length-drop, take-append-drop}
 use lib.Dec.{ltb, eqb}
 use borrow.Author.Tests.{lt-ltb, le-ltb, ltb-true, ltb-false}
-use Rattle.image.specs.Read.{stopAt}
+use Rattle.image.specs.Read.{stopAt, Accepts}
+use Rattle.image.specs.declared.Document.{Document}
 use Rattle.image.proofs.Accepted.{accepted}
 use Rattle.ast.specs.Syntax.{Declaration}
 use Rattle.tree.specs.At.{DeclarationsAt}
 use Rattle.tree.specs.Walk.{walked}
 use Rattle.tree.proofs.Walk.{declarations-from, walked-within, walked-on, declarations-between}
-use Rattle.state.specs.Laid.{st, Room, Laid}
-use Rattle.state.specs.declared.Cursor.{Cursor}
+use Rattle.acts.specs.Laid.{st, Room, Laid}
+use Rattle.acts.specs.declared.Cursor.{Cursor}
 use Rattle.tree.specs.CommentList.{commentsOf}
 use Rattle.comments.specs.Listed.{given, Listed}
 use Rattle.comments.proofs.Accepted.{accepted-listed}
@@ -27,12 +28,12 @@ use Rattle.layout_facts.specs.Sound.{BYTE-GIVES, ROW-TAKES}
 use Rattle.layout_facts.specs.Accepted.{Stands}
 use Rattle.rows.specs.Rows.{sizes}
 use Rattle.layout_facts.proofs.Limits.{call-room, few-rows as few}
-use Rattle.plain_run.specs.Parts.{keepsWaiting}
-use Rattle.plain_run.proofs.Limits.{standing}
-use Rattle.layout_call.specs.Steps.{Accepts, SmallCursor, tree, declared, startOf, callAct}
+use Rattle.whole_run.specs.Parts.{keepsWaiting}
+use Rattle.whole_run.specs.Built.{tree, declared}
+use Rattle.whole_run.proofs.Limits.{standing}
+use Rattle.layout_call.specs.Steps.{SmallCursor, startOf, callAct}
 use Rattle.layout_call.specs.declared.LayoutState.{LayoutState}
 use Rattle.layout_call.specs.declared.LayoutArgs.{LayoutArgs}
-use Rattle.layout_call.specs.declared.Document.{Document}
 
 module _ {s b : List ℕ} {d : Document} (a : Accepts s b d) where
   abbrev n : ℕ
@@ -42,19 +43,19 @@ module _ {s b : List ℕ} {d : Document} (a : Accepts s b d) where
   at = d .tree
 
   pub stands : Stands (given s b) (tree s b) at
-  stands = standing s b n at (a .answer)
+  stands = standing s b d a
 
   pub comments-count : length (commentsOf b) ≡ n
-  comments-count = count-of b ∙ sym (accepted s b n at (a .answer) .root .count)
+  comments-count = count-of b ∙ sym (accepted s b d a .root .count)
 
   pub source-short : length s ≤ 65536
-  source-short = accepted s b n at (a .answer) .short
+  source-short = accepted s b d a .short
 
   pub few-comments : n ≤ 8192
   few-comments = omega (arith, comments-count, stands .count)
 
   pub comment-list : Listed s b
-  comment-list = accepted-listed s b n at (a .answer)
+  comment-list = accepted-listed s b d a
 
   ready : Readable s b
   ready = record { listed = comment-list; small = stands .small }

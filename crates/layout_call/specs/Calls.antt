@@ -1,10 +1,11 @@
 -- A layout call's state, arguments and answer as document 01's.
 use mathlib.Core.List.{List}
 use Prim.Native.Nat.{ℕ}
+use Rattle.refusals.specs.Answers.{Answer, refused, accepted}
 use Rattle.cut_rule.specs.Rules as cut
-use Rattle.cut_rule.specs.Run.{Answer, refused, laidOut}
+use Rattle.cut_rule.specs.Run.{CallResult, laidOut}
 use Rattle.cut_rule.specs.States as states
-use Rattle.plain_run.specs.Demands.{rulesOf}
+use Rattle.whole_run.specs.Demands.{rulesOf}
 use Rattle.layout_call.specs.declared.LayoutState.{LayoutState}
 use Rattle.layout_call.specs.declared.LayoutArgs.{LayoutArgs}
 use Rattle.layout_call.specs.declared.Laying.{Laying}
@@ -25,6 +26,6 @@ abbrev pub toArgs : LayoutArgs → cut.LayoutArgs states.LayoutChoice
 toArgs q = record { stop = q .stop; close = q .close; choice = record { mode = q .mode } }
 
 -- A call's answer, case by case: "the new state with the number of comments left"; "Number and place are all that comes back."
-abbrev pub layingAnswer : (s b : List ℕ) → Laying → Answer (rulesOf s b)
-layingAnswer s b (laying.Laid t n) = laidOut (toState t) n
+abbrev pub layingAnswer : (s b : List ℕ) → Laying → Answer (CallResult (rulesOf s b))
+layingAnswer s b (laying.Laid t n) = accepted (laidOut (toState t) n)
 layingAnswer s b (laying.Refused n p) = refused (record { number = n; place = p })

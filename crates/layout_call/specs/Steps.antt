@@ -1,38 +1,26 @@
--- What the functions below the layout call go by: the tree of an accepted source and image.
+-- What the functions below the layout call go by.
 use mathlib.Core.Path.{_≡_}
 use mathlib.Core.Bool.{false, not}
 use mathlib.Core.List.{List}
 use Prim.Native.Nat.{ℕ, _+_, _-_, _≤_, _<_}
 use lib.Dec.{eqb}
 use lib.ListN.{take, drop}
-use Rattle.image.specs.Read.{readAll, answerOf, stopAt}
-use Rattle.image.specs.declared.Answer.the-variants.{Accepted}
+use Rattle.image.specs.Read.{stopAt}
+use Rattle.image.specs.declared.Document.{Document}
 use Rattle.rows.specs.Limits.{MAX-ROWS, MAX-NUMBER}
-use Rattle.ast.specs.Syntax.{Declaration, SyntaxTree}
 use Rattle.tree.specs.Walk.{walked}
-use Rattle.state.specs.Act.{Act}
+use Rattle.acts.specs.Act.{Act}
 use Rattle.comments.specs.Listed.{given}
-use Rattle.layout_facts.specs.Accepted.{callRule}
-use Rattle.state.specs.declared.Cursor.{Cursor}
+use Rattle.layout.specs.Closing.{callRule}
+use Rattle.acts.specs.declared.Cursor.{Cursor}
 use Rattle.refusals.specs.Refusals.{any}
 use Rattle.cut_rule.specs.Tests.{rowsIn}
 use Rattle.cut_rule.specs.Parts.{layoutTests, rowsNeeded}
-use Rattle.plain_run.specs.Parts.{acceptedTree, keepsWaiting, partsOf}
+use Rattle.whole_run.specs.Parts.{keepsWaiting, partsOf}
+use Rattle.whole_run.specs.Built.{tree, declared}
 use Rattle.layout_call.specs.Calls.{toState, toArgs}
 use Rattle.layout_call.specs.declared.LayoutState.{LayoutState}
 use Rattle.layout_call.specs.declared.LayoutArgs.{LayoutArgs}
-use Rattle.layout_call.specs.declared.Document.{Document}
-
--- source and image are accepted, with so many comments and the tree there
-pub record Accepts (s b : List ℕ) (d : Document) : Type 0 where
-  pub answer : answerOf (readAll s b) ≡ Accepted (d .comments) (d .tree)
-
--- its tree and its declarations
-abbrev pub tree : List ℕ → List ℕ → SyntaxTree
-tree s b = acceptedTree b (readAll s b)
-
-abbrev pub declared : List ℕ → List ℕ → List Declaration
-declared s b = tree s b .declarations
 
 -- where declaration n starts
 abbrev pub startOf : List ℕ → List ℕ → ℕ → ℕ → ℕ

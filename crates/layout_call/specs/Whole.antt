@@ -3,7 +3,7 @@ use mathlib.Core.Path.{_≡_}
 use mathlib.Core.List.{List}
 use Prim.Native.Nat.{ℕ}
 use Rattle.cut_rule.specs.Entries.{layoutAnswer, layoutStore}
-use Rattle.plain_run.specs.Demands.{rulesOf}
+use Rattle.whole_run.specs.Demands.{rulesOf}
 use Rattle.layout_call.specs.Calls.{toState, toArgs, layingAnswer}
 use Rattle.layout_call.specs.declared.LayoutState.{LayoutState}
 use Rattle.layout_call.specs.declared.LayoutArgs.{LayoutArgs}

@@ -1,17 +1,18 @@
 // What a call that nothing refuses lays and answers.
 ghost use mathlib.Core.Path.{_≡_};
 ghost use Prim.Native.Nat.{_<_};
+ghost use Rattle.image.specs.Read.{Accepts};
 ghost use Rattle.rows.specs.Limits.{CELL-LIMIT};
-ghost use Rattle.state.specs.Laid.{cursor};
-ghost use Rattle.layout_call.specs.Steps.{Accepts, StateFits, Roomy};
+ghost use Rattle.acts.specs.Laid.{cursor};
+ghost use Rattle.layout_call.specs.Steps.{StateFits, Roomy};
 ghost use Rattle.layout_call.specs.Whole.{LayoutCalled};
-use crate::Document;
 use crate::Laying;
 use crate::LayoutArgs;
 use crate::LayoutState;
 use crate::steps::lay;
+use acts::Cursor;
+use image::Document;
 use rows::store::to_usize;
-use state::Cursor;
 
 // The cursor of a state whose numbers fit a row's places.
 pub(crate) fn cursor_of(state: LayoutState) -> Cursor

@@ -2,18 +2,19 @@
 ghost use mathlib.Core.Path.{_≡_};
 ghost use lib.Dec.{ltb};
 ghost use lib.ListN.{length};
-ghost use Rattle.state.specs.Laid.{Room, Laid};
+ghost use Rattle.image.specs.Read.{Accepts};
+ghost use Rattle.acts.specs.Laid.{Room, Laid};
 ghost use Rattle.comments.specs.Listed.{given};
-ghost use Rattle.layout_facts.specs.Accepted.{placeWaiting, closing};
-ghost use Rattle.plain_run.specs.Parts.{keepsWaiting};
-ghost use Rattle.layout_call.specs.Steps.{Accepts, tree, declared};
-use crate::Document;
+ghost use Rattle.layout.specs.Closing.{placeWaiting, closing};
+ghost use Rattle.whole_run.specs.Parts.{keepsWaiting};
+ghost use Rattle.whole_run.specs.Built.{tree, declared};
 use crate::modes::NEW_MODE;
+use acts::Cursor;
+use acts::leaves::line;
 use comments::pop_whitespace;
+use image::Document;
 use layout::numbers::past;
 use layout::numbers::second;
-use state::Cursor;
-use state::leaves::line;
 
 // Whether there is a declaration: the first of them would start before they end.
 fn has_declarations(s: &[u8], b: &[u8], doc: Document) -> bool

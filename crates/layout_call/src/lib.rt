@@ -6,7 +6,7 @@ pub mod modes;
 mod room;
 pub mod steps;
 
-ghost use Rattle.layout_call.specs.Steps.{Accepts};
+ghost use Rattle.image.specs.Read.{Accepts};
 ghost use Rattle.layout_call.specs.Whole.{LayoutCalled};
 use crate::answer::cursor_of;
 use crate::answer::laid;
@@ -14,6 +14,7 @@ use crate::fits::state_fits;
 use crate::room::rows_wanted;
 use crate::steps::count_declarations;
 use image::Answer;
+use image::Document;
 use image::check;
 use rows::places::PLACES;
 
@@ -34,12 +35,6 @@ pub struct LayoutArgs {
     pub stop: usize,
     pub close: bool,
     pub mode: usize,
-}
-
-// A source and an image that are accepted: how many comments there are, and where the tree stands.
-pub struct Document {
-    pub comments: usize,
-    pub tree: usize,
 }
 
 pub enum Laying {
@@ -86,12 +81,6 @@ pub fn layout_call(
 {
     match check(source, image) {
         Answer::Refused(number, place) => Laying::Refused(number, place),
-        Answer::Accepted { comments, tree } => {
-            let doc = Document {
-                comments: comments,
-                tree: tree,
-            };
-            layout_accepted(source, image, store, doc, state, args)
-        }
+        Answer::Accepted(doc) => layout_accepted(source, image, store, doc, state, args),
     }
 }

@@ -2,15 +2,17 @@
 ghost use mathlib.Core.Path.{_≡_};
 ghost use Prim.Native.Nat.{_+_, _≤_};
 ghost use lib.ListN.{length};
+ghost use Rattle.image.specs.Read.{Accepts};
 ghost use Rattle.rows.specs.Rows.{sizes};
-ghost use Rattle.state.specs.Laid.{st};
-ghost use Rattle.layout_call.specs.Steps.{Accepts, SmallCursor, Wanted, declared, callAct};
-use crate::Document;
+ghost use Rattle.acts.specs.Laid.{st};
+ghost use Rattle.whole_run.specs.Built.{declared};
+ghost use Rattle.layout_call.specs.Steps.{SmallCursor, Wanted, callAct};
 use crate::LayoutArgs;
 use crate::LayoutState;
 use crate::steps::lay;
+use acts::Cursor;
+use image::Document;
 use rows::store::to_usize;
-use state::Cursor;
 
 // A tree has no more than five rows for each 13 bytes of its image: a byte gives 5 points, and a row takes 13.
 const BYTE_GIVES: usize = 5;

@@ -3,23 +3,25 @@ ghost use mathlib.Core.Path.{_≡_};
 ghost use mathlib.Core.Bool.{not};
 ghost use Prim.Native.Nat.{_+_, _≤_};
 ghost use lib.ListN.{length};
-ghost use Rattle.state.specs.Act.{when};
-ghost use Rattle.state.specs.Laid.{Room, Laid};
+ghost use Rattle.image.specs.Read.{Accepts};
+ghost use Rattle.acts.specs.Act.{when};
+ghost use Rattle.acts.specs.Laid.{Room, Laid};
 ghost use Rattle.comments.specs.Listed.{given};
 ghost use Rattle.layout.specs.Layout.{shebangRule};
-ghost use Rattle.layout_facts.specs.Accepted.{closing};
-ghost use Rattle.plain_run.specs.Parts.{keepsWaiting};
-ghost use Rattle.layout_call.specs.Steps.{Accepts, tree, declared, startOf, callAct};
-use crate::Document;
+ghost use Rattle.layout.specs.Closing.{closing};
+ghost use Rattle.whole_run.specs.Parts.{keepsWaiting};
+ghost use Rattle.whole_run.specs.Built.{tree, declared};
+ghost use Rattle.layout_call.specs.Steps.{startOf, callAct};
 use crate::LayoutArgs;
 use crate::LayoutState;
 use crate::closing::close_document;
+use acts::Cursor;
+use image::Document;
 use layout::declarations::declarations;
 use layout::declarations::shebang;
 use layout::numbers::HEAD;
 use layout::numbers::past;
 use layout::numbers::second;
-use state::Cursor;
 
 // How many declarations there are.
 pub fn count_declarations(s: &[u8], b: &[u8], doc: Document) -> usize

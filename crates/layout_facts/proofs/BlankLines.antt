@@ -14,8 +14,8 @@ use borrow.Author.Tests.{lt-ltb, ne-eqb}
 use Rattle.text.specs.Newlines.{countNewlines}
 use Rattle.ast.specs.Syntax.{Span}
 use Rattle.rows.specs.Node.{Nodes, comment, line, emptyLine, none, _then_, join}
-use Rattle.state.specs.Act.{Given, St, Out, Act, next, _⨟_, _⨟?_, _⨟!_, skip, when, push, pop, told}
-use Rattle.state.proofs.Joins.{join-assoc}
+use Rattle.acts.specs.Act.{Given, St, Out, Act, next, _⨟_, _⨟?_, _⨟!_, skip, when, push, pop, stepAlone}
+use Rattle.acts.proofs.Joins.{join-assoc}
 use Rattle.comments.specs.Comments.{nth, whitespace, newlines, ignoreNewlines, popComment, waits, popComments, afterComments, popWhitespace}
 use Rattle.comments.proofs.Pops.{waits-none, waits-some, pop-on, pop-late, pop-none}
 use Rattle.layout.specs.Layout.{opening}
@@ -54,7 +54,7 @@ laid n s rest = go (eqb n 0) (eqb n 1)
 
 module _ (g : Given) (name : ℕ) where
   -- the newlines up to a position, before other nodes
-  laid-newlines : (to : ℕ) (s : St) (rest : Nodes) → join (told (newlines g to) s .nodes) rest ≡ gapThen g (s .pos) to rest
+  laid-newlines : (to : ℕ) (s : St) (rest : Nodes) → join (stepAlone (newlines g to) s .nodes) rest ≡ gapThen g (s .pos) to rest
   unfolding newlines _⨟_ join
   laid-newlines to s rest =
       let n = countNewlines (g .source) (s .pos) to .count in
@@ -66,7 +66,7 @@ module _ (g : Given) (name : ℕ) where
       → join (popComment g true c s .nodes) rest ≡ gapThen g (s .pos) (c .start) (comment (trimmed g c) then rest)
   unfolding popComment _⨟_ join
   laid-comment c s rest =
-      join-assoc (told (newlines g (c .start)) (next s (pop s)) .nodes) (comment (trimmed g c) then none) rest
+      join-assoc (stepAlone (newlines g (c .start)) (next s (pop s)) .nodes) (comment (trimmed g c) then none) rest
       ∙ laid-newlines (c .start) (next s (pop s)) (comment (trimmed g c) then rest)
 
   laid-first : (c : Span) (s : St) (rest : Nodes) → join (popComment g false c s .nodes) rest ≡ (comment (trimmed g c) then rest)
@@ -151,11 +151,11 @@ module _ (g : Given) (name : ℕ) where
     unfolding _⨟?_ _⨟!_ _⨟_ join
     after-comments true =
         let z = next s (popped true) in
-        join-assoc (popped true .nodes) (told (newlines g name) z .nodes) none
+        join-assoc (popped true .nodes) (stepAlone (newlines g name) z .nodes) none
         ∙ ap (λ (x : Nodes). join (popped true .nodes) x) (laid-newlines name z none)
     after-comments false =
         let z = next s (popped false) in
-        join-assoc (popped false .nodes) (told (newlines g name) z .nodes) none
+        join-assoc (popped false .nodes) (stepAlone (newlines g name) z .nodes) none
         ∙ ap (λ (x : Nodes). join (popped false .nodes) x) (laid-newlines name z none)
 
     -- without comments: a line, unless the gap makes a blank line

@@ -13,18 +13,18 @@ use Rattle.ast.specs.Syntax.{Span, Ident, Idents, noTypes, _∷ᵗ_, Fields, Va
 use Rattle.ast.specs.Syntax.{enumDecl, function, test, importDecl, SyntaxTree}
 use Rattle.tree.specs.At.{Head, past, IdentAt, ListAt, Maybe, TypesAt, FieldsAt, VariantsAt, DeclarationAt, DeclarationsAt, TreeAt}
 use Rattle.rows.specs.Words.{among}
-use Rattle.state.specs.Act.{Given, Act}
+use Rattle.acts.specs.Act.{Given, Act}
 use Rattle.comments.specs.Comments.{whitespace, popWhitespace}
 use Rattle.layout.specs.declared.forms.WrapStyle.the-variants.{Tight, Wrap}
 use Rattle.layout.specs.Layout.{someTypeParams, Bottom, params, typeParams, identElems, fieldElems, opening, variantElems, declaration, declares, shebangRule}
 use Rattle.layout.specs.Layout.{declarationsRule, importSpan, unlessEmpty}
 use Rattle.layout_facts.specs.Sound.{Ranged, Commented, BYTE-GIVES, ROW-TAKES, Sounds}
-use Rattle.layout_facts.specs.Accepted.{closing, wholeRule}
+use Rattle.layout.specs.Closing.{closing, wholeRule}
 use Rattle.layout_facts.specs.Height.{fieldsHeight, variantsHeight, declarationHeight, declarationsHeight, treeHeight}
 use Rattle.layout_facts.proofs.Steps.{_⨾_, fewer, sound-skip, sound-line, sound-emptyLine, sound-str, sound-when, sound-asks}
 use Rattle.layout_facts.proofs.Gaps.{sound-gap}
-use Rattle.layout_facts.proofs.Parts.{no-word, sound-says, ranged, from-start, supplied, sound-ident, points, All, none, also, sound-separated, sound-idents, sound-type}
-use Rattle.layout_facts.proofs.Parts.{all-types, all-fields, last-ranged, import-ranged, import-long, sound-import}
+use Rattle.layout_facts.proofs.Parts.{no-word, sound-says, ranged, from-start, supplied, sound-ident, points, All, none, also, sound-separated}
+use Rattle.layout_facts.proofs.Parts.{sound-idents, sound-type, all-types, all-fields, last-ranged, import-ranged, import-long, sound-import}
 use Rattle.layout_facts.proofs.Exprs.{sound-expr, sound-block}
 
 module _ {g : Given} (commented : Commented g) where

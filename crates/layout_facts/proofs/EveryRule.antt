@@ -19,17 +19,26 @@ use Rattle.ast.specs.Syntax.{SyntaxTree}
 use Rattle.rows.specs.Node.{Text, Node, ascii, str, line, emptyLine, lineOrSpace, wrapParent, ifWrap}
 use Rattle.rows.specs.Words.{word}
 use Rattle.renderer_rules.specs.Holds.{Token, aWord, lastComma}
-use Rattle.state.specs.Act.{Given, Act, Asking, _⨟_, _⨟?_, skip, when, push, told, grouped, indented, indentedNext, called, says, content}
+use Rattle.acts.specs.Act.{Given, Act, Asking, _⨟_, _⨟?_, skip, when, push, stepAlone, grouped, indented, indentedNext, called, says, content}
 use Rattle.comments.specs.Comments.{whitespace, popWhitespace, popTrailingComment}
 use Rattle.comments.specs.declared.Gap.{Gap}
 use Rattle.layout.specs.declared.forms.WrapStyle.{WrapStyle}
 use Rattle.layout.specs.declared.forms.WrapStyle.the-variants.{Tight, Spaced, Wrap}
-use Rattle.layout.specs.Layout.{edge, isWrap, opens, ends, inside, beforeElem, pathNext, operator, maybeExpr, placeholder, clause, blockStart, beforeStmt, afterStmt, leftmost, pickOperands, popped, someTypeParams, Elem, Operands, Bottom, Chain, Unit′, binopPrecedence, symbol, assignSymbol, returnWord, elements, separated, pathMore, pathRule, identElems, typeExpr, typeForm, typeArgs, typeElems, fieldElems, params, typeParams, importPath, importGroup, importItems, importElems, pattern, binop, literalRule, exprWithPrecedence, exprForm, operands, operandsForm, otherwise, exprElems, groupedElems, entryElems, armElems, partsRule, blockRule, stmtsRule, lastRule, stmtRule, stmtForm, opening, variantElems, declaration, declares, shebangRule, declarationsRule, importSpan, noneOf, isEmpty, isBlock, isBraced, unlessEmpty, oneOr, ident, letType, returnType, importFirst, isSome, isGroup}
+use Rattle.layout.specs.Layout.{edge, isWrap, opens, ends, inside, beforeElem, pathNext, operator, maybeExpr, placeholder, clause, blockStart, beforeStmt}
+use Rattle.layout.specs.Layout.{afterStmt, leftmost, popped, someTypeParams, Elem, Operands, Bottom, Chain, Unit′, binopPrecedence, symbol, assignSymbol}
+use Rattle.layout.specs.Layout.{returnWord, elements, separated, pathMore, pathRule, identElems, typeExpr, typeForm, typeArgs, typeElems, fieldElems, params}
+use Rattle.layout.specs.Layout.{typeParams, importPath, importGroup, importItems, importElems, pattern, binop, literalRule, exprWithPrecedence, exprForm}
+use Rattle.layout.specs.Layout.{operands, operandsForm, otherwise, exprElems, groupedElems, entryElems, armElems, partsRule, blockRule, stmtsRule, lastRule}
+use Rattle.layout.specs.Layout.{stmtRule, stmtForm, opening, variantElems, declaration, declares, shebangRule, declarationsRule, importSpan, noneOf, isEmpty}
+use Rattle.layout.specs.Layout.{isBlock, isBraced, unlessEmpty, oneOr, ident, letType, returnType, importFirst, isSome, isGroup}
 use Rattle.layout.specs.Elems.{mark}
-use Rattle.layout_facts.specs.Accepted.{closing, wholeRule, callRule}
-use Rattle.layout_facts.specs.Tokens.{say, sayIf, name, shebangTokens, quote, furtherTokens, lastCommaIf, listTokens, dottedTokens, pathTokens, maybePathTokens, typeTokens, typeFormTokens, typeArgsTokens, typesTokens, fieldsTokens, oneOrMore, importTokens, importGroupTokens, importItemsTokens, importsTokens}
-use Rattle.layout_facts.specs.Tokens.{patternTokens, literalTokens, letTypeTokens, exprTokens, formTokens, exprsTokens, maybeTokens, lastTokens, entriesTokens, armsTokens, partsTokens, blockTokens, elseTokens, stmtsTokens, stmtTokens, stmtFormTokens, someNames, typeParamsTokens, variantsTokens, returnTypeTokens}
-use Rattle.layout_facts.specs.Tokens.{declarationTokens, declarationsTokens, tokensOf}
+use Rattle.layout.specs.Closing.{closing, wholeRule, callRule}
+use Rattle.layout_facts.specs.Tokens.{say, sayIf, name, shebangTokens, quote, furtherTokens, lastCommaIf, listTokens, dottedTokens, pathTokens}
+use Rattle.layout_facts.specs.Tokens.{maybePathTokens, typeTokens, typeFormTokens, typeArgsTokens, typesTokens, fieldsTokens, oneOrMore}
+use Rattle.layout_facts.specs.Tokens.{importTokens, importGroupTokens, importItemsTokens, importsTokens, patternTokens, literalTokens}
+use Rattle.layout_facts.specs.Tokens.{letTypeTokens, exprTokens, formTokens, exprsTokens, maybeTokens, lastTokens, entriesTokens, armsTokens}
+use Rattle.layout_facts.specs.Tokens.{partsTokens, blockTokens, elseTokens, stmtsTokens, stmtTokens, stmtFormTokens, someNames}
+use Rattle.layout_facts.specs.Tokens.{typeParamsTokens, variantsTokens, returnTypeTokens, declarationTokens, declarationsTokens, tokensOf}
 
 -- the nodes that a rule pushes for a line or a blank alone, and `WrapParent`
 pub data Break : Node → Type 0 where
@@ -50,8 +59,9 @@ pub record Joining (g : Given) (P : ℕ → List Token → Act → Type 0) : Typ
   pub indents : {k : ℕ} {ts : List Token} {a : Act} → P k ts a → P k ts (indented a)
   pub indents-next : {k : ℕ} {ts : List Token} {a : Act} → P k ts a → P k ts (indentedNext a)
   pub calls : {k : ℕ} {ts us : List Token} {e a : Act} → P k ts e → P k us a → P k (ts ++ us) (called e a)
-  pub asks : {k : ℕ} {ts us : List Token} (a : Asking Gap) {b : Gap → Act} → P k ts (told a) → ((answer : Gap) → P k us (b answer)) → P k (ts ++ us) (a ⨟? b)
-  pub gaps : {k : ℕ} (position : ℕ) (leading trailing only : Bool) → P k [] (told (popWhitespace g position leading trailing only))
+  pub asks : {k : ℕ} {ts us : List Token} (a : Asking Gap) {b : Gap → Act}
+      → P k ts (stepAlone a) → ((answer : Gap) → P k us (b answer)) → P k (ts ++ us) (a ⨟? b)
+  pub gaps : {k : ℕ} (position : ℕ) (leading trailing only : Bool) → P k [] (stepAlone (popWhitespace g position leading trailing only))
   pub trails : {k : ℕ} → P k [] (popTrailingComment g)
 
 module _ {g : Given} {P : ℕ → List Token → Act → Type 0} (J : Joining g P) where
@@ -121,10 +131,11 @@ module _ {g : Given} {P : ℕ → List Token → Act → Type 0} (J : Joining g 
   every-called : {ts us : List Token} {e a : Act} → Every ts e → Every us a → Every (ts ++ us) (called e a)
   every-called p q k = J .calls (p k) (q k)
 
-  every-asks : {ts us : List Token} (a : Asking Gap) {b : Gap → Act} → Every ts (told a) → ((answer : Gap) → Every us (b answer)) → Every (ts ++ us) (a ⨟? b)
+  every-asks : {ts us : List Token} (a : Asking Gap) {b : Gap → Act} → Every ts (stepAlone a)
+      → ((answer : Gap) → Every us (b answer)) → Every (ts ++ us) (a ⨟? b)
   every-asks a p q k = J .asks a (p k) (λ answer. q answer k)
 
-  gapped : (position : ℕ) (leading trailing only : Bool) → EveryNone (told (popWhitespace g position leading trailing only))
+  gapped : (position : ℕ) (leading trailing only : Bool) → EveryNone (stepAlone (popWhitespace g position leading trailing only))
   gapped position leading trailing only k = J .gaps position leading trailing only
 
   trailed : EveryNone (popTrailingComment g)
@@ -182,7 +193,8 @@ module _ {g : Given} {P : ℕ → List Token → Act → Type 0} (J : Joining g 
   every-separated start end commas (more {ts} {xs} {e} {es} p ps) s style =
       let closed : Every (say end) (edge style ⨟ says end ⨟ popTrailingComment g) = edged style ⨾ said end ◃ trailed in
       let all : Every (ts ++ furtherTokens commas xs) (elements g (mark commas) true (e ∷ es)) = every-elements commas e p ps in
-      let inner : (id : ℕ) → P (suc id) (ts ++ (furtherTokens commas xs ++ lastCommaIf commas)) (elements g (mark commas) true (e ∷ es) ⨟ ends g (mark commas) id s) =
+      let inner : (id : ℕ)
+      → P (suc id) (ts ++ (furtherTokens commas xs ++ lastCommaIf commas)) (elements g (mark commas) true (e ∷ es) ⨟ ends g (mark commas) id s) =
       λ id. by-in (append-assoc ts (furtherTokens commas xs) (lastCommaIf commas)) (J .joins (all (suc id)) (every-ends commas id s))
       in
       λ k. J .groups (λ id. J .joins (every-opens start style (suc id)) (J .joins (J .indents (inner id)) (closed (suc id))))
@@ -312,7 +324,7 @@ module _ {g : Given} {P : ℕ → List Token → Act → Type 0} (J : Joining g 
         same = sym (append-assoc (p .front) (p .back) these) ∙ ap (λ (l : List Token). l ++ these) (p .same);
       }
 
-  every-pick : {ts : List Token} (t : Bool) {a b : Operands} → EveryOperands ts a → EveryOperands ts b → EveryOperands ts (pickOperands t a b)
+  every-pick : {ts : List Token} (t : Bool) {a b : Operands} → EveryOperands ts a → EveryOperands ts b → EveryOperands ts (cond t a b)
   every-pick true p q = p
   every-pick false p q = q
 
@@ -341,7 +353,9 @@ module _ {g : Given} {P : ℕ → List Token → Act → Type 0} (J : Joining g 
     every-form (match′ e t arms) s =
         every-no-op (λ p. said "match " ⨾ every-expr e Bottom ⨾ said " " ⨾ every-separated "{" "}" false (all-arms arms) t Wrap)
     every-form (functionCall e t es) s =
-        let call : Every (listTokens "(" ")" true (exprsTokens es)) (separated g "(" ")" "," (exprElems g es) t Tight) = every-separated "(" ")" true (all-exprs es) t Tight in
+        let call : Every (listTokens "(" ")" true (exprsTokens es)) (separated g "(" ")" "," (exprElems g es) t Tight) =
+        every-separated "(" ")" true (all-exprs es) t Tight
+        in
         every-no-op (λ p. every-cond (ltb p Chain) (every-called (every-expr e Chain) call) (every-expr e Chain ⨾ call))
     every-form (access e i) s =
         every-no-op (λ p.
@@ -357,10 +371,14 @@ module _ {g : Given} {P : ℕ → List Token → Act → Type 0} (J : Joining g 
     every-form (compoundAssign q op e) s = every-no-op (λ p. every-path q true true ⨾ said (assignSymbol op) ⨾ every-expr e Bottom)
     every-form (binOp l t op r) s =
         let q : ℕ = binopPrecedence op in
-        let chain : (p : ℕ) → EveryOperands (exprTokens l ++ ((say (symbol op) ++ say " ") ++ exprTokens r)) (popped g (operands g p l) t op (exprWithPrecedence g r Bottom)) =
+        let chain : (p : ℕ)
+        → EveryOperands (exprTokens l ++ ((say (symbol op) ++ say " ") ++ exprTokens r))
+        (popped g (operands g p l) t op (exprWithPrecedence g r Bottom)) =
         λ p. every-popped (operands g p l) t op (every-operands l p) (every-expr r Bottom)
         in
-        let own : Every (exprTokens l ++ ((say (symbol op) ++ say " ") ++ exprTokens r)) (binop (popped g (operands g q l) t op (exprWithPrecedence g r Bottom))) = every-binop _ (chain q) in
+        let own : Every (exprTokens l ++ ((say (symbol op) ++ say " ") ++ exprTokens r))
+        (binop (popped g (operands g q l) t op (exprWithPrecedence g r Bottom))) = every-binop _ (chain q)
+        in
         record { form = λ p. own; under = λ p. every-pick (eqb q p) (chain p) (every-leftmost (own ◃ trailed)) }
     every-form (negate e) s = every-no-op (λ p. said "-" ⨾ every-expr e Bottom)
     every-form (ifElse c b e) s =

@@ -20,21 +20,21 @@ use Rattle.tree.specs.At.{past, Maybe, ExprAt, FormAt, ExprsAt, MaybeExprAt, En
 use Rattle.tree.specs.At.{StmtFormAt}
 use Rattle.rows.specs.Node.{ascii}
 use Rattle.rows.specs.Words.{among, isWord}
-use Rattle.state.specs.Act.{Given, Act, _⨟_, push, grouped, content, indentedNext, called}
+use Rattle.acts.specs.Act.{Given, Act, _⨟_, push, grouped, content, indentedNext, called}
 use Rattle.comments.specs.Comments.{whitespace, popWhitespace, popTrailingComment}
 use Rattle.layout.specs.declared.forms.WrapStyle.the-variants.{Tight, Spaced, Wrap}
-use Rattle.layout.specs.Layout.{operator, maybeExpr, placeholder, clause, blockStart, beforeStmt, afterStmt, leftmost, pickOperands, popped}
-use Rattle.layout.specs.Layout.{Operands, Bottom, Chain, Unit′, binopPrecedence, symbol, assignSymbol, returnWord, binop, literalRule, exprWithPrecedence}
-use Rattle.layout.specs.Layout.{exprForm, operands, operandsForm, otherwise, exprElems, groupedElems, entryElems, armElems, partsRule, blockRule, stmtsRule, lastRule}
-use Rattle.layout.specs.Layout.{stmtRule, stmtForm, exprSpan, stmtSpan, noneOf, isEmpty, isBlock, isBraced}
+use Rattle.layout.specs.Layout.{operator, maybeExpr, placeholder, clause, blockStart, beforeStmt, afterStmt, leftmost, popped, Operands, Bottom}
+use Rattle.layout.specs.Layout.{Chain, Unit′, binopPrecedence, symbol, assignSymbol, returnWord, binop, literalRule, exprWithPrecedence}
+use Rattle.layout.specs.Layout.{exprForm, operands, operandsForm, otherwise, exprElems, groupedElems, entryElems, armElems, partsRule, blockRule}
+use Rattle.layout.specs.Layout.{stmtsRule, lastRule, stmtRule, stmtForm, exprSpan, stmtSpan, noneOf, isEmpty, isBlock, isBraced}
 use Rattle.layout_facts.specs.Sound.{Ranged, Commented, BYTE-GIVES, ROW-TAKES, Sounds}
 use Rattle.layout_facts.specs.Height.{exprHeight, formHeight, exprsHeight, maybeHeight, entriesHeight, armsHeight, partsHeight, blockHeight}
 use Rattle.layout_facts.specs.Height.{maybeBlockHeight, stmtsHeight, stmtHeight, stmtFormHeight}
 use Rattle.layout_facts.proofs.Steps.{_⨾_, deeper, fewer, sound-skip, sound-line, sound-lineOrSpace, sound-wrapParent, sound-ascii, sound-when}
 use Rattle.layout_facts.proofs.Steps.{sound-cond, sound-grouped, sound-indented, sound-indentedNext, sound-called, sound-asks}
 use Rattle.layout_facts.proofs.Gaps.{sound-gap, sound-trailing}
-use Rattle.layout_facts.proofs.Parts.{Fits, no-word, sound-says, ranged, from-start, sound-ident, points, points-most, points-left, leaving, All, none, also, sound-separated, sound-path, sound-type}
-use Rattle.layout_facts.proofs.Parts.{sound-import, sound-pattern}
+use Rattle.layout_facts.proofs.Parts.{Fits, no-word, sound-says, ranged, from-start, sound-ident, points, points-most, points-left}
+use Rattle.layout_facts.proofs.Parts.{leaving, All, none, also, sound-separated, sound-path, sound-type, sound-import, sound-pattern}
 
 -- ---- the words chosen by a number: each of a list fits, and so does the one that stands for none
 abbrev allFit : List String → Bool
@@ -114,7 +114,7 @@ module _ {g : Given} (commented : Commented g) where
       (λ id. deeper (p .left) (omega arith) ⨾ sound-lineOrSpace ⨾ sound-indented {c = e} (omega arith) (p .ops)))
       (omega (arith, p .both))
 
-  sound-pick : (t : Bool) {a b : Operands} {m n d : ℕ} → SoundOperands m d a → SoundOperands n d b → m ≤ n → SoundOperands n d (pickOperands t a b)
+  sound-pick : (t : Bool) {a b : Operands} {m n d : ℕ} → SoundOperands m d a → SoundOperands n d b → m ≤ n → SoundOperands n d (cond t a b)
   sound-pick true p q h =
       record { first = p .first; rest = p .rest; left = p .left; ops = p .ops; both = omega (arith, p .both) }
   sound-pick false p q h = q
@@ -197,7 +197,8 @@ module _ {g : Given} (commented : Commented g) where
     sound-form : (f : Form) (s : Span) (at d : ℕ) → Ranged (g .source) s → 9 ≤ be32 (g .image) at → FormAt (g .source) (g .image) f at
         → 2 * (1 + formHeight f) ≤ d → SoundForm (points g at 3) d (exprForm g s f) (λ p. operandsForm g p f (exprForm g s f p ⨟ popTrailingComment g))
     sound-form (return′ k e) s at d r l a h =
-        sound-no-op (λ p. leaving at 3 (sound-says (returnWord k) (return-fits k) ⨾ sound-maybe e " " refl (at + 14) (a .2) (omega arith)) (omega (arith, points-most g (at + 14) 3, a .3 .same)))
+        sound-no-op (λ p. leaving at 3 (sound-says (returnWord k) (return-fits k) ⨾ sound-maybe e " " refl (at + 14) (a .2) (omega arith))
+        (omega (arith, points-most g (at + 14) 3, a .3 .same)))
     sound-form (literal t n) s at d r l a h =
         sound-no-op (λ p. leaving at 3 (sound-literal n t (ranged (a .0 .head))) (omega arith))
     sound-form (block b) s at d r l a h =
@@ -227,7 +228,8 @@ module _ {g : Given} (commented : Commented g) where
         (sound-expr e (at + 13) Chain (a .0) (omega arith) ⨾ sound-line ⨾ sound-says "." refl ⨾ sound-ident (a .1)))
         (omega (arith, points-most g (at + 13) 3, a .2 .same, a .1 .head .long)))
     sound-form (path q) s at d r l a h =
-        sound-no-op (λ p. leaving at 3 (sound-path commented q (at + 13) (ltb p Chain) true (omega arith) (a .0)) (omega (arith, points-most g (at + 13) 3, a .1 .same)))
+        sound-no-op
+        (λ p. leaving at 3 (sound-path commented q (at + 13) (ltb p Chain) true (omega arith) (a .0)) (omega (arith, points-most g (at + 13) 3, a .1 .same)))
     sound-form (record′ t es) s at d r l a h =
         sound-no-op (λ p.
         leaving at 3
@@ -253,7 +255,8 @@ module _ {g : Given} (commented : Commented g) where
         (omega arith) (omega arith))
         (omega (arith, a .0 .head .long, a .2 .same)))
     sound-form (not′ e) s at d r l a h =
-        sound-no-op (λ p. leaving at 3 (sound-says "!" refl ⨾ sound-expr e (at + 13) Unit′ (a .0) (omega arith)) (omega (arith, points-most g (at + 13) 3, a .1 .same)))
+        sound-no-op
+        (λ p. leaving at 3 (sound-says "!" refl ⨾ sound-expr e (at + 13) Unit′ (a .0) (omega arith)) (omega (arith, points-most g (at + 13) 3, a .1 .same)))
     sound-form (assign q e) s at d r l a h =
         let v : ℕ = past (g .source) (g .image) (at + 13) in
         sound-no-op (λ p.
@@ -294,7 +297,8 @@ module _ {g : Given} (commented : Commented g) where
               (omega (arith, points-most g (at + 13) 3, points-most g w 3, points-left g at 3 (omega arith) l, a .4 .same, a .1 .head .long));
         }
     sound-form (negate e) s at d r l a h =
-        sound-no-op (λ p. leaving at 3 (sound-says "-" refl ⨾ sound-expr e (at + 13) Bottom (a .0) (omega arith)) (omega (arith, points-most g (at + 13) 3, a .1 .same)))
+        sound-no-op
+        (λ p. leaving at 3 (sound-says "-" refl ⨾ sound-expr e (at + 13) Bottom (a .0) (omega arith)) (omega (arith, points-most g (at + 13) 3, a .1 .same)))
     sound-form (ifElse c b e) s at d r l a h =
         let v : ℕ = past (g .source) (g .image) (at + 13) in
         sound-no-op
@@ -321,7 +325,8 @@ module _ {g : Given} (commented : Commented g) where
         (sound-block b (past (g .source) (g .image) v) (a .2) (omega arith)))
         (omega (arith, points-most g v 3, points-most g (past (g .source) (g .image) v) 1, a .3 .same, a .0 .head .long)))
     sound-form (questionMark e) s at d r l a h =
-        sound-no-op (λ p. leaving at 3 (sound-expr e (at + 13) p (a .0) (omega arith) ⨾ sound-says "?" refl) (omega (arith, points-most g (at + 13) 3, a .1 .same)))
+        sound-no-op
+        (λ p. leaving at 3 (sound-expr e (at + 13) p (a .0) (omega arith) ⨾ sound-says "?" refl) (omega (arith, points-most g (at + 13) 3, a .1 .same)))
     sound-form (fString ps) s at d r l a h =
         sound-no-op (λ p.
         leaving at 3

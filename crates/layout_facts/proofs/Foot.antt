@@ -13,15 +13,16 @@ use Rattle.text.proofs.Counts.{range-inside}
 use Rattle.ast.specs.Syntax.{Span, Ident, Declaration, SyntaxTree}
 use Rattle.text.specs.Newlines.{countNewlines, newlinePlaces, isRange}
 use Rattle.text.specs.Utf8.{within, boundary}
-use Rattle.rows.specs.Node.{Node, comment, line, emptyLine, none, _then_, join}
-use Rattle.state.specs.Act.{Given, St, Out, Act, next, _⨟_, _⨟!_, when, skip, moveTo, pop, told}
+use Rattle.rows.specs.Node.{join}
+use Rattle.acts.specs.Act.{Given, St, Out, Act, next, _⨟_, _⨟!_, when, skip, moveTo, pop, stepAlone}
 use Rattle.comments.specs.Comments.{nth, front, newlines, ignoreNewlines, popComment, waits, popComments, afterComments, popWhitespace}
-use Rattle.tree.specs.CommentList.{span, commentsOf}
+use Rattle.tree.specs.CommentList.{commentsOf}
 use Rattle.comments.specs.Listed.{given, Listed}
 use Rattle.comments.proofs.Fronts.{count-of, none-left, inside, good}
 use Rattle.layout.specs.Layout.{shebangRule, declarationsRule}
-use Rattle.layout_facts.specs.Accepted.{fresh, closing, callRule}
-use Rattle.layout_facts.specs.Placing.{trimmed, Places}
+use Rattle.layout.specs.Closing.{closing, callRule}
+use Rattle.layout_facts.specs.Placing.{Places}
+use Rattle.layout_facts.specs.Foot.{AtFoot, ClosingLeavesNone, NewlinesDropped, NewlinesKept}
 use Rattle.layout_facts.proofs.Placing.{places-skip}
 use Rattle.layout_facts.proofs.InOrder.{places-shebang, places-declarations}
 use Rattle.layout_facts.proofs.Gaps.{before-free}
@@ -36,11 +37,6 @@ none-past (x ∷ xs) (suc k) e = omega (arith, none-past xs k e)
 -- all comments are placed
 record Popped (b : List ℕ) (o : Out) : Type 0 where
   placed : o .placed ≡ length (commentsOf b)
-
--- and the position is the source's end
-pub record AtFoot (s b : List ℕ) (o : Out) : Type 0 where
-  pub placed : o .placed ≡ length (commentsOf b)
-  pub position : o .pos ≡ length s
 
 module _ {s b : List ℕ} (list : Listed s b) where
   abbrev g : Given
@@ -87,7 +83,7 @@ module _ {s b : List ℕ} (list : Listed s b) where
 
   -- `pop_whitespace` asked for the source's length, with neither newlines after the comments nor newlines alone
   all-waiting : (leading : Bool) (z : St) → z .placed ≤ length (commentsOf b)
-      → AtFoot s b (told (popWhitespace g (length s) leading false false) z)
+      → AtFoot s b (stepAlone (popWhitespace g (length s) leading false false) z)
   unfolding popWhitespace _⨟!_ _⨟_ ignoreNewlines
   all-waiting leading z h = last (waits g (length s) z)
     where
@@ -100,7 +96,7 @@ module _ {s b : List ℕ} (list : Listed s b) where
       done : AtFoot s b ((loop ⨟ ignoreNewlines g (length s)) z)
       done = record { placed = popped; position = ignored (next z (loop z)) (none-left b (loop z .placed) (omega (arith, popped, count-of b))) }
 
-      last : (w : Bool) → AtFoot s b ((loop ⨟ told (afterComments g (w && false) (length s) false)) z)
+      last : (w : Bool) → AtFoot s b ((loop ⨟ stepAlone (afterComments g (w && false) (length s) false)) z)
       last true = done
       last false = done
 
@@ -125,20 +121,14 @@ module _ {s b : List ℕ} (list : Listed s b) where
       let w = closing-places t x (places-declarations g ds first .from y i .within) in
       record { placed = w .placed; position = w .position }
 
+pub closing-leaves-none : ClosingLeavesNone
+closing-leaves-none s b list t z h = closing-places list t z h
+
 -- ---- newlines before the first comment
--- two newlines and a comment
-abbrev gap : Given
-gap = record { source = 0x0A ∷ 0x0A ∷ 0x23 ∷ []; image = []; comments = span 2 3 ∷ []; columns = λ width text. width }
-
-abbrev sharp : Node
-sharp = comment (trimmed gap (span 2 3))
-
--- they are dropped where there is no declaration
-dropped : closing gap (record { shebang = nothing; declarations = [] }) true fresh .nodes ≡ (sharp then line then none)
+pub newlines-dropped : NewlinesDropped
 unfolding _⨟_ _⨟!_ join nth newlines ignoreNewlines popComment popComments popWhitespace
-dropped = refl
+newlines-dropped = refl
 
--- and kept where there is one
-kept : (d : Declaration) → closing gap (record { shebang = nothing; declarations = d ∷ [] }) true fresh .nodes ≡ (emptyLine then sharp then line then none)
+pub newlines-kept : NewlinesKept
 unfolding _⨟_ _⨟!_ join nth newlines ignoreNewlines popComment popComments popWhitespace countNewlines newlinePlaces isRange boundary within
-kept d = refl
+newlines-kept d = refl

@@ -13,8 +13,9 @@ use Rattle.text.specs.declared.space.Found.{Found}
 use Rattle.text.specs.declared.space.Found.the-variants.{At, Nowhere}
 use Rattle.ast.specs.Syntax.{Span}
 use Rattle.rows.specs.Node.{line, emptyLine}
-use Rattle.state.specs.Act.{Given, St, Act, _⨟_, _⨟!_, skip, push, moveTo, pop, told}
-use Rattle.comments.specs.Comments.{breakLine, front, pushComment, newlines, ignoreNewlines, popComment, waits, popComments, afterComments, popWhitespace, popTrailingComment}
+use Rattle.acts.specs.Act.{Given, St, Act, _⨟_, _⨟!_, skip, push, moveTo, pop, stepAlone}
+use Rattle.comments.specs.Comments.{breakLine, front, pushComment, newlines, ignoreNewlines, popComment}
+use Rattle.comments.specs.Comments.{waits, popComments, afterComments, popWhitespace, popTrailingComment}
 
 pub record GapSteps (g : Given) (P : Act → Type 0) : Type 0 where
   pub skips : P skip
@@ -33,7 +34,7 @@ module _ {g : Given} {P : Act → Type 0} (J : GapSteps g P) where
   gap-cond true p q = p
   gap-cond false p q = q
 
-  gap-newlines : (p : ℕ) → P (told (newlines g p))
+  gap-newlines : (p : ℕ) → P (stepAlone (newlines g p))
   unfolding newlines
   gap-newlines p = J .looks (λ s. breakLine (countNewlines (g .source) (s .pos) p) ⨟ moveTo p) (λ s. kept (countNewlines (g .source) (s .pos) p)) (λ s. refl)
     where
@@ -57,14 +58,14 @@ module _ {g : Given} {P : Act → Type 0} (J : GapSteps g P) where
       turn nothing more = J .skips
       turn (some c) more = gap-cond (ltb (c .start) p) (J .joins (gap-popComment leading c) more) (J .skips)
 
-  pub every-gap : (p : ℕ) (leading trailing only : Bool) → P (told (popWhitespace g p leading trailing only))
+  pub every-gap : (p : ℕ) (leading trailing only : Bool) → P (stepAlone (popWhitespace g p leading trailing only))
   unfolding popWhitespace _⨟!_
   every-gap p leading trailing only =
-      J .looks (λ s. popComments g (length (g .comments)) p leading ⨟ told (afterComments g (waits g p s && trailing) p only))
+      J .looks (λ s. popComments g (length (g .comments)) p leading ⨟ stepAlone (afterComments g (waits g p s && trailing) p only))
       (λ s. J .joins (gap-popComments (length (g .comments)) p leading) (last (waits g p s && trailing) only))
       (λ s. refl)
     where
-      last : (t u : Bool) → P (told (afterComments g t p u))
+      last : (t u : Bool) → P (stepAlone (afterComments g t p u))
       last true u = gap-newlines p
       last false true = gap-newlines p
       last false false = J .ignores p

@@ -18,10 +18,10 @@ use Rattle.text.specs.declared.space.Found.the-variants.{At, Nowhere}
 use Rattle.ast.specs.Syntax.{Span}
 use Rattle.rows.specs.Node.{line, emptyLine, none, join}
 use Rattle.rows.specs.Rows.{sizes}
-use Rattle.state.specs.Act.{Given, St, Out, Act, next, _⨟_, _⨟!_, skip, push, moveTo, pop, told}
+use Rattle.acts.specs.Act.{Given, St, Out, Act, next, _⨟_, _⨟!_, skip, push, moveTo, pop, stepAlone}
 use Rattle.comments.specs.Comments.{nth, front, pushComment, newlines, ignoreNewlines, popComment, waits}
 use Rattle.comments.specs.Comments.{popComments, afterComments, popWhitespace, popTrailingComment}
-use Rattle.state.proofs.Joins.{sizes-join}
+use Rattle.acts.proofs.Joins.{sizes-join}
 use Rattle.layout_facts.specs.Placing.{trimmed}
 use Rattle.layout_facts.specs.Sound.{Inside, Ranged, Commented, ROW-TAKES, Sound, Sounds}
 use Rattle.layout_facts.proofs.Steps.{sound-then, _⨾_, fewer, sound-skip, sound-moveTo, sound-line, sound-emptyLine, sound-comment, sound-cond}
@@ -35,7 +35,7 @@ module _ {g : Given} (commented : Commented g) where
         due = λ e. absurd (omega arith);
       }
 
-  sound-newlines : {d : ℕ} (p : ℕ) → p ≤ length (g .source) → Sounds g ROW-TAKES d (told (newlines g p))
+  sound-newlines : {d : ℕ} (p : ℕ) → p ≤ length (g .source) → Sounds g ROW-TAKES d (stepAlone (newlines g p))
   unfolding newlines
   sound-newlines {d} p h = record { from = λ s. counted (countNewlines (g .source) (s .pos) p .count) .from s }
     where
@@ -57,7 +57,7 @@ module _ {g : Given} (commented : Commented g) where
     pub taken : o .taken ≡ 0
     pub placed : o .placed ≡ s .placed
 
-  newlines-free : (p : ℕ) (s : St) → Free s (told (newlines g p) s)
+  newlines-free : (p : ℕ) (s : St) → Free s (stepAlone (newlines g p) s)
   unfolding newlines _⨟_
   newlines-free p s = counted (eqb (countNewlines (g .source) (s .pos) p .count) 0) (eqb (countNewlines (g .source) (s .pos) p .count) 1)
     where
@@ -66,7 +66,7 @@ module _ {g : Given} (commented : Commented g) where
       counted false true = record { taken = refl; placed = refl }
       counted false false = record { taken = refl; placed = refl }
 
-  pub before-free : (leading : Bool) (p : ℕ) (s : St) → Free s (cond leading (told (newlines g p)) (ignoreNewlines g p) s)
+  pub before-free : (leading : Bool) (p : ℕ) (s : St) → Free s (cond leading (stepAlone (newlines g p)) (ignoreNewlines g p) s)
   unfolding ignoreNewlines
   before-free true p s = newlines-free p s
   before-free false p s = record { taken = refl; placed = refl }
@@ -129,7 +129,7 @@ module _ {g : Given} (commented : Commented g) where
           let starts : c .start ≤ length (g .source) = omega (arith, r .ordered, r .fits) in
           let ends : c .end - 1 ≤ length (g .source) = omega (arith, r .fits) in
           pops-then (popComment g leading c) (popComments g n p true) s
-          (pops-one c (cond leading (told (newlines g (c .start))) (ignoreNewlines g (c .start))) (c .end - 1) s r ends
+          (pops-one c (cond leading (stepAlone (newlines g (c .start))) (ignoreNewlines g (c .start))) (c .end - 1) s r ends
           (sound-cond leading (sound-newlines (c .start) starts) (fewer (sound-ignoreNewlines (c .start) starts) (omega arith)))
           (before-free leading (c .start)))
           (more (next s (popComment g leading c s)))
@@ -169,14 +169,14 @@ module _ {g : Given} (commented : Commented g) where
       }
 
   -- `pop_whitespace`, as a step: one row for newlines without a comment, if these are kept
-  pub sound-gap : {d : ℕ} (p : ℕ) (a b c : Bool) → p ≤ length (g .source) → Sounds g (cond c ROW-TAKES 0) d (told (popWhitespace g p a b c))
+  pub sound-gap : {d : ℕ} (p : ℕ) (a b c : Bool) → p ≤ length (g .source) → Sounds g (cond c ROW-TAKES 0) d (stepAlone (popWhitespace g p a b c))
   unfolding popWhitespace _⨟!_
   sound-gap {d} p a b true h = record { from = λ s. (loop ⨾ last (waits g p s && b)) .from s }
     where
       loop : Sounds g 0 d (popComments g (length (g .comments)) p a)
       loop = record { from = λ s. pops-comments (length (g .comments)) p a s .sound }
 
-      last : (t : Bool) → Sounds g ROW-TAKES d (told (afterComments g t p true))
+      last : (t : Bool) → Sounds g ROW-TAKES d (stepAlone (afterComments g t p true))
       last true = sound-newlines p h
       last false = sound-newlines p h
   sound-gap {d} p a b false h = record { from = λ s. last s (waits g p s) refl b }
@@ -190,9 +190,9 @@ module _ {g : Given} (commented : Commented g) where
           (sound-ignoreNewlines p h .from (next s (loop s)))
 
       last : (s : St) (w : Bool) → waits g p s ≡ w → (t : Bool)
-          → Sound g 0 d s ((loop ⨟ told (afterComments g (w && t) p false)) s)
+          → Sound g 0 d s ((loop ⨟ stepAlone (afterComments g (w && t) p false)) s)
       last s true e true =
-          sound-closed loop (told (newlines g p)) s (pops-comments (length (g .comments)) p a s) (waiting p s e) (sound-newlines p h) (newlines-free p)
+          sound-closed loop (stepAlone (newlines g p)) s (pops-comments (length (g .comments)) p a s) (waiting p s e) (sound-newlines p h) (newlines-free p)
       last s true e false = quiet s
       last s false e t = quiet s
 
@@ -204,7 +204,9 @@ module _ {g : Given} (commented : Commented g) where
       taken : (s : St) (c : Span) → Ranged (g .source) c → (t : Bool) → Sound g 0 d s (cond t (pop ⨟ pushComment g c ⨟ moveTo (c .end)) skip s)
       taken s c r true =
           let s′ : St = next s (pop s) in
-          let one : Sounds g ROW-TAKES d (pushComment g c ⨟ moveTo (c .end)) = fewer (sound-comment (inside-comment r) ⨾ sound-moveTo (r .fits)) (omega arith) in
+          let one : Sounds g ROW-TAKES d (pushComment g c ⨟ moveTo (c .end)) =
+          fewer (sound-comment (inside-comment r) ⨾ sound-moveTo (r .fits)) (omega arith)
+          in
           let x : Sound g ROW-TAKES d s′ ((pushComment g c ⨟ moveTo (c .end)) s′) = one .from s′ in
           record {
             more = omega (arith, x .more);

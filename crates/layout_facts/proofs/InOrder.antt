@@ -9,10 +9,10 @@ use native.Mathlib.Omega.{arith}
 use lib.ListN.{take}
 use Rattle.ast.specs.Syntax.{Ident, Declaration, SyntaxTree}
 use Rattle.rows.specs.Node.{Node}
-use Rattle.state.specs.Act.{Given}
+use Rattle.acts.specs.Act.{Given}
 use Rattle.layout.specs.Layout.{declaration, declarationsRule, shebangRule}
 use Rattle.layout_facts.specs.Placing.{commentsOfNode, commentsInNodes, trimmed, Places}
-use Rattle.layout_facts.specs.Accepted.{fresh, closing, wholeRule, callRule}
+use Rattle.layout.specs.Closing.{fresh, closing, wholeRule, callRule}
 use Rattle.layout_facts.proofs.Placing.{_⨾_, places-skip, places-push, places-grouped, places-indented, places-indentedNext}
 use Rattle.layout_facts.proofs.Placing.{places-called, places-asks, places-gap, places-trailing}
 use Rattle.layout_facts.proofs.EveryRule.{Break, line-break, emptyLine-break, lineOrSpace-break, wrapParent-break, Joining}

@@ -15,3 +15,4 @@ pub mod Passes
 pub mod Limits
 pub mod Foot
 pub mod BlankLines
+pub mod Binop

@@ -22,16 +22,17 @@ use Rattle.rows.specs.Node.{Nodes}
 use Rattle.rows.specs.Rows.{sizes, rows}
 use Rattle.rows.proofs.Flatten.{Holds}
 use Rattle.renderer_rules.specs.Check.{wrongPlace}
-use Rattle.state.specs.Act.{Given, St, Out, Act}
-use Rattle.state.specs.Laid.{st, Room}
-use Rattle.state.specs.declared.Cursor.{Cursor}
+use Rattle.acts.specs.Act.{Given, St, Out, Act}
+use Rattle.acts.specs.Laid.{st, Room}
+use Rattle.acts.specs.declared.Cursor.{Cursor}
 use Rattle.comments.specs.Listed.{given, Listed}
 use Rattle.comments.proofs.Fronts.{count-of, good}
 use Rattle.layout.specs.Layout.{fmtParsed}
 use Rattle.layout_facts.specs.Placing.{Places}
 use Rattle.layout_facts.specs.Sound.{Commented, Sounds}
 use Rattle.layout_facts.specs.Height.{declarationsHeight, treeHeight}
-use Rattle.layout_facts.specs.Accepted.{WordsDue, Few, FewRows, Stands, fresh, upTo, wholeRule, callRule, Within}
+use Rattle.layout.specs.Closing.{fresh, upTo, wholeRule, callRule}
+use Rattle.layout_facts.specs.Accepted.{WordsDue, Few, FewRows, Stands, Within}
 use Rattle.layout_facts.proofs.Placing.{places-then}
 use Rattle.layout_facts.proofs.InOrder.{places-shebang, places-declarations, places-whole, places-call}
 use Rattle.layout_facts.proofs.Steps.{_⨾_, fewer, sound-when}

@@ -9,11 +9,11 @@ use lib.Dec.{eqb}
 use Rattle.ast.specs.Syntax.{SyntaxTree}
 use Rattle.rows.specs.Node.{Node, Nodes, none, _then_, join}
 use Rattle.renderer_rules.proofs.Names.{names, namesIn}
-use Rattle.state.specs.Act.{Given, St, Out, Act, next, _⨟_, _⨟?_, skip, push, grouped, indented}
-use Rattle.state.specs.Act.{indentedNext, called}
+use Rattle.acts.specs.Act.{Given, St, Out, Act, next, _⨟_, _⨟?_, skip, push, grouped, indented}
+use Rattle.acts.specs.Act.{indentedNext, called}
 use Rattle.comments.specs.Comments.{ignoreNewlines}
 use Rattle.layout.specs.Layout.{fmtParsed}
-use Rattle.layout_facts.specs.Accepted.{fresh, wholeRule}
+use Rattle.layout.specs.Closing.{fresh, wholeRule}
 use Rattle.layout_facts.proofs.GapRule.{GapSteps, every-gap, every-trailing}
 use Rattle.layout_facts.proofs.EveryRule.{Break, line-break, emptyLine-break, lineOrSpace-break, wrapParent-break, Joining, every-whole}
 

@@ -19,7 +19,7 @@ use Rattle.tree.specs.At.{ImportGroupAt, ImportsAt, PatternAt}
 use Rattle.rows.specs.Node.{Text, wrapParent}
 use Rattle.rows.specs.Words.{among, word, isWord}
 use Rattle.rows.proofs.Table.{words-there, word-inside}
-use Rattle.state.specs.Act.{Given, Act, push, says, when}
+use Rattle.acts.specs.Act.{Given, Act, push, says, when}
 use Rattle.layout.specs.declared.forms.WrapStyle.{WrapStyle}
 use Rattle.layout.specs.declared.forms.WrapStyle.the-variants.{Tight, Spaced, Wrap}
 use Rattle.layout.specs.Layout.{edge, isWrap, opens, ends, inside, beforeElem, pathNext, Elem, elements, separated, pathMore, pathRule, ident}
@@ -77,7 +77,8 @@ pub points-left : (g : Given) (at k : ℕ) → k ≤ 4 → 9 ≤ be32 (g .image)
 unfolding points
 points-left g at k h l = omega arith
 
-pub leaving : {g : Given} {a : Act} {n d : ℕ} (at k : ℕ) → Sounds g n d a → n + ROW-TAKES * k ≤ BYTE-GIVES * (4 + be32 (g .image) at) → Sounds g (points g at k) d a
+pub leaving : {g : Given} {a : Act} {n d : ℕ} (at k : ℕ) → Sounds g n d a
+    → n + ROW-TAKES * k ≤ BYTE-GIVES * (4 + be32 (g .image) at) → Sounds g (points g at k) d a
 unfolding points
 leaving at k p h = fewer p (omega arith)
 
@@ -88,7 +89,8 @@ module _ (g : Given) where
     more : {e : Elem} {es : List Elem} {k m n d : ℕ} → e .start ≤ length (g .source) → Sounds g k d (e .act) → All m d es → 2 * ROW-TAKES + (k + m) ≤ n
         → All n d (e ∷ es)
 
-pub also : {g : Given} {e : Elem} {es : List Elem} {k m n d : ℕ} → e .start ≤ length (g .source) → Sounds g k d (e .act) → All g m d es → 2 * ROW-TAKES + (k + m) ≤ n
+pub also : {g : Given} {e : Elem} {es : List Elem} {k m n d : ℕ} → e .start ≤ length (g .source)
+    → Sounds g k d (e .act) → All g m d es → 2 * ROW-TAKES + (k + m) ≤ n
     → All g n d (e ∷ es)
 also h p ps i = more h p ps i
 

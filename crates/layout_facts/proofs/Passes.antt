@@ -21,7 +21,7 @@ use Rattle.rows.proofs.Flatten.{Holds, all-nest}
 use Rattle.rows.specs.Texts.{originText}
 use Rattle.renderer_rules.specs.Check.{usesNumber, usesNumber2, usesSecond, usesText, usesWidth, wrongRow, placesFit, wrongPlace}
 use Rattle.renderer_rules.proofs.Checked.{nested-accepted}
-use Rattle.state.specs.Act.{Given}
+use Rattle.acts.specs.Act.{Given}
 use Rattle.layout_facts.specs.Sound.{Inside, TextsIn}
 use Rattle.layout_facts.specs.Right.{RightRow, group, indent, indentNext, wrapParent, comment, str, ascii, line, emptyLine, lineOrSpace, ifWrap, call}
 use Rattle.layout_facts.specs.Right.{RightRows, none, more}

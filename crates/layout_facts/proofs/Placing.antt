@@ -16,8 +16,8 @@ use Rattle.text.specs.declared.space.Found.{Found}
 use Rattle.text.specs.declared.space.Found.the-variants.{At, Nowhere}
 use Rattle.ast.specs.Syntax.{Span}
 use Rattle.rows.specs.Node.{Text, Node, Nodes, group, indent, indentNext, comment, line, emptyLine, none, _then_, join}
-use Rattle.state.specs.Act.{Given, St, Out, Act, Asking, next, _⨟_, _⨟?_, _⨟!_, skip, when, push, moveTo, pop, told, grouped}
-use Rattle.state.specs.Act.{indented, indentedNext, called}
+use Rattle.acts.specs.Act.{Given, St, Out, Act, Asking, next, _⨟_, _⨟?_, _⨟!_, skip, when, push, moveTo, pop, stepAlone, grouped}
+use Rattle.acts.specs.Act.{indented, indentedNext, called}
 use Rattle.comments.specs.Comments.{nth, breakLine, front, pushComment, newlines, ignoreNewlines, popComment, waits}
 use Rattle.comments.specs.Comments.{popComments, afterComments, popWhitespace, popTrailingComment}
 use Rattle.layout_facts.specs.Placing.{commentsOfNode, commentsInNodes, trimmed, between, Placed, Places}
@@ -163,7 +163,7 @@ places-called {g} {e} {a} p q =
     }
 
 -- a step that answers, and then one that goes by the answer
-pub places-asks : {A : Type 0} {g : Given} (a : Asking A) {k : A → Act} → Places g (told a) → ((b : A) → Places g (k b)) → Places g (a ⨟? k)
+pub places-asks : {A : Type 0} {g : Given} (a : Asking A) {k : A → Act} → Places g (stepAlone a) → ((b : A) → Places g (k b)) → Places g (a ⨟? k)
 unfolding _⨟?_
 places-asks a p q = record { from = λ s h. places-then p (q (a s .1)) .from s h }
 
@@ -198,7 +198,7 @@ quiet-cond : (t : Bool) {a b : Act} → Quiet a → Quiet b → Quiet (cond t a 
 quiet-cond true p q = p
 quiet-cond false p q = q
 
-quiet-newlines : (g : Given) (p : ℕ) → Quiet (told (newlines g p))
+quiet-newlines : (g : Given) (p : ℕ) → Quiet (stepAlone (newlines g p))
 unfolding newlines commentsInNodes
 quiet-newlines g p =
     record {
@@ -233,7 +233,7 @@ places-popComments g (suc n) p leading = record { from = λ s h. turn s h (front
         → Placed g (s .placed) (cond t (popComment g leading c ⨟ popComments g n p true) skip s)
     taken s c h e more true =
         placed-then g (popComment g leading c) (popComments g n p true) s
-        (popped g c (cond leading (told (newlines g (c .start))) (ignoreNewlines g (c .start))) (c .end - 1) s
+        (popped g c (cond leading (stepAlone (newlines g (c .start))) (ignoreNewlines g (c .start))) (c .end - 1) s
         (quiet-cond leading (quiet-newlines g (c .start)) (quiet-ignoreNewlines g (c .start))) e)
         more
     taken s c h e more false = places-skip .from s h
@@ -245,12 +245,12 @@ places-popComments g (suc n) p leading = record { from = λ s h. turn s h (front
     turn s h (some c) e more = taken s c h e more (ltb (c .start) p)
 
 -- `pop_whitespace`, as a step
-pub places-gap : {g : Given} (p : ℕ) (a b c : Bool) → Places g (told (popWhitespace g p a b c))
+pub places-gap : {g : Given} (p : ℕ) (a b c : Bool) → Places g (stepAlone (popWhitespace g p a b c))
 unfolding popWhitespace _⨟!_
 places-gap {g} p a b c =
     record { from = λ s h. places-then (places-popComments g (length (g .comments)) p a) (last (waits g p s && b) c) .from s h }
   where
-    last : (t u : Bool) → Places g (told (afterComments g t p u))
+    last : (t u : Bool) → Places g (stepAlone (afterComments g t p u))
     last true u = places-quiet (quiet-newlines g p)
     last false true = places-quiet (quiet-newlines g p)
     last false false = places-quiet (quiet-ignoreNewlines g p)

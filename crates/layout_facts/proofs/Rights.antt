@@ -9,7 +9,7 @@ use lib.Seq.{take-at, drop-append-add}
 use Rattle.rows.specs.Node as node
 use Rattle.rows.specs.Node.{Node, Nodes}
 use Rattle.rows.specs.Rows.{size, sizes, rowsOf, rows}
-use Rattle.state.specs.Act.{Given}
+use Rattle.acts.specs.Act.{Given}
 use Rattle.layout_facts.specs.Sound.{TextsOf, TextsIn}
 use Rattle.layout_facts.specs.Right.{RightRow, group, indent, indentNext, wrapParent, comment, str, ascii, line, emptyLine, lineOrSpace, ifWrap, call}
 use Rattle.layout_facts.specs.Right.{RightRows, none, more}

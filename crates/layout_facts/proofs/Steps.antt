@@ -7,9 +7,9 @@ use native.Mathlib.Omega.{arith}
 use lib.ListN.{length}
 use Rattle.rows.specs.Node.{Text, Node, Nodes, wrapParent, comment, str, ascii, line, emptyLine, lineOrSpace, ifWrap, none, _then_, join}
 use Rattle.rows.specs.Rows.{size, sizes, depth, depths}
-use Rattle.state.specs.Act.{Given, St, Out, Act, Asking, next, _⨟_, _⨟?_, skip, when, push, moveTo, told, grouped, indented, indentedNext}
-use Rattle.state.specs.Act.{called}
-use Rattle.state.proofs.Joins.{sizes-join}
+use Rattle.acts.specs.Act.{Given, St, Out, Act, Asking, next, _⨟_, _⨟?_, skip, when, push, moveTo, stepAlone, grouped, indented, indentedNext}
+use Rattle.acts.specs.Act.{called}
+use Rattle.acts.proofs.Joins.{sizes-join}
 use Rattle.layout_facts.specs.Sound.{Inside, Supplied, TextsOf, TextsIn, ROW-TAKES, Sound, Sounds}
 
 depths-join : (ns ms : Nodes) → depths (join ns ms) ≡ max (depths ns) (depths ms)
@@ -229,7 +229,7 @@ sound-called {g} {e} {a} {m} {n} {c} {d} h p q =
     }
 
 -- ---- a step that answers, and then one that goes by the answer
-pub sound-asks : {A : Type 0} {g : Given} (a : Asking A) {k : A → Act} {m n d : ℕ} → Sounds g m d (told a) → ((b : A) → Sounds g n d (k b))
+pub sound-asks : {A : Type 0} {g : Given} (a : Asking A) {k : A → Act} {m n d : ℕ} → Sounds g m d (stepAlone a) → ((b : A) → Sounds g n d (k b))
     → Sounds g (m + n) d (a ⨟? k)
 unfolding _⨟?_
 sound-asks a {k} p q = record { from = λ s. (p ⨾ q (a s .1)) .from s }

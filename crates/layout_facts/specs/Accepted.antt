@@ -1,23 +1,20 @@
--- What layout may take for granted of an accepted image, and the steps of a layout call.
+-- What layout may take for granted of an accepted image, and the limits that it then keeps to.
 use Prim.Native.Nat.{ℕ, _+_, _*_, _≤_}
 use mathlib.Core.Path.{_≡_}
-use mathlib.Core.Bool.{Bool, true, false}
+use mathlib.Core.Bool.{Bool}
 use mathlib.Core.List.{List, _++_}
-use lib.Dec.{ltb}
 use lib.ListN.{length}
 use Rattle.image.specs.Limits.{MAX-BODY, MAX-COMMENTS}
 use Rattle.ast.specs.Syntax.{Declaration, SyntaxTree}
 use Rattle.tree.specs.At.{TreeAt}
 use Rattle.rows.specs.Limits.{MAX-NUMBER}
-use Rattle.rows.specs.Node.{line}
 use Rattle.rows.specs.Rows.{sizes, depths}
-use Rattle.state.specs.Act.{Given, St, Out, Act, _⨟_, when, push, told}
-use Rattle.comments.specs.Comments.{popWhitespace}
-use Rattle.layout.specs.Layout.{shebangRule, declarationsRule}
+use Rattle.acts.specs.Act.{Given, St, Out}
+use Rattle.layout.specs.Closing.{callRule}
 use Rattle.layout_facts.specs.Sound.{BYTE-GIVES, ROW-TAKES, TextsIn, Commented}
 use Rattle.layout_facts.specs.Height.{treeHeight}
 
--- A tree that stands at `at` of an accepted image: the body is 1,048,576 bytes at most, the comments before it are 8,192 at most.
+-- A tree that is at `at` of an accepted image: the body is 1,048,576 bytes at most, the comments before it are 8,192 at most.
 pub record Stands (g : Given) (t : SyntaxTree) (at : ℕ) : Type 0 where
   pub tree : TreeAt (g .source) (g .image) t at
   pub high : treeHeight t ≤ 67
@@ -25,34 +22,6 @@ pub record Stands (g : Given) (t : SyntaxTree) (at : ℕ) : Type 0 where
   pub count : length (g .comments) ≤ MAX-COMMENTS
   pub place : at ≡ 7 + 8 * length (g .comments)
   pub small : length (g .image) ≤ 5 + MAX-BODY
-
--- the state from which `fmt_parsed` starts
-abbrev pub fresh : St
-fresh = record { number = 0; pos = 0; placed = 0 }
-
--- what `fmt_parsed` has done when its loop has laid the declarations ds
-abbrev pub upTo : Given → SyntaxTree → List Declaration → Act
-upTo g t ds = shebangRule g (t .shebang) ⨟ declarationsRule g ds true
-
--- "before the final `Line`, closing places every waiting comment, as `pop_whitespace` does when asked for the source length, with leading newlines
--- kept if there is at least one declaration, trailing ones and newlines without a comment not" (document 02, 4)
-abbrev pub placeWaiting : Given → SyntaxTree → Act
-placeWaiting g t = told (popWhitespace g (length (g .source)) (ltb 0 (length (t .declarations))) false false)
-
--- closing: the final line, and before it the comments that wait, if these are kept
-abbrev pub closing : Given → SyntaxTree → Bool → Act
-closing g t true = placeWaiting g t ⨟ push line
-closing g t false = push line
-
--- the whole document; where waiting comments are not kept it is `fmt_parsed`
-abbrev pub wholeRule : Given → SyntaxTree → Bool → Act
-wholeRule g t keeps = shebangRule g (t .shebang) ⨟ declarationsRule g (t .declarations) true ⨟ closing g t keeps
-
--- what one layout call lays: the shebang, if the call begins the document; the declarations ds, the first of which is the document's first
--- or not; the final line, if the call closes the document, after the comments that wait, if it keeps them
-abbrev pub callRule : Given → SyntaxTree → Bool → List Declaration → Bool → Bool → Bool → Act
-callRule g t begins ds first closes keeps =
-    when begins (shebangRule g (t .shebang)) ⨟ declarationsRule g ds first ⨟ when closes (closing g t keeps)
 
 -- The rows and the state due are within the limits of document 01: rows and numbers for the next call's state, rows not over 256 deep, texts
 -- inside their origins, of widths that are supplied, the position in the source, the comments placed in the list.

@@ -10,7 +10,7 @@ use lib.Dec.{ltb, eqb}
 use Rattle.text.specs.Newlines.{countNewlines}
 use Rattle.ast.specs.Syntax.{Span}
 use Rattle.rows.specs.Node.{Nodes, comment, line, emptyLine, none, _then_}
-use Rattle.state.specs.Act.{Given, St}
+use Rattle.acts.specs.Act.{Given, St}
 use Rattle.comments.specs.Comments.{popWhitespace}
 use Rattle.layout.specs.Layout.{opening}
 use Rattle.layout_facts.specs.Placing.{trimmed}
@@ -45,7 +45,7 @@ module _ (g : Given) where
   beforeName false from [] name = cond (ltb 1 (countNewlines (g .source) from name .count)) (emptyLine then none) (line then none)
   beforeName false from (c ∷ cs) name = withGaps from (c ∷ cs) name
 
-  -- the comments that stand before the name, of those that are still to be placed
+  -- the comments before the name, of those that are still to be placed
   abbrev pub standing : ℕ → St → List Span
   standing name s = startingBefore name (drop (s .placed) (g .comments))
 

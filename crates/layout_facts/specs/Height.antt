@@ -1,4 +1,4 @@
--- How many records of the image stand one in the other: in a tree as it was read, and at a part of the syntax tree, where texts, paths,
+-- How many records of the image are inside one another: in a tree as it was read, and at a part of the syntax tree, where texts, paths,
 -- patterns, operators and literals are left out.
 use Prim.Native.Nat.{ℕ, _+_, max}
 use mathlib.Core.List.{List, [], _∷_}

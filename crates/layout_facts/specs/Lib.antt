@@ -5,3 +5,5 @@ pub mod Accepted
 pub mod Right
 pub mod Tokens
 pub mod BlankLines
+pub mod Foot
+pub mod Binop

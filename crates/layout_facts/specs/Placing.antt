@@ -1,4 +1,4 @@
--- What it is that a step places comments: each that it takes from the list, once and in order.
+-- A step that places comments: each that it takes from the list, once and in order.
 use Prim.Native.Nat.{ℕ, _-_, _≤_}
 use mathlib.Core.Path.{_≡_}
 use mathlib.Core.List.{List, [], _∷_, _++_, map}
@@ -7,7 +7,7 @@ use Rattle.text.specs.Space.{trimEnd}
 use Rattle.ast.specs.Syntax.{Span}
 use Rattle.rows.specs.Node.{Text, Node, Nodes, group, indent, indentNext, wrapParent, comment, str, ascii, line, emptyLine, lineOrSpace, ifWrap, call}
 use Rattle.rows.specs.Node.{none, _then_}
-use Rattle.state.specs.Act.{Given, St, Out, Act}
+use Rattle.acts.specs.Act.{Given, St, Out, Act}
 
 -- the texts of the comments among nodes, in order
 unfoldable mutual

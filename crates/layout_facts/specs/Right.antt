@@ -4,7 +4,7 @@ use Prim.Native.Nat.{ℕ}
 use mathlib.Core.List.{List, [], _++_}
 use Rattle.rows.specs.Node.{Text}
 use Rattle.rows.specs.Rows.{row, noText}
-use Rattle.state.specs.Act.{Given}
+use Rattle.acts.specs.Act.{Given}
 use Rattle.layout_facts.specs.Sound.{Inside}
 
 -- the nine numbers of one row, by its kind

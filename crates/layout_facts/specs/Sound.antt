@@ -12,10 +12,10 @@ use Rattle.rows.specs.Node.{Text, Node, Nodes, group, indent, indentNext, wrapP
 use Rattle.rows.specs.Node.{none, _then_}
 use Rattle.rows.specs.Rows.{sizes, depths}
 use Rattle.rows.specs.Words.{words, word, There}
-use Rattle.state.specs.Act.{Given, St, Out, Act}
+use Rattle.acts.specs.Act.{Given, St, Out, Act}
 use Rattle.comments.specs.Comments.{nth}
 
--- a text is that of a word, whose letters stand there
+-- a text is that of a word, whose letters are there
 pub record Worded (t : Text) : Type 0 where
   pub letters : String
   pub same : t ≡ word letters

@@ -1,4 +1,4 @@
--- Numbers in decimal, and the line that tells a refusal: "one line `refused N at P`, both decimal."
+-- Numbers in decimal, and the line that the program writes for a refusal: "one line `refused N at P`, both decimal."
 use mathlib.Core.Bool.{cond}
 use mathlib.Core.List.{List, [], _∷_, _++_}
 use Prim.Native.Nat.{ℕ, zero, suc, _+_, _/_, _%_}

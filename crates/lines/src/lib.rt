@@ -8,7 +8,7 @@ ghost use Rattle.lines.specs.Lines.{decimalIn, refusedLine};
 // A number of 64 bits has 20 digits at most.
 pub const DIGITS: usize = 20;
 
-// Puts a text at a place, and answers where it ends.
+// Puts a text at a place, and returns where it ends.
 pub fn put_text(out: &mut [u8], at: usize, text: &[u8]) -> usize
     requires { ⌜ at + length (now text) ≤ length (now out) ⌝ }
     ensures { λ r. ⌜ (now (out .exit) ≡ sets (now (out .entry)) at (now (text .entry))) × (r ≡ at + length (now (text .entry))) ⌝ }
@@ -21,7 +21,7 @@ pub fn put_text(out: &mut [u8], at: usize, text: &[u8]) -> usize
     at + j
 }
 
-// Puts a number in decimal, of `most` digits at most, at a place, and answers where it ends.
+// Puts a number in decimal, of `most` digits at most, at a place, and returns where it ends.
 pub fn put_decimal(out: &mut [u8], at: usize, n: usize, most: usize) -> usize
     requires { ⌜ at + most ≤ length (now out) ⌝ }
     ensures { λ r. ⌜ (now (out .exit) ≡ sets (now (out .entry)) at (decimalIn most n)) × ((r ≡ at + length (decimalIn most n)) × (r ≤ at + most)) ⌝ }
@@ -38,7 +38,7 @@ pub fn put_decimal(out: &mut [u8], at: usize, n: usize, most: usize) -> usize
     last + 1
 }
 
-// Puts the line at the start of the output, and answers where it ends.
+// Puts the line at the start of the output, and returns where it ends.
 pub fn refused_line(out: &mut [u8], number: u8, place: usize) -> usize
     requires { ⌜ 64 ≤ length (now out) ⌝ }
     ensures { λ r. ⌜ (now (out .exit) ≡ sets (now (out .entry)) 0 (refusedLine (record { number = number; place = place }))) × (r ≡ length (refusedLine (record { number = number; place = place }))) ⌝ }

@@ -15,7 +15,8 @@ use Rattle.rows.specs.Places.{KIND, NUMBER, SECOND-NUMBER, WIDTH, PLACES}
 use Rattle.laws.proofs.Numbers.{one-more}
 use Rattle.rows.specs.View.{cell}
 use Rattle.marks.proofs.Restored.{clear-length, restore-length}
-use Rattle.marks.specs.Marks.{clear, saved, clearedAll, restore, clearFrom, numbersOf, packedMarks, unpackedMarks, Held, held, rowAside, putAside, rowBack, putBack}
+use Rattle.marks.specs.Marks.{clear, saved, clearedAll, restore, clearFrom, numbersOf, packedMarks}
+use Rattle.marks.specs.Marks.{unpackedMarks, Held, held, rowAside, putAside, rowBack, putBack}
 
 none-left : (stop row : ℕ) → stop ≤ row → stop - row ≡ 0
 none-left stop row h = omega arith
@@ -67,7 +68,8 @@ pub clear-old : (u : ℕ) (m : List ℕ) (n : ℕ) → n < u → m ≡ clear u n
 clear-old u m n h = rw (lt-ltb n u h)
 
 -- the numbers of a row, by what the code tests
-pub numbers-call : (s : List ℕ) (i kind a b : ℕ) → kind ≡ cell s i KIND → a ≡ cell s i NUMBER → b ≡ cell s i SECOND-NUMBER → kind ≡ CALL → a ∷ b ∷ [] ≡ numbersOf s i
+pub numbers-call : (s : List ℕ) (i kind a b : ℕ) → kind ≡ cell s i KIND → a ≡ cell s i NUMBER
+    → b ≡ cell s i SECOND-NUMBER → kind ≡ CALL → a ∷ b ∷ [] ≡ numbersOf s i
 numbers-call s i kind a b e f g k = rw (← e, k, f, g)
 
 pub numbers-group : (s : List ℕ) (i kind a : ℕ) → kind ≡ cell s i KIND → a ≡ cell s i NUMBER → kind ≡ GROUP → a ∷ [] ≡ numbersOf s i
@@ -87,7 +89,8 @@ pack-one : (x : ℕ) → x ≡ packedMarks (x ∷ [])
 unfolding packedMarks
 pack-one x = omega arith
 
-pub aside-two : (u : ℕ) (s m : List ℕ) (i a b x y : ℕ) (m1 m2 ns : List ℕ) → a ∷ b ∷ [] ≡ ns → x ≡ getD m a 0 → m1 ≡ clear u a m → y ≡ getD m1 b 0 → m2 ≡ clear u b m1
+pub aside-two : (u : ℕ) (s m : List ℕ) (i a b x y : ℕ) (m1 m2 ns : List ℕ) → a ∷ b ∷ [] ≡ ns
+    → x ≡ getD m a 0 → m1 ≡ clear u a m → y ≡ getD m1 b 0 → m2 ≡ clear u b m1
     → held (set s (i * PLACES + WIDTH) (x + 256 * y)) m2 ≡ rowAside u ns (held s m) i
 unfolding rowAside saved clearedAll
 aside-two u s m i a b x y m1 m2 ns n e f g h =
@@ -107,7 +110,8 @@ pub aside-none : (u : ℕ) (h : Held) (i : ℕ) (ns : List ℕ) → [] ≡ ns �
 unfolding rowAside
 aside-none u h i ns n = ap (λ (l : List ℕ). rowAside u l h i) n
 
-pub back-two : (s m : List ℕ) (i a b v x y : ℕ) (m1 m2 ns : List ℕ) → a ∷ b ∷ [] ≡ ns → v ≡ cell s i WIDTH → y ≡ v / 256 % 256 → m1 ≡ set m b y → x ≡ v % 256 → m2 ≡ set m1 a x
+pub back-two : (s m : List ℕ) (i a b v x y : ℕ) (m1 m2 ns : List ℕ) → a ∷ b ∷ [] ≡ ns
+    → v ≡ cell s i WIDTH → y ≡ v / 256 % 256 → m1 ≡ set m b y → x ≡ v % 256 → m2 ≡ set m1 a x
     → held (set s (i * PLACES + WIDTH) 0) m2 ≡ rowBack ns (held s m) i
 unfolding rowBack restore
 back-two s m i a b v x y m1 m2 ns n c e f g h =

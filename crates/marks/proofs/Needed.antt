@@ -12,7 +12,8 @@ use Rattle.laws.proofs.Numbers.{one-more}
 use Rattle.rows.specs.View.{cell}
 use Rattle.marks.specs.Marks.{rowMarks, marksNeeded}
 
-pub row-call : (s : List ℕ) (i kind a b m : ℕ) → kind ≡ cell s i KIND → a ≡ cell s i NUMBER → b ≡ cell s i SECOND-NUMBER → m ≡ max a b → kind ≡ CALL → 1 + m ≡ rowMarks s i
+pub row-call : (s : List ℕ) (i kind a b m : ℕ) → kind ≡ cell s i KIND → a ≡ cell s i NUMBER
+    → b ≡ cell s i SECOND-NUMBER → m ≡ max a b → kind ≡ CALL → 1 + m ≡ rowMarks s i
 row-call s i kind a b m e f g h k = rw (← e, k, h, f, g)
 
 pub row-group : (s : List ℕ) (i kind a : ℕ) → kind ≡ cell s i KIND → a ≡ cell s i NUMBER → kind ≡ GROUP → 1 + a ≡ rowMarks s i
@@ -46,7 +47,10 @@ pub needing-more : (s : List ℕ) (from stop most row n most2 : ℕ) → Needing
 needing-more s from stop most row n most2 c h e f =
     let q = c .same in
     let p = needed-next s stop row h in
-    record { high = omega arith; same = regroup most2 most n (rowMarks s row) (marksNeeded (stop - (row + 1)) s (row + 1)) (marksNeeded (stop - row) s row) f e p ∙ q }
+    record {
+      high = omega arith;
+      same = regroup most2 most n (rowMarks s row) (marksNeeded (stop - (row + 1)) s (row + 1)) (marksNeeded (stop - row) s row) f e p ∙ q;
+    }
   where
     regroup : (most2 most n r x z : ℕ) → most2 ≡ max most n → n ≡ r → z ≡ max r x → max most2 x ≡ max most z
     regroup most2 most n r x z f e p = omega arith

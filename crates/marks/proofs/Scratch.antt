@@ -17,10 +17,13 @@ module _ (s : List ℕ) (i x : ℕ) where
   pub other : (k p : ℕ) → p < 8 → cell (set s (i * PLACES + WIDTH) x) k p ≡ cell s k p
   other k p h = getD-set-other s (i * PLACES + WIDTH) (k * 9 + p) x 0 (λ e. omega arith)
 
-  wide-same : (cell s i KIND ≡ STR → ⊥) → (k : ℕ) → cond (eqb (cell (set s (i * PLACES + WIDTH) x) k KIND) STR) (cell (set s (i * PLACES + WIDTH) x) k WIDTH) 0 ≡ cond (eqb (cell s k KIND) STR) (cell s k WIDTH) 0
+  wide-same : (cell s i KIND ≡ STR → ⊥) → (k : ℕ)
+      → cond (eqb (cell (set s (i * PLACES + WIDTH) x) k KIND) STR) (cell (set s (i * PLACES + WIDTH) x) k WIDTH) 0
+      ≡ cond (eqb (cell s k KIND) STR) (cell s k WIDTH) 0
   wide-same n k = ap (λ (z : ℕ). cond (eqb z 5) (cell (set s (i * PLACES + WIDTH) x) k WIDTH) 0) (other k 0 (omega arith)) ∙ go (eqb k i) refl
     where
-      go : (b : Bool) → eqb k i ≡ b → cond (eqb (cell s k KIND) STR) (cell (set s (i * PLACES + WIDTH) x) k WIDTH) 0 ≡ cond (eqb (cell s k KIND) STR) (cell s k WIDTH) 0
+      go : (b : Bool) → eqb k i ≡ b
+          → cond (eqb (cell s k KIND) STR) (cell (set s (i * PLACES + WIDTH) x) k WIDTH) 0 ≡ cond (eqb (cell s k KIND) STR) (cell s k WIDTH) 0
       go true e = let q = eqb-true k i e in rw (q, ne-eqb (cell s i KIND) STR n)
       go false e = let q = eqb-false k i e in rw (getD-set-other s (i * PLACES + WIDTH) (k * PLACES + WIDTH) x 0 (λ z. q (omega arith)))
 

@@ -145,7 +145,8 @@ unfolding clearFrom
 from-zero zero i x m z = z
 from-zero (suc n) i x m z = from-zero n (suc i) x (set m i 0) (zero-set x i m z)
 
-from-step : (n i x : ℕ) (m : List ℕ) (b : Bool) → eqb x i ≡ b → i ≤ x → x < i + suc n → (suc i ≤ x → x < suc i + n → getD (clearFrom n (suc i) (set m i 0)) x 0 ≡ 0)
+from-step : (n i x : ℕ) (m : List ℕ) (b : Bool) → eqb x i ≡ b → i ≤ x → x < i + suc n
+    → (suc i ≤ x → x < suc i + n → getD (clearFrom n (suc i) (set m i 0)) x 0 ≡ 0)
     → getD (clearFrom n (suc i) (set m i 0)) x 0 ≡ 0
 from-step n i x m true e h k rec = let q = eqb-true x i e in from-zero n (suc i) x (set m i 0) (rw q (set-zero m i))
 from-step n i x m false e h k rec = let q = eqb-false x i e in rec (above i x h q) (omega arith)
@@ -195,7 +196,8 @@ row-needed x s i e = go (eqb (cell s i KIND) CALL) (eqb (cell s i KIND) GROUP ||
     go false true a b e = one a (eqb x a) refl e
     go false false a b e = absurd (no-false e)
 
-needed-step : (x n : ℕ) (s : List ℕ) (i : ℕ) (b : Bool) → has x (numbersOf s i) ≡ b → b || owns x n s (suc i) ≡ true → (owns x n s (suc i) ≡ true → x < marksNeeded n s (suc i))
+needed-step : (x n : ℕ) (s : List ℕ) (i : ℕ) (b : Bool) → has x (numbersOf s i) ≡ b
+    → b || owns x n s (suc i) ≡ true → (owns x n s (suc i) ≡ true → x < marksNeeded n s (suc i))
     → x < max (rowMarks s i) (marksNeeded n s (suc i))
 needed-step x n s i true f e rec = left x (rowMarks s i) (marksNeeded n s (suc i)) (row-needed x s i f)
   where

@@ -150,7 +150,8 @@ not-str s i n ns e k = some n ns (sym (none s i k) ∙ e)
     some : (n : ℕ) (ns : List ℕ) → [] ≡ n ∷ ns → ⊥
     some n ns e = let z : _≡_ {A = ℕ} 0 1 = cc in omega arith
 
-row-undone : (u : ℕ) (ns : List ℕ) (h p : Held) (i : ℕ) → numbersOf (h .rows) i ≡ ns → p .rows ≡ rowAside u ns h i .rows → ((cell (h .rows) i KIND ≡ STR → ⊥) → cell (h .rows) i WIDTH ≡ 0)
+row-undone : (u : ℕ) (ns : List ℕ) (h p : Held) (i : ℕ) → numbersOf (h .rows) i ≡ ns
+    → p .rows ≡ rowAside u ns h i .rows → ((cell (h .rows) i KIND ≡ STR → ⊥) → cell (h .rows) i WIDTH ≡ 0)
     → rowBack ns p i .rows ≡ h .rows
 unfolding rowAside rowBack
 row-undone u [] h p i e f z = f
@@ -161,7 +162,9 @@ row-undone u (n ∷ ns) h p i e f z =
 unused-set : (n : ℕ) (s : List ℕ) (i x : ℕ) → Unused (suc n) s i → Unused n (set s (i * PLACES + WIDTH) x) (suc i)
 unused-set n s i x z =
     record {
-      at = λ k a b f. getD-set-other s (i * PLACES + WIDTH) (k * PLACES + WIDTH) x 0 (λ e. omega arith) ∙ z .at k (omega arith) (omega arith) (λ e. f (other s i x k 0 (omega arith) ∙ e));
+      at =
+          λ k a b f. getD-set-other s (i * PLACES + WIDTH) (k * PLACES + WIDTH) x 0 (λ e. omega arith)
+          ∙ z .at k (omega arith) (omega arith) (λ e. f (other s i x k 0 (omega arith) ∙ e));
     }
 
 unused-less : (n : ℕ) (s : List ℕ) (i : ℕ) → Unused (suc n) s i → Unused n s (suc i)
@@ -188,7 +191,8 @@ rows-undone (suc n) u h c i z =
     (rows-undone n u h1 c (suc i) (unused-row n u (numbersOf (h .rows) i) h i z))
 
 -- One row undone: its numbers' marks.
-row-marked : (u x : ℕ) (ns : List ℕ) (h p : Held) (i : ℕ) → length ns ≤ 2 → Bytes (h .marks) → i * PLACES + WIDTH < length (h .rows) → p .rows ≡ rowAside u ns h i .rows
+row-marked : (u x : ℕ) (ns : List ℕ) (h p : Held) (i : ℕ) → length ns ≤ 2 → Bytes (h .marks)
+    → i * PLACES + WIDTH < length (h .rows) → p .rows ≡ rowAside u ns h i .rows
     → length (p .marks) ≡ length (h .marks)
     → x < length (h .marks)
     → (has x ns ≡ false → getD (p .marks) x 0 ≡ getD (h .marks) x 0)
@@ -197,7 +201,8 @@ unfolding rowAside rowBack has
 row-marked u x [] h p i t b r e l k q = q refl
 row-marked u x (n ∷ ns) h p i t b r e l k q =
     let v = packedMarks (saved u (n ∷ ns) (h .marks)) in
-    ap (λ (w : ℕ). getD (restore (n ∷ ns) (unpackedMarks w) (p .marks)) x 0) (ap (λ (s : List ℕ). cell s i WIDTH) e ∙ getD-set-same (h .rows) (i * PLACES + WIDTH) v 0 r)
+    ap (λ (w : ℕ). getD (restore (n ∷ ns) (unpackedMarks w) (p .marks)) x 0)
+    (ap (λ (s : List ℕ). cell s i WIDTH) e ∙ getD-set-same (h .rows) (i * PLACES + WIDTH) v 0 r)
     ∙ ap (λ (w : List ℕ). getD w x 0) (unpack-row u (n ∷ ns) (h .marks) (p .marks) t b)
     ∙ put-back u x (n ∷ ns) (h .marks) (p .marks) l k q
 
@@ -246,4 +251,5 @@ undone n u s m c i z b r l q =
     let t = back-size n g i in
     ap₂ (λ (x : List ℕ) (y : List ℕ). held x y)
     (rows-undone n u (held s m) c i z)
-    (ext-getD 0 (putBack n g i .marks) m (t ∙ l) (λ x k. marks-undone x n u (held s m) c i z b r l (omega arith) (λ e. q x e ∙ aside-other x n u (held s m) i e)))
+    (ext-getD 0 (putBack n g i .marks) m (t ∙ l)
+    (λ x k. marks-undone x n u (held s m) c i z b r l (omega arith) (λ e. q x e ∙ aside-other x n u (held s m) i e)))

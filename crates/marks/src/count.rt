@@ -1,4 +1,4 @@
-// The marks that rows need: how many (refusal 9), and clearedAll as they come into use.
+// The marks that rows need: how many (refusal 9), and set to 0 as they come into use.
 ghost use mathlib.Core.Path.{_≡_};
 ghost use Prim.Native.Nat.{_+_, _*_, _-_, _≤_, _<_, max};
 ghost use lib.ListN.{length};

@@ -12,7 +12,7 @@ use Rattle.renderer_rules.specs.Check.{wrongPlace}
 use Rattle.cut_rule.specs.Tests.{oddMark}
 use Rattle.cut_rule.proofs.Table.{before-told}
 use Rattle.marks.specs.Marks.{marksNeeded}
-use Rattle.plain_run.specs.Parts.{partsOf}
+use Rattle.whole_run.specs.Parts.{partsOf}
 use Rattle.render_call.specs.Calls.{toState, toArgs, runRefusal}
 use Rattle.render_call.specs.declared.RenderState.{RenderState}
 use Rattle.render_call.specs.declared.RenderArgs.{RenderArgs}

@@ -24,8 +24,8 @@ use Rattle.cut_rule.specs.Parts as cut
 use Rattle.marks.specs.Marks.{marksNeeded, clearFrom, Held, held, putAside, putBack}
 use Rattle.marks.proofs.Undone.{owns, Bytes, Unused, undone}
 use Rattle.marks.proofs.Seen.{aside-view, aside-size, aside-count, aside-nested, clear-count, clear-parts, same-start}
-use Rattle.plain_run.proofs.Past.{renders-length}
-use Rattle.plain_run.proofs.Right.{right}
+use Rattle.whole_run.proofs.Past.{renders-length}
+use Rattle.whole_run.proofs.Right.{right}
 use Rattle.render_call.specs.Whole.{Counted, Takes}
 use Rattle.render_call.specs.declared.RenderState.{RenderState}
 use Rattle.render_call.specs.declared.RenderArgs.{RenderArgs}
@@ -46,7 +46,9 @@ no-width : (s b store : List ℕ) (k : ℕ) → placesFit s b store k ≡ true �
 unfolding placesFit
 no-width s b store k e f =
     let kind = cell store k 0 in
-    let numbers = (usesNumber kind || eqb (cell store k 1) 0) && ((usesNumber2 kind || eqb (cell store k 2) 0) && (usesSecond kind || eqb (cell store k 3) 0)) in
+    let numbers =
+    (usesNumber kind || eqb (cell store k 1) 0) && ((usesNumber2 kind || eqb (cell store k 2) 0) && (usesSecond kind || eqb (cell store k 3) 0))
+    in
     let text = cond (usesText kind) (textFits s b store k) (noTextFits store k) in
     eqb-true (cell store k 8) 0 (second-true numbers (usesWidth kind) (eqb (cell store k 8) 0) text e (ne-eqb kind 5 f))
 
@@ -97,7 +99,9 @@ module _ (source image : List ℕ) (state : RenderState) (args : RenderArgs) (st
   unused : Unused count store (state .row)
   unused =
       record {
-        at = λ k p q f. no-width source image store k (right source image store (state .row) (args .stop) (a .ahead) (a .right) .places k p (omega (arith, a .ahead))) f;
+        at =
+            λ k p q f. no-width source image store k
+            (right source image store (state .row) (args .stop) (a .ahead) (a .right) .places k p (omega (arith, a .ahead))) f;
       }
 
   -- at these numbers the dry run starts with the same marks
@@ -118,7 +122,8 @@ module _ (source image : List ℕ) (state : RenderState) (args : RenderArgs) (st
   same-text : (p : Writing) → rendered (freshRenderer (p .pen) (aside .marks)) .buf ≡ rendered (freshRenderer (p .pen) (taken ++ behind)) .buf
   same-text p =
       ap (λ (r : Renderer). r .buf)
-      (renders-alike own (pageOf (args .width .0) source image) (nodesAt (viewOf store) (state .row) (args .stop)) true (freshRenderer (p .pen) (taken ++ behind)) (freshRenderer (p .pen) (aside .marks))
+      (renders-alike own (pageOf (args .width .0) source image) (nodesAt (viewOf store) (state .row) (args .stop))
+      true (freshRenderer (p .pen) (taken ++ behind)) (freshRenderer (p .pen) (aside .marks))
       inside
       (record { rest = refl; marks = agree }) .rest)
 
@@ -128,14 +133,18 @@ module _ (source image : List ℕ) (state : RenderState) (args : RenderArgs) (st
     aside-rows = ap (λ (h : Held). length (h .rows)) e ∙ aside-size count (state .«in_use») (held store marks) (state .row)
 
     pub aside-nests : Nested rows2 (state .row) (args .stop)
-    aside-nests = rw (ap (λ (h : Held). h .rows) e) (aside-nested count (state .«in_use») (held store marks) (state .row) (state .row) (args .stop) (nested source image state args store marks a))
+    aside-nests =
+        rw (ap (λ (h : Held). h .rows) e)
+        (aside-nested count (state .«in_use») (held store marks) (state .row) (state .row) (args .stop) (nested source image state args store marks a))
 
     same-view : viewOf rows2 ≡ viewOf store
     same-view = ap (λ (h : Held). viewOf (h .rows)) e ∙ aside-view count (state .«in_use») (held store marks) (state .row)
 
     -- the run with limit 0, and the marks put back
     module _ (p q : Writing) (k : Takes state p) (b : Bytes marks) (out marks3 out3 rows4 marks4 : List ℕ)
-        (r : Ended 0 (renderNodes (pageOf (args .width .0) source image) (nodesAt (viewOf rows2) (state .row) (args .stop)) true (freshRenderer (p .pen) marks2)) out marks3 out3 q)
+        (r : Ended 0
+        (renderNodes (pageOf (args .width .0) source image) (nodesAt (viewOf rows2) (state .row) (args .stop)) true (freshRenderer (p .pen) marks2))
+        out marks3 out3 q)
         (f : held rows4 marks4 ≡ putBack count (held rows2 marks3) (state .row)) where
       dry : Ended 0 (rendered (freshRenderer (p .pen) (aside .marks))) out marks3 out3 q
       dry =
@@ -152,11 +161,13 @@ module _ (source image : List ℕ) (state : RenderState) (args : RenderArgs) (st
           ∙ ap (λ (h : Held). putBack count (held (h .rows) marks3) (state .row)) e
           ∙ undone count (state .«in_use») store marks marks3 (state .row) unused b (let h = a .within in let g = a .ahead in omega arith)
           (ap length (dry .marks)
-          ∙ renders-length (pageOf (args .width .0) source image) (nodesAt (viewOf store) (state .row) (args .stop)) true (freshRenderer (p .pen) (aside .marks))
+          ∙ renders-length (pageOf (args .width .0) source image) (nodesAt (viewOf store) (state .row) (args .stop)) true
+          (freshRenderer (p .pen) (aside .marks))
           ∙ aside-count count (state .«in_use») (held store marks) (state .row))
           (λ x o.
           ap (λ (m : List ℕ). getD m x 0) (dry .marks)
-          ∙ renders-same x (nodesAt (viewOf store) (state .row) (args .stop)) (pageOf (args .width .0) source image) true (freshRenderer (p .pen) (aside .marks)) (inside x o) .mark)
+          ∙ renders-same x (nodesAt (viewOf store) (state .row) (args .stop)) (pageOf (args .width .0) source image) true
+          (freshRenderer (p .pen) (aside .marks)) (inside x o) .mark)
 
       pub counted : (n : sizes.Bytes) → n .0 ≡ q .at .0 → Counted source image state args store marks out n rows4 marks4 out3
       counted n g =

@@ -17,7 +17,7 @@ use Rattle.rows.specs.Limits.{MAX-ROWS}
 use Rattle.rows.specs.Places.{PLACES}
 use Rattle.renderer_rules.specs.Limits.{START-MARGIN}
 use Rattle.marks.specs.Marks.{marksNeeded}
-use Rattle.plain_run.specs.Parts.{partsOf}
+use Rattle.whole_run.specs.Parts.{partsOf}
 use Rattle.render_call.specs.Calls.{toState, toArgs, earlyRefusal, runRefusal}
 use Rattle.render_call.specs.Whole.{Draws, Checked, Passing}
 use Rattle.render_call.specs.declared.RenderState.{RenderState}

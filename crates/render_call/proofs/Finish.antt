@@ -19,7 +19,7 @@ use Rattle.renderer_rules.specs.declared.Pen.{Pen}
 use Rattle.cut_rule.specs.Parts as cut
 use Rattle.cut_rule.specs.PartLaws.{withPast}
 use Rattle.marks.specs.Marks.{marksNeeded}
-use Rattle.plain_run.specs.Parts.{rendererOf, drawnBy}
+use Rattle.whole_run.specs.Parts.{rendererOf, drawnBy}
 use Rattle.render_call.specs.Calls.{toState, runRefusal}
 use Rattle.render_call.specs.Whole.{widestDue, Draws, Takes}
 use Rattle.render_call.specs.declared.RenderState.{RenderState}
@@ -80,7 +80,8 @@ module _ (source image : List ℕ) (state : RenderState) (args : RenderArgs) (st
     finished t n e f h l =
         ends-written source image state args store marks out t n (q .widest) marks2 out2 e f h left-state
         (r .marks ∙ ap (λ (d : cut.Drawn). d .marks) end ∙ marks-onto source image state args store marks ahead)
-        (r .written ∙ over-full (length out) out (after .buf) (let z = ap (λ (d : cut.Drawn). length (d .text)) end in omega arith) (omega arith) ∙ ap (λ (d : cut.Drawn). writeFront (d .text) out) end)
+        (r .written ∙ over-full (length out) out (after .buf) (let z = ap (λ (d : cut.Drawn). length (d .text)) end in omega arith) (omega arith)
+        ∙ ap (λ (d : cut.Drawn). writeFront (d .text) out) end)
         (r .widest ∙ widest p k behind)
       where
         pen-same : _≡_ {A = Pen} (record { indent = t .indent; «next_indent» = t .«next_indent»; column = t .column }) (drawnBy after .pen)

@@ -14,7 +14,7 @@ use Rattle.renderer_rules.proofs.Names.{names, namesIn}
 use Rattle.marks.specs.Marks.{numbersOf}
 use Rattle.marks.proofs.Restored.{has}
 use Rattle.marks.proofs.Undone.{owns, has-first}
-use Rattle.plain_run.proofs.Local.{in-end, in-second, from-end, from-second}
+use Rattle.whole_run.proofs.Local.{in-end, in-second, from-end, from-second}
 
 -- x is a number of none of the rows
 each-other : (x n : ℕ) (s : List ℕ) (i : ℕ) → owns x n s i ≡ false → (k : ℕ) → i ≤ k → k < i + n → has x (numbersOf s k) ≡ false

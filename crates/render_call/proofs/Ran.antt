@@ -15,10 +15,10 @@ use Rattle.cut_rule.specs.Run.{writeFront}
 use Rattle.cut_rule.specs.Parts.{Drawn, withCleared, drawnOf}
 use Rattle.cut_rule.specs.PartLaws.{withPast}
 use Rattle.marks.specs.Marks.{marksNeeded}
-use Rattle.plain_run.specs.Parts.{partsOf, rendererOf, drawnBy}
-use Rattle.plain_run.proofs.Past.{Unders, ext, renders-ext, renders-length}
-use Rattle.plain_run.proofs.Marks.{nodes-under}
-use Rattle.render_call.specs.Calls.{toState}
+use Rattle.whole_run.specs.Parts.{partsOf, rendererOf, drawnBy}
+use Rattle.whole_run.proofs.Past.{Unders, ext, renders-ext, renders-length}
+use Rattle.whole_run.proofs.Marks.{nodes-under}
+use Rattle.render_call.specs.Calls.{toState, goesTo}
 use Rattle.render_call.specs.Whole.{widestDue}
 use Rattle.render_call.specs.declared.RenderState.{RenderState}
 use Rattle.render_call.specs.declared.RenderArgs.{RenderArgs}
@@ -39,7 +39,7 @@ module _ (source image : List ℕ) (state : RenderState) (args : RenderArgs) (st
   inUse = withCleared (partsOf source image) (take (state .«in_use») marks) needed
 
   abbrev pub gives : Drawn
-  gives = drawnOf (partsOf source image) (args .width .0) (toState state) (take (state .«in_use») marks) store (args .stop)
+  gives = drawnOf (partsOf source image) (toState state) (goesTo args) (take (state .«in_use») marks) store
 
   under : Unders (length inUse) (nodesAt (viewOf store) (state .row) (args .stop))
   under =
@@ -54,7 +54,8 @@ module _ (source image : List ℕ) (state : RenderState) (args : RenderArgs) (st
 
   past-same : (past : List ℕ) → rendered (inUse ++ past) ≡ ext [] past 0 (rendered inUse)
   past-same past =
-      renders-ext [] past 0 (pageOf (args .width .0) source image) (nodesAt (viewOf store) (state .row) (args .stop)) true (rendererOf (toState state .pen) inUse) under
+      renders-ext [] past 0 (pageOf (args .width .0) source image)
+      (nodesAt (viewOf store) (state .row) (args .stop)) true (rendererOf (toState state .pen) inUse) under
 
   pub ran : (past : List ℕ) → drawnBy (rendered (inUse ++ past)) ≡ withPast gives past
   ran past = ap drawnBy (past-same past)
@@ -66,9 +67,11 @@ module _ (source image : List ℕ) (state : RenderState) (args : RenderArgs) (st
   pub marks-onto : gives .marks ++ drop (length inUse) marks ≡ writeFront (gives .marks) marks
   marks-onto =
       ap (λ (n : ℕ). gives .marks ++ drop n marks)
-      (sym (renders-length (pageOf (args .width .0) source image) (nodesAt (viewOf store) (state .row) (args .stop)) true (rendererOf (toState state .pen) inUse)))
+      (sym
+      (renders-length (pageOf (args .width .0) source image) (nodesAt (viewOf store) (state .row) (args .stop)) true (rendererOf (toState state .pen) inUse)))
 
   -- the renderer that a pen with the state's numbers starts as
-  pub started : (p : Writing) (m : List ℕ) → p .pen .indent ≡ state .indent → p .pen .«next_indent» ≡ state .«next_indent» → p .pen .column .0 ≡ state .column .0
+  pub started : (p : Writing) (m : List ℕ) → p .pen .indent ≡ state .indent
+      → p .pen .«next_indent» ≡ state .«next_indent» → p .pen .column .0 ≡ state .column .0
       → freshRenderer (p .pen) m ≡ rendererOf (toState state .pen) m
   started p m e f g = λ i. freshRenderer (record { indent = e i; «next_indent» = f i; column = record { 0 = g i } }) m

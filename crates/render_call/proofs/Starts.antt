@@ -1,6 +1,6 @@
 -- A call that nothing refuses before its run may run.
 -- Assumes nothing.
-use mathlib.Core.Path.{sym, _∙_}
+use mathlib.Core.Path.{refl, sym, _∙_}
 use mathlib.Core.List.{List}
 use Prim.Native.Nat.{ℕ, _≤_}
 use native.Mathlib.Omega.{arith}
@@ -31,9 +31,9 @@ module _ (source image : List ℕ) (state : RenderState) (args : RenderArgs) (st
             (a .ahead);
       }
 
-  -- with a pen that has the state's numbers and wrote nothing yet, over rows that nest as the store's do
+  -- from the state's next row, with a pen that has its numbers and wrote nothing yet, over rows that nest as the store's do
   pub starts : (rows : List ℕ) → Nested rows (state .row) (args .stop) → (p : Writing) (limit : ℕ) (out : List ℕ) → Takes state p → limit ≤ length out
-      → Starting rows limit (state .row) (args .stop) out p
+      → Starting rows limit (args .stop) out (record { depth = 0; next = state .row; writing = p })
   starts rows nests p limit out k l =
       let e = k .indent in
       let f = k .next in
@@ -41,4 +41,4 @@ module _ (source image : List ℕ) (state : RenderState) (args : RenderArgs) (st
       let i = a .indent in
       let n = a .next in
       let c = a .column in
-      record { nested = nests; fits = l; margin = omega arith; column = omega arith; at = k .at; widest = k .widest }
+      record { none-open = refl; nested = nests; fits = l; margin = omega arith; column = omega arith; at = k .at; widest = k .widest }

@@ -16,7 +16,7 @@ use Rattle.renderer.specs.Run.{Starting, Ended}
 use Rattle.renderer.specs.declared.writing.Writing.{Writing}
 use Rattle.cut_rule.specs.Parts as cut
 use Rattle.marks.specs.Marks.{marksNeeded, clearFrom, held, putAside, putBack}
-use Rattle.plain_run.specs.Parts.{rendererOf}
+use Rattle.whole_run.specs.Parts.{rendererOf}
 use Rattle.render_call.specs.Calls.{toState, renderingOf, verdictRefusal, earlyRefusal}
 use Rattle.render_call.specs.Whole.{RenderCalled, Draws, Checked, Counted, Passing, Fitting, Takes, mostOf}
 use Rattle.render_call.specs.declared.RenderState.{RenderState}
@@ -60,7 +60,7 @@ module _ (source image : List ℕ) (state : RenderState) (args : RenderArgs) (st
 
   -- ---- the dry run
   module _ (rows2 marks2 : List ℕ) (e : held rows2 marks2 ≡ putAside (args .stop - state .row) (state .«in_use») (held store marks) (state .row)) where
-    pub dry-starts : (p : Writing) (out : List ℕ) → Takes state p → Starting rows2 0 (state .row) (args .stop) out p
+    pub dry-starts : (p : Writing) (out : List ℕ) → Takes state p → Starting rows2 0 (args .stop) out (record { depth = 0; next = state .row; writing = p })
     dry-starts p out k =
         starts source image state args store marks may rows2 (dry.aside-nests source image state args store marks may rows2 marks2 e) p 0 out k (omega arith)
 
@@ -71,7 +71,8 @@ module _ (source image : List ℕ) (state : RenderState) (args : RenderArgs) (st
         (may .ahead, omega arith)
 
     pub dry-ends : (p q : Writing) → Takes state p → ((k : ℕ) → getD marks k 0 < 256) → (out marks3 out3 rows4 marks4 : List ℕ)
-        → Ended 0 (renderNodes (pageOf (args .width .0) source image) (nodesAt (viewOf rows2) (state .row) (args .stop)) true (freshRenderer (p .pen) marks2)) out marks3 out3 q
+        → Ended 0 (renderNodes (pageOf (args .width .0) source image) (nodesAt (viewOf rows2) (state .row) (args .stop)) true (freshRenderer (p .pen) marks2))
+        out marks3 out3 q
         → held rows4 marks4 ≡ putBack (args .stop - state .row) (held rows2 marks3) (state .row)
         → Counted source image state args store marks out (q .at) rows4 marks4 out3
     dry-ends p q k b out marks3 out3 rows4 marks4 r f =
@@ -100,25 +101,35 @@ module _ (source image : List ℕ) (state : RenderState) (args : RenderArgs) (st
     then-run r marks3 out3 k = rw (c .store-left) (rw (c .store-left, c .marks-left, c .output-left) at k)
 
 -- ---- the true run
-module _ (source image : List ℕ) (state : RenderState) (args : RenderArgs) (store marks out : List ℕ) (h : Fitting source image state args store marks out) where
+module _ (source image : List ℕ) (state : RenderState) (args : RenderArgs)
+    (store marks out : List ℕ) (h : Fitting source image state args store marks out) where
   fine : Accepted source image state args store marks
   fine = accepted source image state args store marks (h .passing .passes)
 
   pub marks-within : (n : ℕ) → n ≡ marksNeeded (args .stop - state .row) store (state .row) → n ≤ length marks
   marks-within n e = let w = fine .enough in omega arith
 
-  pub run-starts : (p : Writing) → Takes state p → Starting store (length out) (state .row) (args .stop) out p
+  pub run-starts : (p : Writing) → Takes state p → Starting store (length out) (args .stop) out (record { depth = 0; next = state .row; writing = p })
   run-starts p k =
       starts source image state args store marks fine store (nested source image state args store marks fine) p (length out) out k (omega arith)
 
   pub run-ends : (p q : Writing) → Takes state p → (n : ℕ) → n ≡ marksNeeded (args .stop - state .row) store (state .row) → (marks2 : List ℕ)
       → marks2 ≡ clearFrom (n - state .«in_use») (state .«in_use») marks
       → (marks3 out3 : List ℕ)
-      → Ended (length out) (renderNodes (pageOf (args .width .0) source image) (nodesAt (viewOf store) (state .row) (args .stop)) true (freshRenderer (p .pen) marks2)) out marks3 out3 q
+      → Ended (length out)
+      (renderNodes (pageOf (args .width .0) source image) (nodesAt (viewOf store) (state .row) (args .stop)) true (freshRenderer (p .pen) marks2)) out
+      marks3 out3 q
       → (used : ℕ)
       → used ≡ max (state .«in_use») n
       → Draws source image state args store marks out
-      (drawing.Drawn (record { indent = q .pen .indent; «next_indent» = q .pen .«next_indent»; column = q .pen .column; «in_use» = used; row = args .stop; width = args .width }) (q .at) (q .widest))
+      (drawing.Drawn (record {
+        indent = q .pen .indent;
+        «next_indent» = q .pen .«next_indent»;
+        column = q .pen .column;
+        «in_use» = used;
+        row = args .stop;
+        width = args .width;
+      }) (q .at) (q .widest))
       store
       marks3
       out3
@@ -127,7 +138,8 @@ module _ (source image : List ℕ) (state : RenderState) (args : RenderArgs) (st
       let run =
       subst
       (λ (m : List ℕ).
-      Ended (length out) (renderNodes (pageOf (args .width .0) source image) (nodesAt (viewOf store) (state .row) (args .stop)) true (freshRenderer (p .pen) m)) out marks3 out3 q)
+      Ended (length out) (renderNodes (pageOf (args .width .0) source image) (nodesAt (viewOf store) (state .row) (args .stop)) true (freshRenderer (p .pen) m))
+      out marks3 out3 q)
       over
       r
       in
@@ -153,5 +165,7 @@ module _ (source image : List ℕ) (state : RenderState) (args : RenderArgs) (st
   pub checked-by : v ≡ verdict.Accepted → Checked source image state args store marks
   checked-by f = record { passes = sym e ∙ ap verdictRefusal f }
 
-  pub refused-by : (out : List ℕ) (n p : ℕ) → v ≡ verdict.Refused n p → RenderCalled source image state args store marks out (rendering.Refused n p) store marks out
-  refused-by out n p f = ends-early source image state args store marks out n p (refused-early source image state args store marks _ (sym e ∙ ap verdictRefusal f)) .called
+  pub refused-by : (out : List ℕ) (n p : ℕ) → v ≡ verdict.Refused n p
+      → RenderCalled source image state args store marks out (rendering.Refused n p) store marks out
+  refused-by out n p f =
+      ends-early source image state args store marks out n p (refused-early source image state args store marks _ (sym e ∙ ap verdictRefusal f)) .called

@@ -1,6 +1,6 @@
 -- A rendering call by its three ends: refused before the run, too long a text, written.
 -- Assumes nothing.
-use mathlib.Core.Path.{_≡_, refl, sym, ap, ap₂, _∙_}
+use mathlib.Core.Path.{_≡_, refl, sym, ap, _∙_}
 use mathlib.Core.Option.{Option, none, some}
 use mathlib.Core.List.{List, [], _∷_}
 use Prim.Native.Nat.{ℕ, _≤_, _<_}
@@ -8,15 +8,16 @@ use lib.ListN.{length}
 use lib.Dec.{ltb}
 use borrow.Author.Tests.{lt-ltb, le-ltb}
 use Rattle.refusals.specs.Refusals.{Refusal, unless, first, refuseIf}
+use Rattle.refusals.specs.Answers.{accepted, answerBy}
 use Rattle.refusals.proofs.Groups.{refuses-left, left-to}
 use Rattle.cut_rule.specs.Rules.{RenderResult}
-use Rattle.cut_rule.specs.Run.{writeFront, written, answerBy}
+use Rattle.cut_rule.specs.Run.{writeFront, CallResult, written}
 use Rattle.cut_rule.specs.Entries.{renderGives}
 use Rattle.cut_rule.specs.States as states
 use Rattle.rows.specs.declared.units.Bytes.{Bytes}
 use Rattle.cut_rule.specs.Parts.{bytesNeeded, beforeText, textLine, renderTable}
-use Rattle.plain_run.specs.Parts.{partsOf}
-use Rattle.plain_run.specs.Demands.{rulesOf}
+use Rattle.whole_run.specs.Parts.{partsOf}
+use Rattle.whole_run.specs.Demands.{rulesOf}
 use Rattle.rows.specs.declared.units.Columns.{Columns}
 use Rattle.render_call.specs.Calls.{toState, toArgs, runRefusal}
 use Rattle.render_call.specs.Whole.{widestDue, Draws}
@@ -48,7 +49,7 @@ module _ (s b : List ℕ) (state : RenderState) (args : RenderArgs) (store marks
   refused-by n p e =
       record {
         called = record {
-          answer = ap (λ (t : Option Refusal). answerBy (rulesOf s b) t (written (gives .state) (length (gives .text)))) (sym e);
+          answer = ap (λ (t : Option Refusal). answerBy {A = CallResult (rulesOf s b)} t (written (gives .state) (length (gives .text)))) (sym e);
           store-left = refl;
           marks-left = ap (λ (t : Option Refusal). unless t marks (writeFront (gives .marks) marks)) (sym e);
           output-left = ap (λ (t : Option Refusal). unless t out (writeFront (gives .text) out)) (sym e);
@@ -79,7 +80,9 @@ module _ (s b : List ℕ) (state : RenderState) (args : RenderArgs) (store marks
   ends-written t n c marks2 out2 e f h g m o w =
       record {
         called = record {
-          answer = ap₂ written g f ∙ ap (λ (z : Option Refusal). answerBy (rulesOf s b) z (written (gives .state) (length (gives .text)))) (sym none-left);
+          answer =
+              (λ i. accepted (written (g i) (f i)))
+              ∙ ap (λ (z : Option Refusal). answerBy {A = CallResult (rulesOf s b)} z (written (gives .state) (length (gives .text)))) (sym none-left);
           store-left = refl;
           marks-left = m ∙ ap (λ (z : Option Refusal). unless z marks (writeFront (gives .marks) marks)) (sym none-left);
           output-left = o ∙ ap (λ (z : Option Refusal). unless z out (writeFront (gives .text) out)) (sym none-left);

@@ -3,12 +3,13 @@ use mathlib.Core.Option.{Option, none, some}
 use mathlib.Core.List.{List}
 use Prim.Native.Nat.{ℕ}
 use Rattle.refusals.specs.Refusals.{Refusal, first}
+use Rattle.refusals.specs.Answers.{Answer, refused, accepted}
 use Rattle.cut_rule.specs.Rules as cut
-use Rattle.cut_rule.specs.Run.{Answer, refused, written}
+use Rattle.cut_rule.specs.Run.{CallResult, written}
 use Rattle.cut_rule.specs.States as states
 use Rattle.cut_rule.specs.Parts.{beforeMarks, beforeText}
-use Rattle.plain_run.specs.Parts.{partsOf}
-use Rattle.plain_run.specs.Demands.{rulesOf}
+use Rattle.whole_run.specs.Parts.{partsOf}
+use Rattle.whole_run.specs.Demands.{rulesOf}
 use Rattle.render_call.specs.declared.RenderState.{RenderState}
 use Rattle.render_call.specs.declared.RenderArgs.{RenderArgs}
 use Rattle.render_call.specs.declared.Rendering.{Rendering}
@@ -28,12 +29,15 @@ toState s = record {
 }
 
 -- "A rendering call names the row to stop before", and chooses a width; `room` is the length of the output that it is lent.
+abbrev pub goesTo : RenderArgs → cut.RenderTo states.RenderChoice
+goesTo args = record { stop = args .stop; choice = record { width = args .width .0 } }
+
 abbrev pub toArgs : RenderArgs → ℕ → cut.RenderArgs states.RenderChoice
-toArgs args room = record { stop = args .stop; room = room; choice = record { width = args .width .0 } }
+toArgs args room = record { to = goesTo args; room = room }
 
 -- A call's answer, case by case: "the new state and the bytes written"; "Number and place are all that comes back."
-abbrev pub renderingAnswer : (s b : List ℕ) → Rendering → Answer (rulesOf s b)
-renderingAnswer s b (rendering.Written t n) = written (toState t) (n .0)
+abbrev pub renderingAnswer : (s b : List ℕ) → Rendering → Answer (CallResult (rulesOf s b))
+renderingAnswer s b (rendering.Written t n) = accepted (written (toState t) (n .0))
 renderingAnswer s b (rendering.Refused n p) = refused (record { number = n; place = p })
 
 -- A rendering with its greatest column: the answer, and that column, 0 where it is refused.

@@ -11,9 +11,9 @@ use Rattle.cut_rule.specs.Entries.{renderAnswer, renderMarks, renderOutput}
 use Rattle.refusals.specs.Refusals.{unless}
 use Rattle.marks.specs.Marks.{marksNeeded}
 use Rattle.cut_rule.specs.Parts.{withCleared, bytesNeeded}
-use Rattle.plain_run.specs.Parts.{partsOf, widestDrawn}
-use Rattle.plain_run.specs.Demands.{rulesOf}
-use Rattle.render_call.specs.Calls.{toState, toArgs, renderingAnswer, renderingOf, widestOf, earlyRefusal, runRefusal}
+use Rattle.whole_run.specs.Parts.{partsOf, widestDrawn}
+use Rattle.whole_run.specs.Demands.{rulesOf}
+use Rattle.render_call.specs.Calls.{toState, goesTo, toArgs, renderingAnswer, renderingOf, widestOf, earlyRefusal, runRefusal}
 use Rattle.render_call.specs.declared.RenderState.{RenderState}
 use Rattle.render_call.specs.declared.RenderArgs.{RenderArgs}
 use Rattle.render_call.specs.declared.Rendering.{Rendering}
@@ -29,11 +29,9 @@ pub record RenderCalled (source image : List ℕ) (state : RenderState) (args : 
 -- the greatest value that `column` is set to over the rows that a call reads, with the marks that it has
 abbrev pub widestDue : List ℕ → List ℕ → RenderState → RenderArgs → List ℕ → List ℕ → ℕ
 widestDue source image state args store marks =
-    widestDrawn source image (args .width .0) (toState state .pen)
+    widestDrawn source image (toState state) (goesTo args)
     (withCleared (partsOf source image) (take (state .«in_use») marks) (marksNeeded (args .stop - state .row) store (state .row)))
     store
-    (state .row)
-    (args .stop)
 
 -- the same as a call, with the greatest column
 pub record Draws (source image : List ℕ) (state : RenderState) (args : RenderArgs) (store marks out : List ℕ) (d : Drawing) (store2 marks2 out2 : List ℕ) : Type 0 where

@@ -7,7 +7,7 @@ use marks::keep::put_aside;
 use marks::keep::put_back;
 use renderer::machine::run_rows;
 use renderer::run::Bounds;
-use renderer::run::RowRange;
+use renderer::run::Run;
 use rows::units::Bytes;
 
 // How many bytes the rows give: a dry run. The marks of the rows' numbers are put aside in the rows, in a place that these don't use, and
@@ -26,18 +26,20 @@ pub(crate) fn bytes_needed(
 {
     let from = state.row;
     let stop = args.stop;
-    let rows = RowRange {
-        from: from,
-        stop: stop,
-    };
     let width = args.width;
     let bounds = Bounds {
         max: width,
         limit: Bytes(0),
+        stop: stop,
     };
-    let start = start_text(state);
+    let w = start_text(state);
+    let start = Run {
+        depth: 0,
+        next: from,
+        writing: w,
+    };
     put_aside(store, marks, state.in_use, from, stop);
-    let end = run_rows(start, rows, store, source, image, marks, out, bounds);
+    let end = run_rows(start, store, source, image, marks, out, bounds);
     put_back(store, marks, from, stop);
     let bytes = end.at;
     bytes

@@ -7,7 +7,7 @@ ghost use mathlib.Core.List.{[], _∷_};
 ghost use Rattle.refusals.specs.Refusals.{first, refuseIf, any};
 ghost use Rattle.cut_rule.specs.Tests.{rowsIn, oddMark, rowTests, penTests, markTests, renderTests};
 ghost use Rattle.cut_rule.specs.Parts.{widthLine};
-ghost use Rattle.render_call.specs.Calls.{toState, toArgs, verdictRefusal};
+ghost use Rattle.render_call.specs.Calls.{toState, goesTo, toArgs, verdictRefusal};
 use crate::RenderArgs;
 use crate::RenderState;
 use crate::refusal::Verdict;
@@ -91,7 +91,7 @@ pub(crate) fn state_refusal(
     store: &[u32],
     marks: &[u8],
 ) -> Verdict
-    ensures { λ r. ⌜ verdictRefusal r ≡ first (refuseIf (any (renderTests (toArgs args 0) (toState state) (now (store .entry)) (now (marks .entry)))) 12 0 ∷ widthLine (toArgs args 0 .choice) (toState state) ∷ []) ⌝ }
+    ensures { λ r. ⌜ verdictRefusal r ≡ first (refuseIf (any (renderTests (toArgs args 0) (toState state) (now (store .entry)) (now (marks .entry)))) 12 0 ∷ widthLine (goesTo args .choice) (toState state) ∷ []) ⌝ }
 {
     if !state_fits(state, args, store, marks) {
         return Verdict::Refused(12, 0);

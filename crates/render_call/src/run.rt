@@ -12,7 +12,7 @@ use marks::count::clear_marks;
 use marks::count::larger;
 use renderer::machine::run_rows;
 use renderer::run::Bounds;
-use renderer::run::RowRange;
+use renderer::run::Run;
 use renderer::writing::Writing;
 use renderer_rules::Pen;
 use rows::units::Bytes;
@@ -49,18 +49,20 @@ fn write_rows(
     requires { ⌜ Fitting (now source) (now image) state args (now store) (now marks) (now out) × (needed ≡ marksNeeded (args .stop - state .row) (now store) (state .row)) ⌝ }
     ensures { λ r. ⌜ Draws (now (source .entry)) (now (image .entry)) state args (now (store .entry)) (now (marks .entry)) (now (out .entry)) r (now (store .entry)) (now (marks .exit)) (now (out .exit)) ⌝ }
 {
-    let rows = RowRange {
-        from: state.row,
-        stop: args.stop,
-    };
     let width = args.width;
     let bounds = Bounds {
         max: width,
         limit: Bytes(out.len()),
+        stop: args.stop,
     };
-    let start = start_text(state);
+    let w = start_text(state);
+    let start = Run {
+        depth: 0,
+        next: state.row,
+        writing: w,
+    };
     clear_marks(marks, state.in_use, needed);
-    let end = run_rows(start, rows, store, source, image, marks, out, bounds);
+    let end = run_rows(start, store, source, image, marks, out, bounds);
     let pen = end.pen;
     let column = pen.column;
     let bytes = end.at;

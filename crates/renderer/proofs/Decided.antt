@@ -16,7 +16,8 @@ use Rattle.rows.proofs.Nested.{nests-join, nests-le, nodes-join}
 use Rattle.rows.proofs.Widths.{widths-join}
 use Rattle.rows.specs.Node.{Nodes, widths, mustWraps, byteColumns}
 use Rattle.renderer_rules.specs.Page.{pageOf}
-use Rattle.renderer_rules.specs.Renderer.{freshRenderer, withMargin, virtualColumn, wraps, groupWraps, trailingCall, calleeWraps, indentMore, indentLess, nextIndentMore, nextIndentLess}
+use Rattle.renderer_rules.specs.Renderer.{freshRenderer, withMargin, virtualColumn, wraps, groupWraps, trailingCall}
+use Rattle.renderer_rules.specs.Renderer.{calleeWraps, indentMore, indentLess, nextIndentMore, nextIndentLess}
 use Rattle.renderer_rules.specs.declared.Pen.{Pen}
 
 pub virtual-on : (p : Pen) → 0 < p .column .0 → p .column .0 ≡ virtualColumn p

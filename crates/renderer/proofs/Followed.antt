@@ -14,17 +14,18 @@ use Rattle.rows.specs.Node.{Nodes, wrapped}
 use Rattle.rows.specs.View.{View, viewOf, cell, nodesAt, nodeAt}
 use Rattle.renderer_rules.specs.declared.Frame.{Frame}
 use Rattle.renderer_rules.specs.Page.{pageOf}
-use Rattle.renderer_rules.specs.Renderer.{Page, Renderer, freshRenderer, onPen, renderNode, wraps, virtualColumn, groupWraps, trailingCall, calleeWraps, insert, indentMore}
-use Rattle.renderer_rules.specs.Renderer.{nextIndentMore}
+use Rattle.renderer_rules.specs.Renderer.{Page, Renderer, freshRenderer, onPen, renderNode, wraps, virtualColumn}
+use Rattle.renderer_rules.specs.Renderer.{groupWraps, trailingCall, calleeWraps, insert, indentMore, nextIndentMore}
 use Rattle.renderer_rules.specs.Frames.{frameAt, partEnd, wrapAt}
-use Rattle.renderer_rules.specs.Machine.{closing}
-use Rattle.renderer_rules.specs.Machine.{Machine, opened, passed, reopened, closedTo, frameOf, enter, enterGroup, enterIndent, enterNext, enterLeaf, enterIf, enterCall, leave, turn}
+use Rattle.renderer_rules.specs.Machine.{closing, Machine, opened, passed, reopened, closedTo, frameOf, enter}
+use Rattle.renderer_rules.specs.Machine.{enterGroup, enterIndent, enterNext, enterLeaf, enterIf, enterCall, leave, turn}
 use Rattle.renderer_rules.proofs.Machine.{enter-0, enter-1, enter-2, enter-leaf, enter-10, enter-11, turn-leave}
 use Rattle.renderer_rules.specs.declared.Pen.{Pen}
 use Rattle.renderer.specs.declared.writing.Writing.{Writing}
 use Rattle.renderer.specs.Output.{writtenOver}
 use Rattle.renderer.specs.Writing.{setPen, writingAfter, Writes}
-use Rattle.renderer.specs.Run.{Running, withFrames, bareRun, stateOf, machineOf, Wrote, Shows, Follows, openedRun, passedRun, closedAt, inserted, GroupOpened, CallOpened, ArgumentsOpened}
+use Rattle.renderer.specs.Run.{Running, withFrames, bareRun, stateOf, machineOf, Wrote, Shows, Follows, openedRun}
+use Rattle.renderer.specs.Run.{passedRun, closedAt, inserted, GroupOpened, CallOpened, ArgumentsOpened}
 use Rattle.renderer.proofs.Written.{over-join}
 use Rattle.renderer.proofs.Framed.{under, fresh-under, leaf-under}
 
@@ -98,7 +99,8 @@ module _ (store source image : List ℕ) (max limit : ℕ) (marks out : List ℕ
   group-goes marks2 q g o b n w =
       let c : groupWraps pg (nodesAt v (suc (r .next)) (v .after (r .next))) (stateOf (r .writing) marks b) ≡ g .wraps =
       group-same max source image (nodesAt v (suc (r .next)) (v .after (r .next))) (r .writing) marks b
-      ∙ sym (g .isWraps ∙ ap (λ (k : ℕ). groupWraps (pageOf max [] []) (nodesAt v k (v .after (r .next))) (freshRenderer (r .writing .pen) marks)) (add-one (r .next))) in
+      ∙ sym (g .isWraps
+      ∙ ap (λ (k : ℕ). groupWraps (pageOf max [] []) (nodesAt v k (v .after (r .next))) (freshRenderer (r .writing .pen) marks)) (add-one (r .next))) in
       rw c
       (opened-shows limit o out b n r marks marks2 q (frameOf (r .next) (g .wraps) false false) (suc (r .next)) (r .next + 1) (r .writing) _ w (g .run)
       (sym (add-one (r .next)))
@@ -117,7 +119,8 @@ module _ (store source image : List ℕ) (max limit : ℕ) (marks out : List ℕ
   unfolding enterIndent machineOf
   indent-goes q x e g o b n w =
       rw (← e)
-      (opened-shows limit o out b n r marks marks q (frameOf (r .next) x false false) (suc (r .next)) (r .next + 1) (setPen (indentMore x (r .writing .pen)) (r .writing)) _ w g
+      (opened-shows limit o out b n r marks marks q (frameOf (r .next) x false false)
+      (suc (r .next)) (r .next + 1) (setPen (indentMore x (r .writing .pen)) (r .writing)) _ w g
       (sym (add-one (r .next)))
       refl
       refl)
@@ -135,7 +138,8 @@ module _ (store source image : List ℕ) (max limit : ℕ) (marks out : List ℕ
   unfolding enterNext machineOf
   next-goes q x e g o b n w =
       rw (← e)
-      (opened-shows limit o out b n r marks marks q (frameOf (r .next) x false false) (suc (r .next)) (r .next + 1) (setPen (nextIndentMore x (r .writing .pen)) (r .writing)) _ w g
+      (opened-shows limit o out b n r marks marks q (frameOf (r .next) x false false)
+      (suc (r .next)) (r .next + 1) (setPen (nextIndentMore x (r .writing .pen)) (r .writing)) _ w g
       (sym (add-one (r .next)))
       refl
       refl)
@@ -160,15 +164,19 @@ module _ (store source image : List ℕ) (max limit : ℕ) (marks out : List ℕ
       m = machineOf r marks b n
 
       go : (t : Bool)
-          → q ≡ cond t (openedRun r (frameOf (r .next) x true false) (r .next + 1) (r .writing)) (openedRun r (frameOf (r .next) x false false) (cell store (r .next) SECOND) (r .writing))
+          → q
+          ≡ cond t (openedRun r (frameOf (r .next) x true false) (r .next + 1) (r .writing))
+          (openedRun r (frameOf (r .next) x false false) (cell store (r .next) SECOND) (r .writing))
           → Shows limit o marks out q
           (cond t
           (opened m (frameOf (r .next) x true false) (suc (r .next)) (stateOf (r .writing) marks b))
           (opened m (frameOf (r .next) x false false) (cell store (r .next) SECOND) (stateOf (r .writing) marks b)))
       go true h =
-          opened-shows limit o out b n r marks marks q (frameOf (r .next) x true false) (suc (r .next)) (r .next + 1) (r .writing) _ w h (sym (add-one (r .next))) refl refl
+          opened-shows limit o out b n r marks marks q (frameOf (r .next) x true false)
+          (suc (r .next)) (r .next + 1) (r .writing) _ w h (sym (add-one (r .next))) refl refl
       go false h =
-          opened-shows limit o out b n r marks marks q (frameOf (r .next) x false false) (cell store (r .next) SECOND) (cell store (r .next) SECOND) (r .writing) _ w h refl refl refl
+          opened-shows limit o out b n r marks marks q (frameOf (r .next) x false false)
+          (cell store (r .next) SECOND) (cell store (r .next) SECOND) (r .writing) _ w h refl refl refl
 
   pub if-follows : (q : Running) (x : Bool) → cell store (r .next) KIND ≡ IF-WRAP → x ≡ wrap
       → q
@@ -188,10 +196,13 @@ module _ (store source image : List ℕ) (max limit : ℕ) (marks out : List ℕ
       let a = nodesAt v (v .second (r .next)) (v .after (r .next)) in
       let t : trailingCall pg e a (stateOf (r .writing) marks b) ≡ g .trails =
       trailing-same max source image e a (r .writing) marks b
-      ∙ sym (g .isTrails ∙ ap (λ (k : ℕ). trailingCall (pageOf max [] []) (nodesAt v k (v .second (r .next))) a (freshRenderer (r .writing .pen) marks)) (add-one (r .next))) in
+      ∙ sym (g .isTrails
+      ∙ ap (λ (k : ℕ). trailingCall (pageOf max [] []) (nodesAt v k (v .second (r .next))) a (freshRenderer (r .writing .pen) marks)) (add-one (r .next))) in
       let c : calleeWraps pg (g .trails) e a (stateOf (r .writing) marks b) ≡ g .wraps =
       callee-same max source image (g .trails) e a (r .writing) marks b
-      ∙ sym (g .isWraps ∙ ap (λ (k : ℕ). calleeWraps (pageOf max [] []) (g .trails) (nodesAt v k (v .second (r .next))) a (freshRenderer (r .writing .pen) marks)) (add-one (r .next))) in
+      ∙ sym (g .isWraps
+      ∙ ap (λ (k : ℕ). calleeWraps (pageOf max [] []) (g .trails) (nodesAt v k (v .second (r .next))) a (freshRenderer (r .writing .pen) marks))
+      (add-one (r .next))) in
       rw (t, c)
       (opened-shows limit o out b n r marks marks2 q (frameOf (r .next) (g .wraps) true (not (g .trails) && g .wraps)) (suc (r .next)) (r .next + 1)
       (setPen (nextIndentMore (not (g .trails) && g .wraps) (r .writing .pen)) (r .writing))
@@ -199,7 +210,8 @@ module _ (store source image : List ℕ) (max limit : ℕ) (marks out : List ℕ
       w
       (g .run)
       (sym (add-one (r .next)))
-      (ap (onPen (nextIndentMore (not (g .trails) && g .wraps))) (insert-same (g .wraps) (v .number (r .next)) (r .writing) marks b ∙ ap (λ (m : List ℕ). stateOf (r .writing) m b) (sym (g .marked))))
+      (ap (onPen (nextIndentMore (not (g .trails) && g .wraps)))
+      (insert-same (g .wraps) (v .number (r .next)) (r .writing) marks b ∙ ap (λ (m : List ℕ). stateOf (r .writing) m b) (sym (g .marked))))
       refl)
 
   pub call-follows : (marks2 : List ℕ) (q : Running) → cell store (r .next) KIND ≡ CALL → CallOpened store max marks r marks2 q
@@ -210,7 +222,8 @@ module _ (store source image : List ℕ) (max limit : ℕ) (marks out : List ℕ
 
   -- a row without parts
   leaf-state : (x : Bool) → WRAP-PARENT ≤ v .kind (r .next) → v .kind (r .next) ≤ LINE-OR-SPACE → (b : List ℕ)
-      → renderNode pg (nodeAt v (r .next)) x (stateOf (r .writing) marks b) ≡ under b marks (r .writing .widest .0) (renderNode pg (nodeAt v (r .next)) x (freshRenderer (r .writing .pen) []))
+      → renderNode pg (nodeAt v (r .next)) x (stateOf (r .writing) marks b)
+      ≡ under b marks (r .writing .widest .0) (renderNode pg (nodeAt v (r .next)) x (freshRenderer (r .writing .pen) []))
   leaf-state x k l b =
       ap (renderNode pg (nodeAt v (r .next)) x) (fresh-under (r .writing) marks b)
       ∙ leaf-under v pg (r .next) x (v .kind (r .next)) refl k l b marks (r .writing .widest .0) (freshRenderer (r .writing .pen) [])
@@ -223,7 +236,10 @@ module _ (store source image : List ℕ) (max limit : ℕ) (marks out : List ℕ
   leaf-shows s out2 p d o b n w =
       rw (d .after)
       (record {
-        same = ap (λ (k : ℕ). closedTo (passed (machineOf r marks b n) (under b marks (r .writing .widest .0) s)) (r .depth) k (under b marks (r .writing .widest .0) s)) (sym (add-one (r .next)));
+        same =
+            ap (λ (k : ℕ). closedTo (passed (machineOf r marks b n) (under b marks (r .writing .widest .0) s)) (r .depth) k
+            (under b marks (r .writing .widest .0) s))
+            (sym (add-one (r .next)));
         wrote = wrote-more limit o out (r .writing .at .0) b (s .buf) out2 (r .writing .at .0 + length (s .buf)) w (d .written) refl;
       })
 
@@ -256,7 +272,7 @@ module _ (store source image : List ℕ) (max limit : ℕ) (marks out : List ℕ
     unfolding machineOf
     turned b n = turn-leave v pg (machineOf r marks b n) (r .depth - 1) deep (z ∙ ap (partEnd v) i)
 
-    on-goes : (marks2 : List ℕ) (q : Running) → cell store (f .row) KIND ≡ CALL → f .early ≡ true → ArgumentsOpened store max marks r f marks2 q
+    on-goes : (marks2 : List ℕ) (q : Running) → cell store (f .row) KIND ≡ CALL → f .first ≡ true → ArgumentsOpened store max marks r f marks2 q
         → (o b : List ℕ) (n : ℕ) → Wrote limit o out (r .writing .at .0) b
         → Shows limit o marks2 out q (leave v pg (machineOf r marks b n) (r .depth - 1))
     unfolding leave machineOf viewOf insert
@@ -268,18 +284,20 @@ module _ (store source image : List ℕ) (max limit : ℕ) (marks out : List ℕ
           same =
               ap
               (λ (d : ℕ).
-              closedTo (reopened (machineOf r marks b n) (r .depth - 1) (frameOf (f .row) (g .wraps) false (f .deep)) (stateOf (r .writing) (inserted (g .wraps) (cell store (f .row) SECOND-NUMBER) marks) b)) d (r .next)
+              closedTo (reopened (machineOf r marks b n) (r .depth - 1) (frameOf (f .row) (g .wraps) false (f .deeper))
+              (stateOf (r .writing) (inserted (g .wraps) (cell store (f .row) SECOND-NUMBER) marks) b))
+              d (r .next)
               (stateOf (r .writing) (inserted (g .wraps) (cell store (f .row) SECOND-NUMBER) marks) b))
               (sym deep);
           wrote = w;
         })
 
-    pub arguments-follows : (marks2 : List ℕ) (q : Running) → cell store (f .row) KIND ≡ CALL → f .early ≡ true → ArgumentsOpened store max marks r f marks2 q
+    pub arguments-follows : (marks2 : List ℕ) (q : Running) → cell store (f .row) KIND ≡ CALL → f .first ≡ true → ArgumentsOpened store max marks r f marks2 q
         → Follows limit (turn v pg) marks out r marks2 out q
     arguments-follows marks2 q k y g = record { goes = λ o b n w. shows-as limit o marks2 out q _ _ (turned b n) (on-goes marks2 q k y g o b n w) }
 
     -- the row is closed, its last step being s
-    off-goes : (s : Pen → Pen) (q : Running) → (eqb (v .kind (f .row)) CALL && f .early) ≡ false
+    off-goes : (s : Pen → Pen) (q : Running) → (eqb (v .kind (f .row)) CALL && f .first) ≡ false
         → ((t : Renderer) → closing v pg f t ≡ onPen s t)
         → q ≡ withFrames (r .frames) (closedAt (bareRun r) (v .after (f .row)) (s (r .writing .pen)))
         → (o b : List ℕ) (n : ℕ) → Wrote limit o out (r .writing .at .0) b
@@ -287,7 +305,7 @@ module _ (store source image : List ℕ) (max limit : ℕ) (marks out : List ℕ
     unfolding leave machineOf
     off-goes s q e c g o b n w = rw (← i, e, c (stateOf (r .writing) marks b), g) (record { same = refl; wrote = w })
 
-    pub closed-follows : (s : Pen → Pen) (q : Running) → (eqb (v .kind (f .row)) CALL && f .early) ≡ false
+    pub closed-follows : (s : Pen → Pen) (q : Running) → (eqb (v .kind (f .row)) CALL && f .first) ≡ false
         → ((t : Renderer) → closing v pg f t ≡ onPen s t)
         → q ≡ withFrames (r .frames) (closedAt (bareRun r) (v .after (f .row)) (s (r .writing .pen)))
         → Follows limit (turn v pg) marks out r marks out q

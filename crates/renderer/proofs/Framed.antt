@@ -10,7 +10,8 @@ use lib.ListN.{replicate}
 use lib.Dec.{ltb}
 use Rattle.rows.specs.View.{View, nodeAt}
 use Rattle.rows.proofs.Decode.{node-parent, node-comment, node-str, node-ascii, node-line, node-empty, node-space}
-use Rattle.renderer_rules.specs.Renderer.{Page, Renderer, freshRenderer, withBuf, withMarks, withWidest, renderNode, pushStr, atColumn, newLine, margin, comment, text}
+use Rattle.renderer_rules.specs.Renderer.{Page, Renderer, freshRenderer, withBuf, withMarks, withWidest}
+use Rattle.renderer_rules.specs.Renderer.{renderNode, pushStr, atColumn, newLine, margin, comment, text}
 use Rattle.renderer_rules.proofs.Widest.{max-of-three}
 use Rattle.renderer.specs.declared.writing.Writing.{Writing}
 use Rattle.renderer.specs.Run.{stateOf}
@@ -51,7 +52,8 @@ cond-under : (w : Bool) (b m : List ℕ) (u : ℕ) (s t s2 t2 : Renderer) → s2
 cond-under true b m u s t s2 t2 e f = e
 cond-under false b m u s t s2 t2 e f = f
 
-put-under : (t : List ℕ) (c : ℕ) (b m : List ℕ) (u : ℕ) (s s2 : Renderer) → s2 ≡ under b m u s → atColumn c (pushStr t s2) ≡ under b m u (atColumn c (pushStr t s))
+put-under : (t : List ℕ) (c : ℕ) (b m : List ℕ) (u : ℕ) (s s2 : Renderer) → s2 ≡ under b m u s
+    → atColumn c (pushStr t s2) ≡ under b m u (atColumn c (pushStr t s))
 put-under t c b m u s s2 e = ap (λ (x : Renderer). atColumn c (pushStr t x)) e ∙ ap (atColumn c) (push-under t b m u s) ∙ column-under c b m u (pushStr t s)
 
 text-under : (t : List ℕ) (w : ℕ) (b m : List ℕ) (u : ℕ) (s : Renderer) → text t w (under b m u s) ≡ under b m u (text t w s)
@@ -61,10 +63,13 @@ text-under t w b m u s = go (ltb 0 (s .pen .column .0)) (ltb 0 (under b m u s .p
     go : (x y : Bool) → y ≡ x
         → atColumn (cond y (under b m u s) (margin (under b m u s)) .pen .column .0 + w) (pushStr t (cond y (under b m u s) (margin (under b m u s))))
         ≡ under b m u (atColumn (cond x s (margin s) .pen .column .0 + w) (pushStr t (cond x s (margin s))))
-    go true y e = rw e (ap (λ (c : ℕ). atColumn (c + w) (pushStr t (under b m u s))) (column-of b m u s) ∙ put-under t (s .pen .column .0 + w) b m u s (under b m u s) refl)
+    go true y e =
+        rw e
+        (ap (λ (c : ℕ). atColumn (c + w) (pushStr t (under b m u s))) (column-of b m u s) ∙ put-under t (s .pen .column .0 + w) b m u s (under b m u s) refl)
     go false y e =
         rw e
-        (ap (λ (c : ℕ). atColumn (c + w) (pushStr t (margin (under b m u s)))) (ap (λ (r : Renderer). r .pen .column .0) (margin-under b m u s) ∙ column-of b m u (margin s))
+        (ap (λ (c : ℕ). atColumn (c + w) (pushStr t (margin (under b m u s))))
+        (ap (λ (r : Renderer). r .pen .column .0) (margin-under b m u s) ∙ column-of b m u (margin s))
         ∙ put-under t (margin s .pen .column .0 + w) b m u (margin s) (margin (under b m u s)) (margin-under b m u s))
 
 comment-under : (t b m : List ℕ) (u : ℕ) (s : Renderer) → comment t (under b m u s) ≡ under b m u (comment t s)

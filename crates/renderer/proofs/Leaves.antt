@@ -16,7 +16,8 @@ use Rattle.renderer_rules.specs.Renderer.{Renderer, freshRenderer, renderNode, 
 use Rattle.renderer.specs.declared.writing.Writing.{Writing}
 use Rattle.renderer.specs.Writing.{Writes}
 
-pub writes-as : (limit : ℕ) (s t : Renderer) (out : List ℕ) (p : Writing) (out2 : List ℕ) (q : Writing) → t ≡ s → Writes limit s out p out2 q → Writes limit t out p out2 q
+pub writes-as : (limit : ℕ) (s t : Renderer) (out : List ℕ) (p : Writing) (out2 : List ℕ) (q : Writing)
+    → t ≡ s → Writes limit s out p out2 q → Writes limit t out p out2 q
 writes-as limit s t out p out2 q e d = rw e d
 
 pub on-true : (w : Bool) (s t : Renderer) → w ≡ true → cond w s t ≡ s
@@ -58,7 +59,8 @@ module _ (max : ℕ) (source image store : List ℕ) (row kind : ℕ) (w : Bool)
   render-space k = rw (node-space (viewOf store) row (sym e ∙ k))
 
 -- a `Comment`, and a `Str` or an `Ascii`, from the places that the code read
-module _ (max limit : ℕ) (source image store : List ℕ) (row kind : ℕ) (w : Bool) (out : List ℕ) (p : Writing) (out2 : List ℕ) (q : Writing) (origin start size : ℕ)
+module _ (max limit : ℕ) (source image store : List ℕ) (row kind : ℕ) (w : Bool)
+    (out : List ℕ) (p : Writing) (out2 : List ℕ) (q : Writing) (origin start size : ℕ)
     (e : kind ≡ cell store row KIND)
     (a : origin ≡ cell store row ORIGIN)
     (b : start ≡ cell store row START)
@@ -75,7 +77,9 @@ module _ (max limit : ℕ) (source image store : List ℕ) (row kind : ℕ) (w :
       where
         go : (t : Bool) → eqb kind STR ≡ t → x ≡ cond t (cell store row WIDTH) size
             → Writes limit (renderNode (pageOf max source image) (nodeAt (viewOf store) row) w (freshRenderer (p .pen) [])) out p out2 q
-        go true k h = writes-as limit _ _ out p out2 q (render-str max source image store row kind w (freshRenderer (p .pen) []) e (eqb-true kind STR k) ∙ rw (a, b, c, h)) d
+        go true k h =
+            writes-as limit _ _ out p out2 q
+            (render-str max source image store row kind w (freshRenderer (p .pen) []) e (eqb-true kind STR k) ∙ rw (a, b, c, h)) d
         go false k h =
             let n = eqb-false kind STR k in
             writes-as limit _ _ out p out2 q (render-ascii max source image store row kind w (freshRenderer (p .pen) []) e (omega arith) ∙ rw (h, a, b, c)) d

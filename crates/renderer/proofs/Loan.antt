@@ -23,14 +23,17 @@ abbrev pub vals : Pen → List Val
 vals = LL.vals T.the-type T′.the-laws
 
 module _ {M : Type 1} (𝓤 : URA M) (H : Heap 𝓤) (A : Atoms 𝓤) (W : Given 𝓤 H A) where
-  pub lies-there : (h : Pen) (b o : ℕ) → Is T.the-row h (vals h) → ent 𝓤 (H .at fullShare T′.mir b o (T′.lowered h)) (sem 𝓤 H A (partAt T.the-row fullShare h b o))
+  pub lies-there : (h : Pen) (b o : ℕ) → Is T.the-row h (vals h)
+      → ent 𝓤 (H .at fullShare T′.mir b o (T′.lowered h)) (sem 𝓤 H A (partAt T.the-row fullShare h b o))
   unfolding partOf
   lies-there h b o is =
-      qed W (‵ (fat fullShare T′.mir b o (T′.lowered h)) ∷ []) ∵ use1 W (‵ (cellAt fullShare (T.the-row .mir) (vals h) b o)) (W .laws .at-raw fullShare T′.mir b o (T′.lowered h)) $
+      qed W (‵ (fat fullShare T′.mir b o (T′.lowered h)) ∷ []) ∵
+      use1 W (‵ (cellAt fullShare (T.the-row .mir) (vals h) b o)) (W .laws .at-raw fullShare T′.mir b o (T′.lowered h)) $
       owned ! T.the-row (Is T.the-row) (LL.makes T.the-type T′.the-plain 𝓤 H A) h _ is $ move ! (1 ∷ 0 ∷ []) $ fjoin ! $
       fpack ! (List Val) (λ vs. fsep (cellAt fullShare (T.the-row .mir) vs b o) (T.the-row .own h vs)) (vals h) $ done !
 
-  pub comes-back : (h : Pen) (b o : ℕ) → ent 𝓤 (sem 𝓤 H A (partAt T.the-row fullShare h b o)) (sep 𝓤 (H .at fullShare T′.mir b o (T′.lowered h)) (sem 𝓤 H A (T.the-row .own h (vals h))))
+  pub comes-back : (h : Pen) (b o : ℕ)
+      → ent 𝓤 (sem 𝓤 H A (partAt T.the-row fullShare h b o)) (sep 𝓤 (H .at fullShare T′.mir b o (T′.lowered h)) (sem 𝓤 H A (T.the-row .own h (vals h))))
   unfolding partOf
   comes-back h b o =
       qed W (‵ (partAt T.the-row fullShare h b o) ∷ []) ∵ fpick ! (λ vs. fsplit ! $

@@ -37,17 +37,17 @@ module _ (store : List ℕ) (max : ℕ) (marks : List ℕ) (r : Running) (marks2
         marked = m ∙ ap (λ (x : ℕ). inserted w x marks) n;
       }
 
-  pub call-opened : (mid end number : ℕ) (t w deep : Bool) (p : Pen) (x : Writing) → mid ≡ cell store (r .next) SECOND → end ≡ cell store (r .next) AFTER
+  pub call-opened : (mid end number : ℕ) (t w deeper : Bool) (p : Pen) (x : Writing) → mid ≡ cell store (r .next) SECOND → end ≡ cell store (r .next) AFTER
       → number ≡ cell store (r .next) NUMBER
       → t ≡ trailingCall (pageOf max [] []) (nodesAt (viewOf store) (r .next + 1) mid) (nodesAt (viewOf store) mid end) (freshRenderer (r .writing .pen) marks)
       → w ≡ calleeWraps (pageOf max [] []) t (nodesAt (viewOf store) (r .next + 1) mid) (nodesAt (viewOf store) mid end) (freshRenderer (r .writing .pen) marks)
-      → deep ≡ (not t && w)
-      → p ≡ nextIndentMore deep (r .writing .pen)
+      → deeper ≡ (not t && w)
+      → p ≡ nextIndentMore deeper (r .writing .pen)
       → x ≡ setPen p (r .writing)
       → marks2 ≡ inserted w number marks
-      → q ≡ openedRun r (frameOf (r .next) w true deep) (r .next + 1) x
+      → q ≡ openedRun r (frameOf (r .next) w true deeper) (r .next + 1) x
       → CallOpened store max marks r marks2 q
-  call-opened mid end number t w deep p x a b n g h d k s m o =
+  call-opened mid end number t w deeper p x a b n g h d k s m o =
       record {
         trails = t;
         wraps = w;
@@ -60,7 +60,7 @@ module _ (store : List ℕ) (max : ℕ) (marks : List ℕ) (r : Running) (marks2
   pub arguments-opened : (f : Frame) (row end number : ℕ) (w : Bool) → row ≡ f .row → end ≡ cell store row AFTER → number ≡ cell store row SECOND-NUMBER
       → w ≡ groupWraps (pageOf max [] []) (nodesAt (viewOf store) (r .next) end) (freshRenderer (r .writing .pen) marks)
       → marks2 ≡ inserted w number marks
-      → q ≡ reopenedRun r (frameOf (f .row) w false (f .deep))
+      → q ≡ reopenedRun r (frameOf (f .row) w false (f .deeper))
       → ArgumentsOpened store max marks r f marks2 q
   arguments-opened f row end number w i e n g m o =
       record {
@@ -74,7 +74,8 @@ module _ (store : List ℕ) (max : ℕ) (marks : List ℕ) (r : Running) (marks2
       }
 
 -- An `IfWrap` at either part.
-module _ (store marks : List ℕ) (r : Running) (wrap : Bool) (number : ℕ) (b : Bool) (q : Running) (n : number ≡ cell store (r .next) NUMBER) (e : b ≡ wrapped marks number) where
+module _ (store marks : List ℕ) (r : Running) (wrap : Bool) (number : ℕ) (b : Bool) (q : Running)
+    (n : number ≡ cell store (r .next) NUMBER) (e : b ≡ wrapped marks number) where
   abbrev chosen : Running
   chosen =
       cond (wrapped marks (cell store (r .next) NUMBER))

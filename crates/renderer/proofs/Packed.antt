@@ -32,7 +32,8 @@ pub opened-packed : (ns : List ℕ) (r : Run) (n : ℕ) (f : Frame) (k : ℕ) (p
 opened-packed ns r n f k p e =
     ap (λ (fs : List Frame). withFrames fs (record { depth = r .depth + 1; next = k; writing = p })) (set-packed ns (r .depth) n f e)
 
-pub stored-packed : (ns : List ℕ) (r : Run) (i n : ℕ) (f : Frame) → unpackedFrame n ≡ f → wholeRun (set ns i n) r ≡ withFrames (set (map unpackedFrame ns) i f) r
+pub stored-packed : (ns : List ℕ) (r : Run) (i n : ℕ) (f : Frame) → unpackedFrame n ≡ f
+    → wholeRun (set ns i n) r ≡ withFrames (set (map unpackedFrame ns) i f) r
 stored-packed ns r i n f e = ap (λ (fs : List Frame). withFrames fs r) (set-packed ns i n f e)
 
 none-packed : noFrame ≡ unpackedFrame 0
@@ -57,16 +58,16 @@ pub one-low : (b : Bool) (n : ℕ) → n ≡ cond b 1 0 → n < 2
 one-low true n e = omega arith
 one-low false n e = omega arith
 
-pub packed : (f : Frame) (n w e d : ℕ) → w ≡ one (f .wrap) → e ≡ one (f .early) → d ≡ one (f .deep)
+pub packed : (f : Frame) (n w e d : ℕ) → w ≡ one (f .wrap) → e ≡ one (f .first) → d ≡ one (f .deeper)
     → n ≡ f .row * 8 + w * 4 + e * 2 + d
     → unpackedFrame n ≡ f
 unfolding unpackedFrame
 packed f n w e d a b c h =
     let x = one-low (f .wrap) w a in
-    let y = one-low (f .early) e b in
-    let z = one-low (f .deep) d c in
+    let y = one-low (f .first) e b in
+    let z = one-low (f .deeper) d c in
     let i : n / 8 ≡ f .row = omega arith in
     let j = flag (f .wrap) (n / 4 % 2) (omega arith) in
-    let k = flag (f .early) (n / 2 % 2) (omega arith) in
-    let l = flag (f .deep) (n % 2) (omega arith) in
+    let k = flag (f .first) (n / 2 % 2) (omega arith) in
+    let l = flag (f .deeper) (n % 2) (omega arith) in
     rw (i, j, k, l)

@@ -1,4 +1,4 @@
--- The loop writtenOver rows: each turn keeps what is still to be rendered, so that in the end the state is that of the rules.
+-- The loop over rows: each turn keeps what is still to be rendered, so that in the end the state is that of the rules.
 -- Assumes nothing.
 use mathlib.Core.Path.{_≡_, refl, ap, sym, _∙_, subst}
 use mathlib.Core.Logic.{_⊎_, inl, inr}
@@ -24,7 +24,7 @@ use Rattle.renderer_rules.specs.Machine.{Machine, turn}
 use Rattle.renderer_rules.proofs.Machine.{Fine, left, weight, means, isDone, turned, done-means}
 use Rattle.renderer_rules.specs.Safe.{Safe, SmallTexts, steps, ins}
 use Rattle.renderer_rules.proofs.Safe.{turn-safe}
-use Rattle.renderer.specs.declared.writing.Writing.{Writing}
+use Rattle.renderer.specs.declared.run.Run.{Run}
 use Rattle.renderer.specs.Output.{writtenOver}
 use Rattle.renderer.specs.Run.{Running, withFrames, machineOf, Wrote, Shows, Follows, Ready, Starting, Ended}
 use Rattle.renderer.proofs.Written.{over-length, text-fits}
@@ -64,11 +64,16 @@ module _ (store source image : List ℕ) (max limit stop : ℕ) where
     pub safe : Safe v base (machineOf r marks text entered)
     pub mean : means v pg stop (machineOf r marks text entered) ≡ final
 
-  pub going-start : (out marks : List ℕ) (p : Writing) (from : ℕ) (fs : List Frame) → length fs ≡ MAX-DEPTH → SmallTexts v pg → Starting store limit from stop out p
-      → Going (renderNodes pg (nodesAt v from stop) true (freshRenderer (p .pen) marks)) out marks out (withFrames fs (record { depth = 0; next = from; writing = p }))
+  -- what the rows from the next row of r up to the stop make of its pen and these marks
+  abbrev pub due : List ℕ → Run → Renderer
+  due marks r = renderNodes pg (nodesAt v (r .next) stop) true (freshRenderer (r .writing .pen) marks)
+
+  going-top : (out marks : List ℕ) (r : Run) (fs : List Frame) → length fs ≡ MAX-DEPTH → SmallTexts v pg → Starting store limit stop out r
+      → Going (due marks r) out marks out (withFrames fs (record { depth = 0; next = r .next; writing = r .writing }))
   unfolding machineOf meaning rest partLimit wrapAt Under steps ins writtenOver
-  going-start out marks p from fs e s g =
+  going-top out marks r fs e s g =
       let c = g .column in
+      let p = r .writing in
       record {
         room = g .nested .room;
         few = g .nested .few;
@@ -86,6 +91,12 @@ module _ (store source image : List ℕ) (max limit stop : ℕ) where
     where
       plus-none : (n : ℕ) → n ≡ n + 0
       plus-none n = omega arith
+
+  pub going-start : (out marks : List ℕ) (r : Run) (fs : List Frame) → length fs ≡ MAX-DEPTH → SmallTexts v pg → Starting store limit stop out r
+      → Going (due marks r) out marks out (withFrames fs r)
+  going-start out marks r fs e s g =
+      subst (λ (d : ℕ). Going (due marks r) out marks out (withFrames fs (record { depth = d; next = r .next; writing = r .writing }))) (sym (g .none-open))
+      (going-top out marks r fs e s g)
 
   module _ (final : Renderer) (out0 marks out : List ℕ) (r : Running) (g : Going final out0 marks out r) where
     pub same-size : length out ≡ length out0
@@ -142,7 +153,9 @@ module _ (store source image : List ℕ) (max limit stop : ℕ) where
             entered = turn v pg (machineOf r marks (g .text) (g .entered)) .entered;
             wrote = s .wrote;
             fine = subst (λ (x : Machine). Fine v pg stop x) (s .same) (t .fine);
-            safe = subst (λ (x : Machine). Safe v (g .base) x) (s .same) (turn-safe v pg stop (g .base) (machineOf r marks (g .text) (g .entered)) (g .fine) (not-done n) (g .small) (g .low) (g .safe));
+            safe =
+                subst (λ (x : Machine). Safe v (g .base) x) (s .same)
+                (turn-safe v pg stop (g .base) (machineOf r marks (g .text) (g .entered)) (g .fine) (not-done n) (g .small) (g .low) (g .safe));
             mean = ap (means v pg stop) (sym (s .same)) ∙ t .same ∙ g .mean;
           }
 

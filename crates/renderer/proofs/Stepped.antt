@@ -30,7 +30,8 @@ use Rattle.renderer_rules.specs.declared.Pen.{Pen}
 use Rattle.renderer.specs.declared.writing.Writing.{Writing}
 use Rattle.renderer.specs.Writing.{setPen, WritingRoom}
 use Rattle.renderer.specs.declared.run.Run.{Run}
-use Rattle.renderer.specs.Run.{Running, withFrames, wholeRun, bareRun, passedRun, machineOf, Follows, Ready, Enters, Entering, Leaves, Backs, Left, goesOn, ends, openedRun, closedAt, closedRun, closes}
+use Rattle.renderer.specs.Run.{Running, withFrames, wholeRun, bareRun, passedRun, machineOf, Follows, Ready, Enters}
+use Rattle.renderer.specs.Run.{Entering, Leaves, Backs, Left, goesOn, ends, openedRun, closedAt, closedRun, closes}
 use Rattle.renderer.proofs.Followed.{shows-as, indent-follows, next-follows, arguments-follows, closed-follows}
 
 -- `close`, by what it tests
@@ -41,31 +42,33 @@ module _ (kind : ℕ) (f : Frame) (p q : Pen) where
   pub closes-next : kind ≡ INDENT-NEXT → q ≡ nextIndentLess (f .wrap) p → q ≡ closes kind f p
   closes-next k e = e ∙ rw k
 
-  pub closes-call : kind ≡ CALL → q ≡ nextIndentLess (f .deep) p → q ≡ closes kind f p
+  pub closes-call : kind ≡ CALL → q ≡ nextIndentLess (f .deeper) p → q ≡ closes kind f p
   closes-call k e = e ∙ rw k
 
 pub closes-none : (kind : ℕ) (f : Frame) (p : Pen) → (kind ≡ INDENT → ⊥) → (kind ≡ INDENT-NEXT → ⊥) → (kind ≡ CALL → ⊥) → p ≡ closes kind f p
 closes-none kind f p a b c = rw (ne-eqb kind 1 a, ne-eqb kind 2 b, ne-eqb kind 11 c)
 
-pub finished : (store : List ℕ) (r : Run) (f : Frame) (row kind next : ℕ) (p : Pen) (q : Run) → row ≡ f .row → kind ≡ cell store row KIND → next ≡ cell store row AFTER
+pub finished : (store : List ℕ) (r : Run) (f : Frame) (row kind next : ℕ) (p : Pen) (q : Run)
+    → row ≡ f .row → kind ≡ cell store row KIND → next ≡ cell store row AFTER
     → p ≡ closes kind f (r .writing .pen)
     → q ≡ closedAt r next p
     → q ≡ closedRun store r f
 finished store r f row kind next p q e k n a b = b ∙ rw (a, n, k, e)
 
-pub backs-at : (store : List ℕ) (r : Run) (f : Frame) (row kind : ℕ) → row ≡ f .row → kind ≡ cell store row KIND → Leaves store r f → Backs kind f (r .writing .pen)
+pub backs-at : (store : List ℕ) (r : Run) (f : Frame) (row kind : ℕ) → row ≡ f .row
+    → kind ≡ cell store row KIND → Leaves store r f → Backs kind f (r .writing .pen)
 backs-at store r f row kind e k l = rw (k, e) (l .backs)
 
 pub kind-at : (store : List ℕ) (f : Frame) (row kind : ℕ) → row ≡ f .row → kind ≡ cell store row KIND → cell store (f .row) KIND ≡ kind
 kind-at store f row kind e k = sym (k ∙ ap (λ (x : ℕ). cell store x KIND) e)
 
-pub part-early : (store : List ℕ) (f : Frame) (row e : ℕ) → row ≡ f .row → f .early ≡ true → e ≡ cell store row SECOND → e ≡ partEnd (viewOf store) f
+pub part-first : (store : List ℕ) (f : Frame) (row e : ℕ) → row ≡ f .row → f .first ≡ true → e ≡ cell store row SECOND → e ≡ partEnd (viewOf store) f
 unfolding partEnd viewOf
-part-early store f row e i y h = h ∙ rw (y, i)
+part-first store f row e i y h = h ∙ rw (y, i)
 
-pub part-late : (store : List ℕ) (f : Frame) (row e : ℕ) → row ≡ f .row → f .early ≡ false → e ≡ cell store row AFTER → e ≡ partEnd (viewOf store) f
+pub part-last : (store : List ℕ) (f : Frame) (row e : ℕ) → row ≡ f .row → f .first ≡ false → e ≡ cell store row AFTER → e ≡ partEnd (viewOf store) f
 unfolding partEnd viewOf
-part-late store f row e i y h = h ∙ rw (y, i)
+part-last store f row e i y h = h ∙ rw (y, i)
 
 -- what is read of the innermost row, by whether there is one
 pub some-open : (d : ℕ) (f g h : Frame) → 0 < d → f ≡ g → f ≡ cond (ltb 0 d) g h
@@ -317,23 +320,25 @@ module _ (store source image : List ℕ) (max limit stop : ℕ) (marks out : Lis
                 (rw (z, i) (opened-row .later));
           }
 
-      closing-closes : (t : Renderer) → (cell store (f .row) KIND ≡ CALL → f .early ≡ false) → closing v pg f t ≡ onPen (closes (cell store (f .row) KIND) f) t
+      closing-closes : (t : Renderer) → (cell store (f .row) KIND ≡ CALL → f .first ≡ false) → closing v pg f t ≡ onPen (closes (cell store (f .row) KIND) f) t
       unfolding viewOf
-      closing-closes t e = go (eqb (cell store (f .row) KIND) INDENT) (eqb (cell store (f .row) KIND) INDENT-NEXT) (eqb (cell store (f .row) KIND) CALL) refl refl refl
+      closing-closes t e =
+          go (eqb (cell store (f .row) KIND) INDENT) (eqb (cell store (f .row) KIND) INDENT-NEXT) (eqb (cell store (f .row) KIND) CALL) refl refl refl
         where
-          go : (a b c : Bool) → eqb (cell store (f .row) KIND) INDENT ≡ a → eqb (cell store (f .row) KIND) INDENT-NEXT ≡ b → eqb (cell store (f .row) KIND) CALL ≡ c
+          go : (a b c : Bool) → eqb (cell store (f .row) KIND) INDENT ≡ a → eqb (cell store (f .row) KIND) INDENT-NEXT ≡ b
+              → eqb (cell store (f .row) KIND) CALL ≡ c
               → closing v pg f t
-              ≡ onPen (λ (p : Pen). cond a (indentLess (f .wrap) p) (cond b (nextIndentLess (f .wrap) p) (cond c (nextIndentLess (f .deep) p) p))) t
+              ≡ onPen (λ (p : Pen). cond a (indentLess (f .wrap) p) (cond b (nextIndentLess (f .wrap) p) (cond c (nextIndentLess (f .deeper) p) p))) t
           go true b c p q s = closing-indent v pg f t (eqb-true _ 1 p)
           go false true c p q s = closing-next v pg f t (eqb-true _ 2 q)
           go false false true p q s = closing-call v pg f t (eqb-true _ 11 s) (e (eqb-true _ 11 s))
           go false false false p q s = closing-plain v pg f t (cell store (f .row) KIND) refl (eqb-false _ 1 p) (eqb-false _ 2 q) (eqb-false _ 11 s)
 
-      not-on : (cell store (f .row) KIND ≡ CALL → f .early ≡ false) → (eqb (v .kind (f .row)) CALL && f .early) ≡ false
+      not-on : (cell store (f .row) KIND ≡ CALL → f .first ≡ false) → (eqb (v .kind (f .row)) CALL && f .first) ≡ false
       unfolding viewOf
       not-on e = go (eqb (cell store (f .row) KIND) CALL) refl
         where
-          go : (b : Bool) → eqb (cell store (f .row) KIND) CALL ≡ b → (b && f .early) ≡ false
+          go : (b : Bool) → eqb (cell store (f .row) KIND) CALL ≡ b → (b && f .first) ≡ false
           go true q = e (eqb-true _ 11 q)
           go false q = refl
 

@@ -62,7 +62,8 @@ module _ (s m : List ℕ) (from to : ℕ) where
         (let u = t .0 .up in omega arith, let u = t .0 .to in omega arith)
 
     -- an `IfWrap` that has not wrapped: its second part
-    pub second-part : (num mid : ℕ) → cell s row KIND ≡ IF-WRAP → num ≡ cell s row NUMBER → mid ≡ cell s row SECOND → wrapped m num ≡ false → Passed s m from to mid sum
+    pub second-part : (num mid : ℕ) → cell s row KIND ≡ IF-WRAP → num ≡ cell s row NUMBER
+        → mid ≡ cell s row SECOND → wrapped m num ≡ false → Passed s m from to mid sum
     second-part num mid k a d e =
         let kind = kind-cell s row ∙ k in
         let f : wrapped m (viewOf s .number row) ≡ false = rw (number-cell s row ∙ sym a) e in

@@ -1,4 +1,4 @@
--- Laws of `Writes`: what a pen draws is what the rules renderNode, one thing behind another.
+-- Laws of `Writes`: what the code writes is what the rules render, one text behind another.
 -- Assumes nothing.
 use mathlib.Core.Path.{_≡_, refl, ap, ap₂, sym, _∙_, subst}
 use Prim.Native.Nat.{ℕ, _+_, _*_, _≤_, _<_, max}
@@ -91,7 +91,8 @@ then-put limit s t c out p out2 q out3 r a b =
     of-three a b c = omega arith
 
 -- after something that grows by k and keeps the margin
-pub room-writes : (cap cap2 limit : ℕ) (s : Renderer) (out : List ℕ) (p : Writing) (out2 : List ℕ) (q : Writing) → WritingRoom cap limit out p → Writes limit s out p out2 q
+pub room-writes : (cap cap2 limit : ℕ) (s : Renderer) (out : List ℕ) (p : Writing) (out2 : List ℕ) (q : Writing)
+    → WritingRoom cap limit out p → Writes limit s out p out2 q
     → s .pen .indent + s .pen .«next_indent» ≤ MAX-MARGIN
     → s .pen .column .0 < cap2
     → p .at .0 + length (s .buf) < cap2
@@ -130,7 +131,9 @@ pub room-before : (limit : ℕ) (b : Bool) (out : List ℕ) (p : Writing) (out2 
 unfolding beforeText
 room-before limit b out p out2 q r = go (ltb 0 (p .pen .column .0)) b
   where
-    go : (on b : Bool) → Writes limit (cond on (cond b (pushStr (0x20 ∷ []) (freshRenderer (p .pen) [])) (freshRenderer (p .pen) [])) (margin (freshRenderer (p .pen) []))) out p out2 q
+    go : (on b : Bool)
+        → Writes limit
+        (cond on (cond b (pushStr (0x20 ∷ []) (freshRenderer (p .pen) [])) (freshRenderer (p .pen) [])) (margin (freshRenderer (p .pen) []))) out p out2 q
         → WritingRoom IN-ROW limit out2 q
     go true true d = room-push limit (0x20 ∷ []) out p out2 q r d (omega arith)
     go true false d =
@@ -140,7 +143,8 @@ room-before limit b out p out2 q r = go (ltb 0 (p .pen .column .0)) b
     go false b d = room-margin limit out p out2 q r d
 
 -- the column of a pen that drew s
-pub writes-column : (limit : ℕ) (s : Renderer) (out : List ℕ) (p : Writing) (out2 : List ℕ) (q : Writing) → Writes limit s out p out2 q → q .pen .column .0 ≡ s .pen .column .0
+pub writes-column : (limit : ℕ) (s : Renderer) (out : List ℕ) (p : Writing) (out2 : List ℕ) (q : Writing)
+    → Writes limit s out p out2 q → q .pen .column .0 ≡ s .pen .column .0
 unfolding writingAfter
 writes-column limit s out p out2 q d = ap (λ (x : Writing). x .pen .column .0) (d .after)
 
@@ -175,7 +179,8 @@ pub before-none : (limit : ℕ) (b : Bool) (out : List ℕ) (p : Writing) → (p
 unfolding beforeText
 before-none limit b out p h e = rw (lt-ltb 0 (p .pen .column .0) (omega arith), e) (writes-none limit out p)
 
-pub text-writes : (limit : ℕ) (b : Bool) (t : List ℕ) (w : ℕ) (out : List ℕ) (p : Writing) (out2 : List ℕ) (q : Writing) (out3 : List ℕ) (r : Writing) → b ≡ false
+pub text-writes : (limit : ℕ) (b : Bool) (t : List ℕ) (w : ℕ) (out : List ℕ) (p : Writing) (out2 : List ℕ) (q : Writing) (out3 : List ℕ) (r : Writing)
+    → b ≡ false
     → Writes limit (beforeText b (freshRenderer (p .pen) [])) out p out2 q
     → Writes limit (atColumn (q .pen .column .0 + w) (pushStr t (freshRenderer (q .pen) []))) out2 q out3 r
     → Writes limit (text t w (freshRenderer (p .pen) [])) out p out3 r
@@ -191,7 +196,8 @@ pub comment-writes : (limit : ℕ) (b : Bool) (t out : List ℕ) (p : Writing) (
     → Writes limit (atColumn 0 (pushStr (t ++ (0x0A ∷ [])) (freshRenderer (q .pen) []))) out2 q out3 r
     → Writes limit (comment t (freshRenderer (p .pen) [])) out p out3 r
 unfolding comment beforeText
-comment-writes limit b t out p out2 q out3 r e a d = then-put limit (beforeText true (freshRenderer (p .pen) [])) (t ++ (0x0A ∷ [])) 0 out p out2 q out3 r (rw e at a) d
+comment-writes limit b t out p out2 q out3 r e a d =
+    then-put limit (beforeText true (freshRenderer (p .pen) [])) (t ++ (0x0A ∷ [])) 0 out p out2 q out3 r (rw e at a) d
 
 pub empty-writes : (limit : ℕ) (out : List ℕ) (p : Writing) (out2 : List ℕ) (q : Writing) (out3 : List ℕ) (r : Writing)
     → Writes limit (pushStr (0x0A ∷ []) (freshRenderer (p .pen) [])) out p out2 q

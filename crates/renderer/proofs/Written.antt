@@ -29,7 +29,8 @@ over-length limit out at (b ∷ t) = over-length limit (cond (ltb at limit) (set
 same-place : (at n : ℕ) → at + 1 + n ≡ at + suc n
 same-place at n = omega arith
 
-pub over-join : (limit : ℕ) (out : List ℕ) (at : ℕ) (s t : List ℕ) → writtenOver limit (writtenOver limit out at s) (at + length s) t ≡ writtenOver limit out at (s ++ t)
+pub over-join : (limit : ℕ) (out : List ℕ) (at : ℕ) (s t : List ℕ)
+    → writtenOver limit (writtenOver limit out at s) (at + length s) t ≡ writtenOver limit out at (s ++ t)
 unfolding writtenOver
 over-join limit out at [] t = ap (λ (n : ℕ). writtenOver limit out n t) (zero-off at)
   where
@@ -70,10 +71,11 @@ over-below limit room out at (b ∷ t) (suc k) r e =
     ∙ sym (over-in limit out at b t (omega arith))
 
 -- one byte more
-pub over-one : (limit : ℕ) (out : List ℕ) (at b : ℕ) (t : List ℕ) → writtenOver limit (writtenOver limit out at (b ∷ [])) (at + 1) t ≡ writtenOver limit out at (b ∷ t)
+pub over-one : (limit : ℕ) (out : List ℕ) (at b : ℕ) (t : List ℕ)
+    → writtenOver limit (writtenOver limit out at (b ∷ [])) (at + 1) t ≡ writtenOver limit out at (b ∷ t)
 over-one limit out at b t = over-join limit out at (b ∷ []) t
 
--- What the loops keep: going on from here gives the wholeRun.
+-- What the loops keep: going on from here gives the whole.
 pub record Copied (limit : ℕ) (out0 : List ℕ) (at : ℕ) (t out : List ℕ) (j : ℕ) : Type 0 where
   pub high : j ≤ length t
   pub size : length out ≡ length out0
@@ -157,7 +159,8 @@ text-count source image origin start size len n e h = h ∙ ap (λ (m : ℕ). mi
 pub text-below : (limit : ℕ) (out : List ℕ) (at : ℕ) (source image : List ℕ) (origin start size n k : ℕ) → limit ≤ length out
     → n ≡ length (textBytes source image (textOf origin start size))
     → k ≡ min n (limit - at)
-    → writtenOver (length out) out at (take k (drop start (originText source image origin))) ≡ writtenOver limit out at (textBytes source image (textOf origin start size))
+    → writtenOver (length out) out at (take k (drop start (originText source image origin)))
+    ≡ writtenOver limit out at (textBytes source image (textOf origin start size))
 unfolding textBytes
 text-below limit out at source image origin start size n k r e h =
     let l = length-take size (drop start (originText source image origin)) in
@@ -167,5 +170,6 @@ text-below limit out at source image origin start size n k r e h =
 pub text-fits : (source image : List ℕ) (origin start size : ℕ) → length (textBytes source image (textOf origin start size)) ≤ size
 text-fits source image origin start size = let e = text-size source image origin start size in omega arith
 
-pub text-small : (source image : List ℕ) (origin start size n : ℕ) → n ≡ length (textBytes source image (textOf origin start size)) → size < CELL-LIMIT → n < CELL-LIMIT
+pub text-small : (source image : List ℕ) (origin start size n : ℕ)
+    → n ≡ length (textBytes source image (textOf origin start size)) → size < CELL-LIMIT → n < CELL-LIMIT
 text-small source image origin start size n e h = let f = text-fits source image origin start size in omega arith

@@ -1,4 +1,4 @@
--- The run of the code as the machine, and what each step is to do.
+-- The contracts of the rendering loop: the run of the code as the machine, and what each of its functions does.
 use Prim.Native.Nat.{ℕ, _+_, _*_, _-_, _/_, _%_, _≤_, _<_}
 use mathlib.Core.Path.{_≡_}
 use mathlib.Core.Bool.{Bool, true, false, cond, not, _&&_}
@@ -27,7 +27,7 @@ use Rattle.renderer.specs.Writing.{setPen}
 
 -- an open row from its number: the row times 8, and a bit for each flag
 unfoldable pub unpackedFrame : ℕ → Frame
-unpackedFrame n = record { row = n / 8; wrap = eqb (n / 4 % 2) 1; early = eqb (n / 2 % 2) 1; deep = eqb (n % 2) 1 }
+unpackedFrame n = record { row = n / 8; wrap = eqb (n / 4 % 2) 1; first = eqb (n / 2 % 2) 1; deeper = eqb (n % 2) 1 }
 
 -- a run with its open rows
 pub record Running : Type 0 where
@@ -109,9 +109,8 @@ pub record Entering (store source image : List ℕ) (max limit stop : ℕ) (mark
 
 -- a run that takes a turn: it is ready, and not done yet
 pub record Turning (store source image : List ℕ) (bounds : Bounds) (marks out : List ℕ) (r : Running) : Type 0 where
-  pub stop : ℕ
-  pub ready : Ready store source image (bounds .max .0) (bounds .limit .0) stop marks out r
-  pub more : r .depth ≡ 0 → r .next < stop
+  pub ready : Ready store source image (bounds .max .0) (bounds .limit .0) (bounds .stop) marks out r
+  pub more : r .depth ≡ 0 → r .next < bounds .stop
 
 -- a run that opens a row, which reads no text and writes none
 pub record Opening (store : List ℕ) (max : ℕ) (marks : List ℕ) (r : Running) : Type 0 where
@@ -160,7 +159,7 @@ pub record CallOpened (store : List ℕ) (max : ℕ) (marks : List ℕ) (r : Run
 pub record ArgumentsOpened (store : List ℕ) (max : ℕ) (marks : List ℕ) (r : Running) (f : Frame) (marks2 : List ℕ) (q : Running) : Type 0 where
   pub wraps : Bool
   pub isWraps : wraps ≡ groupWraps (pageOf max [] []) (nodesAt (viewOf store) (r .next) (cell store (f .row) AFTER)) (freshRenderer (r .writing .pen) marks)
-  pub run : q ≡ reopenedRun r (frameOf (f .row) wraps false (f .deep))
+  pub run : q ≡ reopenedRun r (frameOf (f .row) wraps false (f .deeper))
   pub marked : marks2 ≡ inserted wraps (cell store (f .row) SECOND-NUMBER) marks
 
 -- what the end of a row does to the pen, by its kind
@@ -168,13 +167,13 @@ abbrev pub closes : ℕ → Frame → Pen → Pen
 closes kind f p =
     cond (eqb kind INDENT)
     (indentLess (f .wrap) p)
-    (cond (eqb kind INDENT-NEXT) (nextIndentLess (f .wrap) p) (cond (eqb kind CALL) (nextIndentLess (f .deep) p) p))
+    (cond (eqb kind INDENT-NEXT) (nextIndentLess (f .wrap) p) (cond (eqb kind CALL) (nextIndentLess (f .deeper) p) p))
 
 -- the step back that the end of a row takes is there
 pub record Backs (kind : ℕ) (f : Frame) (p : Pen) : Type 0 where
   pub indent : kind ≡ INDENT → f .wrap ≡ true → 1 ≤ p .indent
   pub next : kind ≡ INDENT-NEXT → f .wrap ≡ true → 1 ≤ p .indent + p .«next_indent»
-  pub call : kind ≡ CALL → f .deep ≡ true → 1 ≤ p .indent + p .«next_indent»
+  pub call : kind ≡ CALL → f .deeper ≡ true → 1 ≤ p .indent + p .«next_indent»
 
 -- the numbers of a run that leaves the innermost row, whose frame is f
 pub record Leaves (store : List ℕ) (r : Run) (f : Frame) : Type 0 where
@@ -185,7 +184,7 @@ pub record Leaves (store : List ℕ) (r : Run) (f : Frame) : Type 0 where
   pub indent : r .writing .pen .indent ≤ MAX-MARGIN
   pub column : r .writing .pen .column .0 < BEFORE-ROW
   pub backs : Backs (cell store (f .row) KIND) f (r .writing .pen)
-  pub arguments : cell store (f .row) KIND ≡ CALL → f .early ≡ true → Nested store (r .next) (cell store (f .row) AFTER)
+  pub arguments : cell store (f .row) KIND ≡ CALL → f .first ≡ true → Nested store (r .next) (cell store (f .row) AFTER)
 
 -- the run with its innermost row closed, row k next and another pen; and with the row of f closed
 abbrev pub closedAt : Run → ℕ → Pen → Run
@@ -196,17 +195,18 @@ closedRun store r f = closedAt r (cell store (f .row) AFTER) (closes (cell store
 
 -- The innermost row is left: the arguments of a `Call` are opened, or the row is closed.
 pub data Left (store : List ℕ) (max : ℕ) (marks : List ℕ) (r : Running) (f : Frame) (marks2 : List ℕ) (q : Running) : Type 0 where
-  goesOn : cell store (f .row) KIND ≡ CALL → f .early ≡ true → ArgumentsOpened store max marks r f marks2 q → Left store max marks r f marks2 q
-  ends : (cell store (f .row) KIND ≡ CALL → f .early ≡ false) → marks2 ≡ marks → q ≡ withFrames (r .frames) (closedRun store (bareRun r) f) → Left store max marks r f marks2 q
+  goesOn : cell store (f .row) KIND ≡ CALL → f .first ≡ true → ArgumentsOpened store max marks r f marks2 q → Left store max marks r f marks2 q
+  ends : (cell store (f .row) KIND ≡ CALL → f .first ≡ false) → marks2 ≡ marks → q ≡ withFrames (r .frames) (closedRun store (bareRun r) f) → Left store max marks r f marks2 q
 
--- a rendering may start: the rows nest, and the state's numbers are in range
-pub record Starting (store : List ℕ) (limit from stop : ℕ) (out : List ℕ) (w : Writing) : Type 0 where
-  pub nested : Nested store from stop
+-- a rendering may start: no row is open, the rows up to the stop nest, and the state's numbers are in range
+pub record Starting (store : List ℕ) (limit stop : ℕ) (out : List ℕ) (r : Run) : Type 0 where
+  pub none-open : r .depth ≡ 0
+  pub nested : Nested store (r .next) stop
   pub fits : limit ≤ length out
-  pub margin : w .pen .indent + w .pen .«next_indent» ≤ START-MARGIN
-  pub column : w .pen .column .0 ≤ MAX-COLUMN
-  pub at : w .at .0 ≡ 0
-  pub widest : w .widest .0 ≡ 0
+  pub margin : r .writing .pen .indent + r .writing .pen .«next_indent» ≤ START-MARGIN
+  pub column : r .writing .pen .column .0 ≤ MAX-COLUMN
+  pub at : r .writing .at .0 ≡ 0
+  pub widest : r .writing .widest .0 ≡ 0
 
 -- what s has is what the writing, the marks and the output have become
 pub record Ended (limit : ℕ) (s : Renderer) (out marks2 out2 : List ℕ) (q : Writing) : Type 0 where

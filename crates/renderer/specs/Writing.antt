@@ -1,4 +1,4 @@
--- A text on its way, and what is written of it.
+-- A text that is being written (`Writing` of the code), and what a function writes of it.
 use Prim.Native.Nat.{ℕ, _+_, _≤_, _<_, max}
 use mathlib.Core.Path.{_≡_}
 use mathlib.Core.Bool.{Bool, cond}

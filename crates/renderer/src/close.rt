@@ -29,7 +29,7 @@ pub(crate) fn part_end(store: &[u32], f: Frame) -> usize
     requires { ⌜ f .row * PLACES + WIDTH < length (now store) ⌝ }
     ensures { λ r. ⌜ r ≡ partEnd (viewOf (now (store .entry))) f ⌝ }
 {
-    if f.early {
+    if f.first {
         return place(store, to_usize(f.row), SECOND);
     }
     place(store, to_usize(f.row), AFTER)
@@ -60,7 +60,7 @@ fn close(p: Pen, kind: usize, f: Frame) -> Pen
         return outdent_next(p, f.wrap);
     }
     if kind == CALL {
-        return outdent_next(p, f.deep);
+        return outdent_next(p, f.deeper);
     }
     p
 }
@@ -93,7 +93,7 @@ pub(crate) fn leave(
     if kind != CALL {
         return finish(r, f, store);
     }
-    if f.early {
+    if f.first {
         return enter_arguments(r, frames, f, store, marks, max);
     }
     finish(r, f, store)

@@ -20,7 +20,7 @@ pub(crate) fn pack(f: Frame) -> u32
     requires { ⌜ f .row < MAX-ROWS ⌝ }
     ensures { λ r. ⌜ unpackedFrame r ≡ f ⌝ }
 {
-    f.row * 8 + bit(f.wrap) * 4 + bit(f.early) * 2 + bit(f.deep)
+    f.row * 8 + bit(f.wrap) * 4 + bit(f.first) * 2 + bit(f.deeper)
 }
 
 // The open row of a number.
@@ -30,7 +30,7 @@ pub(crate) fn unpack(n: u32) -> Frame
     Frame {
         row: n / 8,
         wrap: n / 4 % 2 == 1,
-        early: n / 2 % 2 == 1,
-        deep: n % 2 == 1,
+        first: n / 2 % 2 == 1,
+        deeper: n % 2 == 1,
     }
 }

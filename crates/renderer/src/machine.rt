@@ -21,7 +21,6 @@ use crate::leaf::LeafRow;
 use crate::leaf::leaf;
 use crate::open::open_row;
 use crate::run::Bounds;
-use crate::run::RowRange;
 use crate::run::Run;
 use crate::run::passed;
 use crate::writing::Writing;
@@ -53,8 +52,8 @@ fn innermost(frames: &[u32; MAX_DEPTH], depth: usize) -> Frame
     Frame {
         row: 0,
         wrap: true,
-        early: false,
-        deep: false,
+        first: false,
+        deeper: false,
     }
 }
 
@@ -100,10 +99,9 @@ fn step(
     passed(r, leaf(w, l, store, source, image, out, bounds.limit))
 }
 
-// Renders rows.
+// Renders rows: from the next row of `start`, with no row open, up to the stop.
 pub fn run_rows(
-    w: Writing,
-    rows: RowRange,
+    start: Run,
     store: &[u32],
     source: &[u8],
     image: &[u8],
@@ -111,16 +109,12 @@ pub fn run_rows(
     out: &mut [u8],
     bounds: Bounds,
 ) -> Writing
-    requires { ⌜ Starting (now store) (bounds .limit .0) (rows .from) (rows .stop) (now out) w ⌝ }
-    ensures { λ q. ⌜ Ended (bounds .limit .0) (renderNodes (pageOf (bounds .max .0) (now (source .entry)) (now (image .entry))) (nodesAt (viewOf (now (store .entry))) (rows .from) (rows .stop)) true (freshRenderer (w .pen) (now (marks .entry)))) (now (out .entry)) (now (marks .exit)) (now (out .exit)) q ⌝ }
+    requires { ⌜ Starting (now store) (bounds .limit .0) (bounds .stop) (now out) start ⌝ }
+    ensures { λ q. ⌜ Ended (bounds .limit .0) (renderNodes (pageOf (bounds .max .0) (now (source .entry)) (now (image .entry))) (nodesAt (viewOf (now (store .entry))) (start .next) (bounds .stop)) true (freshRenderer (start .writing .pen) (now (marks .entry)))) (now (out .entry)) (now (marks .exit)) (now (out .exit)) q ⌝ }
 {
-    let stop = rows.stop;
+    let stop = bounds.stop;
     let mut frames = [0u32; MAX_DEPTH];
-    let mut r = Run {
-        depth: 0,
-        next: rows.from,
-        writing: w,
-    };
+    let mut r = start;
     while 0 < r.depth || r.next < stop {
         r = step(r, &mut frames, store, source, image, marks, out, bounds);
     }

@@ -102,8 +102,8 @@ fn enter_group(
     let f = Frame {
         row: i as u32,
         wrap: wraps,
-        early: false,
-        deep: false,
+        first: false,
+        deeper: false,
     };
     opened(r, frames, f, i + 1, w)
 }
@@ -118,8 +118,8 @@ fn enter_indent(r: Run, frames: &mut [u32; MAX_DEPTH], wrap: bool, kind: usize) 
     let f = Frame {
         row: i as u32,
         wrap: wrap,
-        early: false,
-        deep: false,
+        first: false,
+        deeper: false,
     };
     if kind == INDENT {
         return opened(r, frames, f, i + 1, set_pen(w, indent(w.pen, wrap)));
@@ -138,8 +138,8 @@ fn enter_if(r: Run, frames: &mut [u32; MAX_DEPTH], wrap: bool, store: &[u32], ma
     let f = Frame {
         row: i as u32,
         wrap: wrap,
-        early: first,
-        deep: false,
+        first: first,
+        deeper: false,
     };
     if first {
         return opened(r, frames, f, i + 1, w);
@@ -170,8 +170,8 @@ fn enter_call(
     let f = Frame {
         row: i as u32,
         wrap: wraps,
-        early: true,
-        deep: wraps,
+        first: true,
+        deeper: wraps,
     };
     opened(r, frames, f, i + 1, set_pen(w, indent_next(w.pen, wraps)))
 }
@@ -208,8 +208,8 @@ pub(crate) fn enter_arguments(
     let on = Frame {
         row: f.row,
         wrap: wraps,
-        early: false,
-        deep: f.deep,
+        first: false,
+        deeper: f.deeper,
     };
     frames[d] = pack(on);
     r

@@ -1,4 +1,4 @@
-// A rendering on its way, and what it is given.
+// The state of a rendering loop, and what it is given.
 ghost use mathlib.Core.Path.{_≡_};
 ghost use Prim.Native.Nat.{_<_};
 ghost use Rattle.rows.specs.Limits.{MAX-ROWS};
@@ -15,16 +15,11 @@ pub struct Run {
     pub writing: Writing,
 }
 
-// The rows to be rendered: from one up to another.
-pub struct RowRange {
-    pub from: usize,
-    pub stop: usize,
-}
-
-// `max` of fmt.rs, in columns; and how many bytes of the output may be written: with 0 nothing is, and the bytes are counted.
+// `max` of fmt.rs, in columns; how many bytes of the output may be written: with 0 nothing is, and the bytes are counted; the row to stop before.
 pub struct Bounds {
     pub max: Columns,
     pub limit: Bytes,
+    pub stop: usize,
 }
 
 // A row without parts is passed.

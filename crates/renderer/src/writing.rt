@@ -1,4 +1,4 @@
-// A text on its way, and what `Renderer` of fmt.rs does to it: `new_line`, and the parts of `comment` and `text`.
+// A text that is being written, and what `Renderer` of fmt.rs does to it: `new_line`, and the parts of `comment` and `text`.
 ghost use mathlib.Core.Path.{_≡_};
 ghost use Prim.Native.Nat.{_+_, _*_, _≤_, _<_, max as greaterOf};
 ghost use mathlib.Core.List.{[], _∷_};
@@ -15,7 +15,7 @@ use renderer_rules::Pen;
 use rows::units::Bytes;
 use rows::units::Columns;
 
-// A text on its way: the pen, how many bytes are written, and the greatest value that `column` was set to.
+// A text that is being written: the pen, how many bytes are written, and the greatest value that `column` was set to.
 pub struct Writing {
     pub pen: Pen,
     pub at: Bytes,

@@ -22,7 +22,8 @@ module _ (v : View) (pg : Page) (stop : ℕ) where
   allot (suc f) n m = cond (isDone v pg stop m) m (cond (wantsRow m && leb n (m .entered)) m (allot f n (turn v pg m)))
 
   -- enough turns are enough
-  enough-step : (n : ℕ) (m : Machine) (b c : Bool) (x y : Machine) → (isDone v pg stop m ≡ b) → (b ≡ false → x ≡ y) → cond b m (cond c m x) ≡ cond b m (cond c m y)
+  enough-step : (n : ℕ) (m : Machine) (b c : Bool) (x y : Machine) → (isDone v pg stop m ≡ b)
+      → (b ≡ false → x ≡ y) → cond b m (cond c m x) ≡ cond b m (cond c m y)
   enough-step n m true c x y e h = refl
   enough-step n m false true x y e h = refl
   enough-step n m false false x y e h = h refl
@@ -48,7 +49,8 @@ module _ (v : View) (pg : Page) (stop : ℕ) where
   sooner false n k s h e = refl
 
   -- one turn more, where the stop is not yet
-  allot-turn : (f n : ℕ) (m : Machine) → Fine v pg stop m → left stop m ≤ f → isDone v pg stop m ≡ false → (wantsRow m && leb n (m .entered)) ≡ false → allot f n (turn v pg m) ≡ allot f n m
+  allot-turn : (f n : ℕ) (m : Machine) → Fine v pg stop m → left stop m ≤ f → isDone v pg stop m ≡ false
+      → (wantsRow m && leb n (m .entered)) ≡ false → allot f n (turn v pg m) ≡ allot f n m
   unfolding allot
   allot-turn zero n m a l e c = absurd (let z : isDone v pg stop m ≡ true = spent-done m a l in let y : _≡_ {A = ℕ} 0 1 = cc in omega arith)
   allot-turn (suc f) n m a l e c =
@@ -56,7 +58,8 @@ module _ (v : View) (pg : Page) (stop : ℕ) where
       let s = t .less in
       allot-enough (suc f) f n (turn v pg m) (t .fine) (omega arith) (omega arith) ∙ rw (e, c)
 
-  join-step : (F n k : ℕ) (m r : Machine) (b c : Bool) → n ≤ k → isDone v pg stop m ≡ b → (wantsRow m && leb n (m .entered)) ≡ c → Fine v pg stop m → left stop m ≤ F
+  join-step : (F n k : ℕ) (m r : Machine) (b c : Bool) → n ≤ k → isDone v pg stop m ≡ b
+      → (wantsRow m && leb n (m .entered)) ≡ c → Fine v pg stop m → left stop m ≤ F
       → (b ≡ false → c ≡ false → allot F k r ≡ allot F k (turn v pg m)) → allot F k (cond b m (cond c m r)) ≡ allot F k m
   join-step F n k m r true c h e d a l rec = refl
   join-step F n k m r false true h e d a l rec = refl

@@ -8,12 +8,13 @@ use mathlib.Core.List.{List}
 use Rattle.rows.specs.Node.{Text, Node, Nodes, group, indentNext, none, _then_, join, widths, mustWraps}
 use Rattle.rows.proofs.Widths.{widths-join}
 use Rattle.renderer_rules.specs.declared.Pen.{Pen}
-use Rattle.renderer_rules.specs.Renderer.{Page, Renderer, onPen, renderNode, renderNodes, trailingCall, calleeWraps, groupWraps, wraps, insert, nextIndentMore}
-use Rattle.renderer_rules.specs.Renderer.{nextIndentLess}
+use Rattle.renderer_rules.specs.Renderer.{Page, Renderer, onPen, renderNode, renderNodes, trailingCall}
+use Rattle.renderer_rules.specs.Renderer.{calleeWraps, groupWraps, wraps, insert, nextIndentMore, nextIndentLess}
 use Rattle.renderer_rules.specs.Call.{callOfRust, CallAsRust}
 
 -- nodes and one more: `nodes.push`
-renders-last : (p : Page) (ns : Nodes) (x : Node) (w : Bool) (s : Renderer) → renderNodes p (join ns (x then none)) w s ≡ renderNode p x w (renderNodes p ns w s)
+renders-last : (p : Page) (ns : Nodes) (x : Node) (w : Bool) (s : Renderer)
+    → renderNodes p (join ns (x then none)) w s ≡ renderNode p x w (renderNodes p ns w s)
 unfolding join renderNodes
 renders-last p none x w s = refl
 renders-last p (n then ns) x w s = renders-last p ns x w (renderNode p n w s)

@@ -15,7 +15,8 @@ use Rattle.laws.proofs.Options.{never}
 use Rattle.rows.specs.View.{View, viewOf}
 use Rattle.rows.specs.Nesting.{RangeIn, Split, TwoParts, Nests, over, leaf, block, two, pair}
 use Rattle.rows.proofs.Nested.{nests-le, nests-leaf, nests-two, nests-pair, nests-kind, nests-after, nests-rest, nests-deep, nests-join}
-use Rattle.renderer_rules.specs.Check.{reaches, isLeaf, hasTwo, isSplit, partsFit, rowFits, orLater, firstWrong, wrongRow, placesFit, wrongPlace, FaultOfPart}
+use Rattle.renderer_rules.specs.Check.{reaches, isLeaf, hasTwo, isSplit, partsFit, rowFits, orLater}
+use Rattle.renderer_rules.specs.Check.{firstWrong, wrongRow, placesFit, wrongPlace, FaultOfPart}
 
 pub no-wrong : (a b : Option ℕ) → orLater a b ≡ none → (a ≡ none) × (b ≡ none)
 no-wrong none b e = (refl, e)
@@ -73,7 +74,10 @@ module _ (v : View) (end d i : ℕ) (w : RangeIn v i end) (m : d < MAX-DEPTH) (g
 
   row-two : v .kind i ≡ IF-WRAP → hasTwo v i ≡ true → Nests v i end d
   row-two e r =
-      let x = both (ltb (suc i) (v .second i) && ltb (v .second i) (v .after i)) (eqb (v .after (suc i)) (v .second i) && eqb (v .after (v .second i)) (v .after i)) r in
+      let x =
+      both (ltb (suc i) (v .second i) && ltb (v .second i) (v .after i))
+      (eqb (v .after (suc i)) (v .second i) && eqb (v .after (v .second i)) (v .after i)) r
+      in
       let y = both (ltb (suc i) (v .second i)) (ltb (v .second i) (v .after i)) (x .0) in
       let z = both (eqb (v .after (suc i)) (v .second i)) (eqb (v .after (v .second i)) (v .after i)) (x .1) in
       let a = eqb-true (v .after (suc i)) (v .second i) (z .0) in

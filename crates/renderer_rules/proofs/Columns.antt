@@ -5,11 +5,12 @@ use native.Mathlib.Omega.{arith}
 use mathlib.Core.Bool.{Bool, true, false, cond, not, _&&_}
 use mathlib.Core.List.{List, [], _∷_}
 use lib.Dec.{ltb}
-use Rattle.rows.specs.Node.{Node, Nodes, group, indent, indentNext, wrapParent, comment as commentNode, str, ascii, line, emptyLine, lineOrSpace, ifWrap, call, none}
-use Rattle.rows.specs.Node.{_then_, wrapped}
+use Rattle.rows.specs.Node.{Node, Nodes, group, indent, indentNext, wrapParent, comment as commentNode, str}
+use Rattle.rows.specs.Node.{ascii, line, emptyLine, lineOrSpace, ifWrap, call, none, _then_, wrapped}
 use Rattle.renderer_rules.specs.declared.Pen.{Pen}
-use Rattle.renderer_rules.specs.Renderer.{Page, Renderer, withNextIndent, onPen, pushStr, atColumn, newLine, margin, comment, text, insert, indentMore, indentLess, nextIndentMore}
-use Rattle.renderer_rules.specs.Renderer.{nextIndentLess, freshRenderer, groupWraps, trailingCall, calleeWraps, renderNode, renderNodes}
+use Rattle.renderer_rules.specs.Renderer.{Page, Renderer, withNextIndent, onPen, pushStr, atColumn, newLine, margin}
+use Rattle.renderer_rules.specs.Renderer.{comment, text, insert, indentMore, indentLess, nextIndentMore, nextIndentLess}
+use Rattle.renderer_rules.specs.Renderer.{freshRenderer, groupWraps, trailingCall, calleeWraps, renderNode, renderNodes}
 use Rattle.renderer_rules.specs.Widest.{freshPen, greatestColumn}
 
 -- what `column` is, was, and starts a line with

@@ -1,4 +1,4 @@
--- The machine: one turn closes the innermost open row or enters the next row. Turned to its end, it renderNodes as the rules do, since each turn
+-- The machine: one turn closes the innermost open row or enters the next row. Turned to its end, it renders as the rules do, since each turn
 -- keeps what the open rows mean, and less is left.
 -- Assumes nothing.
 use mathlib.Core.Path.{_≡_, refl, ap, ap₂, sym, _∙_, subst}
@@ -22,7 +22,8 @@ use Rattle.rows.proofs.Nested.{nests-le, nests-two, nests-pair, nests-kind, nes
 use Rattle.renderer_rules.specs.declared.Frame.{Frame}
 use Rattle.renderer_rules.specs.Renderer.{Page, Renderer, renderNode, renderNodes, groupWraps, insert}
 use Rattle.renderer_rules.specs.Frames.{frameAt, partEnd, partLimit, wrapAt, Under, At}
-use Rattle.renderer_rules.specs.Machine.{Machine, started, opened, reopened, closedTo, frameOf, closing, enterGroup, enterIndent, enterNext, enterLeaf, enterIf, enterCall, enter, leave, turnAt, turn}
+use Rattle.renderer_rules.specs.Machine.{Machine, started, opened, reopened, closedTo, frameOf, closing, enterGroup}
+use Rattle.renderer_rules.specs.Machine.{enterIndent, enterNext, enterLeaf, enterIf, enterCall, enter, leave, turnAt, turn}
 use Rattle.renderer_rules.specs.Safe.{oneIf}
 use Rattle.renderer_rules.proofs.Meaning.{rest, meaning, pop, frame-other, frame-same, open-group}
 use Rattle.renderer_rules.proofs.Meaning.{open-indent, open-next, open-if-first, open-if-second, open-call, call-on}
@@ -31,7 +32,7 @@ use Rattle.renderer_rules.proofs.Opened.{at-leaf, at-block, at-pop-suc,
 -- how many turns the open rows can still take
 unfoldable pub weight : List Frame → ℕ → ℕ
 weight fs zero = 0
-weight fs (suc d) = suc (oneIf (frameAt fs d .early)) + weight fs d
+weight fs (suc d) = suc (oneIf (frameAt fs d .first)) + weight fs d
 
 weight-ge : (fs : List Frame) (d : ℕ) → d ≤ weight fs d
 unfolding weight
@@ -41,13 +42,16 @@ weight-ge fs (suc d) = let a = weight-ge fs d in omega arith
 weight-set : (v : View) (pg : Page) (stop : ℕ) (fs : List Frame) (k d : ℕ) (f : Frame) → d ≤ k → weight (set fs k f) d ≡ weight fs d
 unfolding weight
 weight-set v pg stop fs k zero f h = refl
-weight-set v pg stop fs k (suc d) f h = ap₂ (λ (x : Frame) (n : ℕ). suc (oneIf (x .early)) + n) (frame-other v pg stop fs k d f h) (weight-set v pg stop fs k d f (omega arith))
+weight-set v pg stop fs k (suc d) f h =
+    ap₂ (λ (x : Frame) (n : ℕ). suc (oneIf (x .first)) + n) (frame-other v pg stop fs k d f h) (weight-set v pg stop fs k d f (omega arith))
 
-weight-top : (v : View) (pg : Page) (stop : ℕ) (fs : List Frame) (d : ℕ) (f : Frame) → d < length fs → weight (set fs d f) (suc d) ≡ suc (oneIf (f .early)) + weight fs d
+weight-top : (v : View) (pg : Page) (stop : ℕ) (fs : List Frame) (d : ℕ) (f : Frame)
+    → d < length fs → weight (set fs d f) (suc d) ≡ suc (oneIf (f .first)) + weight fs d
 unfolding weight
-weight-top v pg stop fs d f h = ap₂ (λ (x : Frame) (n : ℕ). suc (oneIf (x .early)) + n) (frame-same v pg stop fs d f h) (weight-set v pg stop fs d d f (omega arith))
+weight-top v pg stop fs d f h =
+    ap₂ (λ (x : Frame) (n : ℕ). suc (oneIf (x .first)) + n) (frame-same v pg stop fs d f h) (weight-set v pg stop fs d d f (omega arith))
 
-weight-suc : (fs : List Frame) (d : ℕ) → weight fs (suc d) ≡ suc (oneIf (frameAt fs d .early)) + weight fs d
+weight-suc : (fs : List Frame) (d : ℕ) → weight fs (suc d) ≡ suc (oneIf (frameAt fs d .first)) + weight fs d
 unfolding weight
 weight-suc fs d = refl
 
@@ -71,13 +75,19 @@ module _ (v : View) (pg : Page) (stop : ℕ) where
 
     leaf-same : WRAP-PARENT ≤ v .kind (m .next) → v .kind (m .next) ≤ LINE-OR-SPACE → means (enterLeaf v pg m) ≡ means m
     unfolding enterLeaf
-    leaf-same k l = ap (λ (j : ℕ). meaning v pg stop (m .frames) (m .depth) j (renderNode pg (nodeAt v (m .next)) (wrapAt (m .frames) (m .depth)) (m .state))) (sym (add-one (m .next))) ∙ advance-leaf v pg stop (m .frames) (m .depth) (m .next) (m .state) a h k l
+    leaf-same k l =
+        ap (λ (j : ℕ). meaning v pg stop (m .frames) (m .depth) j (renderNode pg (nodeAt v (m .next)) (wrapAt (m .frames) (m .depth)) (m .state)))
+        (sym (add-one (m .next)))
+        ∙ advance-leaf v pg stop (m .frames) (m .depth) (m .next) (m .state) a h k l
 
     if-same : v .kind (m .next) ≡ IF-WRAP → means (enterIf v pg m) ≡ means m
     unfolding enterIf
     if-same k = go (wrapped (m .state .marks) (v .number (m .next))) refl
       where
-        go : (b : Bool) → wrapped (m .state .marks) (v .number (m .next)) ≡ b → means (cond b (opened m (frameOf (m .next) (wrapAt (m .frames) (m .depth)) true false) (suc (m .next)) (m .state)) (opened m (frameOf (m .next) (wrapAt (m .frames) (m .depth)) false false) (v .second (m .next)) (m .state))) ≡ means m
+        go : (b : Bool) → wrapped (m .state .marks) (v .number (m .next)) ≡ b
+            → means (cond b (opened m (frameOf (m .next) (wrapAt (m .frames) (m .depth)) true false) (suc (m .next)) (m .state))
+            (opened m (frameOf (m .next) (wrapAt (m .frames) (m .depth)) false false) (v .second (m .next)) (m .state)))
+            ≡ means m
         go true e = open-if-first v pg stop (m .frames) (m .depth) (m .next) (m .state) roomy (nests-after (a .good) h) k (nests-two (a .good) h k .0) e
         go false e = open-if-second v pg stop (m .frames) (m .depth) (m .next) (m .state) roomy (nests-after (a .good) h) k (nests-two (a .good) h k .0) e
 
@@ -95,7 +105,8 @@ module _ (v : View) (pg : Page) (stop : ℕ) where
 
     call-same : v .kind (m .next) ≡ CALL → means (enterCall v pg m) ≡ means m
     unfolding enterCall
-    call-same k = open-call v pg stop (m .frames) (m .depth) (m .next) (m .state) _ _ roomy (nests-after (a .good) h) k (nests-pair (a .good) h k .split) refl refl
+    call-same k =
+        open-call v pg stop (m .frames) (m .depth) (m .next) (m .state) _ _ roomy (nests-after (a .good) h) k (nests-pair (a .good) h k .split) refl refl
 
     enter-same : (k : ℕ) → v .kind (m .next) ≡ k → means (enter v pg m) ≡ means m
     unfolding enter
@@ -117,17 +128,21 @@ module _ (v : View) (pg : Page) (stop : ℕ) where
     less-open : (f : Frame) (k : ℕ) → m .next < k → left stop (opened m f k (m .state)) < left stop m
     less-open f k j =
         let w = weight-top v pg stop (m .frames) (m .depth) f roomy in
-        let b = bit-le2 (f .early) in
+        let b = bit-le2 (f .first) in
         let l = a .low in
         omega arith
 
     Kept : Machine → Type 0
     Kept n = Fine n × (left stop n < left stop m)
 
-    block-fine : (f : Frame) (t : Renderer) → v .kind (m .next) ≤ INDENT-NEXT → f .row ≡ m .next → f .early ≡ false → Fine (opened m f (suc (m .next)) t) × (left stop (opened m f (suc (m .next)) t) < left stop m)
+    block-fine : (f : Frame) (t : Renderer) → v .kind (m .next) ≤ INDENT-NEXT → f .row ≡ m .next → f .first ≡ false
+        → Fine (opened m f (suc (m .next)) t) × (left stop (opened m f (suc (m .next)) t) < left stop m)
     block-fine f t k e y =
-        let x = at-block v pg stop (m .frames) (m .depth) (m .next) f a h k e y in
-        (subst (λ (n : ℕ). At v stop (set (m .frames) (m .depth) f) n (suc (m .next))) (add-one (m .depth)) (subst (λ (n : ℕ). At v stop (set (m .frames) (m .depth) f) (m .depth + 1) n) (add-one (m .next)) x), less-open f (suc (m .next)) (omega arith))
+        let x = at-block v pg stop (m .frames) (m .depth) (m .next) f a h k e y in (
+          subst (λ (n : ℕ). At v stop (set (m .frames) (m .depth) f) n (suc (m .next))) (add-one (m .depth))
+              (subst (λ (n : ℕ). At v stop (set (m .frames) (m .depth) f) (m .depth + 1) n) (add-one (m .next)) x),
+          less-open f (suc (m .next)) (omega arith),
+        )
 
     group-fine : v .kind (m .next) ≡ GROUP → Fine (enterGroup v pg m) × (left stop (enterGroup v pg m) < left stop m)
     unfolding enterGroup
@@ -155,10 +170,20 @@ module _ (v : View) (pg : Page) (stop : ℕ) where
         w : Bool
         w = wrapAt (m .frames) (m .depth)
 
-        go : (b : Bool) → Fine (cond b (opened m (frameOf (m .next) w true false) (suc (m .next)) (m .state)) (opened m (frameOf (m .next) w false false) (v .second (m .next)) (m .state)))
-            × (left stop (cond b (opened m (frameOf (m .next) w true false) (suc (m .next)) (m .state)) (opened m (frameOf (m .next) w false false) (v .second (m .next)) (m .state))) < left stop m)
-        go true = (at-first v pg stop (m .frames) (m .depth) (m .next) (frameOf (m .next) w true false) a h k refl refl, less-open (frameOf (m .next) w true false) (suc (m .next)) (omega arith))
-        go false = (at-second v pg stop (m .frames) (m .depth) (m .next) (frameOf (m .next) w false false) a h k refl refl, less-open (frameOf (m .next) w false false) (v .second (m .next)) (let u = nests-two (a .good) h k .0 .up in omega arith))
+        go : (b : Bool)
+            → Fine (cond b (opened m (frameOf (m .next) w true false) (suc (m .next)) (m .state))
+            (opened m (frameOf (m .next) w false false) (v .second (m .next)) (m .state)))
+            × (left stop (cond b (opened m (frameOf (m .next) w true false) (suc (m .next)) (m .state))
+            (opened m (frameOf (m .next) w false false) (v .second (m .next)) (m .state)))
+            < left stop m)
+        go true = (
+          at-first v pg stop (m .frames) (m .depth) (m .next) (frameOf (m .next) w true false) a h k refl refl,
+          less-open (frameOf (m .next) w true false) (suc (m .next)) (omega arith),
+        )
+        go false = (
+          at-second v pg stop (m .frames) (m .depth) (m .next) (frameOf (m .next) w false false) a h k refl refl,
+          less-open (frameOf (m .next) w false false) (v .second (m .next)) (let u = nests-two (a .good) h k .0 .up in omega arith),
+        )
 
     call-fine : v .kind (m .next) ≡ CALL → Fine (enterCall v pg m) × (left stop (enterCall v pg m) < left stop m)
     unfolding enterCall
@@ -187,43 +212,50 @@ module _ (v : View) (pg : Page) (stop : ℕ) where
 
     leave-same : means (leave v pg m k) ≡ meaning v pg stop (m .frames) (suc k) (m .next) (m .state)
     unfolding leave partEnd
-    leave-same = go (eqb (v .kind (frameAt (m .frames) k .row)) CALL && frameAt (m .frames) k .early) refl
+    leave-same = go (eqb (v .kind (frameAt (m .frames) k .row)) CALL && frameAt (m .frames) k .first) refl
       where
         c : Bool
         c = groupWraps pg (nodesAt v (m .next) (v .after (frameAt (m .frames) k .row))) (m .state)
 
         on : Machine
-        on = reopened m k (frameOf (frameAt (m .frames) k .row) c false (frameAt (m .frames) k .deep)) (insert c (v .number2 (frameAt (m .frames) k .row)) (m .state))
+        on =
+            reopened m k (frameOf (frameAt (m .frames) k .row) c false (frameAt (m .frames) k .deeper))
+            (insert c (v .number2 (frameAt (m .frames) k .row)) (m .state))
 
         off : Machine
         off = closedTo m k (v .after (frameAt (m .frames) k .row)) (closing v pg (frameAt (m .frames) k) (m .state))
 
-        go : (b : Bool) → (eqb (v .kind (frameAt (m .frames) k .row)) CALL && frameAt (m .frames) k .early) ≡ b → means (cond b on off) ≡ meaning v pg stop (m .frames) (suc k) (m .next) (m .state)
+        go : (b : Bool) → (eqb (v .kind (frameAt (m .frames) k .row)) CALL && frameAt (m .frames) k .first) ≡ b
+            → means (cond b on off) ≡ meaning v pg stop (m .frames) (suc k) (m .next) (m .state)
         go true q =
-            let x = both (eqb (v .kind (frameAt (m .frames) k .row)) CALL) (frameAt (m .frames) k .early) q in
-            call-on v pg stop (m .frames) k (m .next) (m .state) c roomy-top (eqb-true (v .kind (frameAt (m .frames) k .row)) 11 (x .0)) (x .1) (e ∙ rw (x .1)) refl
+            let x = both (eqb (v .kind (frameAt (m .frames) k .row)) CALL) (frameAt (m .frames) k .first) q in
+            call-on v pg stop (m .frames) k (m .next) (m .state) c roomy-top
+            (eqb-true (v .kind (frameAt (m .frames) k .row)) 11 (x .0)) (x .1) (e ∙ rw (x .1)) refl
         go false q = sym (pop v pg stop (m .frames) k (m .next) (m .state) (omega arith))
 
     leave-fine : Fine (leave v pg m k) × (left stop (leave v pg m k) < (stop - m .next) * 3 + weight (m .frames) (suc k))
     unfolding leave partEnd
-    leave-fine = go (eqb (v .kind (frameAt (m .frames) k .row)) CALL && frameAt (m .frames) k .early) refl
+    leave-fine = go (eqb (v .kind (frameAt (m .frames) k .row)) CALL && frameAt (m .frames) k .first) refl
       where
         c : Bool
         c = groupWraps pg (nodesAt v (m .next) (v .after (frameAt (m .frames) k .row))) (m .state)
 
         on : Machine
-        on = reopened m k (frameOf (frameAt (m .frames) k .row) c false (frameAt (m .frames) k .deep)) (insert c (v .number2 (frameAt (m .frames) k .row)) (m .state))
+        on =
+            reopened m k (frameOf (frameAt (m .frames) k .row) c false (frameAt (m .frames) k .deeper))
+            (insert c (v .number2 (frameAt (m .frames) k .row)) (m .state))
 
         off : Machine
         off = closedTo m k (v .after (frameAt (m .frames) k .row)) (closing v pg (frameAt (m .frames) k) (m .state))
 
-        go : (b : Bool) → (eqb (v .kind (frameAt (m .frames) k .row)) CALL && frameAt (m .frames) k .early) ≡ b → Fine (cond b on off) × (left stop (cond b on off) < (stop - m .next) * 3 + weight (m .frames) (suc k))
+        go : (b : Bool) → (eqb (v .kind (frameAt (m .frames) k .row)) CALL && frameAt (m .frames) k .first) ≡ b
+            → Fine (cond b on off) × (left stop (cond b on off) < (stop - m .next) * 3 + weight (m .frames) (suc k))
         go true q =
-            let x = both (eqb (v .kind (frameAt (m .frames) k .row)) CALL) (frameAt (m .frames) k .early) q in
-            let y : oneIf (frameAt (m .frames) k .early) ≡ 1 = ap oneIf (x .1) in
-            let w = weight-top v pg stop (m .frames) k (frameOf (frameAt (m .frames) k .row) c false (frameAt (m .frames) k .deep)) roomy-top in
+            let x = both (eqb (v .kind (frameAt (m .frames) k .row)) CALL) (frameAt (m .frames) k .first) q in
+            let y : oneIf (frameAt (m .frames) k .first) ≡ 1 = ap oneIf (x .1) in
+            let w = weight-top v pg stop (m .frames) k (frameOf (frameAt (m .frames) k .row) c false (frameAt (m .frames) k .deeper)) roomy-top in
             let u = weight-suc (m .frames) k in
-            (at-on v pg stop (m .frames) k (m .next) (frameOf (frameAt (m .frames) k .row) c false (frameAt (m .frames) k .deep)) a e refl refl, omega arith)
+            (at-on v pg stop (m .frames) k (m .next) (frameOf (frameAt (m .frames) k .row) c false (frameAt (m .frames) k .deeper)) a e refl refl, omega arith)
         go false q =
             let u = weight-suc (m .frames) k in
             let g = nests-le (at-top-suc v pg stop (m .frames) k (m .next) a .later) in
@@ -308,7 +340,8 @@ module _ (v : View) (pg : Page) (stop : ℕ) where
       let i : m .next ≡ stop = omega arith in
       rw (eq-eqb (m .depth) 0 d, eq-eqb (m .next) stop i)
 
-  run-step : (m : Machine) (f : ℕ) (b : Bool) → isDone m ≡ b → Fine m → left stop m ≤ suc f → (Fine (turn v pg m) → left stop (turn v pg m) ≤ f → run f (turn v pg m) .state ≡ means (turn v pg m))
+  run-step : (m : Machine) (f : ℕ) (b : Bool) → isDone m ≡ b → Fine m → left stop m ≤ suc f
+      → (Fine (turn v pg m) → left stop (turn v pg m) ≤ f → run f (turn v pg m) .state ≡ means (turn v pg m))
       → cond b m (run f (turn v pg m)) .state ≡ means m
   run-step m f true q a l rec = sym (done-means m q)
   run-step m f false q a l rec = let t = turned m a q in let y = t .less in rec (t .fine) (omega arith) ∙ t .same

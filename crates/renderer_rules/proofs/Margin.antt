@@ -8,11 +8,11 @@ use mathlib.Core.List.{List, [], _∷_, _++_}
 use lib.ListN.{replicate}
 use lib.Dec.{ltb}
 use borrow.Author.Tests.{ltb-true, ltb-false}
-use Rattle.rows.specs.Node.{Node, Nodes, group, indent, indentNext, wrapParent, comment as commentNode, str, ascii, line, emptyLine, lineOrSpace, ifWrap, call, none}
-use Rattle.rows.specs.Node.{_then_, wrapped}
+use Rattle.rows.specs.Node.{Node, Nodes, group, indent, indentNext, wrapParent, comment as commentNode, str}
+use Rattle.rows.specs.Node.{ascii, line, emptyLine, lineOrSpace, ifWrap, call, none, _then_, wrapped}
 use Rattle.renderer_rules.specs.declared.Pen.{Pen}
-use Rattle.renderer_rules.specs.Renderer.{Page, Renderer, withNextIndent, onPen, pushStr, atColumn, newLine, margin, comment, text, insert, indentMore, indentLess, nextIndentMore}
-use Rattle.renderer_rules.specs.Renderer.{nextIndentLess, groupWraps, trailingCall, calleeWraps, renderNode, renderNodes}
+use Rattle.renderer_rules.specs.Renderer.{Page, Renderer, withNextIndent, onPen, pushStr, atColumn, newLine, margin, comment, text, insert, indentMore}
+use Rattle.renderer_rules.specs.Renderer.{indentLess, nextIndentMore, nextIndentLess, groupWraps, trailingCall, calleeWraps, renderNode, renderNodes}
 
 -- the sum is the same, and `indent` is no smaller
 pub record Kept (s t : Renderer) : Type 0 where
@@ -49,7 +49,8 @@ text-kept : (t : List ℕ) (w : ℕ) (s : Renderer) → Kept s (text t w s)
 unfolding text
 text-kept t w s =
     let u = cond (ltb 0 (s .pen .column .0)) s (margin s) in
-    after (cond-kept (ltb 0 (s .pen .column .0)) s s (margin s) (still s) (margin-kept s)) (after (push-kept t u) (column-kept (u .pen .column .0 + w) (pushStr t u)))
+    after (cond-kept (ltb 0 (s .pen .column .0)) s s (margin s) (still s) (margin-kept s))
+    (after (push-kept t u) (column-kept (u .pen .column .0 + w) (pushStr t u)))
 
 comment-kept : (t : List ℕ) (s : Renderer) → Kept s (comment t s)
 unfolding comment
@@ -91,7 +92,8 @@ mutual
   render-kept line pg w s = cond-kept w s (newLine s) s (line-kept s) (still s)
   render-kept emptyLine pg w s = after (push-kept (0x0A ∷ []) s) (line-kept (pushStr (0x0A ∷ []) s))
   render-kept lineOrSpace pg w s = cond-kept w s (newLine s) (text (0x20 ∷ []) 1 s) (line-kept s) (text-kept (0x20 ∷ []) 1 s)
-  render-kept (ifWrap n a b) pg w s = cond-kept (wrapped (s .marks) n) s (renderNode pg a w s) (renderNode pg b w s) (render-kept a pg w s) (render-kept b pg w s)
+  render-kept (ifWrap n a b) pg w s =
+      cond-kept (wrapped (s .marks) n) s (renderNode pg a w s) (renderNode pg b w s) (render-kept a pg w s) (render-kept b pg w s)
   render-kept (call n e k a) pg w s =
       let t = trailingCall pg e a s in
       let b = calleeWraps pg t e a s in

@@ -113,7 +113,8 @@ module _ (v : View) (pg : Page) (stop : ℕ) where
       (rw (node-next v i k, k))
 
   -- an IfWrap has two parts, each one row with what is below it
-  single : (i : ℕ) → RangeIn v i (v .after i) → (w : Bool) (s : Renderer) → renderNodes pg (nodesAt v i (v .after i)) w s ≡ renderNode pg (firstOf (nodesAt v i (v .after i))) w s
+  single : (i : ℕ) → RangeIn v i (v .after i) → (w : Bool) (s : Renderer)
+      → renderNodes pg (nodesAt v i (v .after i)) w s ≡ renderNode pg (firstOf (nodesAt v i (v .after i))) w s
   unfolding renderNodes
   single i h w s = rw (nodes-some v i (v .after i) h, nodes-none v (v .after i) (v .after i) (omega arith))
 
@@ -123,7 +124,8 @@ module _ (v : View) (pg : Page) (stop : ℕ) where
   unfolding closing partEnd renderNode
   open-if-first fs d i s h w k t m =
       pushed fs d i (suc i) (frameOf i (wrapAt fs d) true false) s s h refl w
-      (rw (node-if v i k (record { up = omega arith; to = omega arith }), k, m) (rw (← t .first) (single (suc i) (record { up = omega arith; to = omega arith }) (wrapAt fs d) s)))
+      (rw (node-if v i k (record { up = omega arith; to = omega arith }), k, m)
+      (rw (← t .first) (single (suc i) (record { up = omega arith; to = omega arith }) (wrapAt fs d) s)))
 
   pub open-if-second : (fs : List Frame) (d i : ℕ) (s : Renderer) → d < length fs → RangeIn v i (partLimit v stop fs d) → v .kind i ≡ IF-WRAP → TwoParts v i
       → wrapped (s .marks) (v .number i) ≡ false
@@ -131,7 +133,8 @@ module _ (v : View) (pg : Page) (stop : ℕ) where
   unfolding closing partEnd renderNode
   open-if-second fs d i s h w k t m =
       pushed fs d i (v .second i) (frameOf i (wrapAt fs d) false false) s s h refl w
-      (rw (node-if v i k (record { up = omega arith; to = omega arith }), k, m) (rw (← t .second) (single (v .second i) (record { up = omega arith; to = omega arith }) (wrapAt fs d) s)))
+      (rw (node-if v i k (record { up = omega arith; to = omega arith }), k, m)
+      (rw (← t .second) (single (v .second i) (record { up = omega arith; to = omega arith }) (wrapAt fs d) s)))
 
   pub open-call : (fs : List Frame) (d i : ℕ) (s : Renderer) (t b : Bool) → d < length fs → RangeIn v i (partLimit v stop fs d) → v .kind i ≡ CALL → Split v i
       → t ≡ trailingCall pg (nodesAt v (suc i) (v .second i)) (nodesAt v (v .second i) (v .after i)) s
@@ -143,11 +146,12 @@ module _ (v : View) (pg : Page) (stop : ℕ) where
       (rw (node-call v i k p, k, q, e))
 
   -- the callee is done: the arguments' group is opened
-  pub call-on : (fs : List Frame) (d i : ℕ) (s : Renderer) (c : Bool) → d < length fs → v .kind (frameAt fs d .row) ≡ CALL → frameAt fs d .early ≡ true
+  pub call-on : (fs : List Frame) (d i : ℕ) (s : Renderer) (c : Bool) → d < length fs → v .kind (frameAt fs d .row) ≡ CALL → frameAt fs d .first ≡ true
       → i ≡ v .second (frameAt fs d .row)
       → c ≡ groupWraps pg (nodesAt v i (v .after (frameAt fs d .row))) s
-      → meaning (set fs d (frameOf (frameAt fs d .row) c false (frameAt fs d .deep))) (suc d) i (insert c (v .number2 (frameAt fs d .row)) s) ≡ meaning fs (suc d) i s
+      → meaning (set fs d (frameOf (frameAt fs d .row) c false (frameAt fs d .deeper))) (suc d) i (insert c (v .number2 (frameAt fs d .row)) s)
+      ≡ meaning fs (suc d) i s
   unfolding closing partEnd renderNode
   call-on fs d i s c h k y e q =
-      opened fs d i (frameOf (frameAt fs d .row) c false (frameAt fs d .deep)) (insert c (v .number2 (frameAt fs d .row)) s) h
+      opened fs d i (frameOf (frameAt fs d .row) c false (frameAt fs d .deeper)) (insert c (v .number2 (frameAt fs d .row)) s) h
       ∙ sym (pop fs d i s (rw (y, e) (omega arith)) ∙ rw (k, y, q, e))

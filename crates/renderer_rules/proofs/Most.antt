@@ -1,4 +1,4 @@
--- Rows that nest renderNode to no more bytes than their sum, and the start of the first line.
+-- Rows that nest are rendered to no more bytes than their sum, and the start of the first line.
 -- Assumes nothing.
 use mathlib.Core.Path.{_≡_, refl, ap, _∙_}
 use Prim.Native.Nat.{ℕ, zero, suc, _+_, _*_, _-_, _≤_, _<_}
@@ -10,8 +10,8 @@ use lib.Dec.{ltb}
 use borrow.Author.Tests.{ltb-true, ltb-false}
 use Rattle.rows.specs.Kinds.{CALL}
 use Rattle.rows.specs.Places.{KIND}
-use Rattle.rows.specs.Node.{Text, Node, Nodes, group, indent, indentNext, wrapParent, comment as commentNode, str, ascii, line, emptyLine, lineOrSpace, ifWrap, call, none}
-use Rattle.rows.specs.Node.{_then_, wrapped}
+use Rattle.rows.specs.Node.{Text, Node, Nodes, group, indent, indentNext, wrapParent, comment as commentNode}
+use Rattle.rows.specs.Node.{str, ascii, line, emptyLine, lineOrSpace, ifWrap, call, none, _then_, wrapped}
 use Rattle.rows.specs.Rows.{size, sizes}
 use Rattle.rows.specs.View.{View, cell, viewOf, firstOf, nodesAt, nodeAt}
 use Rattle.rows.specs.Nesting.{RangeIn, Split, Nests, over, leaf, block, two, pair}
@@ -22,8 +22,8 @@ use Rattle.renderer_rules.specs.Most.{rowMost, rowsMost}
 use Rattle.rows.specs.Texts.{originText}
 use Rattle.renderer_rules.specs.Page.{textBytes, pageOf}
 use Rattle.renderer_rules.specs.declared.Pen.{Pen}
-use Rattle.renderer_rules.specs.Renderer.{Page, Renderer, withNextIndent, onPen, pushStr, atColumn, newLine, margin, comment, text, insert, indentMore, indentLess, nextIndentMore}
-use Rattle.renderer_rules.specs.Renderer.{nextIndentLess, groupWraps, trailingCall, calleeWraps, renderNode, renderNodes}
+use Rattle.renderer_rules.specs.Renderer.{Page, Renderer, withNextIndent, onPen, pushStr, atColumn, newLine, margin, comment, text, insert, indentMore}
+use Rattle.renderer_rules.specs.Renderer.{indentLess, nextIndentMore, nextIndentLess, groupWraps, trailingCall, calleeWraps, renderNode, renderNodes}
 use Rattle.renderer_rules.proofs.Margin.{render-kept, renders-kept}
 
 -- ---- a sum over nodes, where lines start m steps in
@@ -114,7 +114,8 @@ text-adds t w s = go (ltb 0 (s .pen .column .0)) refl
     wide true e h = omega arith
     wide false e h = let g = ltb-false 0 (s .pen .column .0 + w) e in omega arith
 
-    start : (c : Bool) → ltb 0 (4 * s .pen .indent + w) ≡ c → 4 * s .pen .indent + cond c 0 (4 * (s .pen .indent + s .pen .«next_indent»)) ≤ 4 * (s .pen .indent + s .pen .«next_indent»)
+    start : (c : Bool) → ltb 0 (4 * s .pen .indent + w) ≡ c
+        → 4 * s .pen .indent + cond c 0 (4 * (s .pen .indent + s .pen .«next_indent»)) ≤ 4 * (s .pen .indent + s .pen .«next_indent»)
     start true e = omega arith
     start false e = let g = ltb-false 0 (4 * s .pen .indent + w) e in omega arith
 
@@ -174,17 +175,29 @@ more false a b h = omega arith
 
 in-adds : (b : Bool) (s : Renderer) → Adds s (onPen (indentMore b) s) 4
 unfolding indentMore ahead
-in-adds true s = record { most = let h = more (ltb 0 (s .pen .column .0)) (s .pen .indent + 1 + s .pen .«next_indent») (s .pen .indent + s .pen .«next_indent») (omega arith) in omega arith }
+in-adds true s = record {
+  most =
+      let h = more (ltb 0 (s .pen .column .0)) (s .pen .indent + 1 + s .pen .«next_indent») (s .pen .indent + s .pen .«next_indent») (omega arith) in
+      omega arith;
+}
 in-adds false s = record { most = omega arith }
 
 out-adds : (b : Bool) (s : Renderer) → Adds s (onPen (indentLess b) s) 0
 unfolding indentLess ahead
-out-adds true s = record { most = let h = less (ltb 0 (s .pen .column .0)) (s .pen .indent - 1 + s .pen .«next_indent») (s .pen .indent + s .pen .«next_indent») (omega arith) in omega arith }
+out-adds true s = record {
+  most =
+      let h = less (ltb 0 (s .pen .column .0)) (s .pen .indent - 1 + s .pen .«next_indent») (s .pen .indent + s .pen .«next_indent») (omega arith) in
+      omega arith;
+}
 out-adds false s = record { most = omega arith }
 
 next-in-adds : (b : Bool) (s : Renderer) → Adds s (onPen (nextIndentMore b) s) 4
 unfolding nextIndentMore ahead
-next-in-adds true s = record { most = let h = more (ltb 0 (s .pen .column .0)) (s .pen .indent + (s .pen .«next_indent» + 1)) (s .pen .indent + s .pen .«next_indent») (omega arith) in omega arith }
+next-in-adds true s = record {
+  most =
+      let h = more (ltb 0 (s .pen .column .0)) (s .pen .indent + (s .pen .«next_indent» + 1)) (s .pen .indent + s .pen .«next_indent») (omega arith) in
+      omega arith;
+}
 next-in-adds false s = record { most = omega arith }
 
 next-out-adds : (b : Bool) (s : Renderer) → Adds s (onPen (nextIndentLess b) s) 0
@@ -192,7 +205,11 @@ unfolding nextIndentLess ahead
 next-out-adds true s = go (ltb 0 (s .pen .«next_indent»))
   where
     go : (c : Bool) → Adds s (onPen (λ (p : Pen). cond c (withNextIndent (p .«next_indent» - 1) p) (indentLess true p)) s) 0
-    go true = record { most = let h = less (ltb 0 (s .pen .column .0)) (s .pen .indent + (s .pen .«next_indent» - 1)) (s .pen .indent + s .pen .«next_indent») (omega arith) in omega arith }
+    go true = record {
+      most =
+          let h = less (ltb 0 (s .pen .column .0)) (s .pen .indent + (s .pen .«next_indent» - 1)) (s .pen .indent + s .pen .«next_indent») (omega arith) in
+          omega arith;
+    }
     go false = out-adds true s
 next-out-adds false s = record { most = omega arith }
 
@@ -200,16 +217,19 @@ push-sum : (t : List ℕ) (m : ℕ) (s : Renderer) → s .pen .indent + s .pen .
 unfolding pushStr
 push-sum t m s h = h
 
-insert-sum : (n : ℕ) (b : Bool) (m : ℕ) (s : Renderer) → s .pen .indent + s .pen .«next_indent» ≤ m → insert b n s .pen .indent + insert b n s .pen .«next_indent» ≤ m
+insert-sum : (n : ℕ) (b : Bool) (m : ℕ) (s : Renderer) → s .pen .indent + s .pen .«next_indent» ≤ m
+    → insert b n s .pen .indent + insert b n s .pen .«next_indent» ≤ m
 unfolding insert
 insert-sum n b m s h = h
 
-in-sum : (b : Bool) (m : ℕ) (s : Renderer) → s .pen .indent + s .pen .«next_indent» ≤ m → indentMore b (s .pen) .indent + indentMore b (s .pen) .«next_indent» ≤ suc m
+in-sum : (b : Bool) (m : ℕ) (s : Renderer) → s .pen .indent + s .pen .«next_indent» ≤ m
+    → indentMore b (s .pen) .indent + indentMore b (s .pen) .«next_indent» ≤ suc m
 unfolding indentMore
 in-sum true m s h = omega arith
 in-sum false m s h = omega arith
 
-next-sum : (b : Bool) (m : ℕ) (s : Renderer) → s .pen .indent + s .pen .«next_indent» ≤ m → nextIndentMore b (s .pen) .indent + nextIndentMore b (s .pen) .«next_indent» ≤ suc m
+next-sum : (b : Bool) (m : ℕ) (s : Renderer) → s .pen .indent + s .pen .«next_indent» ≤ m
+    → nextIndentMore b (s .pen) .indent + nextIndentMore b (s .pen) .«next_indent» ≤ suc m
 unfolding nextIndentMore
 next-sum true m s h = omega arith
 next-sum false m s h = omega arith
@@ -225,7 +245,8 @@ module _ (pg : Page) (said : (t : Text) → length (pg .bytes t) ≤ t .size) wh
         adds-more (costs ns m) (omega arith) (adds-then (insert-adds n b s) (renders-adds ns b m (insert b n s) (insert-sum n b m s h)))
     render-adds (indent ns) w m s h =
         adds-more (4 + costs ns (suc m)) (omega arith)
-        (adds-then (adds-then (in-adds w s) (renders-adds ns w (suc m) (onPen (indentMore w) s) (in-sum w m s h))) (out-adds w (renderNodes pg ns w (onPen (indentMore w) s))))
+        (adds-then (adds-then (in-adds w s) (renders-adds ns w (suc m) (onPen (indentMore w) s) (in-sum w m s h)))
+        (out-adds w (renderNodes pg ns w (onPen (indentMore w) s))))
     render-adds (indentNext ns) w m s h =
         adds-more (4 + costs ns (suc m)) (omega arith)
         (adds-then (adds-then (next-in-adds w s) (renders-adds ns w (suc m) (onPen (nextIndentMore w) s) (next-sum w m s h)))

@@ -9,8 +9,8 @@ use lib.ListN.{length, getD, length-set}
 use lib.Seq.{getD-set-other}
 use lib.Dec.{ltb, eqb}
 use borrow.Author.Tests.{eqb-false}
-use Rattle.rows.specs.Node.{Node, Nodes, group, indent, indentNext, wrapParent, comment as commentNode, str, ascii, line, emptyLine, lineOrSpace, ifWrap, call, none}
-use Rattle.rows.specs.Node.{_then_, wrapped}
+use Rattle.rows.specs.Node.{Node, Nodes, group, indent, indentNext, wrapParent, comment as commentNode, str}
+use Rattle.rows.specs.Node.{ascii, line, emptyLine, lineOrSpace, ifWrap, call, none, _then_, wrapped}
 use Rattle.renderer_rules.specs.Renderer.{Page, Renderer, onPen, pushStr, atColumn, newLine, margin, comment, text, insert, indentMore, nextIndentMore}
 use Rattle.renderer_rules.specs.Renderer.{groupWraps, trailingCall, calleeWraps, renderNode, renderNodes}
 

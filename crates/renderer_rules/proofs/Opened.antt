@@ -38,10 +38,12 @@ module _ (v : View) (pg : Page) (stop : ℕ) where
         under-set fs k d f (omega arith) (u .1),
       )
 
-  pub at-leaf : (fs : List Frame) (d i : ℕ) → At v stop fs d i → i < partLimit v stop fs d → WRAP-PARENT ≤ v .kind i → v .kind i ≤ LINE-OR-SPACE → At v stop fs d (i + 1)
+  pub at-leaf : (fs : List Frame) (d i : ℕ) → At v stop fs d i → i < partLimit v stop fs d
+      → WRAP-PARENT ≤ v .kind i → v .kind i ≤ LINE-OR-SPACE → At v stop fs d (i + 1)
   at-leaf fs d i a h k l = rw (add-one i) (record { good = nests-leaf (a .good) h k l .rest; under = a .under; low = a .low; size = a .size; deep = a .deep })
 
-  pub at-block : (fs : List Frame) (d i : ℕ) (f : Frame) → At v stop fs d i → i < partLimit v stop fs d → v .kind i ≤ INDENT-NEXT → f .row ≡ i → f .early ≡ false → At v stop (set fs d f) (d + 1) (i + 1)
+  pub at-block : (fs : List Frame) (d i : ℕ) (f : Frame) → At v stop fs d i → i < partLimit v stop fs d
+      → v .kind i ≤ INDENT-NEXT → f .row ≡ i → f .first ≡ false → At v stop (set fs d f) (d + 1) (i + 1)
   unfolding Under partEnd
   at-block fs d i f a h k e y =
       let b = nests-block (a .good) h k in
@@ -55,7 +57,10 @@ module _ (v : View) (pg : Page) (stop : ℕ) where
       rw (add-one i, add-one d)
       (record {
         good = rw q (b .parts);
-        under = (record { row = rw (s, e) (omega arith); later = rw (s, y, e) (over refl); after = rw (p, s, e) (b .rest); low = rw p (a .low) }, under-set fs d d f (omega arith) (a .under));
+        under = (
+          record { row = rw (s, e) (omega arith); later = rw (s, y, e) (over refl); after = rw (p, s, e) (b .rest); low = rw p (a .low) },
+          under-set fs d d f (omega arith) (a .under),
+        );
         low = rw q (omega arith);
         size = length-set fs d f ∙ a .size;
         deep = omega arith;
@@ -92,7 +97,8 @@ module _ (v : View) (pg : Page) (stop : ℕ) where
   wrapAt-pos fs zero h = absurd (omega arith)
   wrapAt-pos fs (suc d) h = let e : suc d - 1 ≡ d = omega arith in rw e
 
-  pub advance-leaf : (fs : List Frame) (d i : ℕ) (s : Renderer) → At v stop fs d i → i < partLimit v stop fs d → WRAP-PARENT ≤ v .kind i → v .kind i ≤ LINE-OR-SPACE
+  pub advance-leaf : (fs : List Frame) (d i : ℕ) (s : Renderer) → At v stop fs d i → i < partLimit v stop fs d
+      → WRAP-PARENT ≤ v .kind i → v .kind i ≤ LINE-OR-SPACE
       → meaning v pg stop fs d (i + 1) (renderNode pg (nodeAt v i) (wrapAt fs d) s) ≡ meaning v pg stop fs d i s
   advance-leaf fs d i s a h k l =
       sym
@@ -128,26 +134,30 @@ module _ (v : View) (pg : Page) (stop : ℕ) where
         deep = omega arith;
       }
 
-  pub at-first : (fs : List Frame) (d i : ℕ) (f : Frame) → At v stop fs d i → i < partLimit v stop fs d → v .kind i ≡ IF-WRAP → f .row ≡ i → f .early ≡ true → At v stop (set fs d f) (suc d) (suc i)
+  pub at-first : (fs : List Frame) (d i : ℕ) (f : Frame) → At v stop fs d i → i < partLimit v stop fs d
+      → v .kind i ≡ IF-WRAP → f .row ≡ i → f .first ≡ true → At v stop (set fs d f) (suc d) (suc i)
   unfolding partEnd
   at-first fs d i f a h k e y =
       let g = nests-two (a .good) h k .1 in
       at-open fs d i (suc i) f a h e (rw (y, e) (g .first)) (rw (y, e) (g .second))
 
-  pub at-second : (fs : List Frame) (d i : ℕ) (f : Frame) → At v stop fs d i → i < partLimit v stop fs d → v .kind i ≡ IF-WRAP → f .row ≡ i → f .early ≡ false → At v stop (set fs d f) (suc d) (v .second i)
+  pub at-second : (fs : List Frame) (d i : ℕ) (f : Frame) → At v stop fs d i → i < partLimit v stop fs d
+      → v .kind i ≡ IF-WRAP → f .row ≡ i → f .first ≡ false → At v stop (set fs d f) (suc d) (v .second i)
   unfolding partEnd
   at-second fs d i f a h k e y =
       let g = nests-two (a .good) h k .1 in
       at-open fs d i (v .second i) f a h e (rw (y, e) (g .second)) (rw (y, e) (over refl))
 
-  pub at-call : (fs : List Frame) (d i : ℕ) (f : Frame) → At v stop fs d i → i < partLimit v stop fs d → v .kind i ≡ CALL → f .row ≡ i → f .early ≡ true → At v stop (set fs d f) (suc d) (suc i)
+  pub at-call : (fs : List Frame) (d i : ℕ) (f : Frame) → At v stop fs d i → i < partLimit v stop fs d
+      → v .kind i ≡ CALL → f .row ≡ i → f .first ≡ true → At v stop (set fs d f) (suc d) (suc i)
   unfolding partEnd
   at-call fs d i f a h k e y =
       let g = nests-pair (a .good) h k in
       at-open fs d i (suc i) f a h e (rw (y, e) (g .first)) (rw (y, e) (g .second))
 
   -- the callee is done: the same row stays open at its second part
-  pub at-on : (fs : List Frame) (d i : ℕ) (f : Frame) → At v stop fs (suc d) i → i ≡ partEnd v (frameAt fs d) → f .row ≡ frameAt fs d .row → f .early ≡ false → At v stop (set fs d f) (suc d) i
+  pub at-on : (fs : List Frame) (d i : ℕ) (f : Frame) → At v stop fs (suc d) i → i ≡ partEnd v (frameAt fs d)
+      → f .row ≡ frameAt fs d .row → f .first ≡ false → At v stop (set fs d f) (suc d) i
   unfolding Under partEnd
   at-on fs d i f a h e y =
       let o = at-top-suc fs d i a in

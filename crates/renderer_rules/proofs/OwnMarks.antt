@@ -11,11 +11,12 @@ use lib.ListN.{length, getD, set, length-set, List·getD-eq-default}
 use lib.Seq.{getD-set-same, getD-set-other}
 use lib.Dec.{ltb, eqb}
 use borrow.Author.Tests.{eqb-true, eqb-false}
-use Rattle.rows.specs.Node.{Text, Node, Nodes, group, indent, indentNext, wrapParent, comment as commentNode, str, ascii, line, emptyLine, lineOrSpace, ifWrap, call}
-use Rattle.rows.specs.Node.{none, _then_, wrapped, width, widths, mustWraps}
+use Rattle.rows.specs.Node.{Text, Node, Nodes, group, indent, indentNext, wrapParent, comment as commentNode, str, ascii}
+use Rattle.rows.specs.Node.{line, emptyLine, lineOrSpace, ifWrap, call, none, _then_, wrapped, width, widths, mustWraps}
 use Rattle.renderer_rules.specs.declared.Pen.{Pen}
-use Rattle.renderer_rules.specs.Renderer.{Page, Renderer, withMarks, onPen, pushStr, atColumn, newLine, margin, comment, text, virtualColumn, insert, indentMore, indentLess}
-use Rattle.renderer_rules.specs.Renderer.{nextIndentMore, nextIndentLess, wraps, groupWraps, trailingCall, calleeWraps, renderNode, renderNodes}
+use Rattle.renderer_rules.specs.Renderer.{Page, Renderer, withMarks, onPen, pushStr, atColumn, newLine, margin, comment, text}
+use Rattle.renderer_rules.specs.Renderer.{virtualColumn, insert, indentMore, indentLess, nextIndentMore, nextIndentLess, wraps}
+use Rattle.renderer_rules.specs.Renderer.{groupWraps, trailingCall, calleeWraps, renderNode, renderNodes}
 use Rattle.renderer_rules.proofs.Names.{names, namesIn, neither}
 use Rattle.renderer_rules.proofs.Choices.{grouped, callee, called}
 

@@ -4,9 +4,9 @@ use Prim.Native.Nat.{ℕ, zero, suc, _+_, _*_, _-_}
 use mathlib.Core.Bool.{Bool, true, false, cond, _&&_, _||_}
 use mathlib.Core.List.{List, [], _∷_}
 use mathlib.Core.Option.{Option, some, none}
-use lib.ListN.{length, getD}
+use lib.ListN.{length}
 use lib.Dec.{ltb, leb, eqb}
-use Rattle.rows.specs.Kinds.{GROUP, COMMENT, STR, ASCII, IF-WRAP, CALL}
+use Rattle.rows.specs.Kinds.{GROUP, COMMENT, STR, ASCII, IF-WRAP, CALL, caseOf}
 use Rattle.rows.specs.Places.{KIND, NUMBER, SECOND-NUMBER, SECOND, ORIGIN, START, SIZE, WIDTH, PLACES}
 use Rattle.rows.specs.Limits.{MAX-ROWS, MAX-DEPTH}
 use Rattle.rows.specs.View.{View, cell, viewOf}
@@ -35,22 +35,23 @@ isSplit v i =
 -- the parts of row i are right for its kind; there is no kind over 11
 unfoldable pub partsFit : View → ℕ → ℕ → Bool
 partsFit v i kind =
-    getD
-    (true
-    ∷ true
-    ∷ true
-    ∷ isLeaf v i
-    ∷ isLeaf v i
-    ∷ isLeaf v i
-    ∷ isLeaf v i
-    ∷ isLeaf v i
-    ∷ isLeaf v i
-    ∷ isLeaf v i
-    ∷ hasTwo v i
-    ∷ isSplit v i
-    ∷ [])
+    caseOf
+    (record {
+      group = true;
+      indent = true;
+      indentNext = true;
+      wrapParent = isLeaf v i;
+      comment = isLeaf v i;
+      str = isLeaf v i;
+      ascii = isLeaf v i;
+      line = isLeaf v i;
+      emptyLine = isLeaf v i;
+      lineOrSpace = isLeaf v i;
+      ifWrap = hasTwo v i;
+      call = isSplit v i;
+      noKind = false;
+    })
     kind
-    false
 
 -- row i, which d rows enclose, the innermost up to `end`, is right: not over 256 deep, its range nested, its parts and places right
 unfoldable pub rowFits : (ℕ → Bool) → View → ℕ → ℕ → ℕ → Bool

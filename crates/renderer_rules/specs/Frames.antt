@@ -1,4 +1,5 @@
--- The open rows of a rendering, and what they keep: the rows ahead nest, in the part that is open and behind each open row.
+-- No rule rests on this file: it is how the code renders. The open rows of a rendering, and what they keep: the rows ahead nest, in the part that
+-- is open and behind each open row.
 use Prim.Native.Nat.{ℕ, zero, suc, _≤_, _<_}
 use mathlib.Core.Path.{_≡_}
 use mathlib.Core.Bool.{Bool, true, false, cond}
@@ -11,7 +12,7 @@ use Rattle.renderer_rules.specs.declared.Frame.{Frame}
 
 -- what is read where no row is open
 abbrev pub noFrame : Frame
-noFrame = record { row = 0; wrap = false; early = false; deep = false }
+noFrame = record { row = 0; wrap = false; first = false; deeper = false }
 
 -- the open row of frame d
 abbrev pub frameAt : List Frame → ℕ → Frame
@@ -19,7 +20,7 @@ frameAt fs d = getD fs d noFrame
 
 -- where the open part of f ends
 unfoldable pub partEnd : View → Frame → ℕ
-partEnd v f = cond (f .early) (v .second (f .row)) (v .after (f .row))
+partEnd v f = cond (f .first) (v .second (f .row)) (v .after (f .row))
 
 -- whether the open part of the innermost of d open rows wraps
 unfoldable pub wrapAt : List Frame → ℕ → Bool

@@ -1,11 +1,12 @@
--- The machine: `render_node` without recursion. One turn closes the innermost open row or enters the next row.
+-- No rule rests on this file: it is how the code renders. The machine is `render_node` without recursion: one turn closes the innermost open
+-- row or enters the next row. proofs/Machine.antt proves that it does what the rules say.
 use Prim.Native.Nat.{ℕ, zero, suc}
 use mathlib.Core.Bool.{Bool, true, false, cond, not, _&&_}
-use mathlib.Core.List.{List, [], _∷_}
-use lib.ListN.{getD, set}
+use mathlib.Core.List.{List}
+use lib.ListN.{set}
 use lib.Dec.{eqb}
-use Rattle.rows.specs.Kinds.{CALL}
-use Rattle.rows.specs.Node.{Nodes, group, wrapped}
+use Rattle.rows.specs.Kinds.{CALL, caseOf}
+use Rattle.rows.specs.Node.{Node, Nodes, group, wrapped}
 use Rattle.rows.specs.View.{View, nodesAt, nodeAt}
 use Rattle.renderer_rules.specs.declared.Frame.{Frame}
 use Rattle.renderer_rules.specs.Renderer.{Page, Renderer, onPen, renderNode, groupWraps, insert, indentMore, indentLess, nextIndentMore, nextIndentLess, trailingCall, calleeWraps}
@@ -37,32 +38,33 @@ reopened m k f t = record { frames = set (m .frames) k f; depth = suc k; next = 
 abbrev pub closedTo : Machine → ℕ → ℕ → Renderer → Machine
 closedTo m k n t = record { frames = m .frames; depth = k; next = n; state = t; entered = m .entered }
 
--- an open row by its four places
+-- an open row by its four fields
 abbrev pub frameOf : ℕ → Bool → Bool → Bool → Frame
-frameOf i w e p = record { row = i; wrap = w; early = e; deep = p }
+frameOf row wrap first deeper = record { row = row; wrap = wrap; first = first; deeper = deeper }
 
--- what follows of f's row once the open part is rendered
+-- what follows of f's row once the open part is rendered: what its end takes back and, of a `Call` in its callee, the arguments before
 unfoldable pub closing : View → Page → Frame → Renderer → Renderer
 closing v pg f s =
-    getD
-    (s
-    ∷ onPen (indentLess (f .wrap)) s
-    ∷ onPen (nextIndentLess (f .wrap)) s
-    ∷ s
-    ∷ s
-    ∷ s
-    ∷ s
-    ∷ s
-    ∷ s
-    ∷ s
-    ∷ s
-    ∷ onPen (nextIndentLess (f .deep))
-    (cond (f .early) (renderNode pg (group (v .number2 (f .row)) (nodesAt v (v .second (f .row)) (v .after (f .row)))) true s) s)
-    ∷ [])
+    let arguments : Node = group (v .number2 (f .row)) (nodesAt v (v .second (f .row)) (v .after (f .row))) in
+    caseOf
+    (record {
+      group = s;
+      indent = onPen (indentLess (f .wrap)) s;
+      indentNext = onPen (nextIndentLess (f .wrap)) s;
+      wrapParent = s;
+      comment = s;
+      str = s;
+      ascii = s;
+      line = s;
+      emptyLine = s;
+      lineOrSpace = s;
+      ifWrap = s;
+      call = onPen (nextIndentLess (f .deeper)) (cond (f .first) (renderNode pg arguments true s) s);
+      noKind = s;
+    })
     (v .kind (f .row))
-    s
 
--- the firstPart part of row k, and the secondPart
+-- the first part of row k, and the second
 abbrev pub firstPart : View → ℕ → Nodes
 firstPart v k = nodesAt v (suc k) (v .second k)
 
@@ -100,18 +102,31 @@ module _ (v : View) (pg : Page) where
 
   unfoldable pub enter : Machine → Machine
   enter m =
-      getD
-      (enterGroup m ∷ enterIndent m ∷ enterNext m ∷ enterLeaf m ∷ enterLeaf m ∷ enterLeaf m ∷ enterLeaf m ∷ enterLeaf m ∷ enterLeaf m ∷ enterLeaf m ∷ enterIf m ∷ enterCall m ∷ [])
+      caseOf
+      (record {
+        group = enterGroup m;
+        indent = enterIndent m;
+        indentNext = enterNext m;
+        wrapParent = enterLeaf m;
+        comment = enterLeaf m;
+        str = enterLeaf m;
+        ascii = enterLeaf m;
+        line = enterLeaf m;
+        emptyLine = enterLeaf m;
+        lineOrSpace = enterLeaf m;
+        ifWrap = enterIf m;
+        call = enterCall m;
+        noKind = m;
+      })
       (v .kind (m .next))
-      m
 
   -- frame k is the innermost: its row is closed, or a call's arguments are opened
   unfoldable pub leave : Machine → ℕ → Machine
   leave m k =
       let f = frameAt (m .frames) k in
       let c = groupWraps pg (nodesAt v (m .next) (v .after (f .row))) (m .state) in
-      cond (eqb (v .kind (f .row)) CALL && f .early)
-      (reopened m k (frameOf (f .row) c false (f .deep)) (insert c (v .number2 (f .row)) (m .state)))
+      cond (eqb (v .kind (f .row)) CALL && f .first)
+      (reopened m k (frameOf (f .row) c false (f .deeper)) (insert c (v .number2 (f .row)) (m .state)))
       (closedTo m k (v .after (f .row)) (closing v pg f (m .state)))
 
   -- one turn, with k + 1 rows open and with none

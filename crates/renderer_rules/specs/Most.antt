@@ -1,7 +1,8 @@
--- A bound on the bytes of a text: a sum over its rows in any order. No rule of document 01; it spares a count where a text surely has room.
+-- No rule rests on this file: it spares the code a dry run where a text surely has room. A bound on the bytes of a text, a sum over its rows in
+-- any order.
 use Prim.Native.Nat.{ℕ, zero, suc, _+_, _*_, _-_}
-use mathlib.Core.List.{List, [], _∷_}
-use lib.ListN.{getD}
+use mathlib.Core.List.{List}
+use Rattle.rows.specs.Kinds.{caseOf}
 use Rattle.rows.specs.Places.{KIND, AFTER, SIZE}
 use Rattle.rows.specs.View.{cell}
 
@@ -9,22 +10,23 @@ use Rattle.rows.specs.View.{cell}
 -- it sets parts in, a step for itself and for each row inside.
 abbrev pub rowMost : ℕ → List ℕ → ℕ → ℕ → ℕ
 rowMost m store i kind =
-    getD
-    (0
-    ∷ (4 * (cell store i AFTER - i))
-    ∷ (4 * (cell store i AFTER - i))
-    ∷ 0
-    ∷ (cell store i SIZE + (2 + 4 * m))
-    ∷ cell store i SIZE
-    ∷ cell store i SIZE
-    ∷ (2 + 4 * m)
-    ∷ (2 + 4 * m)
-    ∷ (2 + 4 * m)
-    ∷ 0
-    ∷ (4 * (cell store i AFTER - i))
-    ∷ [])
+    caseOf
+    (record {
+      group = 0;
+      indent = 4 * (cell store i AFTER - i);
+      indentNext = 4 * (cell store i AFTER - i);
+      wrapParent = 0;
+      comment = cell store i SIZE + (2 + 4 * m);
+      str = cell store i SIZE;
+      ascii = cell store i SIZE;
+      line = 2 + 4 * m;
+      emptyLine = 2 + 4 * m;
+      lineOrSpace = 2 + 4 * m;
+      ifWrap = 0;
+      call = 4 * (cell store i AFTER - i);
+      noKind = 0;
+    })
     kind
-    0
 
 -- what the n rows from i on add at most
 unfoldable pub rowsMost : ℕ → ℕ → List ℕ → ℕ → ℕ

@@ -1,4 +1,4 @@
--- What the port renderNodes by: the texts that rows refer to.
+-- The page of a rendering: its width, and the bytes and the width of each text that a row refers to.
 use Prim.Native.Nat.{ℕ}
 use mathlib.Core.List.{List}
 use lib.ListN.{take, drop}

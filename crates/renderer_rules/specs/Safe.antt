@@ -1,5 +1,5 @@
--- The machine's numbers are in range: `indent` and `next_indent` together are what they were at firstPart and the steps of the open rows, so that
--- each step back finds a step to take; the column and the bytes grow by less than 2 ^ 34 a row.
+-- No rule rests on this file: it is why no sum of the code wraps. The machine's numbers are in range: `indent` and `next_indent` together are what
+-- they were at first and the steps of the open rows, so that no step back goes under 0; the column and the bytes grow by less than 2 ^ 34 a row.
 use Prim.Native.Nat.{ℕ, zero, suc, _+_, _*_, _≤_, _<_}
 use mathlib.Core.Path.{_≡_}
 use mathlib.Core.Bool.{Bool, true, false, _&&_, _||_}
@@ -24,7 +24,7 @@ oneIf false = 0
 unfoldable pub stepsBack : View → Frame → ℕ
 stepsBack v f =
     oneIf
-    ((eqb (v .kind (f .row)) INDENT && f .wrap) || ((eqb (v .kind (f .row)) INDENT-NEXT && f .wrap) || (eqb (v .kind (f .row)) CALL && f .deep)))
+    ((eqb (v .kind (f .row)) INDENT && f .wrap) || ((eqb (v .kind (f .row)) INDENT-NEXT && f .wrap) || (eqb (v .kind (f .row)) CALL && f .deeper)))
 
 unfoldable pub insOf : View → Frame → ℕ
 insOf v f = oneIf (eqb (v .kind (f .row)) INDENT && f .wrap)

@@ -8,11 +8,11 @@ pub struct Pen {
     pub column: Columns,
 }
 
-// An open row: whether its parts wrap; whether a second part is ahead (a `Call` in its callee) or is passed over (an `IfWrap` in its first
-// part); whether its end takes a step of the indent back that a `Call` made.
+// An open row: whether its parts wrap; whether the first of its two parts is open (the callee of a `Call`, with the arguments ahead; the chosen
+// part of an `IfWrap`, with the second to be passed over); whether a `Call` set its parts one step deeper, which its end takes back.
 pub struct Frame {
     pub row: u32,
     pub wrap: bool,
-    pub early: bool,
-    pub deep: bool,
+    pub first: bool,
+    pub deeper: bool,
 }

@@ -141,6 +141,15 @@ fn after_layout(d: &[u8], counts: &mut [usize], run: Run, answer: Laying) -> Run
     }
 }
 
+// The arguments of the layout call stored at `at`.
+fn layout_args(d: &[u8], at: usize) -> LayoutArgs {
+    LayoutArgs {
+        stop: long(d, past(at, STOP)),
+        close: long(d, past(at, ARGUMENT)) != 0,
+        mode: long(d, past(at, CHOICE)),
+    }
+}
+
 // Runs a layout call.
 fn lay(
     d: &[u8],
@@ -150,13 +159,8 @@ fn lay(
     counts: &mut [usize],
     run: Run,
 ) -> Run {
-    let at = run.at;
     let state = run.layout;
-    let args = LayoutArgs {
-        stop: long(d, past(at, STOP)),
-        close: long(d, past(at, ARGUMENT)) != 0,
-        mode: long(d, past(at, CHOICE)),
-    };
+    let args = layout_args(d, run.at);
     let answer = layout_call(source, image, store, state, args);
     after_layout(d, counts, run, answer)
 }
@@ -179,7 +183,37 @@ fn after_rendering(d: &[u8], counts: &mut [usize], run: Run, answer: Rendering) 
     }
 }
 
-// Runs a rendering call. Its output, which has as many bytes as the call is stored with, lies behind the texts written so far.
+// The arguments of the rendering call stored at `at`.
+fn render_args(d: &[u8], at: usize) -> RenderArgs {
+    RenderArgs {
+        stop: long(d, past(at, STOP)),
+        width: Columns(long(d, past(at, CHOICE))),
+    }
+}
+
+// Runs a rendering call with an output of the size that it is stored with.
+fn render_into(
+    d: &[u8],
+    source: &[u8],
+    image: &[u8],
+    store: &mut [u32],
+    marks: &mut [u8],
+    out: &mut [u8],
+    counts: &mut [usize],
+    run: Run,
+) -> Run {
+    let state = run.render;
+    let args = render_args(d, run.at);
+    let answer = render_call(source, image, store, marks, out, state, args);
+    after_rendering(d, counts, run, answer)
+}
+
+// A rendering call for which the replay has no room.
+fn no_room(d: &[u8], run: Run) -> Run {
+    after(run, call_end(d, run.at, RENDER), Found::Room)
+}
+
+// Runs a rendering call. Its output lies behind the texts written so far.
 fn render(
     d: &[u8],
     source: &[u8],
@@ -193,27 +227,14 @@ fn render(
     let room = long(d, past(run.at, ARGUMENT));
     let from = run.written;
     if text.len() < from {
-        return after(run, call_end(d, run.at, RENDER), Found::Room);
+        return no_room(d, run);
     }
     if text.len() - from < room {
-        return after(run, call_end(d, run.at, RENDER), Found::Room);
+        return no_room(d, run);
     }
     let to = from + room;
-    let state = run.render;
-    let args = RenderArgs {
-        stop: long(d, past(run.at, STOP)),
-        width: Columns(long(d, past(run.at, CHOICE))),
-    };
-    let answer = render_call(
-        source,
-        image,
-        store,
-        marks,
-        &mut text[from..to],
-        state,
-        args,
-    );
-    after_rendering(d, counts, run, answer)
+    let out = &mut text[from..to];
+    render_into(d, source, image, store, marks, out, counts, run)
 }
 
 // Runs the call stored at the run's place.

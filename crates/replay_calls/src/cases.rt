@@ -55,34 +55,44 @@ fn text_found(text: &[u8], written: usize, d: &[u8], at: usize) -> Found {
     bytes_found(&text[..written], d, at, Found::Text)
 }
 
-// The world after the calls, which is stored where they end, and the texts behind it.
-fn world_found(d: &[u8], store: &[u32], marks: &[u8], text: &[u8], run: Run) -> Case {
-    let at = run.at;
-    let marks_at = numbers_end(d, at);
-    let layout_at = bytes_end(d, marks_at);
-    let render_at = past(layout_at, LAYOUT);
-    let text_at = past(render_at, RENDER);
+// Where the states are stored behind a store and marks that are stored at `at`.
+fn states_at(d: &[u8], at: usize) -> usize {
+    bytes_end(d, numbers_end(d, at))
+}
+
+// The store and the marks after the calls, stored at `at`.
+fn buffers_found(d: &[u8], at: usize, store: &[u32], marks: &[u8]) -> Found {
+    first(
+        store_found(store, d, at),
+        bytes_found(marks, d, numbers_end(d, at), Found::Marks),
+    )
+}
+
+// The states after the calls, stored at `at`.
+fn states_found(d: &[u8], at: usize, run: Run) -> Found {
     let layout = run.layout;
     let render = run.render;
-    let calls = run.found;
-    let buffers = first(
-        store_found(store, d, at),
-        bytes_found(marks, d, marks_at, Found::Marks),
-    );
-    let states = first(
-        unless(
-            same_layout(layout, layout_state(d, layout_at)),
-            Found::Layout,
-        ),
+    let render_at = past(at, LAYOUT);
+    first(
+        unless(same_layout(layout, layout_state(d, at)), Found::Layout),
         unless(
             same_render(render, render_state(d, render_at)),
             Found::Rendering,
         ),
-    );
+    )
+}
+
+// The world after the calls, which is stored where they end, and the texts behind it.
+fn world_found(d: &[u8], store: &[u32], marks: &[u8], text: &[u8], run: Run) -> Case {
+    let states = states_at(d, run.at);
+    let text_at = past(states, LAYOUT + RENDER);
+    let calls = run.found;
+    let buffers = buffers_found(d, run.at, store, marks);
     let texts = text_found(text, run.written, d, text_at);
+    let left = first(states_found(d, states, run), texts);
     Case {
         next: bytes_end(d, text_at),
-        found: first(first(calls, buffers), first(states, texts)),
+        found: first(first(calls, buffers), left),
     }
 }
 
@@ -100,6 +110,13 @@ fn beginning(d: &[u8], at: usize) -> Run {
     }
 }
 
+// The store and the marks before the calls, which are stored at `at`, and the run before the first call.
+fn begin(d: &[u8], at: usize, store: &mut [u32], marks: &mut [u8]) -> Run {
+    fill(store, d, past(at, 4));
+    copy(marks, d, past(numbers_end(d, at), 4));
+    beginning(d, states_at(d, at))
+}
+
 // A case whose world before the calls is stored at `at`, with a store and marks of its size.
 fn in_world(
     d: &[u8],
@@ -111,11 +128,7 @@ fn in_world(
     text: &mut [u8],
     counts: &mut [usize],
 ) -> Case {
-    let marks_at = numbers_end(d, at);
-    let states_at = bytes_end(d, marks_at);
-    fill(store, d, past(at, 4));
-    copy(marks, d, past(marks_at, 4));
-    let before = beginning(d, states_at);
+    let before = begin(d, at, store, marks);
     let run = replay_calls(d, source, image, store, marks, text, counts, before);
     world_found(d, store, marks, text, run)
 }
@@ -128,6 +141,45 @@ fn no_room() -> Case {
     }
 }
 
+// A case with its source and image; the world before the calls is stored at `at`.
+fn of_file(
+    d: &[u8],
+    at: usize,
+    source: &[u8],
+    image: &[u8],
+    store: &mut [u32],
+    marks: &mut [u8],
+    text: &mut [u8],
+    counts: &mut [usize],
+) -> Case {
+    let numbers = long(d, at);
+    let count = long(d, numbers_end(d, at));
+    if store.len() < numbers {
+        return no_room();
+    }
+    if marks.len() < count {
+        return no_room();
+    }
+    let rows = &mut store[..numbers];
+    let used = &mut marks[..count];
+    in_world(d, at, source, image, rows, used, text, counts)
+}
+
+// A case with its source; its image is stored at `at`.
+fn of_source(
+    d: &[u8],
+    at: usize,
+    source: &[u8],
+    store: &mut [u32],
+    marks: &mut [u8],
+    text: &mut [u8],
+    counts: &mut [usize],
+) -> Case {
+    let from = start(d, at);
+    let to = end(d, from, long(d, at));
+    of_file(d, to, source, &d[from..to], store, marks, text, counts)
+}
+
 // The case stored at `at`.
 fn replay_case(
     d: &[u8],
@@ -137,28 +189,9 @@ fn replay_case(
     text: &mut [u8],
     counts: &mut [usize],
 ) -> Case {
-    let source_from = start(d, at);
-    let source_to = end(d, source_from, long(d, at));
-    let image_from = start(d, source_to);
-    let world = end(d, image_from, long(d, source_to));
-    let numbers = long(d, world);
-    let count = long(d, numbers_end(d, world));
-    if store.len() < numbers {
-        return no_room();
-    }
-    if marks.len() < count {
-        return no_room();
-    }
-    in_world(
-        d,
-        world,
-        &d[source_from..source_to],
-        &d[image_from..world],
-        &mut store[..numbers],
-        &mut marks[..count],
-        text,
-        counts,
-    )
+    let from = start(d, at);
+    let to = end(d, from, long(d, at));
+    of_source(d, to, &d[from..to], store, marks, text, counts)
 }
 
 // All cases; each that differs is shown.

@@ -8,12 +8,13 @@ use native.Mathlib.Nat.{zero-add, add-zero}
 use native.Mathlib.Omega.{arith}
 use lib.ListN.{length}
 use Rattle.refusals.specs.Refusals.{Refusal, unless}
+use Rattle.refusals.specs.Answers.{answerBy}
 use Rattle.tallies.specs.declared.Tallies.{Tallies}
 use Rattle.tallies.specs.Tallies.{freshTallies, added}
 use Rattle.tallies.specs.Order as tallied
 use Rattle.tallies.specs.Order.{refusedOn, totals}
 use Rattle.tallies.proofs.Order.{sums}
-use Rattle.figures.specs.Figures.{countAnswerBy}
+use Rattle.figures.specs.Figures.{countResult}
 use Rattle.figures.specs.Order.{File, refusalOf, figuresIn}
 use Rattle.report.specs.Report.{freshProgress, progressBy, afterFiles, AllAccounted}
 use Rattle.report.specs.declared.progress.Progress.{Progress}
@@ -45,7 +46,7 @@ Account p xs =
 account-with : (o : Option Refusal) (p : Progress) (x : File) (xs : List File) → ((q : Progress) → afterFiles q xs ≡ Account q xs)
     → (rest : (t : Tallies) → length (counted t xs) ≤ length xs)
     → let u : Tallies = unless o (p .tallies) (added (figuresIn x) (p .tallies)) in
-    afterFiles (progressBy p (countAnswerBy o (figuresIn x) (p .tallies))) xs
+    afterFiles (progressBy p (answerBy o (countResult (figuresIn x) (p .tallies)))) xs
     ≡ make (p .files + suc (length xs)) (p .refused + (suc (length xs) - length (unless o (counted u xs) (x ∷ counted u xs))))
     (totals refusalOf figuresIn u xs)
 account-with (some r) p x xs on rest =

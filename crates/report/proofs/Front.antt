@@ -11,18 +11,18 @@ use lib.Dec.{leb}
 use lib.ListN.{length, take, length-take}
 use lib.Seq.{take-all}
 use Rattle.image.specs.Limits.{MAX-SOURCE, MAX-BODY}
-use Rattle.image.specs.Read.{Read, bad, Image, header, readImage, sourceFits, readAll, answerOf}
+use Rattle.image.specs.Read.{Read, bad, Image, header, readImage, sourceFits, readAll, outcome}
 use Rattle.image.proofs.Accepted.{headed}
 use Rattle.text.specs.Utf8.{prefix, wellFormed}
 use Rattle.tallies.specs.declared.Tallies.{Tallies}
 use Rattle.figures.specs.Figures.{countAnswer}
-use Rattle.figures.proofs.Told.{check-refused}
+use Rattle.figures.proofs.Counting.{check-refused}
 use Rattle.report.specs.Front.{SOURCE-KEPT, IMAGE-KEPT, FrontIsEnough}
 
 -- files that the reader refuses alike are answered alike
 refused-alike : (s b s2 b2 : List ℕ) (t : Tallies) (n p : ℕ) → readAll s b ≡ bad n p → readAll s2 b2 ≡ bad n p → countAnswer s b t ≡ countAnswer s2 b2 t
 refused-alike s b s2 b2 t n p e f =
-    sym (check-refused s b t n p (ap answerOf e)) ∙ check-refused s2 b2 t n p (ap answerOf f)
+    sym (check-refused s b t n p (ap outcome e)) ∙ check-refused s2 b2 t n p (ap outcome f)
 
 -- ---- a source that is too long
 too-long : (s b : List ℕ) → MAX-SOURCE < length s → readAll s b ≡ bad 1 0

@@ -9,13 +9,14 @@ use native.Mathlib.Decide.{decLe, decLt}
 use borrow.Author.Tests.{not-true, not-false}
 use lib.ListN.{length, take, getD, length-take, List·getD-eq-default}
 use lib.Seq.{take-all, getD-take}
-use Rattle.plain_run.specs.FileLimits.{AreBytes}
+use Rattle.refusals.specs.Answers.{Answer, refused, accepted}
+use Rattle.whole_run.specs.FileLimits.{AreBytes}
 use Rattle.tallies.specs.declared.Figures.{Figures}
 use Rattle.tallies.specs.declared.Tallies.{Tallies}
 use Rattle.tallies.specs.declared.Fraction.{Fraction}
-use Rattle.figures.specs.Figures.{CountAnswer, refused, counted}
+use Rattle.figures.specs.Figures.{CountResult}
 use Rattle.figures.specs.Order.{File}
-use Rattle.table.specs.Table.{fileLine, refusedFileLine, endsInsideLine, Writes}
+use Rattle.report_lines.specs.Table.{fileLine, refusedFileLine, endsInsideLine, Writes}
 use Rattle.feed.specs.Input.{sourceLength, imageLength}
 use Rattle.report.specs.Report.{numberOf, freshProgress, answerTo, progressBy, sourceIn, imageIn, progressDue, TakesBy, TakesNext}
 use Rattle.report.specs.Report.{afterFiles, isWhole, Stops, input-ended, unwritten}
@@ -25,14 +26,15 @@ use Rattle.report.specs.declared.progress.Progress.{Progress}
 use Rattle.report.specs.declared.progress.Turn.{Turn}
 
 -- ---- one file
-module _ (p : Progress) (a : CountAnswer) {out out2 : List ℕ} {n : ℕ} where
-  pub counted-turn : (f : Figures) (t : Tallies) (q : Fraction) → counted f t q ≡ a → Writes (fileLine (numberOf p) f) out n out2
+module _ (p : Progress) (a : Answer CountResult) {out out2 : List ℕ} {n : ℕ} where
+  pub counted-turn : (f : Figures) (t : Tallies) (q : Fraction) → accepted (record { figures = f; tallies = t; fraction = q }) ≡ a
+      → Writes (fileLine (numberOf p) f) out n out2
       → TakesBy p a out
       (record { progress = record { files = p .files + 1; refused = p .refused; tallies = t }; bytes = n })
       out2
   counted-turn f t q e w =
       subst
-      (λ (x : CountAnswer).
+      (λ (x : Answer CountResult).
       TakesBy p x out
       (record { progress = record { files = p .files + 1; refused = p .refused; tallies = t }; bytes = n })
       out2)
@@ -46,7 +48,7 @@ module _ (p : Progress) (a : CountAnswer) {out out2 : List ℕ} {n : ℕ} where
       out2
   refused-turn number place e w =
       subst
-      (λ (x : CountAnswer).
+      (λ (x : Answer CountResult).
       TakesBy p x out
       (record { progress = record { files = p .files + 1; refused = p .refused + 1; tallies = p .tallies }; bytes = n })
       out2)
@@ -88,7 +90,7 @@ module _ (lengths source image : List ℕ) (p : Progress) (came : Came) where
       let one : take i source ≡ sourceIn lengths source = ap (λ (k : ℕ). take k source) f ∙ take-kept (sourceLength lengths) source in
       let two : take j image ≡ imageIn lengths image = ap (λ (k : ℕ). take k image) g ∙ take-kept (imageLength lengths) image in
       subst (λ (x : Came). TakesNext lengths source image p x out r out2) (sym e)
-      (subst (λ (a : CountAnswer). TakesBy p a out r out2) (ap₂ (answerTo p) one two) s)
+      (subst (λ (a : Answer CountResult). TakesBy p a out r out2) (ap₂ (answerTo p) one two) s)
 
 -- ---- all files so far
 -- these files give what is held
@@ -107,9 +109,9 @@ unfolding afterFiles
 after-more p [] x = refl
 after-more p (y ∷ ys) x = after-more (progressBy p (answerTo p (y .source) (y .image))) ys x
 
-still-among : (p : Progress) (a : CountAnswer) → p .refused ≤ p .files → progressBy p a .refused ≤ progressBy p a .files
+still-among : (p : Progress) (a : Answer CountResult) → p .refused ≤ p .files → progressBy p a .refused ≤ progressBy p a .files
 still-among p (refused r) h = omega arith
-still-among p (counted f t q) h = omega arith
+still-among p (accepted x) h = omega arith
 
 -- the front of bytes are bytes
 front-bytes : (n : ℕ) (xs : List ℕ) → AreBytes xs → AreBytes (take n xs)
@@ -140,9 +142,9 @@ module _ (lengths source image : List ℕ) (bytes : AreBytes image) where
 
 -- ---- going on
 -- a whole file is a file more
-one-more : (p : Progress) (a : CountAnswer) → progressBy p a .files ≡ p .files + 1
+one-more : (p : Progress) (a : Answer CountResult) → progressBy p a .files ≡ p .files + 1
 one-more p (refused r) = refl
-one-more p (counted f t q) = refl
+one-more p (accepted x) = refl
 
 whole-more : (lengths source image : List ℕ) (p : Progress) (came : Came) → isWhole came ≡ true
     → progressDue lengths source image p came .files ≡ p .files + 1

@@ -5,10 +5,11 @@ use mathlib.Core.Bool.{Bool, true, false}
 use mathlib.Core.List.{List, [], _∷_}
 use Prim.Native.Nat.{ℕ, _+_, _-_, _≤_, _<_}
 use lib.ListN.{length, take}
+use Rattle.refusals.specs.Answers.{Answer, refused, accepted}
 use Rattle.tallies.specs.Tallies.{freshTallies}
-use Rattle.figures.specs.Figures.{CountAnswer, refused, counted, countAnswer}
+use Rattle.figures.specs.Figures.{CountResult, countAnswer}
 use Rattle.figures.specs.Order.{File, countedFiles, sumsOf}
-use Rattle.table.specs.Table.{fileLine, refusedFileLine, endsInsideLine, Writes}
+use Rattle.report_lines.specs.Table.{fileLine, refusedFileLine, endsInsideLine, Writes}
 use Rattle.feed.specs.Input.{sourceLength, imageLength}
 use Rattle.feed.specs.declared.Came.{Came}
 use Rattle.feed.specs.declared.Came.the-variants.{Nothing, Cut, Whole}
@@ -30,17 +31,17 @@ abbrev pub freshProgress : Progress
 freshProgress = record { files = 0; refused = 0; tallies = freshTallies }
 
 -- what a file is answered with, on top of the tallies so far
-abbrev pub answerTo : Progress → List ℕ → List ℕ → CountAnswer
+abbrev pub answerTo : Progress → List ℕ → List ℕ → Answer CountResult
 answerTo p s b = countAnswer s b (p .tallies)
 
 -- the line of a file that was answered so, and what is held then
-abbrev pub lineBy : ℕ → CountAnswer → List ℕ
+abbrev pub lineBy : ℕ → Answer CountResult → List ℕ
 lineBy file (refused r) = refusedFileLine file r
-lineBy file (counted f t q) = fileLine file f
+lineBy file (accepted x) = fileLine file (x .figures)
 
-abbrev pub progressBy : Progress → CountAnswer → Progress
+abbrev pub progressBy : Progress → Answer CountResult → Progress
 progressBy p (refused r) = record { files = p .files + 1; refused = p .refused + 1; tallies = p .tallies }
-progressBy p (counted f t q) = record { files = p .files + 1; refused = p .refused; tallies = t }
+progressBy p (accepted x) = record { files = p .files + 1; refused = p .refused; tallies = x .tallies }
 
 -- ---- what came next, as the buffers hold it
 -- What is counted of a file is what its buffers keep: "the first" bytes of its source and of its image, as many as it has.
@@ -51,7 +52,7 @@ abbrev pub imageIn : List ℕ → List ℕ → List ℕ
 imageIn lengths image = take (imageLength lengths) image
 
 module _ (lengths source image : List ℕ) (p : Progress) where
-  abbrev pub answerIn : CountAnswer
+  abbrev pub answerIn : Answer CountResult
   answerIn = answerTo p (sourceIn lengths source) (imageIn lengths image)
 
   -- "a line for each file; where the input ends inside a frame .. `the input ends inside file N`"
@@ -77,7 +78,7 @@ pub record Takes (line : List ℕ) (p : Progress) (out : List ℕ) (r : Turn) (o
   pub progress : r .progress ≡ p
 
 -- by an answer, and by what came
-abbrev pub TakesBy : Progress → CountAnswer → List ℕ → Turn → List ℕ → Type 0
+abbrev pub TakesBy : Progress → Answer CountResult → List ℕ → Turn → List ℕ → Type 0
 TakesBy p a out r out2 = Takes (lineBy (numberOf p) a) (progressBy p a) out r out2
 
 abbrev pub TakesNext : List ℕ → List ℕ → List ℕ → Progress → Came → List ℕ → Turn → List ℕ → Type 0

@@ -5,7 +5,7 @@ ghost use mathlib.Core.Path.{_≡_};
 ghost use mathlib.Core.Bool.{_&&_};
 ghost use Prim.Native.Nat.{_≤_};
 ghost use lib.ListN.{length};
-ghost use Rattle.table.specs.Table.{LINE-ROOM};
+ghost use Rattle.report_lines.specs.Table.{LINE-ROOM};
 ghost use Rattle.report.specs.Front.{SOURCE-KEPT, IMAGE-KEPT};
 ghost use Rattle.report.specs.Report.{isWhole, Fed};
 use feed::Came;
@@ -19,9 +19,9 @@ use libc::STDOUT_FILENO;
 use progress::Progress;
 use progress::fresh;
 use progress::take_next;
-use table::LINE_ROOM;
-use table::heads_line;
-use table::last_lines;
+use report_lines::LINE_ROOM;
+use report_lines::heads_line;
+use report_lines::last_lines;
 
 // A proved loop has to end, and nothing says that an input does: no input has as many files.
 const FILES: usize = 18446744073709551615;

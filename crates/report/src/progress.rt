@@ -7,10 +7,10 @@ use feed::image_kept;
 use feed::source_kept;
 use figures::Counted;
 use figures::count_file;
-use table::LINE_ROOM;
-use table::ends_inside_line;
-use table::file_line;
-use table::refused_file_line;
+use report_lines::LINE_ROOM;
+use report_lines::ends_inside_line;
+use report_lines::file_line;
+use report_lines::refused_file_line;
 use tallies::Figures;
 use tallies::Tallies;
 

@@ -1,10 +1,10 @@
 // Formats the file of one frame: reads the frame, and writes what it is answered with.
 ghost use mathlib.Core.Path.{_≡_};
 ghost use lib.ListN.{length};
+use file::reply::reply;
 use libc::STDERR_FILENO;
 use libc::STDIN_FILENO;
 use libc::STDOUT_FILENO;
-use reply::reply;
 
 // Room for a frame, and one byte more, to see that a frame is over.
 fn room() -> [u8; 32769]

@@ -205,7 +205,9 @@ no-text-3 s i a b c e f g h k = rw (← e, ← f, ← g, eq-eqb a 0 h, eq-eqb b 
 
 -- the tests of a row's places put together
 module _ (source image s : List ℕ) (i kind : ℕ) (e : kind ≡ cell s i KIND) where
-  module _ (n : Bool) (p : n ≡ ((usesNumber kind || eqb (cell s i NUMBER) 0) && ((usesNumber2 kind || eqb (cell s i SECOND-NUMBER) 0) && (usesSecond kind || eqb (cell s i SECOND) 0)))) where
+  module _ (n : Bool) (p : n
+      ≡ ((usesNumber kind || eqb (cell s i NUMBER) 0)
+      && ((usesNumber2 kind || eqb (cell s i SECOND-NUMBER) 0) && (usesSecond kind || eqb (cell s i SECOND) 0)))) where
     pub places-numbers : n ≡ false → false ≡ placesFit source image s i
     unfolding placesFit
     places-numbers h = rw (← e, ← p, h)

@@ -121,7 +121,8 @@ module _ (places : ℕ → Bool) (v : View) where
   ahead-in ends d end i h l e =
       ap (orLater (wrongRow places v (v .after i) (suc d) (suc i)))
       (ap (λ (n : ℕ). ahead (set ends d end) d n (v .after i)) (getD-set-same ends d end 0 h) ∙ ahead-set ends d d end (v .after i) end (omega arith))
-      ∙ ahead-first ends d end i (wrongRow places v (v .after i) (suc d) (suc i)) (wrongRow places v end d (v .after i)) (wrong-in end d i l e) (v .after i) refl
+      ∙ ahead-first ends d end i (wrongRow places v (v .after i) (suc d) (suc i)) (wrongRow places v end d (v .after i)) (wrong-in end d i l e)
+      (v .after i) refl
 
   -- a row that is right and has no parts is passed
   pub ahead-past : (ends : List ℕ) (d end i : ℕ) → i < end → rowFits places v end d i ≡ true → v .after i ≡ suc i
@@ -169,7 +170,16 @@ module _ (places : ℕ → Bool) (s : List ℕ) (stop : ℕ) where
   pub check-start : (ends : List ℕ) (from : ℕ) → length ends ≡ MAX-DEPTH → Checking places s stop (wrongRow places (viewOf s) stop 0 from) ends 0 stop from
   unfolding ahead
   check-start ends from e =
-      record { same = refl; low = omega arith; under = λ k h. absurd (omega arith); size = e; deep = omega arith; inside = λ h. absurd (omega arith); over = λ k h. absurd (omega arith); chain = λ j k l h. absurd (omega arith) }
+      record {
+        same = refl;
+        low = omega arith;
+        under = λ k h. absurd (omega arith);
+        size = e;
+        deep = omega arith;
+        inside = λ h. absurd (omega arith);
+        over = λ k h. absurd (omega arith);
+        chain = λ j k l h. absurd (omega arith);
+      }
 
   module _ (answer : Option ℕ) (ends : List ℕ) (depth end row : ℕ) (c : Checking places s stop answer ends depth end row) where
     pub check-wrong : row < end → rowFits places (viewOf s) end depth row ≡ false → answer ≡ some row

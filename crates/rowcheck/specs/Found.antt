@@ -1,4 +1,4 @@
--- The answer of the check: refusal 11 with its place, or none.
+-- What the check returns: refusal 11 with its place, or none.
 use mathlib.Core.Option.{Option, some, none}
 use Rattle.refusals.specs.Refusals.{Refusal}
 use Rattle.rowcheck.specs.declared.Found.{Found}

@@ -317,13 +317,17 @@ then-after s i a b j d g = subst (λ (x : ℕ). Nests (viewOf s) x j d) (same i 
 mutual
   unfolding rowsOf size depth
 
-  node-nests : (n : Node) (s : List ℕ) (i j d : ℕ) → Holds s i (rowsOf n i) → depth n + d ≤ MAX-DEPTH → Nests (viewOf s) (i + size n) j d → Nests (viewOf s) i j d
+  node-nests : (n : Node) (s : List ℕ) (i j d : ℕ) → Holds s i (rowsOf n i)
+      → depth n + d ≤ MAX-DEPTH → Nests (viewOf s) (i + size n) j d → Nests (viewOf s) i j d
   node-nests (group n ns) s i j d h l g =
-      block-nests s i 0 n (sizes ns) j d (block-row s i 0 n ns h) (omega arith) (omega arith) (nodes-nest ns s (i + 1) (i + 1 + sizes ns) (suc d) (block-parts s i 0 n ns h) (omega arith) (over refl)) g
+      block-nests s i 0 n (sizes ns) j d (block-row s i 0 n ns h) (omega arith) (omega arith)
+      (nodes-nest ns s (i + 1) (i + 1 + sizes ns) (suc d) (block-parts s i 0 n ns h) (omega arith) (over refl)) g
   node-nests (indent ns) s i j d h l g =
-      block-nests s i 1 0 (sizes ns) j d (block-row s i 1 0 ns h) (omega arith) (omega arith) (nodes-nest ns s (i + 1) (i + 1 + sizes ns) (suc d) (block-parts s i 1 0 ns h) (omega arith) (over refl)) g
+      block-nests s i 1 0 (sizes ns) j d (block-row s i 1 0 ns h) (omega arith) (omega arith)
+      (nodes-nest ns s (i + 1) (i + 1 + sizes ns) (suc d) (block-parts s i 1 0 ns h) (omega arith) (over refl)) g
   node-nests (indentNext ns) s i j d h l g =
-      block-nests s i 2 0 (sizes ns) j d (block-row s i 2 0 ns h) (omega arith) (omega arith) (nodes-nest ns s (i + 1) (i + 1 + sizes ns) (suc d) (block-parts s i 2 0 ns h) (omega arith) (over refl)) g
+      block-nests s i 2 0 (sizes ns) j d (block-row s i 2 0 ns h) (omega arith) (omega arith)
+      (nodes-nest ns s (i + 1) (i + 1 + sizes ns) (suc d) (block-parts s i 2 0 ns h) (omega arith) (over refl)) g
   node-nests wrapParent s i j d h l g = leaf-nests s i 3 noText 0 j d (leaf-row s i 3 noText 0 h) (omega arith) (omega arith) l g
   node-nests (comment t) s i j d h l g = leaf-nests s i 4 t 0 j d (leaf-row s i 4 t 0 h) (omega arith) (omega arith) l g
   node-nests (str w t) s i j d h l g = leaf-nests s i 5 t w j d (leaf-row s i 5 t w h) (omega arith) (omega arith) l g
@@ -351,7 +355,8 @@ mutual
       pair-nests s i 11 n k (sizes e) (sizes a) j d
       (pair-row s i 11 n k (sizes e) (sizes a) (rows e (i + 1)) (rows a (i + (1 + sizes e))) q h)
       (omega arith)
-      (nodes-nest e s (i + 1) (i + 1 + sizes e) (suc d) (pair-first s i 11 n k (sizes e) (sizes a) (rows e (i + 1)) (rows a (i + (1 + sizes e))) q h) (omega arith) (over refl))
+      (nodes-nest e s (i + 1) (i + 1 + sizes e) (suc d)
+      (pair-first s i 11 n k (sizes e) (sizes a) (rows e (i + 1)) (rows a (i + (1 + sizes e))) q h) (omega arith) (over refl))
       (nodes-nest a s
       (i + (1 + sizes e))
       (i + (1 + sizes e) + sizes a)
@@ -362,10 +367,12 @@ mutual
       g
       refl
 
-  nodes-nest : (ns : Nodes) (s : List ℕ) (i j d : ℕ) → Holds s i (rows ns i) → depths ns + d ≤ MAX-DEPTH → Nests (viewOf s) (i + sizes ns) j d → Nests (viewOf s) i j d
+  nodes-nest : (ns : Nodes) (s : List ℕ) (i j d : ℕ) → Holds s i (rows ns i)
+      → depths ns + d ≤ MAX-DEPTH → Nests (viewOf s) (i + sizes ns) j d → Nests (viewOf s) i j d
   nodes-nest none s i j d h l g = none-rest s i j d g
   nodes-nest (n then ns) s i j d h l g =
-      node-nests n s i j d (then-first n ns s i h) (omega arith) (nodes-nest ns s (i + size n) j d (then-rest n ns s i h) (omega arith) (then-after s i (size n) (sizes ns) j d g))
+      node-nests n s i j d (then-first n ns s i h) (omega arith)
+      (nodes-nest ns s (i + size n) j d (then-rest n ns s i h) (omega arith) (then-after s i (size n) (sizes ns) j d g))
 
 -- the rows that flattened nodes are, where these are not too deep
 pub all-nest : (ns : Nodes) (s : List ℕ) (i d : ℕ) → Holds s i (rows ns i) → depths ns + d ≤ MAX-DEPTH → Nests (viewOf s) i (i + sizes ns) d

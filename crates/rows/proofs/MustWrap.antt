@@ -63,7 +63,8 @@ module _ (v : View) where
   must-none (suc (suc (suc (suc (suc (suc (suc (suc (suc (suc (suc zero))))))))))) i e l a b c = rw e
   must-none (suc (suc (suc (suc (suc (suc (suc (suc (suc (suc (suc (suc k)))))))))))) i e l a b c = absurd (omega arith)
 
-  pub must-skip : {i j d : ℕ} (k : ℕ) → Nests v i j d → i < j → v .kind i ≡ k → (k ≡ 1 → ⊥) → (k ≡ 3 → ⊥) → (k ≡ 4 → ⊥) → mustWraps (nodesAt v i j) ≡ mustWraps (nodesAt v (v .after i) j)
+  pub must-skip : {i j d : ℕ} (k : ℕ) → Nests v i j d → i < j → v .kind i ≡ k → (k ≡ 1 → ⊥)
+      → (k ≡ 3 → ⊥) → (k ≡ 4 → ⊥) → mustWraps (nodesAt v i j) ≡ mustWraps (nodesAt v (v .after i) j)
   must-skip {i} {j} k g h e a b c = must-some i j (nests-after g h) ∙ rw (must-none k i e (rw e at (nests-kind g h)) a b c)
 
 -- What the loop of `must_wrap` keeps: the rows from `row` on nest, and give the answer.

@@ -46,7 +46,8 @@ nests-join (pair a w t q g h l) r = pair a (wider w (nests-le r)) t q g h (nests
 pub leaf-within : {v : View} {i j : ℕ} → v .after i ≡ suc i → i < j → RangeIn v i j
 leaf-within e h = record { up = omega arith; to = omega arith }
 
-join-step : (v : View) (i j k : ℕ) → RangeIn v i j → j ≤ k → nodesAt v (v .after i) k ≡ join (nodesAt v (v .after i) j) (nodesAt v j k) → nodesAt v i k ≡ join (nodesAt v i j) (nodesAt v j k)
+join-step : (v : View) (i j k : ℕ) → RangeIn v i j → j ≤ k → nodesAt v (v .after i) k ≡ join (nodesAt v (v .after i) j) (nodesAt v j k)
+    → nodesAt v i k ≡ join (nodesAt v i j) (nodesAt v j k)
 unfolding join
 join-step v i j k w h e = rw (nodes-some v i k (wider w h), nodes-some v i j w, e)
 
@@ -97,7 +98,8 @@ pub nests-two : {v : View} {i j d : ℕ} → Nests v i j d → i < j → v .kind
 nests-two (over e) h a = absurd (omega arith)
 nests-two (leaf k l e f q g) h a = absurd (omega arith)
 nests-two (block k w q g r) h a = absurd (omega arith)
-nests-two (two k w t q g l r) h a = (t, record { within = w; split = record { up = omega arith; to = omega arith }; shallow = q; first = g; second = l; rest = r })
+nests-two (two k w t q g l r) h a =
+    (t, record { within = w; split = record { up = omega arith; to = omega arith }; shallow = q; first = g; second = l; rest = r })
 nests-two (pair k w t q g l r) h a = absurd (omega arith)
 
 pub nests-pair : {v : View} {i j d : ℕ} → Nests v i j d → i < j → v .kind i ≡ CALL → Pair v i j d

@@ -1,40 +1,28 @@
 -- What a row measures by itself, and the places of a row as what the view reads.
 -- Assumes nothing.
 use mathlib.Core.Path.{_≡_, refl, sym}
-use Prim.Native.Nat.{ℕ, zero, suc}
+use Prim.Native.Nat.{ℕ}
+use mathlib.Core.Bool.{Bool, true, false, cond}
 use mathlib.Core.List.{List}
+use lib.Dec.{eqb}
+use borrow.Author.Tests.{ne-eqb}
 use Rattle.rows.specs.Places.{KIND, NUMBER, SECOND, AFTER}
 use Rattle.rows.specs.Node.{byteColumns}
 use Rattle.rows.specs.View.{viewOf, cell, ownWidth}
 use Rattle.rows.proofs.Widths.{ownOf}
 
 pub own-none : (s : List ℕ) (i k : ℕ) → (k ≡ 5 → ⊥) → (k ≡ 6 → ⊥) → (k ≡ 9 → ⊥) → 0 ≡ ownWidth s i k
-own-none s i zero a b c = refl
-own-none s i (suc zero) a b c = refl
-own-none s i (suc (suc zero)) a b c = refl
-own-none s i (suc (suc (suc zero))) a b c = refl
-own-none s i (suc (suc (suc (suc zero)))) a b c = refl
-own-none s i (suc (suc (suc (suc (suc zero))))) a b c = absurd (a refl)
-own-none s i (suc (suc (suc (suc (suc (suc zero)))))) a b c = absurd (b refl)
-own-none s i (suc (suc (suc (suc (suc (suc (suc zero))))))) a b c = refl
-own-none s i (suc (suc (suc (suc (suc (suc (suc (suc zero)))))))) a b c = refl
-own-none s i (suc (suc (suc (suc (suc (suc (suc (suc (suc zero))))))))) a b c = absurd (c refl)
-own-none s i (suc (suc (suc (suc (suc (suc (suc (suc (suc (suc n)))))))))) a b c = refl
+own-none s i k a b c = rw (ne-eqb k 5 a, ne-eqb k 6 b, ne-eqb k 9 c)
+
+-- the width of a `Str` is asked for once
+cond-twice : (t : Bool) (x y z : ℕ) → cond t (cond t x y) z ≡ cond t x z
+cond-twice true x y z = refl
+cond-twice false x y z = refl
 
 -- the places of a row are what the view reads
 pub own-same : (s m : List ℕ) (i k : ℕ) → k ≡ cell s i KIND → ownOf (viewOf s) byteColumns m k i ≡ ownWidth s i k
 unfolding viewOf
-own-same s m i zero e = refl
-own-same s m i (suc zero) e = refl
-own-same s m i (suc (suc zero)) e = refl
-own-same s m i (suc (suc (suc zero))) e = refl
-own-same s m i (suc (suc (suc (suc zero)))) e = refl
-own-same s m i (suc (suc (suc (suc (suc zero))))) e = rw (sym e)
-own-same s m i (suc (suc (suc (suc (suc (suc zero)))))) e = refl
-own-same s m i (suc (suc (suc (suc (suc (suc (suc zero))))))) e = refl
-own-same s m i (suc (suc (suc (suc (suc (suc (suc (suc zero)))))))) e = refl
-own-same s m i (suc (suc (suc (suc (suc (suc (suc (suc (suc zero))))))))) e = refl
-own-same s m i (suc (suc (suc (suc (suc (suc (suc (suc (suc (suc n)))))))))) e = refl
+own-same s m i k e = rw (sym e) (cond-twice (eqb k 5) _ _ _)
 
 pub kind-cell : (s : List ℕ) (i : ℕ) → viewOf s .kind i ≡ cell s i KIND
 unfolding viewOf

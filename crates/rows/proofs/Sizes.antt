@@ -6,7 +6,8 @@ use native.Mathlib.Omega.{arith}
 use mathlib.Core.List.{List, _∷_, _++_, append-assoc}
 use lib.ListN.{length, length-append}
 use Rattle.rows.specs.Places.{PLACES}
-use Rattle.rows.specs.Node.{Node, Nodes, group, indent, indentNext, wrapParent, comment, str, ascii, line, emptyLine, lineOrSpace, ifWrap, call, none, _then_, join}
+use Rattle.rows.specs.Node.{Node, Nodes, group, indent, indentNext, wrapParent, comment, str}
+use Rattle.rows.specs.Node.{ascii, line, emptyLine, lineOrSpace, ifWrap, call, none, _then_, join}
 use Rattle.rows.specs.Rows.{size, sizes, rowsOf, rows}
 
 pub size-pos : (n : Node) → 0 < size n
@@ -46,9 +47,11 @@ mutual
   length-rowsOf emptyLine r = refl
   length-rowsOf lineOrSpace r = refl
   length-rowsOf (ifWrap n a b) r =
-      headed (size a + size b) (rowsOf a (r + 1) ++ rowsOf b (r + (1 + size a))) (both (rowsOf a (r + 1)) (rowsOf b (r + (1 + size a))) (size a) (size b) (length-rowsOf a (r + 1)) (length-rowsOf b (r + (1 + size a))))
+      headed (size a + size b) (rowsOf a (r + 1) ++ rowsOf b (r + (1 + size a)))
+      (both (rowsOf a (r + 1)) (rowsOf b (r + (1 + size a))) (size a) (size b) (length-rowsOf a (r + 1)) (length-rowsOf b (r + (1 + size a))))
   length-rowsOf (call n e k a) r =
-      headed (sizes e + sizes a) (rows e (r + 1) ++ rows a (r + (1 + sizes e))) (both (rows e (r + 1)) (rows a (r + (1 + sizes e))) (sizes e) (sizes a) (length-rows e (r + 1)) (length-rows a (r + (1 + sizes e))))
+      headed (sizes e + sizes a) (rows e (r + 1) ++ rows a (r + (1 + sizes e)))
+      (both (rows e (r + 1)) (rows a (r + (1 + sizes e))) (sizes e) (sizes a) (length-rows e (r + 1)) (length-rows a (r + (1 + sizes e))))
 
   pub length-rows : (ns : Nodes) (r : ℕ) → length (rows ns r) ≡ sizes ns * 9
   length-rows none r = refl

@@ -6,9 +6,9 @@ use Prim.Native.Nat.{ℕ, zero, suc, _+_, _≤_, _<_}
 use native.Mathlib.Omega.{arith}
 use native.Mathlib.Numerals.{add-one}
 use mathlib.Core.Bool.{true, false, cond}
-use mathlib.Core.List.{List, [], _∷_}
-use lib.ListN.{getD}
-use Rattle.rows.specs.Kinds.{INDENT-NEXT, WRAP-PARENT, LINE-OR-SPACE, IF-WRAP, CALL}
+use mathlib.Core.List.{List}
+use lib.Dec.{eqb}
+use Rattle.rows.specs.Kinds.{INDENT-NEXT, WRAP-PARENT, STR, ASCII, LINE-OR-SPACE, IF-WRAP, CALL}
 use Rattle.rows.specs.Node.{Text, Node, Nodes, none, _then_, join, wrapped, width, widths}
 use Rattle.rows.specs.View.{View, nodesAt, nodeOf, firstOf, nodeAt}
 use Rattle.rows.specs.Nesting.{RangeIn, Split, TwoParts, Nests}
@@ -49,7 +49,8 @@ module _ (v : View) (columns : Text → ℕ) (m : List ℕ) where
       let c = width-block i h in
       omega arith
 
-  pub width-flat-call : {i j d : ℕ} → v .kind i ≡ CALL → RangeIn v i j → Split v i → Nests v (suc i) (v .second i) d → Nests v (v .second i) (v .after i) d → widthOf i j ≡ widthOf (suc i) j
+  pub width-flat-call : {i j d : ℕ} → v .kind i ≡ CALL → RangeIn v i j → Split v i
+      → Nests v (suc i) (v .second i) d → Nests v (v .second i) (v .after i) d → widthOf i j ≡ widthOf (suc i) j
   unfolding width
   width-flat-call {i} {j} h w s g l =
       let a = width-some i j w in
@@ -62,7 +63,8 @@ module _ (v : View) (columns : Text → ℕ) (m : List ℕ) where
   unfolding widths
   single-width i h = rw (nodes-some v i (v .after i) h, nodes-none v (v .after i) (v .after i) (omega arith)) (omega arith)
 
-  width-if : (i : ℕ) → v .kind i ≡ IF-WRAP → TwoParts v i → width columns m (nodeAt v i) ≡ cond (wrapped m (v .number i)) (widthOf (suc i) (v .second i)) (widthOf (v .second i) (v .after i))
+  width-if : (i : ℕ) → v .kind i ≡ IF-WRAP → TwoParts v i
+      → width columns m (nodeAt v i) ≡ cond (wrapped m (v .number i)) (widthOf (suc i) (v .second i)) (widthOf (v .second i) (v .after i))
   unfolding width
   width-if i h t =
       ap (λ (n : Node). width columns m n) (node-if v i h (record { up = omega arith; to = omega arith }))
@@ -71,14 +73,16 @@ module _ (v : View) (columns : Text → ℕ) (m : List ℕ) where
       (rw (t .second) at (single-width (v .second i) (record { up = omega arith; to = omega arith })))
 
   -- an IfWrap's chosen part
-  pub width-second : {i j d : ℕ} → v .kind i ≡ IF-WRAP → RangeIn v i j → TwoParts v i → Nests v (v .second i) (v .after i) d → wrapped m (v .number i) ≡ false → widthOf i j ≡ widthOf (v .second i) j
+  pub width-second : {i j d : ℕ} → v .kind i ≡ IF-WRAP → RangeIn v i j → TwoParts v i
+      → Nests v (v .second i) (v .after i) d → wrapped m (v .number i) ≡ false → widthOf i j ≡ widthOf (v .second i) j
   width-second {i} {j} h w t g e =
       let a = width-some i j w in
       let b = width-split j g (w .to) in
       let c = rw e at (width-if i h t) in
       omega arith
 
-  pub width-first : {i j : ℕ} → v .kind i ≡ IF-WRAP → RangeIn v i j → TwoParts v i → wrapped m (v .number i) ≡ true → widthOf i j ≡ widthOf (suc i) (v .second i) + widthOf (v .after i) j
+  pub width-first : {i j : ℕ} → v .kind i ≡ IF-WRAP → RangeIn v i j → TwoParts v i
+      → wrapped m (v .number i) ≡ true → widthOf i j ≡ widthOf (suc i) (v .second i) + widthOf (v .after i) j
   width-first {i} {j} h w t e =
       let a = width-some i j w in
       let c = rw e at (width-if i h t) in
@@ -86,7 +90,7 @@ module _ (v : View) (columns : Text → ℕ) (m : List ℕ) where
 
   -- a leaf's own width
   abbrev pub ownOf : ℕ → ℕ → ℕ
-  ownOf k i = getD (0 ∷ 0 ∷ 0 ∷ 0 ∷ 0 ∷ v .width i ∷ columns (v .text i) ∷ 0 ∷ 0 ∷ 1 ∷ []) k 0
+  ownOf k i = cond (eqb k STR) (v .width i) (cond (eqb k ASCII) (columns (v .text i)) (cond (eqb k LINE-OR-SPACE) 1 0))
 
   width-own : (i : ℕ) → WRAP-PARENT ≤ v .kind i → v .kind i ≤ LINE-OR-SPACE → width columns m (nodeAt v i) ≡ ownOf (v .kind i) i
   unfolding nodeAt width nodeOf
@@ -105,7 +109,8 @@ module _ (v : View) (columns : Text → ℕ) (m : List ℕ) where
       go (suc (suc (suc (suc (suc (suc (suc (suc (suc zero))))))))) e a b = rw e
       go (suc (suc (suc (suc (suc (suc (suc (suc (suc (suc n)))))))))) e a b = absurd (omega arith)
 
-  pub width-leaf : (i j : ℕ) → WRAP-PARENT ≤ v .kind i → v .kind i ≤ LINE-OR-SPACE → v .after i ≡ suc i → i < j → widthOf i j ≡ ownOf (v .kind i) i + widthOf (suc i) j
+  pub width-leaf : (i j : ℕ) → WRAP-PARENT ≤ v .kind i → v .kind i ≤ LINE-OR-SPACE
+      → v .after i ≡ suc i → i < j → widthOf i j ≡ ownOf (v .kind i) i + widthOf (suc i) j
   width-leaf i j h l e f = width-some i j (leaf-within e f) ∙ rw (width-own i h l, e)
 
 -- A row that a sum passes: what is ahead from the next one nests as before, and has the width of what was ahead without the row's own.
@@ -132,7 +137,8 @@ module _ (v : View) (columns : Text → ℕ) (m : List ℕ) {i j d : ℕ} (g : N
       rw (add-one i)
       (record { nests = nests-join (nests-weaken d (omega arith) (nests-join (l .first) (l .second))) (l .rest); width = omega arith })
 
-  own-kind : {k : ℕ} → v .kind i ≡ k → Onward v columns m i j d (ownOf v columns m (v .kind i) i) (i + 1) → Onward v columns m i j d (ownOf v columns m k i) (i + 1)
+  own-kind : {k : ℕ} → v .kind i ≡ k → Onward v columns m i j d (ownOf v columns m (v .kind i) i) (i + 1)
+      → Onward v columns m i j d (ownOf v columns m k i) (i + 1)
   own-kind e o = subst (λ (q : ℕ). Onward v columns m i j d (ownOf v columns m q i) (i + 1)) e o
 
   -- any row but an `IfWrap`

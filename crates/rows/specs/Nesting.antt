@@ -51,7 +51,7 @@ pub data Nests (v : View) : ℕ → ℕ → ℕ → Type 0 where
       → Nests v (v .after i) j d
       → Nests v i j d
 
--- the rows of a store from `from` up to `to` stand there, are no more than are ever rendered, and nest
+-- the rows of a store from `from` up to `to` are there, are no more than are ever rendered, and nest
 pub record Nested (store : List ℕ) (from to : ℕ) : Type 0 where
   pub room : to * PLACES ≤ length store
   pub few : to ≤ MAX-ROWS

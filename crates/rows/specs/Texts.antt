@@ -1,4 +1,4 @@
--- The texts that rows refer to.
+-- The texts that rows refer to, by the number of the origin.
 use Prim.Native.Nat.{ℕ}
 use mathlib.Core.List.{List, [], _∷_}
 use lib.ListN.{getD}

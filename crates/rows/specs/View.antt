@@ -1,10 +1,10 @@
--- The nodes that a range of rows is: rows read back.
+-- Rows read back: the nodes that a range of rows is.
 use Prim.Native.Nat.{ℕ, zero, suc, _+_, _*_, _-_, min, max}
 use mathlib.Core.Bool.{cond}
-use mathlib.Core.List.{List, [], _∷_}
+use mathlib.Core.List.{List}
 use lib.ListN.{getD}
 use lib.Dec.{ltb, eqb}
-use Rattle.rows.specs.Kinds.{STR}
+use Rattle.rows.specs.Kinds.{STR, ASCII, LINE-OR-SPACE, caseOf}
 use Rattle.rows.specs.Places.{KIND, NUMBER, SECOND-NUMBER, SECOND, AFTER, ORIGIN, START, SIZE, WIDTH, PLACES}
 use Rattle.rows.specs.Node.{Text, Node, Nodes, group, indent, indentNext, wrapParent, comment, str, ascii, line, emptyLine, lineOrSpace, ifWrap}
 use Rattle.rows.specs.Node.{call, none, _then_}
@@ -37,7 +37,8 @@ viewOf store = record {
 
 -- what row i measures by itself: the width of a `Str`, the bytes of an `Ascii`, 1 of a `LineOrSpace`
 abbrev pub ownWidth : List ℕ → ℕ → ℕ → ℕ
-ownWidth store i kind = getD (0 ∷ 0 ∷ 0 ∷ 0 ∷ 0 ∷ cell store i WIDTH ∷ cell store i SIZE ∷ 0 ∷ 0 ∷ 1 ∷ []) kind 0
+ownWidth store i kind =
+    cond (eqb kind STR) (cell store i WIDTH) (cond (eqb kind ASCII) (cell store i SIZE) (cond (eqb kind LINE-OR-SPACE) 1 0))
 
 -- the first of some nodes
 abbrev pub firstOf : Nodes → Node
@@ -47,22 +48,23 @@ firstOf (n then ns) = n
 -- the node of row i, by its kind; its parts are ns, or e and then a where it has two
 unfoldable pub nodeOf : View → ℕ → Nodes → Nodes → Nodes → Node
 nodeOf v i ns e a =
-    getD
-    (group (v .number i) ns
-    ∷ indent ns
-    ∷ indentNext ns
-    ∷ wrapParent
-    ∷ comment (v .text i)
-    ∷ str (v .width i) (v .text i)
-    ∷ ascii (v .text i)
-    ∷ line
-    ∷ emptyLine
-    ∷ lineOrSpace
-    ∷ ifWrap (v .number i) (firstOf e) (firstOf a)
-    ∷ call (v .number i) e (v .number2 i) a
-    ∷ [])
+    caseOf
+    (record {
+      group = group (v .number i) ns;
+      indent = indent ns;
+      indentNext = indentNext ns;
+      wrapParent = wrapParent;
+      comment = comment (v .text i);
+      str = str (v .width i) (v .text i);
+      ascii = ascii (v .text i);
+      line = line;
+      emptyLine = emptyLine;
+      lineOrSpace = lineOrSpace;
+      ifWrap = ifWrap (v .number i) (firstOf e) (firstOf a);
+      call = call (v .number i) e (v .number2 i) a;
+      noKind = wrapParent;
+    })
     (v .kind i)
-    wrapParent
 
 -- where the parts of row i end, if not past j, and where its second part starts, if not past e
 abbrev pub endIn : View → ℕ → ℕ → ℕ

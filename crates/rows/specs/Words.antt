@@ -43,7 +43,7 @@ among (x ∷ xs) w = eqt x w || among xs w
 abbrev pub isWord : String → Bool
 isWord w = among ("" ∷ table) w
 
--- the letters of w stand where its text says
+-- the letters of w are where its text says
 abbrev pub There : String → Type 0
 There w = take (word w .size) (drop (word w .start) words) ≡ bytes w
 

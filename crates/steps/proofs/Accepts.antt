@@ -10,8 +10,8 @@ use Rattle.image.specs.Bytes.{be16, be32, part}
 use Rattle.image.specs.Grammar.{topByte}
 use Rattle.image.specs.Read.{got}
 use Rattle.image.specs.Write.{Plain, Plains, without, plainly, done, _next_, bytes4}
-use Rattle.steps.specs.Steps.{Step, commentStep, openStep, textStep, payloadStep, absentStep, closeStep, bytes2, stepBytes, listBytes, payloadSteps, treeSteps, childSteps}
-use Rattle.steps.specs.Steps.{COMMENT-STEP, OPEN-STEP, TEXT-STEP, PAYLOAD-STEP, ABSENT-STEP, CLOSE-STEP}
+use Rattle.steps.specs.Steps.{Step, commentStep, openStep, textStep, payloadStep, absentStep, closeStep, bytes2, stepBytes, listBytes}
+use Rattle.steps.specs.Steps.{payloadSteps, treeSteps, childSteps, COMMENT-STEP, OPEN-STEP, TEXT-STEP, PAYLOAD-STEP, ABSENT-STEP, CLOSE-STEP}
 use Rattle.steps.specs.Writer.{stepFrom, payloadFrom, childrenFrom, recordFrom}
 use Rattle.steps.proofs.Stands.{Stands, stands-within, stands-left, stands-right, stands-part, stands-byte, stands-be32, stands-be16}
 use Rattle.steps.proofs.Fits.{Pays, text, byte, nothing, Fits, fits, FitsRow, ends, gone, here, text-steps, byte-steps, no-steps}

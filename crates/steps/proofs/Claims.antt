@@ -9,10 +9,11 @@ use lib.ListN.{length}
 use lib.Dec.{ltb}
 use borrow.Author.Tests.{ltb-false, le-ltb}
 use Rattle.refusals.specs.Refusals.{first, refuseIf}
+use Rattle.refusals.specs.Answers.{Answer, accepted, answerBy}
 use Rattle.image.specs.Limits.{MAX-BODY}
-use Rattle.image.specs.Read.{Read, got, bad, readAll}
+use Rattle.image.specs.Read.{Read, got, bad, readAll, readRefusal}
 use Rattle.steps.specs.Steps.{Contents, listBytes, steps, imageOf, contentsOf}
-use Rattle.steps.specs.Writer.{contentsFrom, stepsRefusal, imageBy, WriterAnswer, wrote, writerAnswerBy}
+use Rattle.steps.specs.Writer.{contentsFrom, imageBy}
 use Rattle.steps.specs.OfImage.{stepsOf}
 use Rattle.steps.specs.Exact.{Bytes, Turns, ExactlyOne, ReadsBack, WrittenReadsBack}
 use Rattle.steps.proofs.WholeList.{contents-taken, list-is}
@@ -22,18 +23,18 @@ use Rattle.steps.proofs.WholeAgain.{AgainAll, all-again}
 
 -- ---- what is turned into an image
 -- the answer for the image y of an accepted list, with room for b
-abbrev sized : List ℕ → List ℕ → WriterAnswer
-sized y b = writerAnswerBy (first (refuseIf (ltb (5 + MAX-BODY) (length y) || ltb (length b) (length y)) 17 (length y) ∷ [])) (length y)
+abbrev sized : List ℕ → List ℕ → Answer ℕ
+sized y b = answerBy (first (refuseIf (ltb (5 + MAX-BODY) (length y) || ltb (length b) (length y)) 17 (length y) ∷ [])) (length y)
 
-sized-short : (y b : List ℕ) → sized y b ≡ wrote (length b) → length y ≤ 5 + MAX-BODY
+sized-short : (y b : List ℕ) → sized y b ≡ accepted (length b) → length y ≤ 5 + MAX-BODY
 sized-short y b h = go (ltb (5 + MAX-BODY) (length y)) refl h
   where
     go : (t : Bool) → ltb (5 + MAX-BODY) (length y) ≡ t
-        → writerAnswerBy (first (refuseIf (t || ltb (length b) (length y)) 17 (length y) ∷ [])) (length y) ≡ wrote (length b) → length y ≤ 5 + MAX-BODY
+        → answerBy (first (refuseIf (t || ltb (length b) (length y)) 17 (length y) ∷ [])) (length y) ≡ accepted (length b) → length y ≤ 5 + MAX-BODY
     go true e h = let z : _≡_ {A = ℕ} 0 1 = cc in absurd (omega arith)
     go false e h = ltb-false (5 + MAX-BODY) (length y) e
 
-short-sized : (b : List ℕ) → length b ≤ 5 + MAX-BODY → sized b b ≡ wrote (length b)
+short-sized : (b : List ℕ) → length b ≤ 5 + MAX-BODY → sized b b ≡ accepted (length b)
 short-sized b h = rw (le-ltb (5 + MAX-BODY) (length b) h, le-ltb (length b) (length b) (omega arith))
 
 -- the contents of the list, whose image it is; and it is not too long
@@ -45,17 +46,17 @@ record Contained (l b : List ℕ) : Type 0 where
   pub short : length b ≤ 5 + MAX-BODY
 
 -- the answer of the writer by what it takes the list for
-abbrev answered : Read Contents → List ℕ → WriterAnswer
+abbrev answered : Read Contents → List ℕ → Answer ℕ
 answered r b =
-    writerAnswerBy
+    answerBy
     (first
-    (stepsRefusal r ∷ refuseIf (ltb (5 + MAX-BODY) (length (imageBy r)) || ltb (length b) (length (imageBy r))) 17 (length (imageBy r)) ∷ []))
+    (readRefusal r ∷ refuseIf (ltb (5 + MAX-BODY) (length (imageBy r)) || ltb (length b) (length (imageBy r))) 17 (length (imageBy r)) ∷ []))
     (length (imageBy r))
 
 contained : (l b : List ℕ) → Turns l b → Contained l b
-contained l b t = go (contentsFrom l) refl (t .accepted) (t .image)
+contained l b t = go (contentsFrom l) refl (t .taken) (t .image)
   where
-    go : (r : Read Contents) → contentsFrom l ≡ r → answered r b ≡ wrote (length b) → imageBy r ≡ b → Contained l b
+    go : (r : Read Contents) → contentsFrom l ≡ r → answered r b ≡ accepted (length b) → imageBy r ≡ b → Contained l b
     go (bad n p) e a i = let z : _≡_ {A = ℕ} 0 1 = cc in absurd (omega arith)
     go (got c end) e a i =
         record { contents = c; end = end; from = e; image = i; short = subst (λ (y : List ℕ). length y ≤ 5 + MAX-BODY) i (sized-short (imageOf c) b a) }
@@ -63,7 +64,7 @@ contained l b t = go (contentsFrom l) refl (t .accepted) (t .image)
 turns-into : (l b : List ℕ) (c : Contents) (end : ℕ) → contentsFrom l ≡ got c end → imageOf c ≡ b → length b ≤ 5 + MAX-BODY → Turns l b
 turns-into l b c end e i short =
     record {
-      accepted = ap (λ (r : Read Contents). answered r b) e ∙ ap (λ (y : List ℕ). sized y b) i ∙ short-sized b short;
+      taken = ap (λ (r : Read Contents). answered r b) e ∙ ap (λ (y : List ℕ). sized y b) i ∙ short-sized b short;
       image = ap imageBy e ∙ i;
     }
 

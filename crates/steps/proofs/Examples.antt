@@ -4,6 +4,7 @@ use mathlib.Core.Path.{_≡_, refl}
 use mathlib.Core.List.{List, [], _∷_, _++_}
 use Prim.Native.Nat.{ℕ, zero, suc}
 use lib.ListN.{replicate}
+use Rattle.refusals.specs.Answers.{Answer, refused, accepted}
 use Rattle.text.specs.Utf8.{within, rowIn, followed, sequence, run, prefix, wellFormed, boundary}
 use Rattle.text.specs.Newlines.{isRange}
 use Rattle.image.specs.Bytes.{be16, be32}
@@ -13,7 +14,7 @@ use Rattle.image.specs.Read as Reader
 use Rattle.image.specs.Write.{written, plain}
 use Rattle.tree.specs.CommentList.{pairsAt, commentsOf}
 use Rattle.steps.specs.Steps.{Step, commentStep, openStep, textStep, payloadStep, absentStep, closeStep, listBytes, treeSteps}
-use Rattle.steps.specs.Writer.{stepFrom, commentsFrom, openedFrom, payloadFrom, childrenFrom, recordFrom, contentsFrom, WriterAnswer, refused, wrote, writerAnswer, writerOutput}
+use Rattle.steps.specs.Writer.{stepFrom, commentsFrom, openedFrom, payloadFrom, childrenFrom, recordFrom, contentsFrom, writerAnswer, writerOutput}
 use Rattle.steps.specs.OfImage.{stepsDue}
 
 -- ---- document 01's worked input
@@ -46,23 +47,23 @@ shebang-steps = refl
 record Example : Type 0 where
   list : List ℕ
   room : ℕ
-  answer : WriterAnswer
+  answer : Answer ℕ
 
 -- with room enough
-abbrev answers : List Step → WriterAnswer → Example
+abbrev answers : List Step → Answer ℕ → Example
 answers xs a = record { list = listBytes xs; room = 4096; answer = a }
 
-abbrev with-room : ℕ → List ℕ → WriterAnswer → Example
+abbrev with-room : ℕ → List ℕ → Answer ℕ → Example
 with-room n l a = record { list = l; room = n; answer = a }
 
-abbrev refusal : ℕ → ℕ → WriterAnswer
+abbrev refusal : ℕ → ℕ → Answer ℕ
 refusal n p = refused (record { number = n; place = p })
 
-abbrev given : List Example → List WriterAnswer
+abbrev given : List Example → List (Answer ℕ)
 given [] = []
 given (x ∷ xs) = writerAnswer (x .list) (x .room) ∷ given xs
 
-abbrev due : List Example → List WriterAnswer
+abbrev due : List Example → List (Answer ℕ)
 due [] = []
 due (x ∷ xs) = x .answer ∷ due xs
 
@@ -96,13 +97,13 @@ imports (suc n) = opening 16 ∷ absentStep ∷ opening 3 ∷ imports n ++ close
 
 right : List Example
 right =
-    with-room 39 shebangSteps (wrote 39) ∷
-    answers (tree []) (wrote 24) ∷
+    with-room 39 shebangSteps (accepted 39) ∷
+    answers (tree []) (accepted 24) ∷
     -- comments may overlap and run backwards
-    answers (commentStep 2 3 ∷ commentStep 0 3 ∷ tree []) (wrote 40) ∷
-    answers (constant (literal 3)) (wrote 93) ∷
-    answers (constant (assigns 4)) (wrote 149) ∷
-    answers (tree (imports 31)) (wrote 975) ∷
+    answers (commentStep 2 3 ∷ commentStep 0 3 ∷ tree []) (accepted 40) ∷
+    answers (constant (literal 3)) (accepted 93) ∷
+    answers (constant (assigns 4)) (accepted 149) ∷
+    answers (tree (imports 31)) (accepted 975) ∷
     []
 
 wrong : List Example

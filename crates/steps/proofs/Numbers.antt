@@ -15,7 +15,8 @@ use Rattle.image.specs.Read.{Read, got, bad, bind}
 use Rattle.image.specs.Write.{Plain}
 use Rattle.steps.specs.Steps.{Step, commentStep, openStep, textStep, payloadStep, absentStep, closeStep}
 use Rattle.steps.specs.Steps.{COMMENT-STEP, OPEN-STEP, TEXT-STEP, PAYLOAD-STEP, ABSENT-STEP, CLOSE-STEP}
-use Rattle.steps.specs.Writer.{whole, stepFrom, pairBy, commentsFrom, openedBy, openedFrom, textBy, byteBy, payloadFrom, atChild, childrenFrom, recordFrom, contentsFrom}
+use Rattle.steps.specs.Writer.{whole, stepFrom, pairBy, commentsFrom, openedBy, openedFrom, textBy}
+use Rattle.steps.specs.Writer.{byteBy, payloadFrom, atChild, childrenFrom, recordFrom, contentsFrom}
 
 -- taken, or refused with 16
 abbrev Sixteen : {A : Type 0} → Read A → Type 0

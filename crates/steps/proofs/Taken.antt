@@ -15,8 +15,8 @@ use Rattle.image.specs.Grammar.{hasByte, topByte, bare, place, after}
 use Rattle.image.specs.Read.{Read, got, bad, bind}
 use Rattle.image.specs.Write.{Plain, Plains, bytes4}
 use Rattle.image.proofs.Exact.{part-length}
-use Rattle.steps.specs.Steps.{Step, commentStep, openStep, textStep, payloadStep, absentStep, closeStep, bytes2, stepBytes, listBytes, payloadSteps, treeSteps, childSteps}
-use Rattle.steps.specs.Steps.{COMMENT-STEP, OPEN-STEP, TEXT-STEP, PAYLOAD-STEP, ABSENT-STEP, CLOSE-STEP}
+use Rattle.steps.specs.Steps.{Step, commentStep, openStep, textStep, payloadStep, absentStep, closeStep, bytes2, stepBytes, listBytes}
+use Rattle.steps.specs.Steps.{payloadSteps, treeSteps, childSteps, COMMENT-STEP, OPEN-STEP, TEXT-STEP, PAYLOAD-STEP, ABSENT-STEP, CLOSE-STEP}
 use Rattle.steps.specs.Writer.{whole, stepFrom, textBy, byteBy, payloadFrom, childrenFrom, recordFrom}
 use Rattle.steps.proofs.Took.{Took, took-none, took-join, took-part, took-byte, took-four, took-two}
 use Rattle.steps.proofs.Fits.{text-steps, byte-steps, no-steps, Pays, text, byte, nothing, Fits, fits, FitsRow, ends, gone, here}

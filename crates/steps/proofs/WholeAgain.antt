@@ -12,7 +12,8 @@ use Rattle.refusals.specs.Refusals.{isOneOf}
 use Rattle.text.specs.Utf8.{prefix, wellFormed}
 use Rattle.image.specs.Bytes.{be16, be32}
 use Rattle.image.specs.Limits.{MAX-BODY, MAX-COMMENTS}
-use Rattle.image.specs.Read.{Read, got, bad, bind, Image, Tree, header, commentFits, commentsFrom, comments, recordAt, treeAt, readTree, readImage, sourceFits, readAll, stepOf}
+use Rattle.image.specs.Read.{Read, got, bad, bind, Image, Tree, header, commentFits, commentsFrom, comments}
+use Rattle.image.specs.Read.{recordAt, treeAt, readTree, readImage, sourceFits, readAll, stepOf}
 use Rattle.image.specs.Write.{Plain, bytes4, written}
 use Rattle.image.proofs.CommentList.{listed}
 use Rattle.image.proofs.Whole.{image-next}

@@ -9,7 +9,7 @@ use lib.ListN.{length}
 use Rattle.text.specs.Utf8.{wellFormed}
 use Rattle.image.specs.Bytes.{be16, be32}
 use Rattle.image.specs.Limits.{MAX-BODY, MAX-COMMENTS}
-use Rattle.image.specs.Read.{got, Image, sourceFits, readAll, treeAt, answerOf}
+use Rattle.image.specs.Read.{got, Image, sourceFits, readAll, treeAt, documentOf, outcome}
 use Rattle.image.specs.Write.{bytes4, written, plain}
 use Rattle.image.proofs.Accepted.{Root, rooted}
 use Rattle.image.proofs.Exact.{tree-exact}
@@ -58,7 +58,7 @@ unfolding readAll
 read-as s b i end h =
     let one = stayed (not (sourceFits s)) _ 1 0 i end h in
     let two = stayed (not (wellFormed s)) _ 2 _ i end (one .1) in
-    let r = rooted false s b (i .comments) (i .at) (ap answerOf (two .1)) in
+    let r = rooted false s b (documentOf i) (ap outcome (two .1)) in
     let same : i ≡ record { comments = i .comments; tree = r .tree; at = i .at } = cc (two .1, r .whole) in
     record { root = r; tree = ap (λ (j : Image). j .tree) same }
 

@@ -5,8 +5,9 @@ use mathlib.Core.List.{List, [], _∷_}
 use Prim.Native.Nat.{ℕ, _<_}
 use lib.ListN.{length, getD}
 use Rattle.refusals.specs.Refusals.{isOneOf}
+use Rattle.refusals.specs.Answers.{accepted}
 use Rattle.image.specs.Read.{got, bad, Image, readAll}
-use Rattle.steps.specs.Writer.{wrote, writerAnswer, imageDue}
+use Rattle.steps.specs.Writer.{writerAnswer, imageDue}
 use Rattle.steps.specs.OfImage.{stepsOf}
 
 -- the elements are bytes
@@ -15,7 +16,7 @@ Bytes l = (i : ℕ) → getD l i 0 < 256
 
 -- the writer, given room, turns the list of steps l into the image b
 pub record Turns (l b : List ℕ) : Type 0 where
-  pub accepted : writerAnswer l (length b) ≡ wrote (length b)
+  pub taken : writerAnswer l (length b) ≡ accepted (length b)
   pub image : imageDue l ≡ b
 
 -- "For each image the reader accepts there is exactly one list of steps that the writer, given room, turns into it"

@@ -1,14 +1,14 @@
--- The steps of an image, for who wants to look at it: 1 to 7 by the reader, then 17 where they are longer than the output.
-use mathlib.Core.Option.{Option, none, some}
+-- The steps of an image: refused by 1 to 7 where the reader refuses it, then by 17 where they are longer than the output.
+use mathlib.Core.Option.{Option}
 use mathlib.Core.List.{List, [], _∷_}
 use Prim.Native.Nat.{ℕ}
 use lib.Dec.{ltb}
 use lib.ListN.{length}
 use lib.Seq.{sets}
 use Rattle.refusals.specs.Refusals.{Refusal, first, refuseIf, unless}
-use Rattle.image.specs.Read.{Read, got, bad, Image, readAll}
+use Rattle.refusals.specs.Answers.{Answer, answerBy}
+use Rattle.image.specs.Read.{Read, got, bad, Image, readAll, readRefusal}
 use Rattle.steps.specs.Steps.{contentsOf, steps, listBytes}
-use Rattle.steps.specs.Writer.{WriterAnswer, writerAnswerBy}
 
 -- the steps of an image that was read, as a list of bytes
 abbrev pub stepsOf : List ℕ → Image → List ℕ
@@ -22,19 +22,14 @@ stepsBy b (bad n p) = []
 abbrev pub stepsDue : List ℕ → List ℕ → List ℕ
 stepsDue s b = stepsBy b (readAll s b)
 
--- 1 to 7
-abbrev pub readRefused : Read Image → Option Refusal
-readRefused (got i end) = none
-readRefused (bad n p) = some (record { number = n; place = p })
-
--- then 17, with the bytes needed
+-- 1 to 7, then 17, with the bytes needed
 abbrev pub stepsOfRefusal : List ℕ → List ℕ → ℕ → Option Refusal
 stepsOfRefusal s b room =
-    first (readRefused (readAll s b) ∷ refuseIf (ltb room (length (stepsDue s b))) 17 (length (stepsDue s b)) ∷ [])
+    first (readRefusal (readAll s b) ∷ refuseIf (ltb room (length (stepsDue s b))) 17 (length (stepsDue s b)) ∷ [])
 
--- the answer: number and place, or the bytes of the steps; and the output at exit
-abbrev pub stepsOfAnswer : List ℕ → List ℕ → ℕ → WriterAnswer
-stepsOfAnswer s b room = writerAnswerBy (stepsOfRefusal s b room) (length (stepsDue s b))
+-- the answer gives the bytes of the steps; and the output at exit
+abbrev pub stepsOfAnswer : List ℕ → List ℕ → ℕ → Answer ℕ
+stepsOfAnswer s b room = answerBy (stepsOfRefusal s b room) (length (stepsDue s b))
 
 abbrev pub stepsOfOutput : List ℕ → List ℕ → List ℕ → List ℕ
 stepsOfOutput s b out = unless (stepsOfRefusal s b (length out)) out (sets out 0 (stepsDue s b))

@@ -1,19 +1,20 @@
 -- What a list of steps writes, or why it is refused: 16 with the offset of the first step at fault, then 17. l is the list as bytes, and an offset
 -- `at` counts from its first byte. The recursion is the reader's (image/specs/Read.antt), over steps in place of records.
 use mathlib.Core.Bool.{cond, _&&_, _||_}
-use mathlib.Core.Option.{Option, none, some}
+use mathlib.Core.Option.{Option}
 use mathlib.Core.List.{List, [], _∷_, _++_}
 use Prim.Native.Nat.{ℕ, zero, suc, _+_}
 use lib.Dec.{ltb, leb, eqb}
 use lib.ListN.{length, getD}
 use lib.Seq.{sets}
 use Rattle.refusals.specs.Refusals.{Refusal, first, refuseIf, unless}
+use Rattle.refusals.specs.Answers.{Answer, answerBy}
 use Rattle.text.specs.Utf8.{wellFormed}
 use Rattle.image.specs.Bytes.{be16, be32, part}
 use Rattle.image.specs.Kinds.{TREE, TEXT}
 use Rattle.image.specs.Limits.{MAX-BODY, MAX-COMMENTS, MAX-RECORDS-DEEP}
 use Rattle.image.specs.Grammar.{isOptional, bare, place, after, complete, rowUnder, kindFits, hasByte, topByte}
-use Rattle.image.specs.Read.{Read, got, bad, bind}
+use Rattle.image.specs.Read.{Read, got, bad, bind, readRefusal}
 use Rattle.image.specs.Write.{Plain, Plains, without, plainly, done, _next_}
 use Rattle.ast.specs.Syntax.{Span}
 use Rattle.tree.specs.CommentList.{span}
@@ -143,11 +144,6 @@ contentsFrom l =
     bind (recordFrom l MAX-RECORDS-DEEP TREE at)
     (λ t end. cond (ltb end (length l)) (bad 16 end) (got (record { comments = cs; tree = t }) end)))
 
--- 16, "with its offset in the list"
-abbrev pub stepsRefusal : Read Contents → Option Refusal
-stepsRefusal (got c end) = none
-stepsRefusal (bad n p) = some (record { number = n; place = p })
-
 -- the image of an accepted list; of another nothing is written
 abbrev pub imageBy : Read Contents → List ℕ
 imageBy (got c end) = imageOf c
@@ -156,25 +152,18 @@ imageBy (bad n p) = []
 abbrev pub imageDue : List ℕ → List ℕ
 imageDue l = imageBy (contentsFrom l)
 
--- "16 first"; "17, a body over 01's size or an image longer than the output, with the bytes needed": a head of five bytes, then the body
+-- "16 first", "with its offset in the list"; "17, a body over 01's size or an image longer than the output, with the bytes needed": a head of five
+-- bytes, then the body
 abbrev pub writerRefusal : List ℕ → ℕ → Option Refusal
 writerRefusal l room =
     first
-    (stepsRefusal (contentsFrom l)
+    (readRefusal (contentsFrom l)
     ∷ refuseIf (ltb (5 + MAX-BODY) (length (imageDue l)) || ltb room (length (imageDue l))) 17 (length (imageDue l))
     ∷ [])
 
--- the answer: number and place, or the image's bytes; and the output at exit, "untouched" where the list is refused
-pub data WriterAnswer : Type 0 where
-  refused : Refusal → WriterAnswer
-  wrote : ℕ → WriterAnswer
-
-abbrev pub writerAnswerBy : Option Refusal → ℕ → WriterAnswer
-writerAnswerBy (some r) n = refused r
-writerAnswerBy none n = wrote n
-
-abbrev pub writerAnswer : List ℕ → ℕ → WriterAnswer
-writerAnswer l room = writerAnswerBy (writerRefusal l room) (length (imageDue l))
+-- the answer gives the image's bytes; and the output at exit, "untouched" where the list is refused
+abbrev pub writerAnswer : List ℕ → ℕ → Answer ℕ
+writerAnswer l room = answerBy (writerRefusal l room) (length (imageDue l))
 
 abbrev pub writerOutput : List ℕ → List ℕ → List ℕ
 writerOutput l out = unless (writerRefusal l (length out)) out (sets out 0 (imageDue l))

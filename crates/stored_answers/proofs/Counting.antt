@@ -28,4 +28,5 @@ module _ (counts : List ℕ) (n i : ℕ) (C : Counting counts n i) where
 
   pub counting-end : length counts ≤ i → n ≡ total counts
   counting-end h =
-      let e : i ≡ length counts = omega (arith, C .inside) in sym (ap (λ (j : ℕ). totalFrom n (drop j counts)) e ∙ ap (totalFrom n) (drop-length counts)) ∙ C .rest
+      let e : i ≡ length counts = omega (arith, C .inside) in
+      sym (ap (λ (j : ℕ). totalFrom n (drop j counts)) e ∙ ap (totalFrom n) (drop-length counts)) ∙ C .rest

@@ -29,7 +29,8 @@ module _ (f : ℕ → ℕ) (w : ℕ) where
   pub filling-start : (b : List ℕ) (at : ℕ) → Filling f w (length b) at b 0 at
   filling-start b at = let e : length b - 0 ≡ length b = omega arith in record { size = refl; inside = omega arith; done = rw e }
 
-  pub filling-more : (n at : ℕ) (b : List ℕ) (i here v next : ℕ) → Filling f w n at b i here → i < n → v ≡ f here → next ≡ onward here w → Filling f w n at (set b i v) (i + 1) next
+  pub filling-more : (n at : ℕ) (b : List ℕ) (i here v next : ℕ) → Filling f w n at b i here
+      → i < n → v ≡ f here → next ≡ onward here w → Filling f w n at (set b i v) (i + 1) next
   filling-more n at b i here v next F h e k =
       let inb : i < length b = omega (arith, F .size) in
       record {

@@ -4,5 +4,6 @@
 // reader finds at the end of a case that the answers were cut off.
 pub mod compare;
 pub mod found;
+pub mod group;
 pub mod numbers;
 pub mod report;

@@ -1,4 +1,4 @@
--- "wrapped over given as a reduced fraction (0 over 1 when none is given)"
+-- Request 2: "wrapped over given as a reduced fraction (0 over 1 when none is given)".
 use mathlib.Core.Path.{_≡_}
 use mathlib.Core.Bool.{cond}
 use Prim.Native.Nat.{ℕ, zero, suc, _*_, _/_, _%_, _<_}

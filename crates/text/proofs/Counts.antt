@@ -97,7 +97,8 @@ count-join s a b c p q =
     let whole = range-is s a c (omega arith) (range-start s a b p) (range-end s b c q) in
     let parts : c - a ≡ (b - a) + (c - b) = omega arith in
     let there : a + (b - a) ≡ b = omega arith in
-    rw (count-range s a c whole, count-range s a b p, count-range s b c q, parts, places-join, there) (length-append (newlinePlaces (b - a) s a) (newlinePlaces (c - b) s b))
+    rw (count-range s a c whole, count-range s a b p, count-range s b c q, parts, places-join, there)
+    (length-append (newlinePlaces (b - a) s a) (newlinePlaces (c - b) s b))
 
 -- ---- the count before request 1, which knew no places
 -- how many of the n bytes from `at` on are U+000A

@@ -130,7 +130,8 @@ pub sequence-fits : (s : List ℕ) (at : ℕ) → at ≤ length s → at + seque
 unfolding sequence
 sequence-fits s at h = go (ltb at (length s)) refl (followed s at (rowOf (getD s at 0))) refl
   where
-    go : (t : Bool) → ltb at (length s) ≡ t → (u : Bool) → followed s at (rowOf (getD s at 0)) ≡ u → at + cond (t && u) (rowOf (getD s at 0) .bytes) 0 ≤ length s
+    go : (t : Bool) → ltb at (length s) ≡ t → (u : Bool) → followed s at (rowOf (getD s at 0)) ≡ u
+        → at + cond (t && u) (rowOf (getD s at 0) .bytes) 0 ≤ length s
     go true e true f = followed-fits s at (getD s at 0) (ltb-true at (length s) e) f
     go true e false f = omega arith
     go false e true f = omega arith

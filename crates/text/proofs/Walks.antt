@@ -27,7 +27,8 @@ unfolding trim
 trim-on m s from to c n e w = rw (e, trim) (rw w)
 
 pub trim-next :
-    (s : List ℕ) (from to end c n : ℕ) → from < end → charBefore s from end ≡ Char c n → isWhite c ≡ true → Trimming s from to end → Trimming s from to (end - n)
+    (s : List ℕ) (from to end c n : ℕ) → from < end → charBefore s from end ≡ Char c n
+    → isWhite c ≡ true → Trimming s from to end → Trimming s from to (end - n)
 trim-next s from to end c n h e w g = go (g .turns) (g .enough) (g .same)
   where
     go : (m : ℕ) → end ≤ from + m → trimEnd s from to ≡ trim m s from end → Trimming s from to (end - n)

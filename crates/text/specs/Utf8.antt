@@ -50,10 +50,6 @@ rowIn (r ∷ rs) b = cond (within (r .first-low) (r .first-high) b) r (rowIn rs 
 abbrev pub rowOf : ℕ → Row
 rowOf = rowIn table37
 
--- what the code keeps of a row
-abbrev pub leadOf : Row → Lead
-leadOf r = (r .second-low, r .second-high, r .bytes)
-
 -- a byte that continues a sequence and starts none
 abbrev pub continues : ℕ → Bool
 continues = within 0x80 0xBF
@@ -68,19 +64,6 @@ followed s at r =
 -- How many bytes the well-formed sequence that starts at `at` has; 0 where none starts there.
 unfoldable pub sequence : List ℕ → ℕ → ℕ
 sequence s at = cond (ltb at (length s) && followed s at (rowOf (getD s at 0))) (rowOf (getD s at 0) .bytes) 0
-
--- How many of the n bytes from `at` on are 0x80 or above; where none is, each is a sequence by itself.
-unfoldable pub highs : ℕ → List ℕ → ℕ → ℕ
-highs zero s at = 0
-highs (suc n) s at = highs n s at + getD s (at + n) 0 / 0x80
-
--- n bytes stand from `at` on, and none of them is 0x80 or above
-abbrev pub plain : ℕ → List ℕ → ℕ → Bool
-plain n s at = leb (at + n) (length s) && eqb (highs n s at) 0
-
--- how far a check goes on from `at`: over sixteen bytes below 0x80, which are looked for at each sixteenth byte, or over one sequence
-unfoldable pub stride : List ℕ → ℕ → ℕ
-stride s at = cond (eqb (at % 16) 0 && plain 16 s at) 16 (sequence s at)
 
 -- The end of the sequences that follow one another from `at` on, n of them at most.
 unfoldable pub run : ℕ → List ℕ → ℕ → ℕ
@@ -99,7 +82,7 @@ wellFormed s = eqb (prefix s) (length s)
 unfoldable pub illFormed : List ℕ → Option Refusal
 illFormed s = refuseIf (not (wellFormed s)) 2 (prefix s)
 
--- what `check` answers, case by case
+-- what `check` returns, case by case
 abbrev pub refusalOf : Checked → Option Refusal
 refusalOf WellFormed = none
 refusalOf (Bad at) = some (record { number = 2; place = at })
@@ -136,3 +119,21 @@ ending s from to =
 -- the last character of the range from `from` to `to`
 unfoldable pub charBefore : List ℕ → ℕ → ℕ → Decoded
 charBefore s from to = decoded s (to - ending s from to) (ending s from to)
+
+-- ---- How the code checks a text: no rule rests on what follows.
+-- what the code keeps of a row
+abbrev pub leadOf : Row → Lead
+leadOf r = (r .second-low, r .second-high, r .bytes)
+
+-- How many of the n bytes from `at` on are 0x80 or above; where none is, each is a sequence by itself.
+unfoldable pub highs : ℕ → List ℕ → ℕ → ℕ
+highs zero s at = 0
+highs (suc n) s at = highs n s at + getD s (at + n) 0 / 0x80
+
+-- there are n bytes from `at` on, and none of them is 0x80 or above
+abbrev pub plain : ℕ → List ℕ → ℕ → Bool
+plain n s at = leb (at + n) (length s) && eqb (highs n s at) 0
+
+-- how far a check goes on from `at`: over sixteen bytes below 0x80, which are looked for at each sixteenth byte, or over one sequence
+unfoldable pub stride : List ℕ → ℕ → ℕ
+stride s at = cond (eqb (at % 16) 0 && plain 16 s at) 16 (sequence s at)

@@ -124,7 +124,7 @@ fn count_high(s: &[u8], at: usize) -> u8
     n
 }
 
-// Whether sixteen bytes stand from `at` on, all of them below 0x80.
+// Whether there are sixteen bytes from `at` on, all of them below 0x80.
 fn is_plain(s: &[u8], at: usize) -> bool
     requires { ⌜ at ≤ length (now s) ⌝ }
     ensures { λ r. ⌜ r ≡ plain 16 (now (s .entry)) at ⌝ }
@@ -136,7 +136,7 @@ fn is_plain(s: &[u8], at: usize) -> bool
 }
 
 // How far the check goes on from `at`: sixteen bytes, the bytes of a sequence, or none. Sixteen together are looked at only at each sixteenth
-// byte, so that a text where few stand together takes little longer.
+// byte, so that a text where few are together takes little longer.
 fn stride(s: &[u8], at: usize) -> usize
     requires { ⌜ at < length (now s) ⌝ }
     ensures { λ r. ⌜ r ≡ stride (now (s .entry)) at ⌝ }

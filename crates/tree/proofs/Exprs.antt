@@ -8,7 +8,8 @@ use native.Mathlib.Omega.{arith}
 use Rattle.image.specs.Grammar.{list, upTo, anyType, anyExpr, anyStatement, rowOf, rowUnder, firstChild, payloadFits}
 use Rattle.image.specs.Read.{Tree, node, stopAt}
 use Rattle.ast.specs.Syntax.{Entries, Arms, Parts}
-use Rattle.tree.specs.At.{Before, Head, TypeAt, leftDepth, ExprAt, ExprsAt, MaybeExprAt, EntriesAt, ArmsAt, PartsAt, BlockAt, MaybeBlockAt, StmtsAt, StmtAt}
+use Rattle.tree.specs.At.{Before, Head, TypeAt, leftDepth, ExprAt, ExprsAt, MaybeExprAt}
+use Rattle.tree.specs.At.{EntriesAt, ArmsAt, PartsAt, BlockAt, MaybeBlockAt, StmtsAt, StmtAt}
 use Rattle.tree.specs.Records.{views, each, exprs, entries, arms, parts, stmts, maybeExpr, maybeBlock}
 use Rattle.tree.proofs.Children.{_∣_, Kid, Perhaps, All, all, none, head, before, perhaps, run}
 use Rattle.tree.proofs.Texts.{optional, small, ident, path, literal, operator, compound-operator, pattern}
@@ -91,7 +92,8 @@ module _ (s b : List ℕ) where
     maybe-expr : (at end : ℕ) (t : Tree) → Perhaps s b d anyExpr at end t → MaybeExprAt s b (maybeExpr (views b t .there) (views b t .expr)) at
     unfolding views ExprAt
     maybe-expr at end =
-        perhaps s b d anyExpr at end (λ t. MaybeExprAt s b (maybeExpr (views b t .there) (views b t .expr)) at) (λ a. a) (λ h ts k. w .expression at end (node h ts) k)
+        perhaps s b d anyExpr at end (λ t. MaybeExprAt s b (maybeExpr (views b t .there) (views b t .expr)) at)
+        (λ a. a) (λ h ts k. w .expression at end (node h ts) k)
 
     maybe-block : (at end : ℕ) (t : Tree) → Perhaps s b d 23 at end t → MaybeBlockAt s b (maybeBlock (views b t .there) (views b t .block)) at
     unfolding views ExprAt

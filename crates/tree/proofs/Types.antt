@@ -86,7 +86,12 @@ module _ (s b : List ℕ) where
         ∣ tt)
 
   typed : (d : ℕ) → Typed d
-  typed zero = record { one = none s b anyType TypeHere; many = none s b (list anyType) TypesHere; field = none s b 20 FieldHere; fields = none s b (list 20) FieldsHere }
+  typed zero = record {
+    one = none s b anyType TypeHere;
+    many = none s b (list anyType) TypesHere;
+    field = none s b 20 FieldHere;
+    fields = none s b (list 20) FieldsHere;
+  }
   typed (suc d) =
       let w = typed d in
       record { one = one-type d w; many = type-list d w; field = one-field d w; fields = field-list d w }

@@ -9,7 +9,7 @@ use lib.ListN.{length}
 use lib.Dec.{lit≤}
 use Rattle.text.specs.Utf8.{prefix, wellFormed}
 use Rattle.image.specs.Grammar.{anyDeclaration, rowOf, rowUnder, firstChild}
-use Rattle.image.specs.Read.{got, bad, Tree, Trees, Image, stopAt, treeAt, readImage, sourceFits, readAll, answerOf}
+use Rattle.image.specs.Read.{got, bad, Tree, Trees, Image, stopAt, treeAt, readImage, sourceFits, readAll, documentOf, outcome}
 use Rattle.image.proofs.Shapes.{isGot}
 use Rattle.image.proofs.Accepted.{Root, rooted}
 use Rattle.tree.specs.At.{IdentAt, DeclarationsAt, TreeAt}
@@ -57,7 +57,7 @@ module _ (s b : List ℕ) where
   -- The tree of an accepted image, whichever rule its comment list was read by.
   pub image-stands : (ordered : Bool) (i : Image) (q : ℕ) → readImage ordered s b ≡ got i q → TreeAt s b (syntaxTree b (i .tree)) (i .at)
   image-stands ordered i q h =
-      let r = rooted ordered s b (i .comments) (i .at) (ap answerOf h) in
+      let r = rooted ordered s b (documentOf i) (ap outcome h) in
       let same : record { comments = i .comments; tree = r .tree; at = i .at } ≡ i = cc (r .whole) in
       rw (← ap (λ (j : Image). j .tree) same) (root-at ordered (i .comments) (i .at) r)
 

@@ -1,5 +1,5 @@
--- What it is that a part of the syntax tree stands at an offset of the image. Layout goes by it: an accepted image has its whole tree at
--- the tree's offset.
+-- Which part of the syntax tree is at which offset of the image: what the contracts of layout's code rest on. An accepted image has its whole tree
+-- at the tree's offset (proofs/Whole.antt).
 use Prim.Native.Nat.{ℕ, _+_, _≤_, _<_}
 use mathlib.Core.Path.{_≡_}
 use mathlib.Core.Bool.{true}
@@ -10,11 +10,9 @@ use Rattle.text.specs.Newlines.{isRange}
 use Rattle.image.specs.Bytes.{be16, be32}
 use Rattle.image.specs.Read.{stopAt, kindAt}
 use Rattle.image.specs.Limits.{MAX-RECORDS-DEEP}
-use Rattle.image.specs.Kinds.{ACCESS, ARM, ASSIGN, BIN-OP, BLOCK, BLOCK-EXPR, COMPOUND-ASSIGN, CONST, ENUM, ENUM-VARIANT, EXPR-PART, EXPR-STMT}
-use Rattle.image.specs.Kinds.{F-STRING, FIELD, FILTER-MAP, FOR, FUNCTION, FUNCTION-CALL, IF-ELSE, IMPORT, IMPORT-STMT, LET, LIST, LIST-EXPR}
-use Rattle.image.specs.Kinds.{LITERAL, LITERAL-EXPR, MATCH, NAME-AND-TYPE, NEGATE, NEVER, NOT, OPERATOR, OPTION, PARENTHESES, PATH, PATH-EXPR}
-use Rattle.image.specs.Kinds.{QUESTION-MARK, RECORD, RECORD-EXPR, RECORD-FIELDS, RECORD-TYPE, RETURN, TEST, TEXT, TEXT-PART, TREE, TYPE-PATH}
-use Rattle.image.specs.Kinds.{TYPED-RECORD, UNDERSCORE, UNIT, VARIANT, WHILE}
+use Rattle.image.specs.Kinds.{ARM, BLOCK, CONST, ENUM, ENUM-VARIANT, EXPR-PART, FIELD, FILTER-MAP, FUNCTION, IMPORT, LIST, LITERAL, NAME-AND-TYPE}
+use Rattle.image.specs.Kinds.{OPERATOR, PATH, RECORD, RECORD-FIELDS, TEST, TEXT, TEXT-PART, TREE, UNDERSCORE, VARIANT}
+use Rattle.tree.specs.FormKinds.{formKind, typeKind, stmtKind}
 use Rattle.ast.specs.Syntax.{Span, Ident, Path, Idents, TypeExpr, type, TypeForm, option, typePath, never, unit, recordType, TypeArgs, noArgs}
 use Rattle.ast.specs.Syntax.{args, Types, noTypes, _∷ᵗ_, Fields, noFields, field, Import, import, ImportGroup, noGroup, group, Imports}
 use Rattle.ast.specs.Syntax.{noImports, _∷ⁱ_, Pattern, underscore, enumVariant, Expr, expr, Form, return′, literal, block, match′, functionCall}
@@ -55,43 +53,8 @@ pub record Done (at end : ℕ) : Type 0 where
 pub record Before (b : List ℕ) (at end : ℕ) : Type 0 where
   pub least : stopAt b at ≤ end
 
--- the kind of an expression
-abbrev pub formKind : Form → ℕ
-formKind (return′ k e) = RETURN
-formKind (literal s w) = LITERAL-EXPR
-formKind (block b) = BLOCK-EXPR
-formKind (match′ e s a) = MATCH
-formKind (functionCall e s es) = FUNCTION-CALL
-formKind (access e i) = ACCESS
-formKind (path p) = PATH-EXPR
-formKind (record′ s es) = RECORD-EXPR
-formKind (typedRecord p s es) = TYPED-RECORD
-formKind (list es) = LIST-EXPR
-formKind (not′ e) = NOT
-formKind (assign p e) = ASSIGN
-formKind (compoundAssign p o e) = COMPOUND-ASSIGN
-formKind (binOp l s o r) = BIN-OP
-formKind (negate e) = NEGATE
-formKind (ifElse c b e) = IF-ELSE
-formKind (while c b) = WHILE
-formKind (for i e b) = FOR
-formKind (questionMark e) = QUESTION-MARK
-formKind (fString ps) = F-STRING
-formKind (parentheses e) = PARENTHESES
-
-abbrev pub typeKind : TypeForm → ℕ
-typeKind (option t) = OPTION
-typeKind (typePath p a) = TYPE-PATH
-typeKind never = NEVER
-typeKind unit = UNIT
-typeKind (recordType s fs) = RECORD-TYPE
-
-abbrev pub stmtKind : StmtForm → ℕ
-stmtKind (let′ i t e) = LET
-stmtKind (importStmt p) = IMPORT-STMT
-stmtKind (does e) = EXPR-STMT
-
--- how many operators stand one in the other's left operand
+-- How many operators stand one in the other's left operand. Each is a record inside the other, and records are 64 deep at most (refusal 5), so
+-- a stack of 64 places holds the operators of `binop`.
 unfoldable mutual
   pub leftDepth : Expr → ℕ
   leftDepth (expr s f) = formDepth f

@@ -256,7 +256,7 @@ module _ (b : List ℕ) where
   abbrev pub byteOf : Head → ℕ
   byteOf h = getD b (h .at + 13) 0
 
-  -- a text's width stands in two bytes, then its bytes up to the record's end
+  -- a text's width is in two bytes, then its bytes up to the record's end
   abbrev pub identOf : Head → Ident
   identOf h = record { span = spanOf h; width = be16 b (h .at + 13); start = h .at + 15; size = h .stop - (h .at + 15) }
 

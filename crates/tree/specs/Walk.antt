@@ -1,4 +1,4 @@
--- Where each of the declarations starts that stand one after the other.
+-- Where each declaration of an image starts.
 use Prim.Native.Nat.{ℕ, zero, suc}
 use mathlib.Core.List.{List, [], _∷_}
 use Rattle.image.specs.Read.{stopAt}

@@ -1,1 +1,1 @@
-// The typed syntax tree.
+// Theory only: the syntax tree that the records of an image are.

@@ -11,6 +11,7 @@ use lib.ListN.{length, take, drop, set, length-append, length-drop, take-append-
 use lib.Seq.{sets, take-all, length-take-le}
 use borrow.Author.Tests.{lt-ltb, le-ltb, ltb-true, ltb-false}
 use Rattle.laws.proofs.Stores.{sets-append}
+use Rattle.refusals.specs.Answers.{refused, accepted}
 use Rattle.image.specs.Kinds.{TREE}
 use Rattle.image.specs.Limits.{MAX-COMMENTS, MAX-RECORDS-DEEP}
 use Rattle.image.specs.Grammar.{isOptional, place, after, rowOf, rowUnder}
@@ -19,7 +20,7 @@ use Rattle.image.specs.Write.{Plain, Plains, bytes4, written, writtens}
 use Rattle.image.proofs.Shapes.{kind-range}
 use Rattle.ast.specs.Syntax.{Span}
 use Rattle.steps.specs.Steps.{listBytes, payloadSteps, treeSteps, childSteps, closeStep, bytes2, pairBytes, Contents, imageOf}
-use Rattle.steps.specs.Writer.{commentsFrom, recordFrom, contentsFrom, imageBy, imageDue, refused, wrote, writerAnswer, writerOutput}
+use Rattle.steps.specs.Writer.{commentsFrom, recordFrom, contentsFrom, imageBy, imageDue, writerAnswer, writerOutput}
 use Rattle.steps.proofs.Fits.{Fits, fits, FitsRow, ends, gone, here}
 use Rattle.steps.proofs.Taken.{list-append, record-taken}
 use Rattle.steps.proofs.Sizes.{record-size, payload-size, pairs-size}
@@ -259,10 +260,10 @@ module _ (l out : List ℕ) where
             (rw (e, n, t), rw (e, n, t))
 
     pub answers-whole : (o : List ℕ) → (ltb 1048581 bytes || ltb (length out) bytes) ≡ false → o ≡ sets out 0 (imageDue l)
-        → (wrote bytes ≡ writerAnswer l (length out)) × (o ≡ writerOutput l out)
+        → (accepted bytes ≡ writerAnswer l (length out)) × (o ≡ writerOutput l out)
     answers-whole o t f = go (contentsFrom l) refl
       where
-        go : (r : Read Contents) → contentsFrom l ≡ r → (wrote bytes ≡ writerAnswer l (length out)) × (o ≡ writerOutput l out)
+        go : (r : Read Contents) → contentsFrom l ≡ r → (accepted bytes ≡ writerAnswer l (length out)) × (o ≡ writerOutput l out)
         go (bad m q) e = let w : Image at bytes ≡ measured (bad m q) = h ∙ ap measured e in let z : _≡_ {A = ℕ} 0 1 = cc in absurd (omega arith)
         go (got c end) e =
             let n = due-length c end e in

@@ -10,9 +10,12 @@ use lib.ListN.{length, length-append}
 use lib.Seq.{sets}
 use borrow.Author.Tests.{le-leb, lt-ltb, le-ltb, ltb-false}
 use Rattle.refusals.specs.Refusals.{Refusal}
+use Rattle.refusals.specs.Answers.{refused, accepted}
 use Rattle.image.specs.Bytes.{be16, be32, part}
 use Rattle.image.specs.Grammar.{bare, place, after, complete, rowUnder, firstChild}
-use Rattle.image.specs.Read.{Read, got, bad, bind, headAt, stopAt, kindAt, Tree, Trees, absent, node, nil, _▸_, Image, skips, childAt, recordAt, childrenAt, treeAt, readImage, readAll, sourceFits, outcome, accepted, refused, answerOf}
+use Rattle.image.specs.Read.{Read, got, bad, bind, headAt, stopAt, kindAt, Tree, Trees, absent, node, nil, _▸_, Image, skips}
+use Rattle.image.specs.Read.{childAt, recordAt, childrenAt, treeAt, readImage, readAll, sourceFits, documentOf, outcome}
+use Rattle.image.specs.declared.Document.{Document}
 use Rattle.image.specs.Write.{bytes4, plain, plains}
 use Rattle.image.proofs.Exact.{Small}
 use Rattle.image.proofs.Shapes.{opened-order, skips-within, text-payload}
@@ -22,7 +25,6 @@ use Rattle.ast.specs.Syntax.{Span}
 use Rattle.tree.specs.CommentList.{pairsAt, commentsOf}
 use Rattle.steps.specs.Steps.{commentStep, listBytes, payloadSteps, treeSteps, childSteps}
 use Rattle.steps.specs.OfImage.{stepsOf, stepsOfAnswer, stepsOfOutput}
-use Rattle.steps.specs.Writer.{refused as turned-down, wrote as written-out}
 use Rattle.steps.proofs.Taken.{list-append}
 use Rattle.steps.proofs.Took.{took-four, took-join, took-is}
 use Rattle.steps.proofs.Views.{never, bind-got, passed, stayed}
@@ -316,7 +318,7 @@ module _ (s b : List ℕ) where
   pub there : (i : Image) (end : ℕ) → readAll s b ≡ got i end → There i
   unfolding readAll sourceFits treeAt
   there i end h =
-      let a = input s b (i .comments) (i .at) (ap answerOf h) in
+      let a = input s b (documentOf i) (record { answer = ap outcome h }) in
       let r = a .root in
       let same : readAll s b ≡ readImage false s b = rw (le-leb (length s) 65536 (a .short), a .well) in
       let w : got (record { comments = i .comments; tree = r .tree; at = i .at }) (length b) ≡ got i end = sym (r .whole) ∙ sym same ∙ h in
@@ -348,11 +350,20 @@ image-puts b n at pos r out o₁ o₂ a p q s i end h =
     rw is at all
 
 -- ---- the answer
-pub image-there : (s b : List ℕ) (n at : ℕ) → accepted n at ≡ outcome (readAll s b) → ImageThere b n at
-image-there s b n at h = go (readAll s b) refl h
+pub image-there : (s b : List ℕ) (d : Document) → accepted d ≡ outcome (readAll s b) → ImageThere b (d .comments) (d .tree)
+image-there s b d h = go (readAll s b) refl h
   where
-    go : (r : Read Image) → readAll s b ≡ r → accepted n at ≡ outcome r → ImageThere b n at
-    go (got i end) e h = record { source = s; image = i; end = end; reads = e; count = (cc); place = (cc) }
+    go : (r : Read Image) → readAll s b ≡ r → accepted d ≡ outcome r → ImageThere b (d .comments) (d .tree)
+    go (got i end) e h =
+        let same : documentOf i ≡ d = cc in
+        record {
+          source = s;
+          image = i;
+          end = end;
+          reads = e;
+          count = ap (λ (x : Document). x .comments) same;
+          place = ap (λ (x : Document). x .tree) same;
+        }
     go (bad m p) e h = let z : _≡_ {A = ℕ} 0 1 = cc in absurd (omega arith)
 
 pub comments-there : (b : List ℕ) (n at : ℕ) → ImageThere b n at → (7 + 8 * n ≤ length b) × (n ≤ 8192)
@@ -373,34 +384,34 @@ tree-there b n at pos out o a p =
 
 module _ (s b out : List ℕ) where
   pub lists-refused : (n p : ℕ) → refused (record { number = n; place = p }) ≡ outcome (readAll s b)
-      → (turned-down (record { number = n; place = p }) ≡ stepsOfAnswer s b (length out)) × (out ≡ stepsOfOutput s b out)
+      → (refused (record { number = n; place = p }) ≡ stepsOfAnswer s b (length out)) × (out ≡ stepsOfOutput s b out)
   lists-refused n p h = go (readAll s b) refl h
     where
       go : (r : Read Image) → readAll s b ≡ r → refused (record { number = n; place = p }) ≡ outcome r
-          → (turned-down (record { number = n; place = p }) ≡ stepsOfAnswer s b (length out)) × (out ≡ stepsOfOutput s b out)
+          → (refused (record { number = n; place = p }) ≡ stepsOfAnswer s b (length out)) × (out ≡ stepsOfOutput s b out)
       go (got i end) e h = let z : _≡_ {A = ℕ} 0 1 = cc in absurd (omega arith)
       go (bad m q) e h =
           let same : _≡_ {A = Refusal} (record { number = n; place = p }) (record { number = m; place = q }) = cc in
-          (rw e (ap turned-down same), rw e)
+          (rw e (ap refused same), rw e)
 
-  module _ (n at : ℕ) (h : accepted n at ≡ outcome (readAll s b)) (bytes : ℕ) (u v : List ℕ) (p : PutsImage b u bytes v) where
+  module _ (d : Document) (h : accepted d ≡ outcome (readAll s b)) (bytes : ℕ) (u v : List ℕ) (p : PutsImage b u bytes v) where
     pub lists-long : length out < bytes
-        → (turned-down (record { number = 17; place = bytes }) ≡ stepsOfAnswer s b (length out)) × (out ≡ stepsOfOutput s b out)
+        → (refused (record { number = 17; place = bytes }) ≡ stepsOfAnswer s b (length out)) × (out ≡ stepsOfOutput s b out)
     lists-long k = go (readAll s b) refl h
       where
-        go : (r : Read Image) → readAll s b ≡ r → accepted n at ≡ outcome r
-            → (turned-down (record { number = 17; place = bytes }) ≡ stepsOfAnswer s b (length out)) × (out ≡ stepsOfOutput s b out)
+        go : (r : Read Image) → readAll s b ≡ r → accepted d ≡ outcome r
+            → (refused (record { number = 17; place = bytes }) ≡ stepsOfAnswer s b (length out)) × (out ≡ stepsOfOutput s b out)
         go (bad m q) e h = let z : _≡_ {A = ℕ} 0 1 = cc in absurd (omega arith)
         go (got i end) e h =
             let size : length (stepsOf b i) ≡ bytes = sym (p s i end e .place ∙ omega arith) in
             (rw (e, size, lt-ltb (length out) bytes k), rw (e, size, lt-ltb (length out) bytes k))
 
     pub lists-whole : (r : ℕ) (o : List ℕ) → bytes ≤ length out → PutsImage b out r o
-        → (written-out bytes ≡ stepsOfAnswer s b (length out)) × (o ≡ stepsOfOutput s b out)
+        → (accepted bytes ≡ stepsOfAnswer s b (length out)) × (o ≡ stepsOfOutput s b out)
     lists-whole r o k q = go (readAll s b) refl h
       where
-        go : (x : Read Image) → readAll s b ≡ x → accepted n at ≡ outcome x
-            → (written-out bytes ≡ stepsOfAnswer s b (length out)) × (o ≡ stepsOfOutput s b out)
+        go : (x : Read Image) → readAll s b ≡ x → accepted d ≡ outcome x
+            → (accepted bytes ≡ stepsOfAnswer s b (length out)) × (o ≡ stepsOfOutput s b out)
         go (bad m y) e h = let z : _≡_ {A = ℕ} 0 1 = cc in absurd (omega arith)
         go (got i end) e h =
             let size : length (stepsOf b i) ≡ bytes = sym (p s i end e .place ∙ omega arith) in

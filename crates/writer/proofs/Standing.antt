@@ -63,7 +63,8 @@ payload-bytes b at w = go (kindAt b at) refl
     go k e = by (eqb k TEXT) refl (hasByte k) refl
       where
         by : (t : Bool) → eqb k TEXT ≡ t → (u : Bool) → hasByte k ≡ u
-            → length (listBytes (payloadSteps k (part (at + 13) (firstChild k (at + 13) (stopAt b at)) b))) ≤ firstChild k (at + 13) (stopAt b at) - (at + 13) + 5
+            → length (listBytes (payloadSteps k (part (at + 13) (firstChild k (at + 13) (stopAt b at)) b)))
+            ≤ firstChild k (at + 13) (stopAt b at) - (at + 13) + 5
         by true p u q =
             let far = w .width (e ∙ eqb-true k TEXT p) in
             let x = part (at + 13) (stopAt b at) b in

@@ -3,10 +3,11 @@ use mathlib.Core.Path.{_≡_}
 use mathlib.Core.List.{List}
 use Prim.Native.Nat.{ℕ, _+_, _*_, _≤_}
 use lib.ListN.{length}
+use Rattle.refusals.specs.Answers.{Answer, refused, accepted}
 use Rattle.image.specs.Limits.{MAX-BODY}
 use Rattle.image.specs.Read.{Read, got, bad}
 use Rattle.steps.specs.Steps.{Contents, imageOf}
-use Rattle.steps.specs.Writer.{contentsFrom, WriterAnswer, refused, wrote, writerAnswer, writerOutput}
+use Rattle.steps.specs.Writer.{contentsFrom, writerAnswer, writerOutput}
 use Rattle.steps.specs.OfImage.{stepsOfAnswer, stepsOfOutput}
 use Rattle.writer.specs.declared.Wrote.{Wrote}
 use Rattle.writer.specs.declared.Wrote.the-variants.{Bytes, Refused}
@@ -14,8 +15,8 @@ use Rattle.writer.specs.declared.whole.Measured.{Measured}
 use Rattle.writer.specs.declared.whole.Measured.the-variants.{Image, Fault}
 
 -- case by case
-abbrev pub wroteAnswer : Wrote → WriterAnswer
-wroteAnswer (Bytes n) = wrote n
+abbrev pub wroteAnswer : Wrote → Answer ℕ
+wroteAnswer (Bytes n) = accepted n
 wroteAnswer (Refused n p) = refused (record { number = n; place = p })
 
 -- what `write_image` promises: of the list l, with the output before and after

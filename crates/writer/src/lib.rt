@@ -48,13 +48,13 @@ pub fn steps_of(source: &[u8], image: &[u8], out: &mut [u8]) -> Wrote
 {
     match image::check(source, image) {
         Answer::Refused(n, p) => Wrote::Refused(n, p),
-        Answer::Accepted { comments, tree } => {
+        Answer::Accepted(doc) => {
             let mut none = [0u8; 1];
-            let bytes = list_image(image, comments, tree, &mut none);
+            let bytes = list_image(image, doc.comments, doc.tree, &mut none);
             if out.len() < bytes {
                 return Wrote::Refused(17, bytes);
             }
-            list_image(image, comments, tree, out);
+            list_image(image, doc.comments, doc.tree, out);
             Wrote::Bytes(bytes)
         }
     }

@@ -3,6 +3,8 @@
 
 use std::{fs, io, path::Path};
 
+use rrufthim::File;
+
 pub struct Frame {
     pub source: Vec<u8>,
     pub image: Vec<u8>,
@@ -15,6 +17,10 @@ impl Frame {
             return Err(io::Error::other("is no file"));
         }
         Frame::parts(&fs::read(path)?).map_err(io::Error::other)
+    }
+
+    pub fn file(&self) -> File<'_> {
+        File::new(&self.source, &self.image)
     }
 
     fn parts(frame: &[u8]) -> Result<Self, &'static str> {

@@ -2,7 +2,10 @@
 
 use std::{ffi::OsString, path::PathBuf};
 
-use rrufthim::{Comments, MAX_LINE_WIDTH, MIN_LINE_WIDTH, Options};
+use rrufthim::{
+    Comments, Options,
+    limits::{MAX_LINE_WIDTH, MIN_LINE_WIDTH},
+};
 
 use super::report::shown;
 
@@ -93,7 +96,7 @@ impl Order {
     }
 }
 
-fn width(word: Option<OsString>) -> Result<u64, Stop> {
+fn width(word: Option<OsString>) -> Result<usize, Stop> {
     let widths = MIN_LINE_WIDTH..=MAX_LINE_WIDTH;
     let number = word.as_ref().and_then(|word| word.to_str()?.parse().ok());
     number

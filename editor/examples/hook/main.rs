@@ -16,7 +16,7 @@ use std::{
     process::ExitCode,
 };
 
-use rrufthim::{Batch, Formatted, MAX_BATCH};
+use rrufthim::{Batch, Formatted, limits::MAX_BATCH};
 
 use common::{
     frame::Frame,
@@ -76,7 +76,7 @@ pub(crate) fn run(
 fn format_all(order: &Order, report: &mut Report<'_>) {
     let frames = find::frames(&order.paths, report);
     // One for all: its buffers are kept.
-    let mut batch = Batch::new(order.options);
+    let mut batch = Batch::new().with_options(order.options.clone());
     for some in frames.chunks(MAX_BATCH) {
         format(&mut batch, some, order, report);
     }
@@ -90,10 +90,8 @@ fn format(
     report: &mut Report<'_>,
 ) {
     let read: Vec<_> = paths.iter().map(|path| Frame::read(path)).collect();
-    let whole = read.iter().flatten();
-    let files: Vec<_> =
-        whole.map(|frame| (&frame.source, &frame.image)).collect();
-    let mut answers = batch.format_files(&files).into_iter();
+    let files = read.iter().flatten().map(Frame::file);
+    let mut answers = batch.format_files(files).into_iter();
     for (path, frame) in paths.iter().zip(&read) {
         let answer = frame.as_ref().map(|frame| (frame, answers.next()));
         match answer {

@@ -1,26 +1,23 @@
 //! Collects steps and hands them to the proved writer.
 
-use std::ops::Range;
-
 use super::{Step, write_image};
 use crate::{
-    encode::{MAX_BODY, MAX_COMMENTS, MAX_DEPTH},
+    ast::Span,
+    image::{COUNT, HEADER},
+    kind,
+    limits::{MAX_BODY, MAX_COMMENTS, MAX_DEPTH},
     refusal::Refusal,
 };
 
-/// Version, length of the body, number of comments.
-const FRONT: usize = 7;
-/// Version and length of the body.
-const HEADER: usize = 5;
-
 /// Builds an image step by step: comments first, then the tree's record,
-/// which holds all others. docs/01-scope.md has the kinds of records and what
-/// each holds.
+/// which holds all others. [`kind`](crate::kind) names the kinds of records,
+/// and docs/01-scope.md says what each holds.
 ///
 /// A step that can be told to be wrong without the grammar is turned down at
 /// once, and isn't added: a comment that is empty, reversed, too late or one
 /// too many, a reversed span, a record 65 deep, a text or a payload byte that
-/// is missing or has no record of its kind, a step outside the tree. Which
+/// is missing or has no record of its kind, a number that an image has no
+/// bytes for, a step outside the tree. Which
 /// kinds there are, where they may stand, and which payload bytes, is for the
 /// proved writer to say, by [`check`](Self::check) at any time and by
 /// [`finish`](Self::finish) in the end.
@@ -50,8 +47,8 @@ impl Due {
     /// What a record of this kind begins with.
     fn of(kind: u8) -> Self {
         match kind {
-            2 => Due::Text,
-            50 | 86 | 87 => Due::Byte,
+            kind::TEXT => Due::Text,
+            kind::RETURN | kind::OPERATOR | kind::LITERAL => Due::Byte,
             _ => Due::Nothing,
         }
     }
@@ -66,7 +63,7 @@ impl Default for Builder {
             depth: 0,
             due: Due::Nothing,
             closed: false,
-            image: FRONT,
+            image: HEADER + COUNT,
         }
     }
 }
@@ -81,48 +78,46 @@ impl Builder {
     ///
     /// # Errors
     ///
-    /// Refusal 16 if it is empty or reversed, comes too late, or is one over
-    /// 8,192.
-    pub fn comment(
-        &mut self,
-        start: u32,
-        end: u32,
-    ) -> Result<&mut Self, Refusal> {
-        self.step(&Step::Comment { span: start..end })
+    /// Refusal 16 if it is empty or reversed, comes too late, is one over
+    /// 8,192, or has a number over four bytes.
+    pub fn comment(&mut self, span: Span) -> Result<&mut Self, Refusal> {
+        self.step(&Step::Comment { span })
     }
 
     /// A record begins, as a child of the one that is open.
     ///
     /// # Errors
     ///
-    /// Refusal 16 if its span is reversed, if it is the 65th in the others,
-    /// or if a text or payload byte must come first.
+    /// Refusal 16 if its span is reversed or has a number over four bytes, if
+    /// it is the 65th in the others, or if a text or payload byte must come
+    /// first.
     pub fn open(
         &mut self,
         kind: u8,
-        span: Range<u32>,
+        span: Span,
     ) -> Result<&mut Self, Refusal> {
         self.step(&Step::Open { kind, span })
     }
 
-    /// The text of a text record (2) that was just opened, with its width in
-    /// columns.
+    /// The text of a [text record](kind::TEXT) that was just opened, with its
+    /// width in columns.
     ///
     /// # Errors
     ///
-    /// Refusal 16 if no text record was just opened; 17 if four bytes don't
-    /// hold its length.
+    /// Refusal 16 if no text record was just opened, or the width is over
+    /// 65,535; 17 if four bytes don't hold its length.
     pub fn text(
         &mut self,
-        width: u16,
         text: &str,
+        width: usize,
     ) -> Result<&mut Self, Refusal> {
         let text = text.to_owned();
         self.step(&Step::Text { width, text })
     }
 
-    /// The payload byte of a record that was just opened: of a return (50),
-    /// an operator (86) or a literal value (87).
+    /// The payload byte of a record that was just opened: of a
+    /// [return](kind::RETURN), an [operator](kind::OPERATOR) or a [literal's
+    /// value](kind::LITERAL).
     ///
     /// # Errors
     ///
@@ -159,15 +154,14 @@ impl Builder {
     /// it wrong, 16 with the offset of that one.
     pub fn step(&mut self, step: &Step) -> Result<&mut Self, Refusal> {
         let image = self.image.saturating_add(step.image_bytes());
-        if !self.fits(step) {
+        if !self.fits(step) || !step.has_bytes() {
             self.check()?;
-            let at = self.list.len() as u64;
+            let at = self.list.len();
             return Err(Refusal::BadStep { at });
         }
         if step.bytes() > u32::MAX as usize {
             self.check()?;
-            let needed = image as u64;
-            return Err(Refusal::MoreRoom { needed });
+            return Err(Refusal::MoreRoom { needed: image });
         }
         self.image = image;
         step.append(&mut self.list);
@@ -231,7 +225,7 @@ impl Builder {
     pub fn check(&self) -> Result<(), Refusal> {
         match write_image(&self.list, &mut []) {
             Err(refusal @ Refusal::BadStep { at })
-                if at < self.list.len() as u64 =>
+                if at < self.list.len() =>
             {
                 Err(refusal)
             }

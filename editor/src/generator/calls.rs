@@ -3,7 +3,8 @@
 use super::Step;
 use crate::{
     calls::refused,
-    linked::{rrufthim_steps, rrufthim_write},
+    file::File,
+    linked::{self, sizes},
     refusal::Refusal,
 };
 
@@ -15,19 +16,8 @@ use crate::{
 /// Refusals 16, 17, each of which leaves the output as it was.
 pub fn write_image(list: &[u8], output: &mut [u8]) -> Result<usize, Refusal> {
     let mut out = [0; 2];
-    // Safety: as in `check`.
-    unsafe {
-        rrufthim_write(
-            list.as_ptr(),
-            list.len(),
-            output.as_mut_ptr(),
-            output.len(),
-            &mut out,
-        );
-    }
-    let [number, bytes] = out;
-    refused(number, bytes)?;
-    Ok(bytes as usize)
+    linked::write(list, output, &mut out);
+    written(out)
 }
 
 /// Writes the list of the steps of an image into the output, from its start
@@ -37,33 +27,28 @@ pub fn write_image(list: &[u8], output: &mut [u8]) -> Result<usize, Refusal> {
 ///
 /// Refusals 1 to 7, 17, each of which leaves the output as it was.
 pub fn write_list(
-    source: &[u8],
-    image: &[u8],
+    file: File<'_>,
     output: &mut [u8],
 ) -> Result<usize, Refusal> {
     let mut out = [0; 2];
-    // Safety: as in `check`.
-    unsafe {
-        rrufthim_steps(
-            source.as_ptr(),
-            source.len(),
-            image.as_ptr(),
-            image.len(),
-            output.as_mut_ptr(),
-            output.len(),
-            &mut out,
-        );
-    }
-    let [number, bytes] = out;
+    linked::steps(file.source, file.image, output, &mut out);
+    written(out)
+}
+
+/// How many bytes were written.
+fn written(out: [u64; 2]) -> Result<usize, Refusal> {
+    let [number, bytes] = sizes(out);
     refused(number, bytes)?;
-    Ok(bytes as usize)
+    Ok(bytes)
 }
 
 /// The steps of an image, to look at it or to change it.
 ///
 /// ```
-/// let image = rrufthim::encode(&Default::default(), &[])?;
-/// for step in rrufthim::generator::steps(b"", &image)? {
+/// use rrufthim::{File, encode, generator::steps};
+///
+/// let image = encode(&Default::default(), &[])?;
+/// for step in steps(File::new("", &image))? {
 ///     println!("{step}");
 /// }
 /// # Ok::<(), Box<dyn std::error::Error>>(())
@@ -72,11 +57,11 @@ pub fn write_list(
 /// # Errors
 ///
 /// Refusals 1 to 7.
-pub fn steps(source: &[u8], image: &[u8]) -> Result<Vec<Step>, Refusal> {
+pub fn steps(file: File<'_>) -> Result<Vec<Step>, Refusal> {
     // The steps of a text record without text take most for their bytes of
     // image: 18 for 15.
-    let mut list = vec![0; image.len() + image.len() / 5];
-    let bytes = write_list(source, image, &mut list)?;
+    let mut list = vec![0; file.image.len() + file.image.len() / 5];
+    let bytes = write_list(file, &mut list)?;
     read(&list[..bytes])
 }
 
@@ -91,7 +76,7 @@ pub fn read(list: &[u8]) -> Result<Vec<Step>, Refusal> {
     let mut steps = Vec::new();
     let mut at = 0;
     while at < list.len() {
-        let bad = Refusal::BadStep { at: at as u64 };
+        let bad = Refusal::BadStep { at };
         let step = Step::at(list, at).ok_or(bad)?;
         at += step.bytes();
         steps.push(step);

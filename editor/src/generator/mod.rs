@@ -7,10 +7,8 @@
 
 mod builder;
 mod calls;
-mod kinds;
 mod step;
 
 pub use builder::Builder;
 pub use calls::{read, steps, write_image, write_list};
-pub use kinds::kind_name;
 pub use step::Step;

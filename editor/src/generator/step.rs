@@ -1,8 +1,8 @@
 //! A step and its bytes.
 
-use std::{fmt, ops::Range};
+use std::fmt;
 
-use super::kind_name;
+use crate::{ast::Span, kind, limits::MAX_WIDTH};
 
 /// One step of the list that an image is written from. Its bytes are a
 /// number from 1 to 6, then what it says, numbers with the highest byte
@@ -12,19 +12,19 @@ pub enum Step {
     /// 1: a comment, before all other steps.
     Comment {
         /// Its bytes in the source.
-        span: Range<u32>,
+        span: Span,
     },
     /// 2: a record begins.
     Open {
-        /// What it is: docs/01-scope.md has the kinds.
+        /// What it is, by a number of [`kind`](crate::kind).
         kind: u8,
         /// Its bytes in the source.
-        span: Range<u32>,
+        span: Span,
     },
     /// 3: the text of the text record that was just opened.
     Text {
         /// How many columns wide it is.
-        width: u16,
+        width: usize,
         /// The text.
         text: String,
     },
@@ -49,8 +49,8 @@ impl Step {
                 span: span(1)?,
             },
             3 => {
-                let width = u16::from_be_bytes(*rest.first_chunk()?);
-                let length = four(rest, 2)? as usize;
+                let width = u16::from_be_bytes(*rest.first_chunk()?).into();
+                let length = four(rest, 2)?;
                 let text = rest.get(6..)?.get(..length)?.to_vec();
                 let text = String::from_utf8(text).ok()?;
                 Step::Text { width, text }
@@ -85,26 +85,42 @@ impl Step {
         }
     }
 
+    /// Whether an image has bytes for its numbers, the length of a text
+    /// aside.
+    pub(super) fn has_bytes(&self) -> bool {
+        match self {
+            Step::Comment { span } | Step::Open { span, .. } => {
+                span.start.max(span.end) <= u32::MAX as usize
+            }
+            Step::Text { width, .. } => *width <= MAX_WIDTH,
+            Step::Payload(_) | Step::Absent | Step::Close => true,
+        }
+    }
+
     /// Adds its bytes to a list.
     ///
     /// # Panics
     ///
-    /// If four bytes don't hold the length of its text.
+    /// If four bytes don't hold an end of its span or the length of its text,
+    /// or two its width.
     pub fn append(&self, list: &mut Vec<u8>) {
         match self {
             Step::Comment { span } => {
+                let span = span_bytes(span);
                 list.push(1);
-                put_span(list, span);
+                list.extend(span.as_flattened());
             }
             Step::Open { kind, span } => {
+                let span = span_bytes(span);
                 list.extend([2, *kind]);
-                put_span(list, span);
+                list.extend(span.as_flattened());
             }
             Step::Text { width, text } => {
-                let length = u32::try_from(text.len()).expect("four bytes");
+                let width = u16::try_from(*width).expect("two bytes");
+                let length = four_bytes(text.len());
                 list.push(3);
                 list.extend(width.to_be_bytes());
-                list.extend(length.to_be_bytes());
+                list.extend(length);
                 list.extend(text.as_bytes());
             }
             Step::Payload(byte) => list.extend([4, *byte]),
@@ -114,23 +130,28 @@ impl Step {
     }
 }
 
-fn four(bytes: &[u8], at: usize) -> Option<u32> {
+fn four(bytes: &[u8], at: usize) -> Option<usize> {
     let four = bytes.get(at..)?.first_chunk()?;
-    Some(u32::from_be_bytes(*four))
+    Some(u32::from_be_bytes(*four) as usize)
 }
 
-fn put_span(list: &mut Vec<u8>, span: &Range<u32>) {
-    list.extend(span.start.to_be_bytes());
-    list.extend(span.end.to_be_bytes());
+fn four_bytes(number: usize) -> [u8; 4] {
+    let number = u32::try_from(number).expect("four bytes");
+    number.to_be_bytes()
 }
 
-/// In one line: `open 11 (const) at 0..17`.
+fn span_bytes(span: &Span) -> [[u8; 4]; 2] {
+    [span.start, span.end].map(four_bytes)
+}
+
+/// In one line: `open 11 (CONST) at 0..17`.
 impl fmt::Display for Step {
     fn fmt(&self, f: &mut fmt::Formatter<'_>) -> fmt::Result {
         match self {
             Step::Comment { span } => write!(f, "comment at {span:?}"),
             Step::Open { kind, span } => {
-                write!(f, "open {kind} ({}) at {span:?}", kind_name(*kind))
+                let name = kind::name(*kind).unwrap_or("no kind");
+                write!(f, "open {kind} ({name}) at {span:?}")
             }
             Step::Text { width, text } => {
                 write!(f, "text {text:?}, {width} wide")

@@ -1,6 +1,6 @@
 //! Which texts are written, and which frames have none.
 
-use rrufthim::{MAX_BATCH, ast::*, encode};
+use rrufthim::{ast::*, encode, limits::MAX_BATCH};
 
 use super::{
     folder::{Folder, LINE, Said, WIDE},
@@ -85,7 +85,7 @@ fn frames_without_a_text_are_named() {
     let due = [
         "/b.frame: refused 6 at 45: line 1, column 6: the tree has the \
          span 6..7, which is no range",
-        "/c.frame: refused 3 at 0: the tree image",
+        "/c.frame: refused 3 at 0: the tree image's version or length is wrong",
         "/d.frame: cut off",
         "/e.frame: no frame",
     ];

@@ -9,7 +9,8 @@ pub const LINKED: &str = include_str!("../../src/linked.rs");
 /// What stands before each function, in Rattle.
 const EXPORT: &str = "pub extern \"C\" fn ";
 
-/// A function's symbol with its parameters, written as in src/linked.rs.
+/// A function's symbol with its parameters: a slice as a pointer and a length,
+/// an array as a pointer.
 pub type Function = (String, Vec<String>);
 
 /// All files of crates/exports/src.
@@ -22,8 +23,8 @@ pub fn exports() -> String {
     texts.collect()
 }
 
-/// The functions that follow these words, each parameter turned into those of
-/// src/linked.rs, by their names.
+/// The functions that follow these words, each parameter turned into others,
+/// by their names.
 fn functions(
     text: &str,
     words: &str,
@@ -47,13 +48,13 @@ fn spaced(text: &str) -> String {
     text.split_whitespace().collect::<Vec<_>>().join(" ")
 }
 
-/// The functions of src/linked.rs, with the number of its macro `shape`.
+/// The functions of src/linked.rs, by the symbols that its macros give them.
 pub fn linked(text: &str) -> Vec<Function> {
     let (_, shape) = text.split_once("macro_rules! shape").expect("it");
     let number = shape.split(['{', '}']).nth(2).expect("a number").trim();
-    let mut found = functions(text, "\n    fn ", |one| vec![one.to_owned()]);
+    let mut found = functions(text, "\n    fn ", pointers);
     for (name, _) in &mut found {
-        *name += &format!("_s{number}");
+        *name = format!("rrufthim_{name}_s{number}");
     }
     found
 }
@@ -63,26 +64,30 @@ pub fn signatures(text: &str) -> Vec<Function> {
     functions(text, EXPORT, |one| vec![one.to_owned()])
 }
 
-/// The same with a slice as a pointer and a length, an array as a pointer.
+/// The same as pointers and lengths.
 pub fn exported(text: &str) -> Vec<Function> {
-    functions(text, EXPORT, |one| {
-        let (name, kind) = one.split_once(": ").expect("a kind");
-        let (pointer, lent) = match kind.strip_prefix('&') {
-            None => return vec![one.to_owned()],
-            Some(lent) => match lent.strip_prefix("mut ") {
-                Some(lent) => ("*mut", lent),
-                None => ("*const", lent),
-            },
-        };
-        if lent.contains(';') {
-            return vec![format!("{name}: {pointer} {lent}")];
-        }
-        let element = lent.trim_matches(['[', ']']);
-        vec![
-            format!("{name}: {pointer} {element}"),
-            format!("{name}_len: usize"),
-        ]
-    })
+    functions(text, EXPORT, pointers)
+}
+
+/// A parameter as one or two: a slice as a pointer and a length, an array as
+/// a pointer.
+fn pointers(parameter: &str) -> Vec<String> {
+    let (name, kind) = parameter.split_once(": ").expect("a kind");
+    let (pointer, lent) = match kind.strip_prefix('&') {
+        None => return vec![parameter.to_owned()],
+        Some(lent) => match lent.strip_prefix("mut ") {
+            Some(lent) => ("*mut", lent),
+            None => ("*const", lent),
+        },
+    };
+    if lent.contains(';') {
+        return vec![format!("{name}: {pointer} {lent}")];
+    }
+    let element = lent.trim_matches(['[', ']']);
+    vec![
+        format!("{name}: {pointer} {element}"),
+        format!("{name}_len: usize"),
+    ]
 }
 
 /// The prototypes of a header, its constants put in, by the symbols that its
@@ -143,11 +148,25 @@ fn without_comments(text: &str) -> String {
 }
 
 /// Names and values of the header's constants, in order.
-pub fn constants(header: &str) -> Vec<(String, u64)> {
+pub fn constants(header: &str) -> Vec<(String, usize)> {
     let text = without_comments(header);
     let lines = text.lines().filter_map(|line| {
         let (name, value) = line.strip_prefix("#define ")?.split_once(' ')?;
         Some((name.to_owned(), value.trim().parse().ok()?))
+    });
+    lines.collect()
+}
+
+/// The header's constants for refusals, each with the comment behind it.
+pub fn refusals(header: &str) -> Vec<(String, usize, String)> {
+    let (_, part) = header.split_once("/* Refusals: ").expect("there");
+    let (part, _) = part.split_once("\n\n").expect("their end");
+    let lines = part.split("#define ").skip(1).map(|one| {
+        let (constant, rest) = one.split_once("/*").expect("a comment");
+        let (comment, _) = rest.split_once("*/").expect("its end");
+        let (name, value) = constant.split_once(' ').expect("a value");
+        let number = value.trim().parse().expect("a number");
+        (name.to_owned(), number, spaced(comment))
     });
     lines.collect()
 }

@@ -5,8 +5,13 @@
 mod example;
 
 use rrufthim::{
-    FileWritten, LayoutState, Options, ROW, Refusal, RenderState, ast::*,
-    declarations, encode, layout, render,
+    File, Options, Refusal,
+    ast::*,
+    calls::{
+        FileWritten, LayoutArgs, LayoutState, ROW, RenderArgs, RenderState,
+        Written, layout, render,
+    },
+    encode,
 };
 
 pub use example::{SOURCE, tariff};
@@ -22,7 +27,12 @@ pub fn tariff_image() -> Vec<u8> {
 }
 
 /// How many declarations the tariff script has.
-pub const DECLARATIONS: u64 = 2;
+pub const DECLARATIONS: usize = 2;
+
+/// All of a file with so many declarations.
+pub fn all(declarations: usize) -> LayoutArgs {
+    LayoutArgs::up_to(declarations).with_close(true)
+}
 
 /// `const NAME: u32 = 1;` lines, without their comments.
 pub fn constants(source: &str) -> SyntaxTree {
@@ -60,6 +70,26 @@ fn named(source: &str, span: &Span) -> Meta<Identifier> {
     Meta::new(source[span.clone()].into(), span.clone())
 }
 
+/// What a whole file takes, by whatever calls.
+#[derive(Clone, Copy, Debug, PartialEq, Eq)]
+pub struct Whole {
+    pub bytes: usize,
+    pub comments_left: usize,
+    pub rows: usize,
+    pub numbers: usize,
+}
+
+impl From<FileWritten> for Whole {
+    fn from(written: FileWritten) -> Self {
+        Whole {
+            bytes: written.bytes,
+            comments_left: written.comments_left,
+            rows: written.rows,
+            numbers: written.numbers,
+        }
+    }
+}
+
 /// Buffers of exact sizes, full of junk.
 #[derive(Clone, Debug, PartialEq, Eq)]
 pub struct Buffers {
@@ -83,38 +113,43 @@ impl Buffers {
     }
 
     /// A whole file by the two calls.
-    pub fn format(
-        &mut self,
-        source: &[u8],
-        image: &[u8],
-    ) -> Result<FileWritten, Refusal> {
-        self.format_as(source, image, &Options::default())
+    pub fn format(&mut self, file: File<'_>) -> Result<Whole, Refusal> {
+        self.format_as(file, &Options::default())
     }
 
     /// The same with what is chosen.
     pub fn format_as(
         &mut self,
-        source: &[u8],
-        image: &[u8],
+        file: File<'_>,
         options: &Options,
-    ) -> Result<FileWritten, Refusal> {
-        let Buffers {
-            store,
-            marks,
-            output,
-        } = self;
-        let (fresh, stop) = (LayoutState::default(), declarations(image));
-        let laid = layout(source, image, store, &fresh, stop, true, options)?;
+    ) -> Result<Whole, Refusal> {
+        let (fresh, all) = (LayoutState::default(), all(file.declarations()));
+        let laid = layout(file, &mut self.store, &fresh, &all, options)?;
         let (fresh, rows) = (RenderState::default(), laid.state.next_row);
-        let written = render(
-            source, image, store, marks, output, &fresh, rows, options,
-        )?;
-        Ok(FileWritten {
+        let written = self.render(file, &fresh, rows, options)?;
+        Ok(Whole {
             bytes: written.bytes,
             comments_left: laid.comments_left,
             rows,
             numbers: written.state.marks_in_use,
         })
+    }
+
+    /// A rendering call up to a row.
+    pub fn render(
+        &mut self,
+        file: File<'_>,
+        state: &RenderState,
+        stop: usize,
+        options: &Options,
+    ) -> Result<Written, Refusal> {
+        let Buffers {
+            store,
+            marks,
+            output,
+        } = self;
+        let args = RenderArgs::up_to(stop);
+        render(file, store, marks, output, state, &args, options)
     }
 }
 
@@ -134,7 +169,7 @@ impl Random {
     }
 
     /// A number that is small, near a limit of document 01, or anything.
-    pub fn wild(&mut self) -> u64 {
+    pub fn wild(&mut self) -> usize {
         const LIMITS: [u64; 8] = [
             0,
             64,
@@ -145,7 +180,7 @@ impl Random {
             72_057_594_037_927_936,
             u64::MAX,
         ];
-        match self.below(4) {
+        let number = match self.below(4) {
             0 => self.next() % 4,
             1 => self.next() % 100,
             2 => {
@@ -153,6 +188,7 @@ impl Random {
                 limit.wrapping_add(self.next() % 3).wrapping_sub(1)
             }
             _ => self.next() >> self.below(64),
-        }
+        };
+        number as usize
     }
 }

@@ -9,8 +9,8 @@ use judge::{
     tree,
 };
 use rrufthim::{
-    Formatter, ImageWriter, Options, Span, encode_with_widths,
-    fmt_parsed_with_widths,
+    Formatter, ImageWriter, Options, Span, WriteResult, encode_written,
+    fmt_written, write_tree,
 };
 
 use crate::{File, as_written, convert, decode, plug};
@@ -66,14 +66,14 @@ pub fn of_the_crate(file: &File, due: &Due) -> Vec<&'static str> {
         extras,
         ..
     } = file;
-    let image = encode_with_widths(tree, &extras.comments, supply(file));
-    let mut formatter = Formatter::new();
-    formatter.set_options(Options::AS_ROTO);
-    let roto = formatter
-        .format_tree_with_widths(tree, source, extras, supply(file))
-        .expect("accepted");
-    let kept = fmt_parsed_with_widths(tree, source, extras, supply(file))
-        .expect("accepted");
+    let write = |out: &mut ImageWriter<'_>| -> WriteResult {
+        write_tree(out, tree, &extras.comments, supply(file))
+    };
+    let image = encode_written(write);
+    let mut formatter = Formatter::new().with_options(Options::AS_ROTO);
+    let roto = formatter.format_written(source, write).expect("accepted");
+    let kept = fmt_written(source, &Options::default(), write);
+    let kept = kept.expect("accepted");
     named([
         ("image", image.as_ref() == Ok(&due.image)),
         ("text", roto.text == due.text),
@@ -97,7 +97,9 @@ pub fn of_the_conversion(
 ) -> Vec<&'static str> {
     let tree = convert::tree(&input.ast, &input.spans);
     let extras = convert::extras(&input.extras);
-    let image = encode_with_widths(&tree, &extras.comments, supply(file));
+    let image = encode_written(|out| {
+        write_tree(out, &tree, &extras.comments, supply(file))
+    });
     named([("the converted image", image.as_ref() == Ok(&due.image))])
 }
 
@@ -111,15 +113,12 @@ pub fn of_the_plug(
     let tree::Input {
         ast, spans, extras, ..
     } = input;
-    let mut image = Vec::new();
-    let mut writer = ImageWriter::new(&mut image);
-    plug::write(&mut writer, ast, spans, extras)
-        .and_then(|()| writer.finish())
-        .expect("within the limits");
-    let options = Options::AS_ROTO;
-    let roto =
-        plug::fmt_parsed_with_options(ast, source, spans, extras, options)
-            .expect("accepted");
+    let write = |out: &mut ImageWriter<'_>| -> WriteResult {
+        plug::write(out, ast, spans, extras)
+    };
+    let image = encode_written(write).expect("within the limits");
+    let roto = fmt_written(source, &Options::AS_ROTO, write);
+    let roto = roto.expect("accepted");
     let kept = plug::fmt_parsed(ast, source, spans, extras);
     let kept = kept.expect("accepted");
     named([

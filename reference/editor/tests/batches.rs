@@ -11,7 +11,7 @@ use judge::{
     reader,
 };
 use rrufthim::{
-    Batch, Cause, Comments, FormatError, Formatted, Options, Span,
+    Batch, Cause, Comments, File, FormatError, Formatted, Options, Span,
 };
 
 const SEED: u64 = 11;
@@ -39,7 +39,7 @@ fn answered(answer: Result<Formatted, FormatError>) -> Answer {
         Ok(formatted) => Ok((formatted.text, formatted.comments_left)),
         Err(error) => match error.cause {
             Cause::Refused(refusal) => {
-                Err([refusal.number(), refusal.place()])
+                Err([refusal.number(), refusal.place()].map(|n| n as u64))
             }
             other => panic!("{other:?}"),
         },
@@ -48,13 +48,13 @@ fn answered(answer: Result<Formatted, FormatError>) -> Answer {
 
 /// What the crate can choose of it: no mode but the two.
 fn options(choice: Choice) -> Options {
-    Options {
-        width: choice.width as u64,
-        comments: match choice.mode {
-            NEW => Comments::All,
-            _ => Comments::AsRoto,
-        },
-    }
+    let comments = match choice.mode {
+        NEW => Comments::All,
+        _ => Comments::AsRoto,
+    };
+    Options::default()
+        .with_width(choice.width)
+        .with_comments(comments)
 }
 
 #[test]
@@ -70,9 +70,10 @@ fn lists_of_files() {
             mode,
             ..case.choice
         };
-        let pairs = files.iter().map(|file| (file.source, file.image));
-        let pairs: Vec<_> = pairs.collect();
-        let answers = Batch::new(options(choice)).format_files(&pairs);
+        let mut batch = Batch::new().with_options(options(choice));
+        let given = files.iter();
+        let given = given.map(|file| File::new(file.source, file.image));
+        let answers = batch.format_files(given);
         assert_eq!(answers.len(), files.len());
         for (file, answer) in files.into_iter().zip(answers) {
             let (due, rows) = judged(file, choice);

@@ -22,7 +22,7 @@ use judge::{
     mode::NEW,
     reader, script, tree,
 };
-use rrufthim::{Formatter, encode, encode_with_widths};
+use rrufthim::{File, Formatter, encode, encode_written, write_tree};
 use unicode_width::true_width;
 
 const SEED: u64 = 11;
@@ -43,7 +43,9 @@ fn compare_true_widths(bytes: &[u8]) {
     let accepted = reader::read(source, image).expect("accepted");
     let file = decode(&accepted);
     let comments = &file.extras.comments;
-    let encoded = encode_with_widths(&file.tree, comments, true_width);
+    let encoded = encode_written(|out| {
+        write_tree(out, &file.tree, comments, true_width)
+    });
     assert!(encoded == Ok(as_written(image, &accepted.tree)));
 }
 
@@ -210,7 +212,8 @@ fn a_small_stack() {
         let mut formatter = Formatter::new();
         for bytes in frames {
             let frame = frame::split_any_size(&bytes).expect("a frame");
-            let _ = formatter.format_image(frame.source, frame.image);
+            let file = File::new(frame.source, frame.image);
+            let _ = formatter.format_file(file);
         }
     };
     let thread = thread::Builder::new().stack_size(256 << 10).spawn(run);

@@ -1,4 +1,4 @@
-//! The gaps that the crate's `Steps` names make the blank lines of the text,
+//! The gaps that the crate's `InParts` names make the blank lines of the text,
 //! and no other gaps do.
 
 use judge::{
@@ -9,7 +9,10 @@ use judge::{
     program::{self, Widths},
     script,
 };
-use rrufthim::{LayoutState, Options, ROW, Span, Steps, layout, newlines};
+use rrufthim::{
+    File, InParts, Options, Span,
+    calls::{LayoutArgs, LayoutState, ROW, layout, newlines},
+};
 
 const SEED: u64 = 11;
 const FRAMES: u64 = 2_000;
@@ -29,18 +32,18 @@ struct Before {
 /// Each declaration of a file whose comments start with `//`, and the text,
 /// which is the original's.
 fn declarations(frame: Frame) -> (Vec<Before>, String) {
-    let Frame { source, image } = frame;
-    let mut steps = Steps::new(source, image).expect("accepted");
+    let file = File::new(frame.source, frame.image);
+    let mut parts = InParts::new(file).expect("accepted");
     let mut text = String::new();
-    if steps.declarations() > 0 {
-        steps.lay_out(0).expect("the shebang");
-        text.push_str(steps.render().expect("its line"));
+    if parts.declarations() > 0 {
+        parts.lay_out(0).expect("the shebang");
+        text.push_str(parts.render().expect("its line"));
     }
     let mut found = Vec::new();
-    for stop in 1..=steps.declarations() {
-        let gaps = steps.gaps();
-        steps.lay_out(stop).expect("in order");
-        let part = steps.render().expect("a part");
+    for stop in 1..=parts.declarations() {
+        let gaps = parts.gaps();
+        parts.lay_out(stop).expect("in order");
+        let part = parts.render().expect("a part");
         let lines = part.split('\n').skip((stop > 1).into());
         let is_before =
             |line: &&str| line.is_empty() || line.starts_with("//");
@@ -49,8 +52,8 @@ fn declarations(frame: Frame) -> (Vec<Before>, String) {
         text.push_str(part);
         found.push(Before { gaps, blank_lines });
     }
-    assert!(steps.gaps().is_empty());
-    while let Some(part) = steps.advance(1).expect("the end") {
+    assert!(parts.gaps().is_empty());
+    while let Some(part) = parts.advance(1).expect("the end") {
         text.push_str(part);
     }
     let choice = Choice {
@@ -192,21 +195,22 @@ fn generated_rows() {
 
 /// The kinds of the rows in front of all declarations.
 fn rows(Frame { source, image }: Frame) -> Vec<u32> {
-    let mut steps = Steps::new(source, image).expect("accepted");
+    let file = File::new(source, image);
+    let mut parts = InParts::new(file).expect("accepted");
     let mut store = vec![0; ROW * (5 * image.len() / 13 + 1)];
-    let lay_out = |state: &LayoutState, stop: u64, rows: &mut [u32]| {
-        let options = Options::default();
-        let laid = layout(source, image, rows, state, stop, false, &options);
+    let lay_out = |state: &LayoutState, stop, rows: &mut [u32]| {
+        let args = LayoutArgs::up_to(stop);
+        let laid = layout(file, rows, state, &args, &Options::default());
         laid.expect("accepted").state
     };
     // The shebang's rows.
     let mut state = lay_out(&LayoutState::default(), 0, &mut store);
     let mut all = Vec::new();
-    for stop in 1..=steps.declarations() {
-        let due = kinds(source, &steps.gaps(), stop == 1);
-        steps.lay_out(stop).expect("in order");
+    for stop in 1..=parts.declarations() {
+        let due = kinds(source, &parts.gaps(), stop == 1);
+        parts.lay_out(stop).expect("in order");
         let next = lay_out(&state, stop, &mut store);
-        let rows = store.chunks(ROW).skip(state.next_row as usize);
+        let rows = store.chunks(ROW).skip(state.next_row);
         let found = rows.map(|row| row[0]).take(due.len());
         assert_eq!(found.collect::<Vec<_>>(), due);
         state = next;

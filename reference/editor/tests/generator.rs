@@ -10,8 +10,9 @@ use judge::{
     steps,
 };
 use rrufthim::{
-    Refusal, encode_with_widths,
+    File, Refusal, encode_written,
     generator::{self, Builder, Step},
+    write_tree,
 };
 
 const SEED: u64 = 11;
@@ -24,8 +25,8 @@ fn encoded(frame: Frame) -> Option<Vec<u8>> {
     let mut file = decode(&accepted);
     let widths = &mut file.widths;
     let width = |_: &str| widths.pop_front().expect("one for each text");
-    let comments = &file.extras.comments;
-    encode_with_widths(&file.tree, comments, width).ok()
+    let (tree, comments) = (&file.tree, &file.extras.comments);
+    encode_written(|out| write_tree(out, tree, comments, width)).ok()
 }
 
 /// The image that a builder gives for these steps.
@@ -46,7 +47,8 @@ fn encoded_images_there_and_back() {
             let frame = frame::split_any_size(&bytes).expect("a frame");
             let encoded = encoded(frame).expect("accepted");
             for image in [&encoded[..], frame.image] {
-                let steps = generator::steps(frame.source, image);
+                let file = File::new(frame.source, image);
+                let steps = generator::steps(file);
                 let steps = steps.expect("accepted");
                 assert!(built(&steps).as_deref() == Ok(image));
             }
@@ -65,7 +67,7 @@ fn steps_are_the_judges() {
             };
             let Frame { source, image } = frame;
             let due = steps::read(source, image, usize::MAX);
-            let got = generator::steps(source, image);
+            let got = generator::steps(File::new(source, image));
             match (due, got) {
                 (Ok(list), Ok(steps)) => {
                     assert!(generator::read(&list) == Ok(steps), "{name}");
@@ -80,7 +82,7 @@ fn steps_are_the_judges() {
 fn numbers(refusal: &Refusal) -> Due {
     Due {
         number: refusal.number() as u8,
-        place: refusal.place(),
+        place: refusal.place() as u64,
     }
 }
 

@@ -109,8 +109,7 @@ fn refused_with_a_place() {
 
 #[test]
 fn no_text_lacks_a_comment() {
-    let mut formatter = Formatter::new();
-    formatter.set_options(Options::AS_ROTO);
+    let mut formatter = Formatter::new().with_options(Options::AS_ROTO);
     let mut as_roto = |source: &str| {
         text_of(&mut formatter, source.as_bytes()).map(|own| own.text)
     };

@@ -28,14 +28,14 @@ usage: judge run [--true-widths] < frame      what the program must write
        judge stored-frames                    a fixed set of frames, answered
        judge stored-calls                     a fixed set of lists, answered
        judge stored-table                     what the fixed sets reach
-       judge replay-calls                     what replay_calls is run on
-       judge replay-calls-counts              what it must write
-       judge replay-frames                    what replay_frames is run on
-       judge replay-frames-counts             what it must write
-       judge replay-steps                     what replay_steps is run on
-       judge replay-steps-counts              what it must write
-       judge replay-batches                   what replay_batches is run on
-       judge replay-batches-counts            what it must write
+       judge replay-calls                     the lists, as replay_calls reads them
+       judge replay-calls-counts              what it must write of them
+       judge replay-frames                    the frames, as replay_files reads them
+       judge replay-frames-counts             what it must write of them
+       judge replay-steps                     the lists of steps
+       judge replay-steps-counts              what it must write of them
+       judge replay-batches                   the batches
+       judge replay-batches-counts            what it must write of them
        judge text-answers                     answers of Rust's text functions
        judge report < files                   what the program report must write
        judge report-sample                    a small input of report

@@ -423,7 +423,7 @@ fn cut_rule_holds(make: fn(u64, u64) -> CallCase, count: u64) -> usize {
     spoken_of
 }
 
-/// docs/ARCHITECTURE.md, "The way of one file": the smallest list on which the
+/// docs/ARCHITECTURE.md, "The way of a save": the smallest list on which the
 /// cut rule is false, since it renders a row before that is laid out.
 #[test]
 fn the_cut_rule_needs_rows_that_are_laid_out() {

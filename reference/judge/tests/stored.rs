@@ -206,34 +206,14 @@ fn batches_take_about_sixty_kilobytes() {
 fn the_replay_has_these_answers() {
     let at = concat!(env!("CARGO_MANIFEST_DIR"), "/../../crates");
     let read = |name| std::fs::read(format!("{at}/{name}")).expect("there");
-    assert!(read("replay_calls/stdin") == replay::calls_input());
-    assert!(
-        read("replay_calls/stdout") == replay::calls_output().into_bytes()
-    );
-    assert!(read("replay_frames/stdin") == replay::frames_input());
-    assert!(
-        read("replay_frames/stdout") == replay::frames_output().into_bytes()
-    );
-}
-
-/// The same of the lists of steps.
-#[test]
-fn the_replay_of_steps_has_these_answers() {
-    let at =
-        concat!(env!("CARGO_MANIFEST_DIR"), "/../../crates/replay_steps");
-    let read = |name| std::fs::read(format!("{at}/{name}")).expect("there");
-    assert!(read("stdin") == replay::steps_input());
-    assert!(read("stdout") == replay::steps_output().into_bytes());
-}
-
-/// The same of the batches.
-#[test]
-fn the_replay_of_batches_has_these_answers() {
-    let at =
-        concat!(env!("CARGO_MANIFEST_DIR"), "/../../crates/replay_batches");
-    let read = |name| std::fs::read(format!("{at}/{name}")).expect("there");
-    assert!(read("stdin") == replay::batches_input());
-    assert!(read("stdout") == replay::batches_output().into_bytes());
+    assert!(read("replay_calls/data/calls") == replay::calls_input());
+    assert!(read("replay_calls/data/steps") == replay::steps_input());
+    assert!(read("replay_files/data/frames") == replay::frames_input());
+    assert!(read("replay_files/data/batches") == replay::batches_input());
+    let calls = [replay::calls_output(), replay::steps_output()];
+    assert!(read("replay_calls/stdout") == calls.concat().into_bytes());
+    let files = [replay::frames_output(), replay::batches_output()];
+    assert!(read("replay_files/stdout") == files.concat().into_bytes());
 }
 
 /// The same of the program `report`.

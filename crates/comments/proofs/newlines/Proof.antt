@@ -6,7 +6,9 @@ use Rattle.comments.proofs.newlines.Statement.{statement}
 use Rattle.comments.proofs.newlines.Tie as tie
 
 break-line-requires : tie.Need-break-line-requires
-break-line-requires c κs = rw (c .before .newlines-from .ensures) (room-newlines (given (c .before .before .before .before .before .args .source .now) []) (c .before .before .before .before .before .args .position) (c .before .before .before .before .before .pre))
+break-line-requires c κs =
+    let start = c .before .before .before .before .before in
+    rw (c .before .newlines-from .ensures) (room-newlines (given (start .args .source .now) []) (start .args .position) (start .pre))
 
 returns : tie.Need-returns
 returns c =

@@ -10,33 +10,58 @@ use Rattle.comments.proofs.place_comments.Statement.{statement}
 use Rattle.comments.proofs.place_comments.Tie as tie
 
 pop-comments-requires : tie.Need-pop-comments-requires
-pop-comments-requires c κs = (c .before .before .before .before .before .pre .0, room-comments (given (c .before .before .before .before .before .args .source .now) (c .before .before .before .before .before .args .image .now)) (c .before .before .before .before .before .args .position) (c .before .before .before .before .before .args .leading) (c .before .before .before .before .before .args .trailing) (c .before .before .before .before .before .args .only) (c .before .before .before .before .before .pre .1))
+pop-comments-requires c κs =
+    let start = c .before .before .before .before .before in (
+      start .pre .0,
+      room-comments (given (start .args .source .now) (start .args .image .now)) (start .args .position)
+          (start .args .leading) (start .args .trailing) (start .args .only) (start .pre .1),
+    )
 
 newlines-requires : tie.Need-newlines-requires
-newlines-requires c κs = any-image (c .before .before .before .before .before .before .before .before .before .before .before .args .source .now) (c .before .before .before .before .before .before .before .before .before .before .before .args .image .now) [] (c .before .before .before .before .before .before .before .before .before .before .before .args .position) (room-trailing (given (c .before .before .before .before .before .before .before .before .before .before .before .args .source .now) (c .before .before .before .before .before .before .before .before .before .before .before .args .image .now)) (c .before .before .before .before .before .before .before .before .before .before .before .args .position) (c .before .before .before .before .before .before .before .before .before .before .before .args .leading) (c .before .before .before .before .before .before .before .before .before .before .before .args .trailing) (c .before .before .before .before .before .before .before .before .before .before .before .args .only) (sym (c .before .before .before .before .before .before .before .is-waiting .ensures (c .before .before .before .before .before .before .before .before .before .before .before .args .source .now)) ∙ c .before .before .if1 .taken) (c .before .if2 .taken) (c .before .before .before .before .before .pop-comments .ensures) (c .before .before .before .before .before .before .before .before .before .before .before .pre .1))
+newlines-requires c κs =
+    let at-pop-comments = c .before .before .before .before .before in
+    let at-is-waiting = at-pop-comments .before .before in
+    let start = at-is-waiting .before .before .before .before in
+    any-image (start .args .source .now) (start .args .image .now) [] (start .args .position) (room-trailing
+    (given (start .args .source .now) (start .args .image .now)) (start .args .position) (start .args .leading) (start .args .trailing)
+    (start .args .only) (sym (at-is-waiting .is-waiting .ensures (start .args .source .now)) ∙ c .before .before .if1 .taken)
+    (c .before .if2 .taken) (at-pop-comments .pop-comments .ensures) (start .pre .1))
 
 returns : tie.Need-returns
 returns c =
-    let a = c .before .before .before .before .before .before .before .before .before .before .before .before .before .before .before .args in
-    let asked = c .before .before .before .before .before .before .before .before .before .before .before .is-waiting .ensures in
-    let popped = c .before .before .before .before .before .before .before .before .before .pop-comments .ensures in
-    let waits = sym (asked (a .source .now)) ∙ c .before .before .before .before .before .before .if1 .taken in
+    let at-newlines = c .before .before .before in
+    let at-if2 = at-newlines .before .before in
+    let at-if1 = at-if2 .before in
+    let a = at-if1 .before .before .before .before .before .before .before .before .before .args in
+    let asked = at-if1 .before .before .before .before .before .is-waiting .ensures in
+    let popped = at-if1 .before .before .before .pop-comments .ensures in
+    let waits = sym (asked (a .source .now)) ∙ at-if1 .if1 .taken in
     rw (c .gap-of .ensures .0, c .gap-of .ensures .1)
     (laid-trailing (given (a .source .now) (a .image .now)) (a .position) (a .leading) (a .only) waits
-    (c .before .before .before .before .before .if2 .taken) popped (c .before .before .before .newlines .ensures (a .image .now)))
+    (at-if2 .if2 .taken) popped (at-newlines .newlines .ensures (a .image .now)))
 
 newlines-requires-2 : tie.Need-newlines-requires-2
-newlines-requires-2 c κs = any-image (c .before .before .before .before .before .before .before .before .before .before .before .args .source .now) (c .before .before .before .before .before .before .before .before .before .before .before .args .image .now) [] (c .before .before .before .before .before .before .before .before .before .before .before .args .position) (room-only (given (c .before .before .before .before .before .before .before .before .before .before .before .args .source .now) (c .before .before .before .before .before .before .before .before .before .before .before .args .image .now)) (c .before .before .before .before .before .before .before .before .before .before .before .args .position) (c .before .before .before .before .before .before .before .before .before .before .before .args .leading) (c .before .before .before .before .before .before .before .before .before .before .before .args .trailing) (c .before .before .before .before .before .before .before .before .before .before .before .args .only) (⊎-elim (λ w. inl (w .1 .left)) (λ w. inr (sym (c .before .before .before .before .before .before .before .is-waiting .ensures (c .before .before .before .before .before .before .before .before .before .before .before .args .source .now)) ∙ w .left)) (c .before .before .if1 .came)) (c .before .if3 .taken) (c .before .before .before .before .before .pop-comments .ensures) (c .before .before .before .before .before .before .before .before .before .before .before .pre .1))
+newlines-requires-2 c κs =
+    let at-pop-comments = c .before .before .before .before .before in
+    let at-is-waiting = at-pop-comments .before .before in
+    let start = at-is-waiting .before .before .before .before in
+    any-image (start .args .source .now) (start .args .image .now) [] (start .args .position) (room-only
+    (given (start .args .source .now) (start .args .image .now)) (start .args .position) (start .args .leading) (start .args .trailing) (start .args .only)
+    (⊎-elim (λ w. inl (w .1 .left)) (λ w. inr (sym (at-is-waiting .is-waiting .ensures (start .args .source .now)) ∙ w .left)) (c .before .before .if1 .came))
+    (c .before .if3 .taken) (at-pop-comments .pop-comments .ensures) (start .pre .1))
 
 returns-2 : tie.Need-returns-2
 returns-2 c =
-    let a = c .before .before .before .before .before .before .before .before .before .before .before .before .before .before .before .args in
-    let asked = c .before .before .before .before .before .before .before .before .before .before .before .is-waiting .ensures in
-    let popped = c .before .before .before .before .before .before .before .before .before .pop-comments .ensures in
-    let neither = ⊎-elim (λ w. inl (w .1 .left)) (λ w. inr (sym (asked (a .source .now)) ∙ w .left)) (c .before .before .before .before .before .before .if1 .came) in
+    let at-newlines2 = c .before .before .before in
+    let at-if3 = at-newlines2 .before .before in
+    let at-if1 = at-if3 .before in
+    let a = at-if1 .before .before .before .before .before .before .before .before .before .args in
+    let asked = at-if1 .before .before .before .before .before .is-waiting .ensures in
+    let popped = at-if1 .before .before .before .pop-comments .ensures in
+    let neither = ⊎-elim (λ w. inl (w .1 .left)) (λ w. inr (sym (asked (a .source .now)) ∙ w .left)) (at-if1 .if1 .came) in
     rw (c .gap-of2 .ensures .0, c .gap-of2 .ensures .1)
     (laid-only (given (a .source .now) (a .image .now)) (a .position) (a .leading) (a .trailing) neither
-    (c .before .before .before .before .before .if3 .taken) popped (c .before .before .before .newlines2 .ensures (a .image .now)))
+    (at-if3 .if3 .taken) popped (at-newlines2 .newlines2 .ensures (a .image .now)))
 
 returns-3 : tie.Need-returns-3
 returns-3 c =

@@ -13,16 +13,37 @@ add-with-placed : tie.Need-add-with-placed
 add-with-placed c = omega (arith, inside _ _ _ (c .before .before .before .before .pre .1 .0), c .before .before .before .before .pre .0 .few)
 
 before-comment-requires : tie.Need-before-comment-requires
-before-comment-requires c κs = (c .before .before .before .before .before .before .pre .0 .within, room-gap (given (c .before .before .before .before .before .before .args .source .now) (c .before .before .before .before .before .before .args .image .now)) (c .before .before .before .before .before .before .args .leading) (span (c .before .before .before .before .before .before .args .start) (c .before .before .before .before .before .before .args .end)) (c .before .before .before .before .before .before .args .store .now) (c .before .with-placed .ensures) (c .before .before .before .before .before .before .pre .1 .1))
+before-comment-requires c κs =
+    let start = c .before .before .before .before .before .before in (
+      start .pre .0 .within,
+      room-gap (given (start .args .source .now) (start .args .image .now)) (start .args .leading)
+          (span (start .args .start) (start .args .end)) (start .args .store .now) (c .before .with-placed .ensures) (start .pre .1 .1),
+    )
 
 sub-move-to : tie.Need-sub-move-to
-sub-move-to c = omega (arith, good (c .before .before .before .before .before .before .before .before .before .before .pre .0) _ _ (c .before .before .before .before .before .before .before .before .before .before .pre .1 .0) .order)
+sub-move-to c =
+    let start = c .before .before .before .before .before .before .before .before .before .before in
+    omega (arith, good (start .pre .0) _ _ (start .pre .1 .0) .order)
 
 push-comment-requires : tie.Need-push-comment-requires
-push-comment-requires c κs = (omega (arith, good (c .before .before .before .before .before .before .before .before .before .before .before .pre .0) _ _ (c .before .before .before .before .before .before .before .before .before .before .before .pre .1 .0) .order), room-remark (given (c .before .before .before .before .before .before .before .before .before .before .before .args .source .now) (c .before .before .before .before .before .before .before .before .before .before .before .args .image .now)) (c .before .before .before .before .before .before .before .before .before .before .before .args .leading) (span (c .before .before .before .before .before .before .before .before .before .before .before .args .start) (c .before .before .before .before .before .before .before .before .before .before .before .args .end)) (c .before .before .before .before .before .before .with-placed .ensures) (c .before .before .before .before .before-comment .ensures) (c .move-to .ensures) (c .before .before .before .before .before .before .before .before .before .before .before .pre .1 .1))
+push-comment-requires c κs =
+    let at-before-comment = c .before .before .before .before in
+    let at-with-placed = at-before-comment .before .before in
+    let start = at-with-placed .before .before .before .before .before in (
+      omega (arith, good (start .pre .0) _ _ (start .pre .1 .0) .order),
+      room-remark (given (start .args .source .now) (start .args .image .now)) (start .args .leading) (span (start .args .start) (start .args .end))
+          (at-with-placed .with-placed .ensures) (at-before-comment .before-comment .ensures) (c .move-to .ensures) (start .pre .1 .1),
+    )
 
 returns : tie.Need-returns
-returns c = laid-comment (given (c .before .before .before .before .before .before .before .before .before .before .before .before .before .before .args .source .now) (c .before .before .before .before .before .before .before .before .before .before .before .before .before .before .args .image .now)) (c .before .before .before .before .before .before .before .before .before .before .before .before .before .before .args .leading) (span (c .before .before .before .before .before .before .before .before .before .before .before .before .before .before .args .start) (c .before .before .before .before .before .before .before .before .before .before .before .before .before .before .args .end)) (c .before .before .before .before .before .before .before .before .before .with-placed .ensures) (c .before .before .before .before .before .before .before .before-comment .ensures) (c .before .before .before .move-to .ensures) (c .before .before .push-comment .ensures (c .before .before .before .before .before .before .before .before .before .before .before .before .before .before .args .image .now))
+returns c =
+    let at-move-to = c .before .before .before in
+    let at-before-comment = at-move-to .before .before .before .before in
+    let at-with-placed = at-before-comment .before .before in
+    let start = at-with-placed .before .before .before .before .before in
+    laid-comment (given (start .args .source .now) (start .args .image .now)) (start .args .leading) (span (start .args .start) (start .args .end))
+    (at-with-placed .with-placed .ensures) (at-before-comment .before-comment .ensures) (at-move-to .move-to .ensures)
+    (c .before .before .push-comment .ensures (start .args .image .now))
 
 pub pop-comment-spec : {M : Type 1} → statement M
 pop-comment-spec =

@@ -7,10 +7,16 @@ use Rattle.comments.proofs.push_comment.Statement.{statement}
 use Rattle.comments.proofs.push_comment.Tie as tie
 
 sub-t9 : tie.Need-sub-t9
-sub-t9 c = omega (arith, c .trim-end .ensures, trim-after (c .before .before .before .args .source .now) (c .before .before .before .args .start) (c .before .before .before .args .end) (c .before .before .before .pre .0))
+sub-t9 c =
+    let start = c .before .before .before in
+    omega (arith, c .trim-end .ensures, trim-after (start .args .source .now) (start .args .start) (start .args .end) (start .pre .0))
 
 comment-requires : tie.Need-comment-requires
-comment-requires c κs = (rw (c .before .trim-end .ensures) (c .before .before .before .before .pre .1), omega (arith, c .before .trim-end .ensures, trim-before (c .before .before .before .before .args .source .now) (c .before .before .before .before .args .start) (c .before .before .before .before .args .end), c .before .before .before .before .fits .end))
+comment-requires c κs =
+    let start = c .before .before .before .before in (
+      rw (c .before .trim-end .ensures) (start .pre .1),
+      omega (arith, c .before .trim-end .ensures, trim-before (start .args .source .now) (start .args .start) (start .args .end), start .fits .end),
+    )
 
 returns : tie.Need-returns
 returns c = λ b. rw (c .before .before .before .before .trim-end .ensures) at (c .before .before .comment .ensures)

@@ -6,10 +6,21 @@ use Rattle.exports.proofs.rrufthim_layout_s1.Statement.{statement}
 use Rattle.exports.proofs.rrufthim_layout_s1.Tie as tie
 
 returns : tie.Need-returns
-returns c = lays _ _ _ _ _ _ _ _ _ _ _ _ (c .before .before .before .before .before .before .before .before .layout-state .ensures) (c .before .before .before .before .before .before .before .layout-args .ensures) (c .before .before .before .before .before .layout-call .ensures) (c .before .n .given .1) refl
+returns c =
+    let at-layout-call = c .before .before .before .before .before in
+    let at-layout-args = at-layout-call .before .before in
+    let at-layout-state = at-layout-args .before in
+    lays _ _ _ _ _ _ _ _ _ _ _ _ (at-layout-state .layout-state .ensures) (at-layout-args .layout-args .ensures)
+    (at-layout-call .layout-call .ensures) (c .before .n .given .1) refl
 
 returns-2 : tie.Need-returns-2
-returns-2 c = lays _ _ _ _ _ _ _ _ _ _ _ _ (c .before .before .before .before .before .before .before .before .before .before .layout-state .ensures) (c .before .before .before .before .before .before .before .before .before .layout-args .ensures) (c .before .before .before .before .before .before .before .layout-call .ensures) (c .before .before .before .t .given .1) (c .put-laid .ensures)
+returns-2 c =
+    let at-t = c .before .before .before in
+    let at-layout-call = at-t .before .before .before .before in
+    let at-layout-args = at-layout-call .before .before in
+    let at-layout-state = at-layout-args .before in
+    lays _ _ _ _ _ _ _ _ _ _ _ _ (at-layout-state .layout-state .ensures) (at-layout-args .layout-args .ensures)
+    (at-layout-call .layout-call .ensures) (at-t .t .given .1) (c .put-laid .ensures)
 
 pub rrufthim-layout-s1-spec : {M : Type 1} → statement M
 rrufthim-layout-s1-spec =

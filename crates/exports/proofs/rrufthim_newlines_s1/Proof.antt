@@ -1,5 +1,6 @@
 -- Both numbers are stored one after the other.
 use mathlib.Core.Path.{ap}
+use lib.Seq.{sets}
 use Rattle.text.specs.declared.newlines.Newlines.{Newlines}
 use Rattle.exports.specs.Numbers.{toldNewlines}
 use borrow.Author.Needs.{needs}
@@ -7,7 +8,7 @@ use Rattle.exports.proofs.rrufthim_newlines_s1.Statement.{statement}
 use Rattle.exports.proofs.rrufthim_newlines_s1.Tie as tie
 
 returns : tie.Need-returns
-returns c = ap (λ (n : Newlines). toldNewlines n (c .before .before .args .out .now)) (c .count-newlines .ensures)
+returns c = ap (λ (n : Newlines). sets (c .before .before .args .out .now) 0 (toldNewlines n)) (c .count-newlines .ensures)
 
 pub rrufthim-newlines-s1-spec : {M : Type 1} → statement M
 rrufthim-newlines-s1-spec =

@@ -1,17 +1,19 @@
 -- 1 to 7, and then the accepted file.
-use mathlib.Core.Path.{_∙_}
-use Rattle.image.specs.Read.{readAll}
-use Rattle.image.proofs.Answers.{answer-told}
-use Rattle.figures.proofs.Told.{check-refused}
+use mathlib.Core.Path.{sym, ap, _∙_}
+use Rattle.image.specs.Read.{checkedAnswer}
+use Rattle.figures.proofs.Counting.{check-refused}
 use borrow.Author.Needs.{needs}
 use Rattle.figures.proofs.count_file.Statement.{statement}
 use Rattle.figures.proofs.count_file.Tie as tie
 
 count-accepted-requires : tie.Need-count-accepted-requires
-count-accepted-requires c κs = record { answer = answer-told (c .before .before .before .check .result) (readAll (c .before .before .before .before .before .before .args .source .now) (c .before .before .before .before .before .before .args .image .now)) (c .before .before .before .check .ensures) ∙ c .before .comments .given .1 }
+count-accepted-requires c κs = record { answer = sym (c .before .before .before .check .ensures) ∙ ap checkedAnswer (c .before .doc .given .1) }
 
 returns : tie.Need-returns
-returns c = check-refused _ _ (c .before .before .before .before .before .before .args .t) _ _ (answer-told (c .before .before .before .check .result) (readAll (c .before .before .before .before .before .before .args .source .now) (c .before .before .before .before .before .before .args .image .now)) (c .before .before .before .check .ensures) ∙ c .before .number .given .1)
+returns c =
+    let at3 = c .before .before .before in
+    let at6 = at3 .before .before .before in
+    check-refused _ _ (at6 .args .t) _ _ (sym (at3 .check .ensures) ∙ ap checkedAnswer (c .before .number .given .1))
 
 pub count-file-spec : {M : Type 1} → statement M
 count-file-spec =

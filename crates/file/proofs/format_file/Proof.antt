@@ -1,17 +1,18 @@
 -- 1 to 7, and then the run of the accepted file.
-use mathlib.Core.Path.{_∙_}
-use Rattle.image.specs.Read.{readAll}
-use Rattle.image.proofs.Answers.{answer-told}
+use mathlib.Core.Path.{sym, ap, _∙_}
+use Rattle.image.specs.Read.{checkedAnswer}
 use Rattle.file.proofs.Steps.{check-refused}
 use borrow.Author.Needs.{needs}
 use Rattle.file.proofs.format_file.Statement.{statement}
 use Rattle.file.proofs.format_file.Tie as tie
 
 format-accepted-requires : tie.Need-format-accepted-requires
-format-accepted-requires c κs = record { answer = answer-told (c .before .before .before .before .check .result) (readAll (c .before .before .before .before .before .before .before .before .args .source .now) (c .before .before .before .before .before .before .before .before .args .image .now)) (c .before .before .before .before .check .ensures) ∙ c .before .before .comments .given .1 }
+format-accepted-requires c κs =
+    let at-check = c .before .before .before .before in
+    record { answer = sym (at-check .check .ensures) ∙ ap checkedAnswer (c .before .before .doc .given .1) }
 
 returns : tie.Need-returns
-returns c = check-refused _ _ _ _ _ _ (answer-told (c .before .before .before .check .result) (readAll (c .before .before .before .before .before .before .before .args .source .now) (c .before .before .before .before .before .before .before .args .image .now)) (c .before .before .before .check .ensures) ∙ c .before .number .given .1)
+returns c = check-refused _ _ _ _ _ _ (sym (c .before .before .before .check .ensures) ∙ ap checkedAnswer (c .before .number .given .1))
 
 pub format-file-spec : {M : Type 1} → statement M
 format-file-spec =

@@ -14,7 +14,12 @@ returns-3 : tie.Need-returns-3
 returns-3 c = cut-off _ _ (c .before .before .before .if1 .left) (c .before .before .if2 .left) _ (c .before .num32 .ensures .same) (c .if3 .taken)
 
 returns-4 : tie.Need-returns-4
-returns-4 c = runs-parts _ _ (c .before .before .before .before .before .before .before .before .before .if1 .left) (c .before .before .before .before .before .before .before .before .if2 .left) _ (c .before .before .before .before .before .before .before .num32 .ensures .same) (c .before .before .before .before .before .before .if3 .left) _ _ (c .before .before .format-file .ensures)
+returns-4 c =
+    let at-if3 = c .before .before .before .before .before .before in
+    let at-num32 = at-if3 .before in
+    let at-if2 = at-num32 .before in
+    let at-if1 = at-if2 .before in
+    runs-parts _ _ (at-if1 .if1 .left) (at-if2 .if2 .left) _ (at-num32 .num32 .ensures .same) (at-if3 .if3 .left) _ _ (c .before .before .format-file .ensures)
 
 pub format-frame-spec : {M : Type 1} → statement M
 format-frame-spec =

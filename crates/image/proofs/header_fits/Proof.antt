@@ -16,11 +16,29 @@ returns-2 c = simp (le-leb _ _ (c .before .before .before .if1 .left), ← c .be
 
 returns-3 : tie.Need-returns-3
 unfolding header
-returns-3 c = simp (le-leb _ _ (c .before .before .before .before .before .if1 .left), ← c .before .before .before .wide .ensures .0, eq-eqb _ _ (c .before .before .if2 .left), ← c .before .num32 .ensures .same, ne-eqb _ _ (c .if3 .taken))
+returns-3 c =
+    let at-wide = c .before .before .before in
+    let at-if1 = at-wide .before .before in
+    simp (
+      le-leb _ _ (at-if1 .if1 .left),
+      ← at-wide .wide .ensures .0,
+      eq-eqb _ _ (c .before .before .if2 .left),
+      ← c .before .num32 .ensures .same,
+      ne-eqb _ _ (c .if3 .taken),
+    )
 
 returns-4 : tie.Need-returns-4
 unfolding header
-returns-4 c = simp (le-leb _ _ (c .before .before .before .before .before .if1 .left), ← c .before .before .before .wide .ensures .0, eq-eqb _ _ (c .before .before .if2 .left), ← c .before .num32 .ensures .same, eq-eqb _ _ (c .if3 .left))
+returns-4 c =
+    let at-wide = c .before .before .before in
+    let at-if1 = at-wide .before .before in
+    simp (
+      le-leb _ _ (at-if1 .if1 .left),
+      ← at-wide .wide .ensures .0,
+      eq-eqb _ _ (c .before .before .if2 .left),
+      ← c .before .num32 .ensures .same,
+      eq-eqb _ _ (c .if3 .left),
+    )
 
 pub header-fits-spec : {M : Type 1} → statement M
 header-fits-spec =

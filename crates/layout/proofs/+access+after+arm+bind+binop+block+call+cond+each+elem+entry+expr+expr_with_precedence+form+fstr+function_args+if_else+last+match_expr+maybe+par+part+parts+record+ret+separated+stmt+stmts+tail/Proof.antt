@@ -31,94 +31,140 @@ mod Tail
 use Rattle.layout.proofs.record.Reads as «record»
 use Prim.Native.Nat.{_+_}
 use Rattle.layout.proofs.access.Reads as access
-use Rattle.layout.proofs.+access+after+arm+bind+binop+block+call+cond+each+elem+entry+expr+expr_with_precedence+form+fstr+function_args+if_else+last+match_expr+maybe+par+part+parts+record+ret+separated+stmt+stmts+tail.Lts-access as access-lts
+use Rattle.layout.proofs.+access+after+arm+bind+binop+block+call+cond+each+elem+entry+expr+expr_with_precedence+form+fstr+function_args+if_else+last+match_expr+maybe+par+part+parts+record+ret+separated+stmt+stmts+tail as cycle
+use cycle.Lts-access as access-lts
 use Rattle.layout.proofs.after.Reads as after
-use Rattle.layout.proofs.+access+after+arm+bind+binop+block+call+cond+each+elem+entry+expr+expr_with_precedence+form+fstr+function_args+if_else+last+match_expr+maybe+par+part+parts+record+ret+separated+stmt+stmts+tail.Lts-after as after-lts
+use cycle.Lts-after as after-lts
 use Rattle.layout.proofs.if_else.Reads as if-else
-use Rattle.layout.proofs.+access+after+arm+bind+binop+block+call+cond+each+elem+entry+expr+expr_with_precedence+form+fstr+function_args+if_else+last+match_expr+maybe+par+part+parts+record+ret+separated+stmt+stmts+tail.Lts-if_else as if-else-lts
+use cycle.Lts-if_else as if-else-lts
 use Rattle.layout.proofs.arm.Reads as arm
-use Rattle.layout.proofs.+access+after+arm+bind+binop+block+call+cond+each+elem+entry+expr+expr_with_precedence+form+fstr+function_args+if_else+last+match_expr+maybe+par+part+parts+record+ret+separated+stmt+stmts+tail.Lts-arm as arm-lts
+use cycle.Lts-arm as arm-lts
 use Rattle.layout.proofs.bind.Reads as bind
-use Rattle.layout.proofs.+access+after+arm+bind+binop+block+call+cond+each+elem+entry+expr+expr_with_precedence+form+fstr+function_args+if_else+last+match_expr+maybe+par+part+parts+record+ret+separated+stmt+stmts+tail.Lts-bind as bind-lts
+use cycle.Lts-bind as bind-lts
 use Rattle.layout.proofs.binop.Reads as binop
-use Rattle.layout.proofs.+access+after+arm+bind+binop+block+call+cond+each+elem+entry+expr+expr_with_precedence+form+fstr+function_args+if_else+last+match_expr+maybe+par+part+parts+record+ret+separated+stmt+stmts+tail.Lts-binop as binop-lts
+use cycle.Lts-binop as binop-lts
 use Rattle.layout.proofs.block.Reads as block
-use Rattle.layout.proofs.+access+after+arm+bind+binop+block+call+cond+each+elem+entry+expr+expr_with_precedence+form+fstr+function_args+if_else+last+match_expr+maybe+par+part+parts+record+ret+separated+stmt+stmts+tail.Lts-block as block-lts
+use cycle.Lts-block as block-lts
 use Rattle.layout.proofs.call.Reads as call
-use Rattle.layout.proofs.+access+after+arm+bind+binop+block+call+cond+each+elem+entry+expr+expr_with_precedence+form+fstr+function_args+if_else+last+match_expr+maybe+par+part+parts+record+ret+separated+stmt+stmts+tail.Lts-call as call-lts
+use cycle.Lts-call as call-lts
 use Rattle.layout.proofs.cond.Reads as cond
-use Rattle.layout.proofs.+access+after+arm+bind+binop+block+call+cond+each+elem+entry+expr+expr_with_precedence+form+fstr+function_args+if_else+last+match_expr+maybe+par+part+parts+record+ret+separated+stmt+stmts+tail.Lts-cond as cond-lts
+use cycle.Lts-cond as cond-lts
 use Rattle.layout.proofs.each.Reads as each
-use Rattle.layout.proofs.+access+after+arm+bind+binop+block+call+cond+each+elem+entry+expr+expr_with_precedence+form+fstr+function_args+if_else+last+match_expr+maybe+par+part+parts+record+ret+separated+stmt+stmts+tail.Lts-each as each-lts
+use cycle.Lts-each as each-lts
 use Rattle.layout.proofs.elem.Reads as elem
-use Rattle.layout.proofs.+access+after+arm+bind+binop+block+call+cond+each+elem+entry+expr+expr_with_precedence+form+fstr+function_args+if_else+last+match_expr+maybe+par+part+parts+record+ret+separated+stmt+stmts+tail.Lts-elem as elem-lts
+use cycle.Lts-elem as elem-lts
 use Rattle.layout.proofs.entry.Reads as entry
-use Rattle.layout.proofs.+access+after+arm+bind+binop+block+call+cond+each+elem+entry+expr+expr_with_precedence+form+fstr+function_args+if_else+last+match_expr+maybe+par+part+parts+record+ret+separated+stmt+stmts+tail.Lts-entry as entry-lts
+use cycle.Lts-entry as entry-lts
 use Rattle.layout.proofs.expr.Reads as expr
-use Rattle.layout.proofs.+access+after+arm+bind+binop+block+call+cond+each+elem+entry+expr+expr_with_precedence+form+fstr+function_args+if_else+last+match_expr+maybe+par+part+parts+record+ret+separated+stmt+stmts+tail.Lts-expr as expr-lts
+use cycle.Lts-expr as expr-lts
 use Rattle.layout.proofs.expr_with_precedence.Reads as expr-with-precedence
-use Rattle.layout.proofs.+access+after+arm+bind+binop+block+call+cond+each+elem+entry+expr+expr_with_precedence+form+fstr+function_args+if_else+last+match_expr+maybe+par+part+parts+record+ret+separated+stmt+stmts+tail.Lts-expr_with_precedence as expr-with-precedence-lts
+use cycle.Lts-expr_with_precedence as expr-with-precedence-lts
 use Rattle.layout.proofs.form.Reads as form
-use Rattle.layout.proofs.+access+after+arm+bind+binop+block+call+cond+each+elem+entry+expr+expr_with_precedence+form+fstr+function_args+if_else+last+match_expr+maybe+par+part+parts+record+ret+separated+stmt+stmts+tail.Lts-form as form-lts
+use cycle.Lts-form as form-lts
 use Rattle.layout.proofs.fstr.Reads as fstr
-use Rattle.layout.proofs.+access+after+arm+bind+binop+block+call+cond+each+elem+entry+expr+expr_with_precedence+form+fstr+function_args+if_else+last+match_expr+maybe+par+part+parts+record+ret+separated+stmt+stmts+tail.Lts-fstr as fstr-lts
+use cycle.Lts-fstr as fstr-lts
 use Rattle.layout.proofs.function_args.Reads as function-args
-use Rattle.layout.proofs.+access+after+arm+bind+binop+block+call+cond+each+elem+entry+expr+expr_with_precedence+form+fstr+function_args+if_else+last+match_expr+maybe+par+part+parts+record+ret+separated+stmt+stmts+tail.Lts-function_args as function-args-lts
+use cycle.Lts-function_args as function-args-lts
 use Rattle.layout.proofs.last.Reads as last
-use Rattle.layout.proofs.+access+after+arm+bind+binop+block+call+cond+each+elem+entry+expr+expr_with_precedence+form+fstr+function_args+if_else+last+match_expr+maybe+par+part+parts+record+ret+separated+stmt+stmts+tail.Lts-last as last-lts
+use cycle.Lts-last as last-lts
 use Rattle.layout.proofs.match_expr.Reads as match-expr
-use Rattle.layout.proofs.+access+after+arm+bind+binop+block+call+cond+each+elem+entry+expr+expr_with_precedence+form+fstr+function_args+if_else+last+match_expr+maybe+par+part+parts+record+ret+separated+stmt+stmts+tail.Lts-match_expr as match-expr-lts
+use cycle.Lts-match_expr as match-expr-lts
 use Rattle.layout.proofs.maybe.Reads as maybe
-use Rattle.layout.proofs.+access+after+arm+bind+binop+block+call+cond+each+elem+entry+expr+expr_with_precedence+form+fstr+function_args+if_else+last+match_expr+maybe+par+part+parts+record+ret+separated+stmt+stmts+tail.Lts-maybe as maybe-lts
+use cycle.Lts-maybe as maybe-lts
 use Rattle.layout.proofs.par.Reads as par
-use Rattle.layout.proofs.+access+after+arm+bind+binop+block+call+cond+each+elem+entry+expr+expr_with_precedence+form+fstr+function_args+if_else+last+match_expr+maybe+par+part+parts+record+ret+separated+stmt+stmts+tail.Lts-par as par-lts
+use cycle.Lts-par as par-lts
 use Rattle.layout.proofs.part.Reads as part
-use Rattle.layout.proofs.+access+after+arm+bind+binop+block+call+cond+each+elem+entry+expr+expr_with_precedence+form+fstr+function_args+if_else+last+match_expr+maybe+par+part+parts+record+ret+separated+stmt+stmts+tail.Lts-part as part-lts
+use cycle.Lts-part as part-lts
 use Rattle.layout.proofs.parts.Reads as parts
-use Rattle.layout.proofs.+access+after+arm+bind+binop+block+call+cond+each+elem+entry+expr+expr_with_precedence+form+fstr+function_args+if_else+last+match_expr+maybe+par+part+parts+record+ret+separated+stmt+stmts+tail.Lts-parts as parts-lts
-use Rattle.layout.proofs.+access+after+arm+bind+binop+block+call+cond+each+elem+entry+expr+expr_with_precedence+form+fstr+function_args+if_else+last+match_expr+maybe+par+part+parts+record+ret+separated+stmt+stmts+tail.Lts-record as record-lts
+use cycle.Lts-parts as parts-lts
+use cycle.Lts-record as record-lts
 use Rattle.layout.proofs.ret.Reads as ret
-use Rattle.layout.proofs.+access+after+arm+bind+binop+block+call+cond+each+elem+entry+expr+expr_with_precedence+form+fstr+function_args+if_else+last+match_expr+maybe+par+part+parts+record+ret+separated+stmt+stmts+tail.Lts-ret as ret-lts
+use cycle.Lts-ret as ret-lts
 use Rattle.layout.proofs.separated.Reads as separated
-use Rattle.layout.proofs.+access+after+arm+bind+binop+block+call+cond+each+elem+entry+expr+expr_with_precedence+form+fstr+function_args+if_else+last+match_expr+maybe+par+part+parts+record+ret+separated+stmt+stmts+tail.Lts-separated as separated-lts
+use cycle.Lts-separated as separated-lts
 use Rattle.layout.proofs.stmt.Reads as stmt
-use Rattle.layout.proofs.+access+after+arm+bind+binop+block+call+cond+each+elem+entry+expr+expr_with_precedence+form+fstr+function_args+if_else+last+match_expr+maybe+par+part+parts+record+ret+separated+stmt+stmts+tail.Lts-stmt as stmt-lts
+use cycle.Lts-stmt as stmt-lts
 use Rattle.layout.proofs.stmts.Reads as stmts
-use Rattle.layout.proofs.+access+after+arm+bind+binop+block+call+cond+each+elem+entry+expr+expr_with_precedence+form+fstr+function_args+if_else+last+match_expr+maybe+par+part+parts+record+ret+separated+stmt+stmts+tail.Lts-stmts as stmts-lts
+use cycle.Lts-stmts as stmts-lts
 use Rattle.layout.proofs.tail.Reads as tail
-use Rattle.layout.proofs.+access+after+arm+bind+binop+block+call+cond+each+elem+entry+expr+expr_with_precedence+form+fstr+function_args+if_else+last+match_expr+maybe+par+part+parts+record+ret+separated+stmt+stmts+tail.Lts-tail as tail-lts
-use Rattle.layout.proofs.+access+after+arm+bind+binop+block+call+cond+each+elem+entry+expr+expr_with_precedence+form+fstr+function_args+if_else+last+match_expr+maybe+par+part+parts+record+ret+separated+stmt+stmts+tail.{statement}
-use Rattle.layout.proofs.+access+after+arm+bind+binop+block+call+cond+each+elem+entry+expr+expr_with_precedence+form+fstr+function_args+if_else+last+match_expr+maybe+par+part+parts+record+ret+separated+stmt+stmts+tail.Tie.{close}
-use Rattle.layout.proofs.+access+after+arm+bind+binop+block+call+cond+each+elem+entry+expr+expr_with_precedence+form+fstr+function_args+if_else+last+match_expr+maybe+par+part+parts+record+ret+separated+stmt+stmts+tail.Proof.Base.{μ-access, μ-after, μ-if-else, μ-arm, μ-bind, μ-binop, μ-block, μ-call, μ-cond, μ-each, μ-elem, μ-entry, μ-expr, μ-expr-with-precedence, μ-form, μ-fstr, μ-function-args, μ-last, μ-match-expr, μ-maybe, μ-par, μ-part, μ-parts, μ-record, μ-ret, μ-separated, μ-stmt, μ-stmts, μ-tail, access-at, after-at, if-else-at, arm-at, bind-at, binop-at, block-at, call-at, cond-at, each-at, elem-at, entry-at, expr-at, expr-with-precedence-at, form-at, fstr-at, function-args-at, last-at, match-expr-at, maybe-at, par-at, part-at, parts-at, record-at, ret-at, separated-at, stmt-at, stmts-at, tail-at, access-calls, after-calls, if-else-calls, arm-calls, bind-calls, binop-calls, block-calls, call-calls, cond-calls, each-calls, elem-calls, entry-calls, expr-calls, expr-with-precedence-calls, form-calls, fstr-calls, function-args-calls, last-calls, match-expr-calls, maybe-calls, par-calls, part-calls, parts-calls, record-calls, ret-calls, separated-calls, stmt-calls, stmts-calls, tail-calls}
-use Rattle.layout.proofs.+access+after+arm+bind+binop+block+call+cond+each+elem+entry+expr+expr_with_precedence+form+fstr+function_args+if_else+last+match_expr+maybe+par+part+parts+record+ret+separated+stmt+stmts+tail.Proof.Access.{access-second-requires, access-open-group-requires, access-open-indent-next-requires, access-add-expr-with-precedence, access-expr-with-precedence-requires, access-field-name-requires, access-close-requires, access-close-requires-2, access-same-length, access-returns, access-add-expr-with-precedence-2, access-expr-with-precedence-requires-2, access-field-name-requires-2, access-same-length-2, access-returns-2}
-use Rattle.layout.proofs.+access+after+arm+bind+binop+block+call+cond+each+elem+entry+expr+expr_with_precedence+form+fstr+function_args+if_else+last+match_expr+maybe+par+part+parts+record+ret+separated+stmt+stmts+tail.Proof.After.{after-word-requires, after-expr-with-precedence-requires, after-same-length, after-returns}
-use Rattle.layout.proofs.+access+after+arm+bind+binop+block+call+cond+each+elem+entry+expr+expr_with_precedence+form+fstr+function_args+if_else+last+match_expr+maybe+par+part+parts+record+ret+separated+stmt+stmts+tail.Proof.IfElse.{if-else-third-requires, if-else-add-cond, if-else-cond-requires, if-else-is-absent-requires, if-else-same-length, if-else-returns, if-else-word-requires, if-else-block-requires, if-else-same-length-2, if-else-returns-2}
-use Rattle.layout.proofs.+access+after+arm+bind+binop+block+call+cond+each+elem+entry+expr+expr_with_precedence+form+fstr+function_args+if_else+last+match_expr+maybe+par+part+parts+record+ret+separated+stmt+stmts+tail.Proof.Arm.{arm-second-requires, arm-third-requires, arm-add-pattern, arm-pattern-requires, arm-maybe-requires, arm-word-requires, arm-expr-requires, arm-arm-comma-requires, arm-same-length, arm-returns}
-use Rattle.layout.proofs.+access+after+arm+bind+binop+block+call+cond+each+elem+entry+expr+expr_with_precedence+form+fstr+function_args+if_else+last+match_expr+maybe+par+part+parts+record+ret+separated+stmt+stmts+tail.Proof.Bind.{bind-second-requires, bind-third-requires, bind-word-requires, bind-add-ident, bind-ident-requires, bind-let-type-requires, bind-word-requires-2, bind-expr-requires, bind-word-requires-3, bind-same-length, bind-returns}
-use Rattle.layout.proofs.+access+after+arm+bind+binop+block+call+cond+each+elem+entry+expr+expr_with_precedence+form+fstr+function_args+if_else+last+match_expr+maybe+par+part+parts+record+ret+separated+stmt+stmts+tail.Proof.Binop.{binop-precedence-requires, binop-leftmost-requires, binop-open-group-requires, binop-expr-with-precedence-requires, binop-line-or-space-requires, binop-open-indent-requires, binop-tail-requires, binop-close-requires, binop-close-requires-2, binop-same-length, binop-returns}
-use Rattle.layout.proofs.+access+after+arm+bind+binop+block+call+cond+each+elem+entry+expr+expr_with_precedence+form+fstr+function_args+if_else+last+match_expr+maybe+par+part+parts+record+ret+separated+stmt+stmts+tail.Proof.Block.{block-second-requires, block-no-stmts-requires, block-is-empty-requires, block-open-group-requires, block-block-start-requires, block-open-indent-requires, block-add-stmts, block-add-stmts-2, block-stmts-requires, block-last-requires, block-end-requires, block-gap-requires, block-close-requires, block-line-requires, block-word-requires, block-close-requires-2, block-same-length, block-returns}
-use Rattle.layout.proofs.+access+after+arm+bind+binop+block+call+cond+each+elem+entry+expr+expr_with_precedence+form+fstr+function_args+if_else+last+match_expr+maybe+par+part+parts+record+ret+separated+stmt+stmts+tail.Proof.Call.{call-second-requires, call-open-call-requires, call-add-expr-with-precedence, call-expr-with-precedence-requires, call-function-args-requires, call-set-second-requires, call-close-requires, call-same-length, call-returns, call-add-expr-with-precedence-2, call-expr-with-precedence-requires-2, call-function-args-requires-2, call-same-length-2, call-returns-2}
-use Rattle.layout.proofs.+access+after+arm+bind+binop+block+call+cond+each+elem+entry+expr+expr_with_precedence+form+fstr+function_args+if_else+last+match_expr+maybe+par+part+parts+record+ret+separated+stmt+stmts+tail.Proof.Cond.{cond-word-requires, cond-open-group-requires, cond-open-indent-requires, cond-expr-requires, cond-close-requires, cond-close-requires-2, cond-word-requires-2, cond-past-requires, cond-block-requires, cond-same-length, cond-returns}
-use Rattle.layout.proofs.+access+after+arm+bind+binop+block+call+cond+each+elem+entry+expr+expr_with_precedence+form+fstr+function_args+if_else+last+match_expr+maybe+par+part+parts+record+ret+separated+stmt+stmts+tail.Proof.Each.{each-second-requires, each-word-requires, each-add-ident, each-ident-requires, each-cond-requires, each-same-length, each-returns}
-use Rattle.layout.proofs.+access+after+arm+bind+binop+block+call+cond+each+elem+entry+expr+expr_with_precedence+form+fstr+function_args+if_else+last+match_expr+maybe+par+part+parts+record+ret+separated+stmt+stmts+tail.Proof.Elem.{elem-enum-told, elem-expr-requires, elem-enum-told-2, elem-open-group-requires, elem-expr-requires-2, elem-close-requires, elem-enum-told-3, elem-entry-requires, elem-enum-told-4, elem-arm-requires, elem-same-length, elem-returns, elem-same-length-2, elem-returns-2, elem-same-length-3, elem-returns-3, elem-same-length-4, elem-returns-4}
-use Rattle.layout.proofs.+access+after+arm+bind+binop+block+call+cond+each+elem+entry+expr+expr_with_precedence+form+fstr+function_args+if_else+last+match_expr+maybe+par+part+parts+record+ret+separated+stmt+stmts+tail.Proof.Entry.{entry-second-requires, entry-add-ident, entry-ident-requires, entry-word-requires, entry-expr-requires, entry-same-length, entry-returns}
-use Rattle.layout.proofs.+access+after+arm+bind+binop+block+call+cond+each+elem+entry+expr+expr_with_precedence+form+fstr+function_args+if_else+last+match_expr+maybe+par+part+parts+record+ret+separated+stmt+stmts+tail.Proof.Expr-answers.{expr-expr-with-precedence-requires, expr-same-length, expr-returns}
-use Rattle.layout.proofs.+access+after+arm+bind+binop+block+call+cond+each+elem+entry+expr+expr_with_precedence+form+fstr+function_args+if_else+last+match_expr+maybe+par+part+parts+record+ret+separated+stmt+stmts+tail.Proof.ExprWithPrecedence.{expr-with-precedence-form-requires, expr-with-precedence-pop-trailing-comment-requires, expr-with-precedence-same-length, expr-with-precedence-returns}
-use Rattle.layout.proofs.+access+after+arm+bind+binop+block+call+cond+each+elem+entry+expr+expr_with_precedence+form+fstr+function_args+if_else+last+match_expr+maybe+par+part+parts+record+ret+separated+stmt+stmts+tail.Proof.Form.{form-kind-requires, form-ret-requires, form-add-literal, form-literal-requires, form-add-block, form-block-requires, form-match-expr-requires, form-call-requires, form-access-requires, form-add-path, form-path-requires, form-add-record, form-record-requires, form-add-path-2, form-path-requires-2, form-word-requires, form-second-requires, form-record-requires-2, form-add-separated, form-end-requires, form-separated-requires, form-add-after, form-after-requires, form-add-path-3, form-path-requires-3, form-second-requires-2, form-after-requires-2, form-add-path-4, form-path-requires-4, form-third-requires, form-assign-word-requires, form-after-requires-3, form-binop-requires, form-add-after-2, form-after-requires-4, form-if-else-requires, form-add-cond, form-cond-requires, form-each-requires, form-add-expr-with-precedence, form-expr-with-precedence-requires, form-word-requires-2, form-fstr-requires, form-par-requires, form-same-length, form-returns, form-same-length-2, form-returns-2, form-same-length-3, form-returns-3, form-same-length-4, form-returns-4, form-same-length-5, form-returns-5, form-same-length-6, form-returns-6, form-same-length-7, form-returns-7, form-same-length-8, form-returns-8, form-same-length-9, form-returns-9, form-same-length-10, form-returns-10, form-same-length-11, form-returns-11, form-same-length-12, form-returns-12, form-same-length-13, form-returns-13, form-same-length-14, form-returns-14, form-same-length-15, form-returns-15, form-same-length-16, form-returns-16, form-same-length-17, form-returns-17, form-same-length-18, form-returns-18, form-same-length-19, form-returns-19, form-same-length-20, form-returns-20, form-same-length-21, form-returns-21}
-use Rattle.layout.proofs.+access+after+arm+bind+binop+block+call+cond+each+elem+entry+expr+expr_with_precedence+form+fstr+function_args+if_else+last+match_expr+maybe+par+part+parts+record+ret+separated+stmt+stmts+tail.Proof.Fstr.{fstr-start-requires, fstr-gap-requires, fstr-word-requires, fstr-add-parts, fstr-add-parts-2, fstr-second-requires, fstr-parts-requires, fstr-word-requires-2, fstr-same-length, fstr-returns}
-use Rattle.layout.proofs.+access+after+arm+bind+binop+block+call+cond+each+elem+entry+expr+expr_with_precedence+form+fstr+function_args+if_else+last+match_expr+maybe+par+part+parts+record+ret+separated+stmt+stmts+tail.Proof.FunctionArgs.{function-args-end-requires, function-args-separated-requires, function-args-same-length, function-args-returns}
-use Rattle.layout.proofs.+access+after+arm+bind+binop+block+call+cond+each+elem+entry+expr+expr_with_precedence+form+fstr+function_args+if_else+last+match_expr+maybe+par+part+parts+record+ret+separated+stmt+stmts+tail.Proof.Last.{last-is-absent-requires, last-returns, last-start-requires, last-before-stmt-requires, last-expr-requires, last-pop-trailing-comment-requires, last-same-length, last-returns-2}
-use Rattle.layout.proofs.+access+after+arm+bind+binop+block+call+cond+each+elem+entry+expr+expr_with_precedence+form+fstr+function_args+if_else+last+match_expr+maybe+par+part+parts+record+ret+separated+stmt+stmts+tail.Proof.MatchExpr.{match-expr-second-requires, match-expr-word-requires, match-expr-add-expr, match-expr-expr-requires, match-expr-word-requires-2, match-expr-end-requires, match-expr-separated-requires, match-expr-same-length, match-expr-returns}
-use Rattle.layout.proofs.+access+after+arm+bind+binop+block+call+cond+each+elem+entry+expr+expr_with_precedence+form+fstr+function_args+if_else+last+match_expr+maybe+par+part+parts+record+ret+separated+stmt+stmts+tail.Proof.Maybe.{maybe-is-absent-requires, maybe-returns, maybe-after-requires, maybe-same-length, maybe-returns-2}
-use Rattle.layout.proofs.+access+after+arm+bind+binop+block+call+cond+each+elem+entry+expr+expr_with_precedence+form+fstr+function_args+if_else+last+match_expr+maybe+par+part+parts+record+ret+separated+stmt+stmts+tail.Proof.Par.{par-start-requires, par-gap-requires, par-word-requires, par-add-expr, par-expr-requires, par-word-requires-2, par-same-length, par-returns}
-use Rattle.layout.proofs.+access+after+arm+bind+binop+block+call+cond+each+elem+entry+expr+expr_with_precedence+form+fstr+function_args+if_else+last+match_expr+maybe+par+part+parts+record+ret+separated+stmt+stmts+tail.Proof.Part.{part-kind-requires, part-content-requires, part-same-length, part-returns, part-word-requires, part-add-expr, part-expr-requires, part-word-requires-2, part-same-length-2, part-returns-2}
-use Rattle.layout.proofs.+access+after+arm+bind+binop+block+call+cond+each+elem+entry+expr+expr_with_precedence+form+fstr+function_args+if_else+last+match_expr+maybe+par+part+parts+record+ret+separated+stmt+stmts+tail.Proof.Parts.{parts-Inv-loop, parts-μ-loop, parts-loop-holds, parts-part-requires, parts-past-requires, parts-loop-less, parts-loop-again, parts-same-length, parts-returns}
-use Rattle.layout.proofs.+access+after+arm+bind+binop+block+call+cond+each+elem+entry+expr+expr_with_precedence+form+fstr+function_args+if_else+last+match_expr+maybe+par+part+parts+record+ret+separated+stmt+stmts+tail.Proof.Record.{record-end-requires, record-separated-requires, record-same-length, record-returns}
-use Rattle.layout.proofs.+access+after+arm+bind+binop+block+call+cond+each+elem+entry+expr+expr_with_precedence+form+fstr+function_args+if_else+last+match_expr+maybe+par+part+parts+record+ret+separated+stmt+stmts+tail.Proof.Ret.{ret-payload-requires, ret-add-word, ret-word-requires, ret-add-maybe, ret-maybe-requires, ret-same-length, ret-returns}
-use Rattle.layout.proofs.+access+after+arm+bind+binop+block+call+cond+each+elem+entry+expr+expr_with_precedence+form+fstr+function_args+if_else+last+match_expr+maybe+par+part+parts+record+ret+separated+stmt+stmts+tail.Proof.Separated.{separated-Inv-loop, separated-μ-loop, separated-past-requires, separated-add-if1, separated-empty-list-requires, separated-same-length, separated-returns, separated-begin-list-requires, separated-add-p, separated-loop-holds, separated-start-requires, separated-before-elem-requires, separated-elem-requires, separated-past-requires-2, separated-loop-less, separated-loop-again, separated-finish-list-requires, separated-same-length-2, separated-returns-2}
-use Rattle.layout.proofs.+access+after+arm+bind+binop+block+call+cond+each+elem+entry+expr+expr_with_precedence+form+fstr+function_args+if_else+last+match_expr+maybe+par+part+parts+record+ret+separated+stmt+stmts+tail.Proof.Stmt.{stmt-kind-requires, stmt-bind-requires, stmt-word-requires, stmt-add-import-path, stmt-import-path-requires, stmt-word-requires-2, stmt-open-group-requires, stmt-add-expr, stmt-expr-requires, stmt-add-semicolon, stmt-semicolon-requires, stmt-close-requires, stmt-same-length, stmt-returns, stmt-same-length-2, stmt-returns-2, stmt-same-length-3, stmt-returns-3}
-use Rattle.layout.proofs.+access+after+arm+bind+binop+block+call+cond+each+elem+entry+expr+expr_with_precedence+form+fstr+function_args+if_else+last+match_expr+maybe+par+part+parts+record+ret+separated+stmt+stmts+tail.Proof.Stmts.{stmts-Inv-loop, stmts-μ-loop, stmts-loop-holds, stmts-start-requires, stmts-before-stmt-requires, stmts-stmt-requires, stmts-end-requires, stmts-after-stmt-requires, stmts-past-requires, stmts-loop-less, stmts-loop-again, stmts-same-length, stmts-returns}
-use Rattle.layout.proofs.+access+after+arm+bind+binop+block+call+cond+each+elem+entry+expr+expr_with_precedence+form+fstr+function_args+if_else+last+match_expr+maybe+par+part+parts+record+ret+separated+stmt+stmts+tail.Proof.Tail.{tail-Inv-loop, tail-μ-loop, tail-sub-n, tail-loop-holds, tail-sub-n-2, tail-mul-p, tail-element-copy-out-p, tail-second-requires, tail-operator-requires, tail-third-requires, tail-expr-requires, tail-loop-less, tail-loop-again, tail-same-length, tail-returns}
+use cycle.Lts-tail as tail-lts
+use cycle.{statement}
+use cycle.Tie.{close}
+use Base.{μ-access, μ-after, μ-if-else, μ-arm, μ-bind, μ-binop, μ-block, μ-call, μ-cond, μ-each, μ-elem, μ-entry, μ-expr, μ-expr-with-precedence, μ-form}
+use Base.{μ-fstr, μ-function-args, μ-last, μ-match-expr, μ-maybe, μ-par, μ-part, μ-parts, μ-record, μ-ret, μ-separated, μ-stmt, μ-stmts, μ-tail, access-at}
+use Base.{after-at, if-else-at, arm-at, bind-at, binop-at, block-at, call-at, cond-at, each-at, elem-at, entry-at, expr-at, expr-with-precedence-at}
+use Base.{form-at, fstr-at, function-args-at, last-at, match-expr-at, maybe-at, par-at, part-at, parts-at, record-at, ret-at, separated-at, stmt-at}
+use Base.{stmts-at, tail-at, access-calls, after-calls, if-else-calls, arm-calls, bind-calls, binop-calls, block-calls, call-calls, cond-calls, each-calls}
+use Base.{elem-calls, entry-calls, expr-calls, expr-with-precedence-calls, form-calls, fstr-calls, function-args-calls, last-calls, match-expr-calls}
+use Base.{maybe-calls, par-calls, part-calls, parts-calls, record-calls, ret-calls, separated-calls, stmt-calls, stmts-calls, tail-calls}
+use Access.{access-second-requires, access-open-group-requires, access-open-indent-next-requires, access-add-expr-with-precedence}
+use Access.{access-expr-with-precedence-requires, access-field-name-requires, access-close-requires, access-close-requires-2}
+use Access.{access-same-length, access-returns, access-add-expr-with-precedence-2, access-expr-with-precedence-requires-2}
+use Access.{access-field-name-requires-2, access-same-length-2, access-returns-2}
+use After.{after-word-requires, after-expr-with-precedence-requires, after-same-length, after-returns}
+use IfElse.{if-else-third-requires, if-else-add-cond, if-else-cond-requires, if-else-is-absent-requires, if-else-same-length}
+use IfElse.{if-else-returns, if-else-word-requires, if-else-block-requires, if-else-same-length-2, if-else-returns-2}
+use Arm.{arm-second-requires, arm-third-requires, arm-add-pattern, arm-pattern-requires, arm-maybe-requires}
+use Arm.{arm-word-requires, arm-expr-requires, arm-arm-comma-requires, arm-same-length, arm-returns}
+use Bind.{bind-second-requires, bind-third-requires, bind-word-requires, bind-add-ident, bind-ident-requires}
+use Bind.{bind-let-type-requires, bind-word-requires-2, bind-expr-requires, bind-word-requires-3, bind-same-length, bind-returns}
+use Binop.{binop-precedence-requires, binop-leftmost-requires, binop-open-group-requires, binop-expr-with-precedence-requires, binop-line-or-space-requires}
+use Binop.{binop-open-indent-requires, binop-tail-requires, binop-close-requires, binop-close-requires-2, binop-same-length, binop-returns}
+use Block.{block-second-requires, block-no-stmts-requires, block-is-empty-requires, block-open-group-requires, block-block-start-requires}
+use Block.{block-open-indent-requires, block-add-stmts, block-add-stmts-2, block-stmts-requires, block-last-requires, block-end-requires}
+use Block.{block-gap-requires, block-close-requires, block-line-requires, block-word-requires, block-close-requires-2, block-same-length, block-returns}
+use Call.{call-second-requires, call-open-call-requires, call-add-expr-with-precedence, call-expr-with-precedence-requires}
+use Call.{call-function-args-requires, call-set-second-requires, call-close-requires, call-same-length, call-returns, call-add-expr-with-precedence-2}
+use Call.{call-expr-with-precedence-requires-2, call-function-args-requires-2, call-same-length-2, call-returns-2}
+use Cond.{cond-word-requires, cond-open-group-requires, cond-open-indent-requires, cond-expr-requires, cond-close-requires}
+use Cond.{cond-close-requires-2, cond-word-requires-2, cond-past-requires, cond-block-requires, cond-same-length, cond-returns}
+use Each.{each-second-requires, each-word-requires, each-add-ident, each-ident-requires, each-cond-requires, each-same-length, each-returns}
+use Elem.{elem-enum-told, elem-expr-requires, elem-enum-told-2, elem-open-group-requires, elem-expr-requires-2, elem-close-requires}
+use Elem.{elem-enum-told-3, elem-entry-requires, elem-enum-told-4, elem-arm-requires, elem-same-length, elem-returns}
+use Elem.{elem-same-length-2, elem-returns-2, elem-same-length-3, elem-returns-3, elem-same-length-4, elem-returns-4}
+use Entry.{entry-second-requires, entry-add-ident, entry-ident-requires, entry-word-requires, entry-expr-requires, entry-same-length, entry-returns}
+use Expr-answers.{expr-expr-with-precedence-requires, expr-same-length, expr-returns}
+use ExprWithPrecedence.{expr-with-precedence-form-requires, expr-with-precedence-pop-trailing-comment-requires}
+use ExprWithPrecedence.{expr-with-precedence-same-length, expr-with-precedence-returns}
+use Form.{form-kind-requires, form-ret-requires, form-add-literal, form-literal-requires, form-add-block, form-block-requires, form-match-expr-requires}
+use Form.{form-call-requires, form-access-requires, form-add-path, form-path-requires, form-add-record, form-record-requires, form-add-path-2}
+use Form.{form-path-requires-2, form-word-requires, form-second-requires, form-record-requires-2, form-add-separated, form-end-requires}
+use Form.{form-separated-requires, form-add-after, form-after-requires, form-add-path-3, form-path-requires-3, form-second-requires-2}
+use Form.{form-after-requires-2, form-add-path-4, form-path-requires-4, form-third-requires, form-assign-word-requires, form-after-requires-3}
+use Form.{form-binop-requires, form-add-after-2, form-after-requires-4, form-if-else-requires, form-add-cond, form-cond-requires, form-each-requires}
+use Form.{form-add-expr-with-precedence, form-expr-with-precedence-requires, form-word-requires-2, form-fstr-requires, form-par-requires, form-same-length}
+use Form.{form-returns, form-same-length-2, form-returns-2, form-same-length-3, form-returns-3, form-same-length-4, form-returns-4, form-same-length-5}
+use Form.{form-returns-5, form-same-length-6, form-returns-6, form-same-length-7, form-returns-7, form-same-length-8, form-returns-8, form-same-length-9}
+use Form.{form-returns-9, form-same-length-10, form-returns-10, form-same-length-11, form-returns-11, form-same-length-12, form-returns-12}
+use Form.{form-same-length-13, form-returns-13, form-same-length-14, form-returns-14, form-same-length-15, form-returns-15, form-same-length-16}
+use Form.{form-returns-16, form-same-length-17, form-returns-17, form-same-length-18, form-returns-18, form-same-length-19, form-returns-19}
+use Form.{form-same-length-20, form-returns-20, form-same-length-21, form-returns-21}
+use Fstr.{fstr-start-requires, fstr-gap-requires, fstr-word-requires, fstr-add-parts, fstr-add-parts-2}
+use Fstr.{fstr-second-requires, fstr-parts-requires, fstr-word-requires-2, fstr-same-length, fstr-returns}
+use FunctionArgs.{function-args-end-requires, function-args-separated-requires, function-args-same-length, function-args-returns}
+use Last.{last-is-absent-requires, last-returns, last-start-requires, last-before-stmt-requires}
+use Last.{last-expr-requires, last-pop-trailing-comment-requires, last-same-length, last-returns-2}
+use MatchExpr.{match-expr-second-requires, match-expr-word-requires, match-expr-add-expr, match-expr-expr-requires, match-expr-word-requires-2}
+use MatchExpr.{match-expr-end-requires, match-expr-separated-requires, match-expr-same-length, match-expr-returns}
+use Maybe.{maybe-is-absent-requires, maybe-returns, maybe-after-requires, maybe-same-length, maybe-returns-2}
+use Par.{par-start-requires, par-gap-requires, par-word-requires, par-add-expr, par-expr-requires, par-word-requires-2, par-same-length, par-returns}
+use Part.{part-kind-requires, part-content-requires, part-same-length, part-returns, part-word-requires}
+use Part.{part-add-expr, part-expr-requires, part-word-requires-2, part-same-length-2, part-returns-2}
+use Parts.{parts-Inv-loop, parts-μ-loop, parts-loop-holds, parts-part-requires, parts-past-requires}
+use Parts.{parts-loop-less, parts-loop-again, parts-same-length, parts-returns}
+use Record.{record-end-requires, record-separated-requires, record-same-length, record-returns}
+use Ret.{ret-payload-requires, ret-add-word, ret-word-requires, ret-add-maybe, ret-maybe-requires, ret-same-length, ret-returns}
+use Separated.{separated-Inv-loop, separated-μ-loop, separated-past-requires, separated-add-if1, separated-empty-list-requires}
+use Separated.{separated-same-length, separated-returns, separated-begin-list-requires, separated-add-p, separated-loop-holds}
+use Separated.{separated-start-requires, separated-before-elem-requires, separated-elem-requires, separated-past-requires-2}
+use Separated.{separated-loop-less, separated-loop-again, separated-finish-list-requires, separated-same-length-2, separated-returns-2}
+use Stmt.{stmt-kind-requires, stmt-bind-requires, stmt-word-requires, stmt-add-import-path, stmt-import-path-requires, stmt-word-requires-2}
+use Stmt.{stmt-open-group-requires, stmt-add-expr, stmt-expr-requires, stmt-add-semicolon, stmt-semicolon-requires, stmt-close-requires}
+use Stmt.{stmt-same-length, stmt-returns, stmt-same-length-2, stmt-returns-2, stmt-same-length-3, stmt-returns-3}
+use Stmts.{stmts-Inv-loop, stmts-μ-loop, stmts-loop-holds, stmts-start-requires, stmts-before-stmt-requires, stmts-stmt-requires, stmts-end-requires}
+use Stmts.{stmts-after-stmt-requires, stmts-past-requires, stmts-loop-less, stmts-loop-again, stmts-same-length, stmts-returns}
+use Tail.{tail-Inv-loop, tail-μ-loop, tail-sub-n, tail-loop-holds, tail-sub-n-2, tail-mul-p, tail-element-copy-out-p, tail-second-requires}
+use Tail.{tail-operator-requires, tail-third-requires, tail-expr-requires, tail-loop-less, tail-loop-again, tail-same-length, tail-returns}
 
 pub +access+after+arm+bind+binop+block+call+cond+each+elem+entry+expr+expr-with-precedence+form+fstr+function-args+if-else+last+match-expr+maybe+par+part+parts+record+ret+separated+stmt+stmts+tail-spec :
     {M : Type 1} → statement M

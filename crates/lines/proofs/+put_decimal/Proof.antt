@@ -83,7 +83,9 @@ put-decimal-put-decimal-requires : (t : ℕ) → put-decimal-lts.Need-put-decima
   put-decimal-below t,
   put-decimal.Post,
 ) (put-decimal-at t) put-decimal.Post
-put-decimal-put-decimal-requires t c κs = (omega (arith, c .before .before .before .before .pre .0, c .before .before .if1 .left), omega (arith, c .before .before .before .before .pre .1, c .before .before .if1 .left))
+put-decimal-put-decimal-requires t c κs =
+    let start = c .before .before .before .before in
+    (omega (arith, start .pre .0, c .before .before .if1 .left), omega (arith, start .pre .1, c .before .before .if1 .left))
 
 -- src/line.rt:37:24
 put-decimal-cast-out-2 : (t : ℕ) → put-decimal-lts.Need-cast-out-2 (
@@ -104,14 +106,20 @@ put-decimal-slice-write-out-2 : (t : ℕ) → put-decimal-lts.Need-slice-write-o
   put-decimal-below t,
   put-decimal.Post,
 ) (put-decimal-at t) put-decimal.Post
-put-decimal-slice-write-out-2 t c = omega (arith, c .before .before .before .before .before .before .before .pre .1, c .before .before .before .before .before .if1 .left, c .before .before .put-decimal .ensures .1 .1, c .before .before .put-decimal .kept .0)
+put-decimal-slice-write-out-2 t c =
+    let at-if1 = c .before .before .before .before .before in
+    let start = at-if1 .before .before in
+    omega (arith, start .pre .1, at-if1 .if1 .left, c .before .before .put-decimal .ensures .1 .1, c .before .before .put-decimal .kept .0)
 
 -- src/line.rt:38:5
 put-decimal-add-result-2 : (t : ℕ) → put-decimal-lts.Need-add-result-2 (
   put-decimal-below t,
   put-decimal.Post,
 ) (put-decimal-at t) put-decimal.Post
-put-decimal-add-result-2 t c = omega (arith, c .before .before .before .before .before .before .before .pre .1, c .before .before .before .before .before .if1 .left, c .before .before .put-decimal .ensures .1 .1)
+put-decimal-add-result-2 t c =
+    let at-if1 = c .before .before .before .before .before in
+    let start = at-if1 .before .before in
+    omega (arith, start .pre .1, at-if1 .if1 .left, c .before .before .put-decimal .ensures .1 .1)
 
 -- src/line.rt:25:1
 put-decimal-same-length-2 : (t : ℕ) → put-decimal-lts.Need-same-length-2 (
@@ -125,7 +133,10 @@ put-decimal-returns-3 : (t : ℕ) → put-decimal-lts.Need-returns-3 (
   put-decimal-below t,
   put-decimal.Post,
 ) (put-decimal-at t) put-decimal.Post
-put-decimal-returns-3 t c = spelt-more _ _ _ _ _ _ (c .before .before .before .before .before .if1 .left) (c .before .before .before .before .if2 .left) (c .before .before .put-decimal .ensures)
+put-decimal-returns-3 t c =
+    let at-if2 = c .before .before .before .before in
+    let at-if1 = at-if2 .before in
+    spelt-more _ _ _ _ _ _ (at-if1 .if1 .left) (at-if2 .if2 .left) (c .before .before .put-decimal .ensures)
 
 pub +put-decimal-spec : {M : Type 1} → statement M
 +put-decimal-spec = close μ-put-decimal λ t. put-decimal-lts.spec (

@@ -6,7 +6,10 @@ use Rattle.render_call.proofs.render_call.Statement.{statement}
 use Rattle.render_call.proofs.render_call.Tie as tie
 
 render-checked-requires : tie.Need-render-checked-requires
-render-checked-requires c κs = checked-by _ _ _ _ _ _ _ (c .before .before .before .before .before .refusal .ensures) (c .before .before .before .enum-told .given .1)
+render-checked-requires c κs =
+    let at-enum-told = c .before .before .before in
+    let at-refusal = at-enum-told .before .before in
+    checked-by _ _ _ _ _ _ _ (at-refusal .refusal .ensures) (at-enum-told .enum-told .given .1)
 
 returns : tie.Need-returns
 returns c = refused-by _ _ _ _ _ _ _ (c .before .before .before .refusal .ensures) _ _ _ (c .before .number .given .1)

@@ -14,10 +14,18 @@ rows-need-requires : tie.Need-rows-need-requires
 rows-need-requires c κs = needs-within _ _ _ _ _ _ (c .before .before .before .before .before .before .before .pre) _ refl
 
 returns : tie.Need-returns
-returns c = marks-short _ _ _ _ _ _ (c .before .before .before .before .before .before .before .before .before .before .pre) _ (c .before .before .rows-need .ensures .0) _ (c .if1 .taken)
+returns c =
+    let start = c .before .before .before .before .before .before .before .before .before .before in
+    marks-short _ _ _ _ _ _ (start .pre) _ (c .before .before .rows-need .ensures .0) _ (c .if1 .taken)
 
 render-accepted-requires : tie.Need-render-accepted-requires
-render-accepted-requires c κs = (marks-enough _ _ _ _ _ _ (c .before .before .before .before .before .before .before .before .before .before .before .before .before .pre) _ (c .before .before .before .before .before .rows-need .ensures .0) (c .before .before .before .if1 .left), (c .before .before .before .before .before .rows-need .ensures .0, c .before .before .before .before .before .rows-need .ensures .1))
+render-accepted-requires c κs =
+    let at-if1 = c .before .before .before in
+    let at-rows-need = at-if1 .before .before in
+    let start = at-rows-need .before .before .before .before .before .before .before .before in (
+      marks-enough _ _ _ _ _ _ (start .pre) _ (at-rows-need .rows-need .ensures .0) (at-if1 .if1 .left),
+      (at-rows-need .rows-need .ensures .0, at-rows-need .rows-need .ensures .1),
+    )
 
 pub render-checked-spec : {M : Type 1} → statement M
 render-checked-spec =

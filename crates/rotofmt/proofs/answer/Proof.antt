@@ -1,7 +1,7 @@
 -- The reply lies in the output.
 use native.Mathlib.Omega.{arith}
 use lib.ListN.{length-take}
-use Rattle.reply.proofs.Replied.{reply-within}
+use Rattle.file.proofs.Replied.{reply-within}
 use borrow.Author.Needs.{needs}
 use Rattle.rotofmt.proofs.answer.Statement.{statement}
 use Rattle.rotofmt.proofs.answer.Tie as tie

@@ -20,13 +20,19 @@ returns : tie.Need-returns Inv-loop μ-loop
 returns c = reach-back _ _ _ _ _ (c .before .before .before .loop .inv) _ (c .before .before .loop-test .taken) (c .before .place .ensures .0) (c .if1 .taken)
 
 returns-2 : tie.Need-returns-2 Inv-loop μ-loop
-returns-2 c = reach-over _ _ _ _ _ (c .before .before .before .before .loop .inv) _ (c .before .before .before .loop-test .taken) (c .before .before .place .ensures .0) (c .before .if1 .left) (c .if2 .taken)
+returns-2 c =
+    let at-loop-test = c .before .before .before in
+    let at-loop = at-loop-test .before in
+    reach-over _ _ _ _ _ (at-loop .loop .inv) _ (at-loop-test .loop-test .taken) (c .before .before .place .ensures .0) (c .before .if1 .left) (c .if2 .taken)
 
 loop-less : tie.Need-loop-less Inv-loop μ-loop
 loop-less c = omega (arith, c .before .if1 .left, c .before .before .before .loop-test .taken)
 
 loop-again : tie.Need-loop-again Inv-loop μ-loop
-loop-again c = reach-on _ _ _ _ _ (c .before .before .before .before .loop .inv) _ (c .before .before .before .loop-test .taken) (c .before .before .place .ensures .0) (c .before .if1 .left) (c .if2 .left)
+loop-again c =
+    let at-loop-test = c .before .before .before in
+    let at-loop = at-loop-test .before in
+    reach-on _ _ _ _ _ (at-loop .loop .inv) _ (at-loop-test .loop-test .taken) (c .before .before .place .ensures .0) (c .before .if1 .left) (c .if2 .left)
 
 returns-3 : tie.Need-returns-3 Inv-loop μ-loop
 returns-3 c = reach-end _ _ _ _ _ (c .before .loop .inv) (c .loop-test .left)

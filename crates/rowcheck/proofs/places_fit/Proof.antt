@@ -7,23 +7,41 @@ use Rattle.rowcheck.proofs.places_fit.Tie as tie
 
 returns : tie.Need-returns
 returns c =
-    places-text _ _ _ _ _ (c .before .before .before .before .before .before .before .before .place .ensures .0) _ (c .before .before .before .before .before .before .before .numbers-fit .ensures) _ (used-is (eqb (c .before .before .before .before .before .before .before .before .place .result) 5) _ _ _ _ (c .before .before .before .before .used-or-none .ensures) refl (c .before .before .before .before .before .place2 .ensures .0)) (c .before .before .before .before .before .before .if1 .taken) _ _
+    let at-if2 = c .before .before .before in
+    let at-used-or-none = at-if2 .before in
+    let at-place2 = at-used-or-none .before in
+    let at-if1 = at-place2 .before in
+    let at-numbers-fit = at-if1 .before in
+    let at-place = at-numbers-fit .before in
+    places-text _ _ _ _ _ (at-place .place .ensures .0) _ (at-numbers-fit .numbers-fit .ensures) _
+    (used-is (eqb (at-place .place .result) 5) _ _ _ _ (at-used-or-none .used-or-none .ensures) refl (at-place2 .place2 .ensures .0)) (at-if1 .if1 .taken) _ _
     (c .before .before .uses-text .ensures)
     (c .text-fits .ensures)
-    (c .before .before .before .if2 .taken)
+    (at-if2 .if2 .taken)
     (c .before .if3 .taken)
 
 returns-2 : tie.Need-returns-2
 returns-2 c =
-    places-none _ _ _ _ _ (c .before .before .before .before .before .before .before .before .place .ensures .0) _ (c .before .before .before .before .before .before .before .numbers-fit .ensures) _ (used-is (eqb (c .before .before .before .before .before .before .before .before .place .result) 5) _ _ _ _ (c .before .before .before .before .used-or-none .ensures) refl (c .before .before .before .before .before .place2 .ensures .0)) (c .before .before .before .before .before .before .if1 .taken) _ _
+    let at-if2 = c .before .before .before in
+    let at-used-or-none = at-if2 .before in
+    let at-place2 = at-used-or-none .before in
+    let at-if1 = at-place2 .before in
+    let at-numbers-fit = at-if1 .before in
+    let at-place = at-numbers-fit .before in
+    places-none _ _ _ _ _ (at-place .place .ensures .0) _ (at-numbers-fit .numbers-fit .ensures) _
+    (used-is (eqb (at-place .place .result) 5) _ _ _ _ (at-used-or-none .used-or-none .ensures) refl (at-place2 .place2 .ensures .0)) (at-if1 .if1 .taken) _ _
     (c .before .before .uses-text .ensures)
     (c .no-text-fits .ensures)
-    (c .before .before .before .if2 .taken)
+    (at-if2 .if2 .taken)
     (c .before .if3 .left)
 
 returns-3 : tie.Need-returns-3
 returns-3 c =
-    places-width _ _ _ _ _ (c .before .before .before .before .before .place .ensures .0) _ (c .before .before .before .before .numbers-fit .ensures) _ (used-is (eqb (c .before .before .before .before .before .place .result) 5) _ _ _ _ (c .before .used-or-none .ensures) refl (c .before .before .place2 .ensures .0)) (c .before .before .before .if1 .taken)
+    let at-if1 = c .before .before .before in
+    let at-numbers-fit = at-if1 .before in
+    let at-place = at-numbers-fit .before in
+    places-width _ _ _ _ _ (at-place .place .ensures .0) _ (at-numbers-fit .numbers-fit .ensures) _
+    (used-is (eqb (at-place .place .result) 5) _ _ _ _ (c .before .used-or-none .ensures) refl (c .before .before .place2 .ensures .0)) (at-if1 .if1 .taken)
     (c .if2 .left)
 
 returns-4 : tie.Need-returns-4

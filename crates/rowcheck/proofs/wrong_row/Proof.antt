@@ -20,7 +20,10 @@ abbrev μ-loop : tie.MeasureT-loop
 
 -- where a part is done, rows are around it
 leaves : (c : tie.Then3 Inv-loop μ-loop) → 0 < c .before .before .loop .depth
-leaves c = ⊎-elim {0, 0, 0} (λ w. w .taken) (λ w. absurd (let h : c .before .before .loop .row < c .before .before .loop .end = ltb-true _ _ (w .1 .taken) in let k : c .before .before .loop .end ≤ c .before .before .loop .row = c .if3 .taken in omega arith)) (c .before .if1 .came)
+leaves c =
+    ⊎-elim {0, 0, 0} (λ w. w .taken) (λ w. absurd (let h : c .before .before .loop .row < c .before .before .loop .end = ltb-true _ _ (w .1 .taken) in
+    let k : c .before .before .loop .end ≤ c .before .before .loop .row = c .if3 .taken in omega arith))
+    (c .before .if1 .came)
 
 loop-holds : tie.Need-loop-holds Inv-loop μ-loop
 loop-holds c = check-start _ _ _ _ _ refl
@@ -41,19 +44,34 @@ loop-again : tie.Need-loop-again Inv-loop μ-loop
 loop-again c = check-out-at _ _ _ _ _ _ _ _ (c .before .before .before .loop .inv) _ (c .to-usize .ensures) (leaves (c .before)) (c .before .if3 .taken)
 
 row-fits-requires : tie.Need-row-fits-requires Inv-loop μ-loop
-row-fits-requires c κs = (c .if3 .left, (omega (arith, c .before .before .loop .inv .low, c .before .before .before .before .before .before .pre .0), omega (arith, c .before .before .loop .inv .low, c .before .before .before .before .before .before .pre .1)))
+row-fits-requires c κs =
+    let start = c .before .before .before .before .before .before in
+    (c .if3 .left, (omega (arith, c .before .before .loop .inv .low, start .pre .0), omega (arith, c .before .before .loop .inv .low, start .pre .1)))
 
 returns : tie.Need-returns Inv-loop μ-loop
-returns c = sym (ap refused (check-wrong _ _ _ _ _ _ _ _ (c .before .before .before .before .loop .inv) (c .before .before .if3 .left) (sym (c .before .row-fits .ensures) ∙ not-true _ (c .if4 .taken))))
+returns c =
+    let at-loop = c .before .before .before .before in
+    sym (ap refused
+    (check-wrong _ _ _ _ _ _ _ _ (at-loop .loop .inv) (c .before .before .if3 .left) (sym (c .before .row-fits .ensures) ∙ not-true _ (c .if4 .taken))))
 
 place-requires : tie.Need-place-requires Inv-loop μ-loop
-place-requires c κs = omega (arith, c .before .before .before .before .loop .inv .low, c .before .before .before .before .before .before .before .before .pre .0, c .before .before .if3 .left)
+place-requires c κs =
+    let at-loop = c .before .before .before .before in
+    let start = at-loop .before .before .before .before in
+    omega (arith, at-loop .loop .inv .low, start .pre .0, c .before .before .if3 .left)
 
 add-if5 : tie.Need-add-if5 Inv-loop μ-loop
-add-if5 c = omega (arith, c .before .before .before .before .before .loop .inv .low, c .before .before .before .before .before .before .before .before .before .pre .1, c .before .before .before .if3 .left)
+add-if5 c =
+    let at-if3 = c .before .before .before in
+    let at-loop = at-if3 .before .before in
+    let start = at-loop .before .before .before .before in
+    omega (arith, at-loop .loop .inv .low, start .pre .1, at-if3 .if3 .left)
 
 cast-ends : tie.Need-cast-ends Inv-loop μ-loop
-cast-ends c = omega (arith, c .before .before .before .before .before .before .loop .inv .low, c .before .before .before .before .before .before .before .before .before .before .pre .1)
+cast-ends c =
+    let at-loop = c .before .before .before .before .before .before in
+    let start = at-loop .before .before .before .before in
+    omega (arith, at-loop .loop .inv .low, start .pre .1)
 
 mul-ends : tie.Need-mul-ends Inv-loop μ-loop
 mul-ends c = omega (arith, c .before .before .before .before .before .before .loop .inv .deep)
@@ -65,17 +83,30 @@ add-depth : tie.Need-add-depth Inv-loop μ-loop
 add-depth c = omega (arith, c .before .before .before .before .before .before .loop .inv .deep)
 
 add-row : tie.Need-add-row Inv-loop μ-loop
-add-row c = omega (arith, c .before .before .before .before .before .before .loop .inv .low, c .before .before .before .before .before .before .before .before .before .before .pre .1, c .before .before .before .before .if3 .left)
+add-row c =
+    let at-if3 = c .before .before .before .before in
+    let at-loop = at-if3 .before .before in
+    let start = at-loop .before .before .before .before in
+    omega (arith, at-loop .loop .inv .low, start .pre .1, at-if3 .if3 .left)
 
 loop-less-2 : tie.Need-loop-less-2 Inv-loop μ-loop
-loop-less-2 c = ⊎-elim (λ w. omega (arith, w .2, c .before .before .before .before .before .before .loop .inv .low, c .before .before .before .before .if3 .left)) (λ w. omega (arith, w .2, c .before .before .before .before .before .before .loop .inv .low, c .before .before .before .before .if3 .left)) (c .if5 .came)
+loop-less-2 c =
+    let at-if3 = c .before .before .before .before in
+    let at-loop = at-if3 .before .before in
+    ⊎-elim (λ w. omega (arith, w .2, at-loop .loop .inv .low, at-if3 .if3 .left))
+    (λ w. omega (arith, w .2, at-loop .loop .inv .low, at-if3 .if3 .left)) (c .if5 .came)
 
 loop-again-2 : tie.Need-loop-again-2 Inv-loop μ-loop
 loop-again-2 c =
-    let fits = sym (c .before .before .before .row-fits .ensures) ∙ not-false _ (c .before .before .if4 .left) in
+    let at-row-fits = c .before .before .before in
+    let at-if3 = at-row-fits .before in
+    let at-loop = at-if3 .before .before in
+    let fits = sym (at-row-fits .row-fits .ensures) ∙ not-false _ (c .before .before .if4 .left) in
     ⊎-elim
-    (λ w. check-as _ _ _ _ _ _ _ _ _ _ _ (w .1) (w .2) (w .3) (check-in _ _ _ _ _ _ _ _ (c .before .before .before .before .before .before .loop .inv) (c .before .place .result) (c .before .before .before .before .if3 .left) (c .before .place .ensures .0) fits))
-    (λ w. check-as _ _ _ _ _ _ _ _ _ _ _ (w .1) (w .2) (w .3) (check-past _ _ _ _ _ _ _ _ (c .before .before .before .before .before .before .loop .inv) (c .before .place .result) (c .before .before .before .before .if3 .left) (c .before .place .ensures .0) fits (w .0 .left)))
+    (λ w. check-as _ _ _ _ _ _ _ _ _ _ _ (w .1) (w .2) (w .3)
+    (check-in _ _ _ _ _ _ _ _ (at-loop .loop .inv) (c .before .place .result) (at-if3 .if3 .left) (c .before .place .ensures .0) fits))
+    (λ w. check-as _ _ _ _ _ _ _ _ _ _ _ (w .1) (w .2) (w .3)
+    (check-past _ _ _ _ _ _ _ _ (at-loop .loop .inv) (c .before .place .result) (at-if3 .if3 .left) (c .before .place .ensures .0) fits (w .0 .left)))
     (c .if5 .came)
 
 returns-2 : tie.Need-returns-2 Inv-loop μ-loop

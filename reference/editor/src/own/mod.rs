@@ -10,8 +10,8 @@ use judge::{
     script,
 };
 use rrufthim::{
-    FormatError, Formatter, MAX_BODY, MAX_COMMENTS, MAX_SOURCE, Place,
-    Refusal,
+    File, FormatError, Formatter, Place, Refusal,
+    limits::{MAX_BODY, MAX_COMMENTS, MAX_SOURCE},
 };
 
 /// Version and length of the body, before an image's body.
@@ -64,7 +64,8 @@ pub fn text_of(
     within("bytes of tree", image.len(), HEADER + MAX_BODY)?;
     within("comments", script.comments.len(), MAX_COMMENTS)?;
     let told = |error: FormatError| error.to_string();
-    let formatted = formatter.format_image(bytes, &image).map_err(told)?;
+    let file = File::new(bytes, &image);
+    let formatted = formatter.format_file(file).map_err(told)?;
     let outgrown = formatted.outgrown;
     let text = formatted
         .complete()

@@ -8,7 +8,9 @@ use judge::{
     reader::{self, Accepted},
     tree,
 };
-use rrufthim::{Batch, Formatter, Options, ast::SyntaxTree, fmt_parsed};
+use rrufthim::{
+    Batch, File as Framed, Formatter, Options, ast::SyntaxTree, fmt_parsed,
+};
 
 use super::{
     both,
@@ -95,8 +97,7 @@ fn converted_and_kept(sources: &[&str], trees: &[tree::Input]) -> [f64; 2] {
 
 /// The text is the original's, whose widths the plug asks for too.
 fn plugged(sources: &[&str], trees: &[tree::Input]) -> [f64; 2] {
-    let mut formatter = Formatter::new();
-    formatter.set_options(Options::AS_ROTO);
+    let mut formatter = Formatter::new().with_options(Options::AS_ROTO);
     let mut save = |place: usize, input: &tree::Input| {
         let tree::Input {
             ast, spans, extras, ..
@@ -116,11 +117,10 @@ fn plugged(sources: &[&str], trees: &[tree::Input]) -> [f64; 2] {
 
 /// All files by a batch that is kept, their texts as strings.
 pub fn batch(files: &[File]) -> impl FnMut() {
-    let pairs = files.iter().map(|File { source, image }| (source, image));
-    let pairs: Vec<_> = pairs.collect();
-    let mut batch = Batch::default();
+    let files: Vec<_> = files.iter().map(framed).collect();
+    let mut batch = Batch::new();
     move || {
-        let answers = batch.format_files(&pairs);
+        let answers = batch.format_files(files.iter().copied());
         assert!(answers.iter().all(Result::is_ok), "room for all");
         black_box(answers);
     }
@@ -129,8 +129,12 @@ pub fn batch(files: &[File]) -> impl FnMut() {
 fn image(input: &Input, trees: &[tree::Input]) -> [f64; 2] {
     let mut formatter = Formatter::new();
     timed(trees, |place, _| {
-        let File { source, image } = &input.files[place];
-        let text = formatter.format_image(source, image);
+        let text = formatter.format_file(framed(&input.files[place]));
         black_box(text.expect("a text").text);
     })
+}
+
+/// A file as the crate takes it.
+fn framed(file: &File) -> Framed<'_> {
+    Framed::new(&file.source, &file.image)
 }

@@ -20,7 +20,13 @@ text-size-requires : tie.Need-text-size-requires Inv-loop μ-loop
 text-size-requires c κs = adding-fits _ _ _ _ (c .before .loop .inv) (c .loop-test .taken)
 
 add-bytes : tie.Need-add-bytes Inv-loop μ-loop
-add-bytes c = omega (arith, adding-within _ _ _ _ (c .before .before .loop .inv) (c .before .loop-test .taken) _ (c .text-size .ensures), all-limited (toChoice (c .before .before .before .before .args .choice)) (c .before .before .before .before .args .frames .now) (c .before .before .before .before .pre))
+add-bytes c =
+    let start = c .before .before .before .before in
+    omega (
+      arith,
+      adding-within _ _ _ _ (c .before .before .loop .inv) (c .before .loop-test .taken) _ (c .text-size .ensures),
+      all-limited (toChoice (start .args .choice)) (start .args .frames .now) (start .pre),
+    )
 
 frame-end-requires : tie.Need-frame-end-requires Inv-loop μ-loop
 frame-end-requires c κs = adding-fits _ _ _ _ (c .before .before .loop .inv) (c .before .loop-test .taken)
@@ -29,7 +35,9 @@ loop-less : tie.Need-loop-less Inv-loop μ-loop
 loop-less c = omega (arith, c .frame-end .ensures, c .before .before .loop-test .taken)
 
 loop-again : tie.Need-loop-again Inv-loop μ-loop
-loop-again c = rw (c .frame-end .ensures) (adding-more _ _ _ _ (c .before .before .before .loop .inv) (c .before .before .loop-test .taken) _ (c .before .text-size .ensures))
+loop-again c =
+    let at-loop = c .before .before .before in
+    rw (c .frame-end .ensures) (adding-more _ _ _ _ (at-loop .loop .inv) (c .before .before .loop-test .taken) _ (c .before .text-size .ensures))
 
 returns : tie.Need-returns Inv-loop μ-loop
 returns c = adding-all _ _ _ _ (c .before .loop .inv) (c .loop-test .left)

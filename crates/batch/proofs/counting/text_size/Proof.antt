@@ -7,13 +7,31 @@ use Rattle.batch.proofs.counting.text_size.Statement.{statement}
 use Rattle.batch.proofs.counting.text_size.Tie as tie
 
 returns : tie.Need-returns
-returns c = size-text (c .before .before .before .before .before .before .before .before .before .before .before .args .frames .now) (c .before .before .before .before .before .before .before .before .before .before .before .args .at) _ _ (c .before .before .before .before .before .before .before .before .before .image-start .ensures) (c .before .before .before .before .before .before .before .before .frame-end .ensures) (toChoice (c .before .before .before .before .before .before .before .before .before .before .before .args .choice)) _ _ _ (c .before .before .before .before .format-file .ensures) refl _ _ _ _ (c .before .bytes .given .1)
+returns c =
+    let at-format-file = c .before .before .before .before in
+    let at-frame-end = at-format-file .before .before .before .before in
+    let at-image-start = at-frame-end .before in
+    let start = at-image-start .before .before in
+    size-text (start .args .frames .now) (start .args .at) _ _ (at-image-start .image-start .ensures) (at-frame-end .frame-end .ensures)
+    (toChoice (start .args .choice)) _ _ _ (at-format-file .format-file .ensures) refl _ _ _ _ (c .before .bytes .given .1)
 
 returns-2 : tie.Need-returns-2
-returns-2 c = size-ten (c .before .before .before .before .before .before .before .before .before .before .before .before .args .frames .now) (c .before .before .before .before .before .before .before .before .before .before .before .before .args .at) _ _ (c .before .before .before .before .before .before .before .before .before .before .image-start .ensures) (c .before .before .before .before .before .before .before .before .before .frame-end .ensures) (toChoice (c .before .before .before .before .before .before .before .before .before .before .before .before .args .choice)) _ _ _ (c .before .before .before .before .before .format-file .ensures) refl _ _ (c .before .before .number .given .1) (c .if1 .taken)
+returns-2 c =
+    let at-format-file = c .before .before .before .before .before in
+    let at-frame-end = at-format-file .before .before .before .before in
+    let at-image-start = at-frame-end .before in
+    let start = at-image-start .before .before in
+    size-ten (start .args .frames .now) (start .args .at) _ _ (at-image-start .image-start .ensures) (at-frame-end .frame-end .ensures)
+    (toChoice (start .args .choice)) _ _ _ (at-format-file .format-file .ensures) refl _ _ (c .before .before .number .given .1) (c .if1 .taken)
 
 returns-3 : tie.Need-returns-3
-returns-3 c = size-other (c .before .before .before .before .before .before .before .before .before .before .before .before .args .frames .now) (c .before .before .before .before .before .before .before .before .before .before .before .before .args .at) _ _ (c .before .before .before .before .before .before .before .before .before .before .image-start .ensures) (c .before .before .before .before .before .before .before .before .before .frame-end .ensures) (toChoice (c .before .before .before .before .before .before .before .before .before .before .before .before .args .choice)) _ _ _ (c .before .before .before .before .before .format-file .ensures) refl _ _ (c .before .before .number .given .1) (c .if1 .left)
+returns-3 c =
+    let at-format-file = c .before .before .before .before .before in
+    let at-frame-end = at-format-file .before .before .before .before in
+    let at-image-start = at-frame-end .before in
+    let start = at-image-start .before .before in
+    size-other (start .args .frames .now) (start .args .at) _ _ (at-image-start .image-start .ensures) (at-frame-end .frame-end .ensures)
+    (toChoice (start .args .choice)) _ _ _ (at-format-file .format-file .ensures) refl _ _ (c .before .before .number .given .1) (c .if1 .left)
 
 pub text-size-spec : {M : Type 1} → statement M
 text-size-spec =

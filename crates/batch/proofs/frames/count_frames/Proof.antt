@@ -25,7 +25,11 @@ frame-fits-requires : tie.Need-frame-fits-requires Inv-loop μ-loop
 frame-fits-requires c κs = c .before .before .loop .inv .inside
 
 returns-2 : tie.Need-returns-2 Inv-loop μ-loop
-returns-2 c = passed-cut _ _ _ (c .before .before .before .before .loop .inv) (c .before .before .before .loop-test .taken) (lt-of _ _ (c .before .before .before .before .loop .inv .few) (c .before .before .if1 .left)) (leb-false _ _ (sym (c .before .frame-fits .ensures) ∙ not-true _ (c .if2 .taken)))
+returns-2 c =
+    let at-loop-test = c .before .before .before in
+    let at-loop = at-loop-test .before in
+    passed-cut _ _ _ (at-loop .loop .inv) (at-loop-test .loop-test .taken) (lt-of _ _ (at-loop .loop .inv .few) (c .before .before .if1 .left))
+    (leb-false _ _ (sym (c .before .frame-fits .ensures) ∙ not-true _ (c .if2 .taken)))
 
 frame-end-requires : tie.Need-frame-end-requires Inv-loop μ-loop
 frame-end-requires c κs = leb-true _ _ (sym (c .before .frame-fits .ensures) ∙ not-false _ (c .if2 .left))
@@ -37,7 +41,13 @@ loop-less : tie.Need-loop-less Inv-loop μ-loop
 loop-less c = omega (arith, c .frame-end .ensures, c .before .before .before .before .loop-test .taken)
 
 loop-again : tie.Need-loop-again Inv-loop μ-loop
-loop-again c = let h = leb-true _ _ (sym (c .before .before .frame-fits .ensures) ∙ not-false _ (c .before .if2 .left)) in rw (c .frame-end .ensures) (passed-more _ _ _ (c .before .before .before .before .before .loop .inv) (c .before .before .before .before .loop-test .taken) (lt-of _ _ (c .before .before .before .before .before .loop .inv .few) (c .before .before .before .if1 .left)) h)
+loop-again c =
+    let at-if1 = c .before .before .before in
+    let at-loop-test = at-if1 .before in
+    let at-loop = at-loop-test .before in
+    let h = leb-true _ _ (sym (c .before .before .frame-fits .ensures) ∙ not-false _ (c .before .if2 .left)) in
+    rw (c .frame-end .ensures)
+    (passed-more _ _ _ (at-loop .loop .inv) (at-loop-test .loop-test .taken) (lt-of _ _ (at-loop .loop .inv .few) (at-if1 .if1 .left)) h)
 
 returns-3 : tie.Need-returns-3 Inv-loop μ-loop
 returns-3 c = passed-all _ _ _ (c .before .loop .inv) (c .loop-test .left)

@@ -28,25 +28,58 @@ part-write-text-end : tie.Need-part-write-text-end Inv-loop μ-loop
 part-write-text-end c = omega arith
 
 write-text-requires : tie.Need-write-text-requires Inv-loop μ-loop
-write-text-requires c κs = (putting-fits _ _ _ _ _ _ _ _ _ (c .before .before .loop .inv) (c .before .loop-test .taken), putting-text _ _ _ _ _ _ _ _ _ (c .before .before .loop .inv) (c .before .loop-test .taken))
+write-text-requires c κs = (
+  putting-fits _ _ _ _ _ _ _ _ _ (c .before .before .loop .inv) (c .before .loop-test .taken),
+  putting-text _ _ _ _ _ _ _ _ _ (c .before .before .loop .inv) (c .before .loop-test .taken),
+)
 
 write-row-requires : tie.Need-write-row-requires Inv-loop μ-loop
-write-row-requires c κs = (putting-row _ _ _ _ _ _ _ _ _ (c .before .before .before .before .before .before .loop .inv) (c .before .before .before .before .before .loop-test .taken), row-small (toChoice (c .before .before .before .before .before .before .before .before .before .before .args .choice)) (saveAt (c .before .before .before .before .before .before .before .before .before .before .args .frames .now) (c .before .before .before .before .before .before .loop .at)) _ (c .before .before .before .write-text .ensures .row))
+write-row-requires c κs =
+    let at-write-text = c .before .before .before in
+    let at-loop-test = at-write-text .before .before in
+    let at-loop = at-loop-test .before in
+    let start = at-loop .before .before .before .before in (
+      putting-row _ _ _ _ _ _ _ _ _ (at-loop .loop .inv) (at-loop-test .loop-test .taken),
+      row-small (toChoice (start .args .choice)) (saveAt (start .args .frames .now) (at-loop .loop .at)) _ (at-write-text .write-text .ensures .row),
+    )
 
 add-text : tie.Need-add-text Inv-loop μ-loop
-add-text c = omega (arith, putting-bytes _ _ _ _ _ _ _ _ _ (c .before .before .before .before .before .before .before .before .before .before .loop .inv) (c .before .before .before .before .before .before .before .before .before .loop-test .taken), row-text (toChoice (c .before .before .before .before .before .before .before .before .before .before .before .before .before .before .args .choice)) _ _ _ _ (c .before .before .before .before .before .before .before .write-text .ensures .row))
+add-text c =
+    let at-write-text = c .before .before .before .before .before .before .before in
+    let at-loop-test = at-write-text .before .before in
+    let at-loop = at-loop-test .before in
+    let start = at-loop .before .before .before .before in
+    omega (
+      arith,
+      putting-bytes _ _ _ _ _ _ _ _ _ (at-loop .loop .inv) (at-loop-test .loop-test .taken),
+      row-text (toChoice (start .args .choice)) _ _ _ _ (at-write-text .write-text .ensures .row),
+    )
 
 add-cell : tie.Need-add-cell Inv-loop μ-loop
-add-cell c = omega (arith, putting-row _ _ _ _ _ _ _ _ _ (c .before .before .before .before .before .before .before .before .before .before .loop .inv) (c .before .before .before .before .before .before .before .before .before .loop-test .taken))
+add-cell c =
+    let at-loop-test = c .before .before .before .before .before .before .before .before .before in
+    let at-loop = at-loop-test .before in
+    omega (arith, putting-row _ _ _ _ _ _ _ _ _ (at-loop .loop .inv) (at-loop-test .loop-test .taken))
 
 frame-end-requires : tie.Need-frame-end-requires Inv-loop μ-loop
-frame-end-requires c κs = putting-fits _ _ _ _ _ _ _ _ _ (c .before .before .before .before .before .before .before .before .before .before .loop .inv) (c .before .before .before .before .before .before .before .before .before .loop-test .taken)
+frame-end-requires c κs =
+    let at-loop-test = c .before .before .before .before .before .before .before .before .before in
+    let at-loop = at-loop-test .before in
+    putting-fits _ _ _ _ _ _ _ _ _ (at-loop .loop .inv) (at-loop-test .loop-test .taken)
 
 loop-less : tie.Need-loop-less Inv-loop μ-loop
-loop-less c = omega (arith, c .frame-end .ensures, c .before .before .before .before .before .before .before .before .before .before .loop-test .taken)
+loop-less c =
+    let at-loop-test = c .before .before .before .before .before .before .before .before .before .before in
+    omega (arith, c .frame-end .ensures, at-loop-test .loop-test .taken)
 
 loop-again : tie.Need-loop-again Inv-loop μ-loop
-loop-again c = rw (c .frame-end .ensures) (putting-more _ _ _ _ _ _ _ _ _ (c .before .before .before .before .before .before .before .before .before .before .before .loop .inv) (c .before .before .before .before .before .before .before .before .before .before .loop-test .taken) _ _ _ (c .before .before .before .before .before .before .before .before .write-text .ensures) (c .before .before .before .before .write-row .ensures))
+loop-again c =
+    let at-write-row = c .before .before .before .before in
+    let at-write-text = at-write-row .before .before .before .before in
+    let at-loop-test = at-write-text .before .before in
+    let at-loop = at-loop-test .before in
+    rw (c .frame-end .ensures) (putting-more _ _ _ _ _ _ _ _ _ (at-loop .loop .inv)
+    (at-loop-test .loop-test .taken) _ _ _ (at-write-text .write-text .ensures) (at-write-row .write-row .ensures))
 
 same-length : tie.Need-same-length Inv-loop μ-loop
 same-length c = c .before .loop .inv .table-same

@@ -6,10 +6,22 @@ use Rattle.batch.proofs.writing.write_text.Statement.{statement}
 use Rattle.batch.proofs.writing.write_text.Tie as tie
 
 returns : tie.Need-returns
-returns c = saved-text (c .before .before .before .before .before .before .before .before .before .before .before .before .before .args .frames .now) (c .before .before .before .before .before .before .before .before .before .before .before .before .before .args .at) _ _ (c .before .before .before .before .before .before .before .before .before .before .image-start .ensures) (c .before .before .before .before .before .before .before .before .before .frame-end .ensures) (toChoice (c .before .before .before .before .before .before .before .before .before .before .before .before .before .args .choice)) _ _ _ (c .before .before .before .before .before .format-file .ensures) (c .before .before .before .before .before .before .before .before .before .before .before .before .before .pre .1) _ _ _ _ (c .before .bytes .given .1)
+returns c =
+    let at-format-file = c .before .before .before .before .before in
+    let at-frame-end = at-format-file .before .before .before .before in
+    let at-image-start = at-frame-end .before in
+    let start = at-image-start .before .before .before in
+    saved-text (start .args .frames .now) (start .args .at) _ _ (at-image-start .image-start .ensures) (at-frame-end .frame-end .ensures)
+    (toChoice (start .args .choice)) _ _ _ (at-format-file .format-file .ensures) (start .pre .1) _ _ _ _ (c .before .bytes .given .1)
 
 returns-2 : tie.Need-returns-2
-returns-2 c = saved-refused (c .before .before .before .before .before .before .before .before .before .before .before .before .before .args .frames .now) (c .before .before .before .before .before .before .before .before .before .before .before .before .before .args .at) _ _ (c .before .before .before .before .before .before .before .before .before .before .image-start .ensures) (c .before .before .before .before .before .before .before .before .before .frame-end .ensures) (toChoice (c .before .before .before .before .before .before .before .before .before .before .before .before .before .args .choice)) _ _ _ (c .before .before .before .before .before .format-file .ensures) (c .before .before .before .before .before .before .before .before .before .before .before .before .before .pre .1) _ _ (c .before .number .given .1)
+returns-2 c =
+    let at-format-file = c .before .before .before .before .before in
+    let at-frame-end = at-format-file .before .before .before .before in
+    let at-image-start = at-frame-end .before in
+    let start = at-image-start .before .before .before in
+    saved-refused (start .args .frames .now) (start .args .at) _ _ (at-image-start .image-start .ensures) (at-frame-end .frame-end .ensures)
+    (toChoice (start .args .choice)) _ _ _ (at-format-file .format-file .ensures) (start .pre .1) _ _ (c .before .number .given .1)
 
 pub write-text-spec : {M : Type 1} → statement M
 write-text-spec =

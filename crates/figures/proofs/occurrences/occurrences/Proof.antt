@@ -33,9 +33,20 @@ loop-less c = omega arith
 
 loop-again : tie.Need-loop-again Inv-loop μ-loop
 loop-again c =
+    let at-loop = c .before .before .before in
+    let start = at-loop .before in
     ⊎-elim
-    (λ w. (omega arith, omega arith, let e = occurs-here (c .before .before .before .before .args .byte) (c .before .before .before .before .args .bytes .now) (c .before .before .before .loop .i) (c .before .before .loop-test .taken) (w .0 .taken) in omega arith))
-    (λ w. (omega arith, omega arith, let e = occurs-not-here (c .before .before .before .before .args .byte) (c .before .before .before .before .args .bytes .now) (c .before .before .before .loop .i) (c .before .before .loop-test .taken) (w .0 .left) in omega arith))
+    (λ w. (
+      omega arith,
+      omega arith,
+      let e = occurs-here (start .args .byte) (start .args .bytes .now) (at-loop .loop .i) (c .before .before .loop-test .taken) (w .0 .taken) in omega arith,
+    ))
+    (λ w. (
+      omega arith,
+      omega arith,
+      let e = occurs-not-here (start .args .byte) (start .args .bytes .now) (at-loop .loop .i) (c .before .before .loop-test .taken) (w .0 .left) in
+          omega arith,
+    ))
     (c .if1 .came)
 
 returns : tie.Need-returns Inv-loop μ-loop

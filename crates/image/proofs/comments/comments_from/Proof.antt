@@ -25,7 +25,10 @@ comment-fits-requires : tie.Need-comment-fits-requires Inv-loop μ-loop
 comment-fits-requires c κs = omega arith
 
 returns : tie.Need-returns Inv-loop μ-loop
-returns c = sym (ap stepOf (c .before .before .before .loop .inv .1 ∙ from-off _ _ _ _ _ _ (c .before .before .loop-test .taken) (sym (c .before .comment-fits .ensures) ∙ not-true _ (c .if1 .taken))))
+returns c =
+    let at-loop = c .before .before .before in
+    sym (ap stepOf
+    (at-loop .loop .inv .1 ∙ from-off _ _ _ _ _ _ (c .before .before .loop-test .taken) (sym (c .before .comment-fits .ensures) ∙ not-true _ (c .if1 .taken))))
 
 least-after-requires : tie.Need-least-after-requires Inv-loop μ-loop
 least-after-requires c κs = omega arith
@@ -40,7 +43,14 @@ loop-less : tie.Need-loop-less Inv-loop μ-loop
 loop-less c = omega arith
 
 loop-again : tie.Need-loop-again Inv-loop μ-loop
-loop-again c = (omega arith, c .before .before .before .before .loop .inv .1 ∙ from-on _ _ _ _ _ _ (c .before .before .before .loop-test .taken) (sym (c .before .before .comment-fits .ensures) ∙ not-false _ (c .before .if1 .left)) ∙ rw (c .least-after .ensures))
+loop-again c =
+    let at-loop-test = c .before .before .before in
+    let at-loop = at-loop-test .before in (
+      omega arith,
+      at-loop .loop .inv .1
+          ∙ from-on _ _ _ _ _ _ (at-loop-test .loop-test .taken) (sym (c .before .before .comment-fits .ensures) ∙ not-false _ (c .before .if1 .left))
+          ∙ rw (c .least-after .ensures),
+    )
 
 returns-2 : tie.Need-returns-2 Inv-loop μ-loop
 returns-2 c = sym (ap stepOf (c .before .loop .inv .1 ∙ from-end _ _ _ _ _ _ (omega arith)))

@@ -16,11 +16,17 @@ returns-2 c = simp (le-leb _ _ (c .before .before .if1 .left), ← c .before .nu
 
 returns-3 : tie.Need-returns-3
 unfolding comments
-returns-3 c = simp (le-leb _ _ (c .before .before .before .if1 .left), ← c .before .before .num16 .ensures .same, le-leb _ _ (c .before .if2 .left), lt-leb _ _ (c .if3 .taken))
+returns-3 c =
+    let at-if1 = c .before .before .before in
+    simp (le-leb _ _ (at-if1 .if1 .left), ← c .before .before .num16 .ensures .same, le-leb _ _ (c .before .if2 .left), lt-leb _ _ (c .if3 .taken))
 
 returns-4 : tie.Need-returns-4
 unfolding comments
-returns-4 c = simp (le-leb _ _ (c .before .before .before .before .if1 .left), ← c .before .before .before .num16 .ensures .same, le-leb _ _ (c .before .before .if2 .left), le-leb _ _ (c .before .if3 .left)) (c .comments-from .ensures)
+returns-4 c =
+    let at-num16 = c .before .before .before in
+    let at-if1 = at-num16 .before in
+    simp (le-leb _ _ (at-if1 .if1 .left), ← at-num16 .num16 .ensures .same, le-leb _ _ (c .before .before .if2 .left), le-leb _ _ (c .before .if3 .left))
+    (c .comments-from .ensures)
 
 pub read-comments-spec : {M : Type 1} → statement M
 read-comments-spec =

@@ -11,19 +11,36 @@ use Rattle.image.proofs.grammar.payload_fits.Tie as tie
 
 returns : tie.Need-returns
 unfolding payloadFits
-returns c = simp (eq-eqb _ _ (c .before .if1 .taken), lt-leb (c .before .before .before .args .from + c .before .before .before .args .v) (c .before .before .before .args .stop) (omega arith))
+returns c =
+    let start = c .before .before .before in
+    simp (eq-eqb _ _ (c .before .if1 .taken), lt-leb (start .args .from + start .args .v) (start .args .stop) (omega arith))
 
 returns-2 : tie.Need-returns-2
 unfolding payloadFits
-returns-2 c = simp (eq-eqb _ _ (c .before .before .if1 .taken), le-leb (c .before .before .before .before .args .from + c .before .before .before .before .args .v) (c .before .before .before .before .args .stop) (omega arith)) (c .is-text .ensures)
+returns-2 c =
+    let start = c .before .before .before .before in
+    simp (eq-eqb _ _ (c .before .before .if1 .taken), le-leb (start .args .from + start .args .v) (start .args .stop) (omega arith)) (c .is-text .ensures)
 
 returns-3 : tie.Need-returns-3
 unfolding payloadFits
-returns-3 c = simp (ne-eqb _ _ (c .before .before .before .if1 .left), sym (c .before .before .has-byte .ensures) ∙ c .before .if3 .taken, le-ltb _ _ (c .if4 .taken))
+returns-3 c =
+    let at-if1 = c .before .before .before in
+    simp (ne-eqb _ _ (at-if1 .if1 .left), sym (c .before .before .has-byte .ensures) ∙ c .before .if3 .taken, le-ltb _ _ (c .if4 .taken))
 
 returns-4 : tie.Need-returns-4
 unfolding payloadFits
-returns-4 c = simp (ne-eqb _ _ (c .before .before .before .before .before .before .if1 .left), sym (c .before .before .before .before .before .has-byte .ensures) ∙ c .before .before .before .before .if3 .taken, lt-ltb _ _ (c .before .before .before .if4 .left), ← c .before .wide .ensures .0, ← c .top-byte .ensures)
+returns-4 c =
+    let at-if4 = c .before .before .before in
+    let at-if3 = at-if4 .before in
+    let at-has-byte = at-if3 .before in
+    let at-if1 = at-has-byte .before in
+    simp (
+      ne-eqb _ _ (at-if1 .if1 .left),
+      sym (at-has-byte .has-byte .ensures) ∙ at-if3 .if3 .taken,
+      lt-ltb _ _ (at-if4 .if4 .left),
+      ← c .before .wide .ensures .0,
+      ← c .top-byte .ensures,
+    )
 
 returns-5 : tie.Need-returns-5
 unfolding payloadFits

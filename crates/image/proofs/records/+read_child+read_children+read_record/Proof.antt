@@ -87,7 +87,9 @@ read-child-read-text-requires : (t : ℕ) → read-child-lts.Need-read-text-requ
 read-child-read-text-requires t c κs = search needs
 
 read-child-returns-2 : (t : ℕ) → read-child-lts.Need-returns-2 (read-child-calls t) (read-child-at t) read-child.Post
-read-child-returns-2 t c = simp (sym (c .before .before .before .skip-fits .ensures) ∙ c .before .before .if1 .left, c .before .if2 .taken) (c .read-text .ensures)
+read-child-returns-2 t c =
+    let at-skip-fits = c .before .before .before in
+    simp (sym (at-skip-fits .skip-fits .ensures) ∙ c .before .before .if1 .left, c .before .if2 .taken) (c .read-text .ensures)
 
 read-child-read-record-requires : (t : ℕ) → read-child-lts.Need-read-record-requires (read-child-calls t) (read-child-at t) read-child.Post
 read-child-read-record-requires t c κs = (omega arith, omega arith)
@@ -102,41 +104,74 @@ read-children-Inv-loop s b v left places first stop at₀ row₀ at row =
 abbrev read-children-μ-loop : read-children-lts.MeasureT-loop
 read-children-μ-loop s b v left places first stop at₀ row₀ at row = stop - at
 
-read-children-loop-holds : (t : ℕ) → read-children-lts.Need-loop-holds (read-children-calls t) (read-children-at t) read-children.Post read-children-Inv-loop read-children-μ-loop
+read-children-loop-holds : (t : ℕ)
+    → read-children-lts.Need-loop-holds (read-children-calls t) (read-children-at t) read-children.Post read-children-Inv-loop read-children-μ-loop
 read-children-loop-holds t c = (search needs, record { turns = length (c .before .before .args .b .now); enough = omega arith; same = refl })
 
-read-children-returns : (t : ℕ) → read-children-lts.Need-returns (read-children-calls t) (read-children-at t) read-children.Post read-children-Inv-loop read-children-μ-loop
+read-children-returns : (t : ℕ)
+    → read-children-lts.Need-returns (read-children-calls t) (read-children-at t) read-children.Post read-children-Inv-loop read-children-μ-loop
 read-children-returns t c = sym (c .before .before .loop .inv .1 .same ∙ ap stepOf (spare _ _ _ _ _ (c .before .loop-test .taken) (c .if1 .taken)))
 
-read-children-read-child-requires : (t : ℕ) → read-children-lts.Need-read-child-requires (read-children-calls t) (read-children-at t) read-children.Post read-children-Inv-loop read-children-μ-loop
+read-children-read-child-requires : (t : ℕ)
+    → read-children-lts.Need-read-child-requires (read-children-calls t) (read-children-at t) read-children.Post read-children-Inv-loop read-children-μ-loop
 read-children-read-child-requires t c κs = (omega arith, omega arith)
 
-read-children-enum-known-n : (t : ℕ) → read-children-lts.Need-enum-known-n (read-children-calls t) (read-children-at t) read-children.Post read-children-Inv-loop read-children-μ-loop
+read-children-enum-known-n : (t : ℕ)
+    → read-children-lts.Need-enum-known-n (read-children-calls t) (read-children-at t) read-children.Post read-children-Inv-loop read-children-μ-loop
 read-children-enum-known-n t c = search needs
 
-read-children-returns-2 : (t : ℕ) → read-children-lts.Need-returns-2 (read-children-calls t) (read-children-at t) read-children.Post read-children-Inv-loop read-children-μ-loop
-read-children-returns-2 t c = sym (go-bad _ _ _ _ _ _ _ (c .before .before .before .before .before .loop-test .taken) (c .before .before .before .before .if1 .left) (sym (c .before .before .before .read-child .ensures) ∙ c .before .n .given .1) (c .before .before .before .before .before .before .loop .inv .1))
+read-children-returns-2 : (t : ℕ)
+    → read-children-lts.Need-returns-2 (read-children-calls t) (read-children-at t) read-children.Post read-children-Inv-loop read-children-μ-loop
+read-children-returns-2 t c =
+    let at-read-child = c .before .before .before in
+    let at-if1 = at-read-child .before in
+    let at-loop-test = at-if1 .before in
+    let at-loop = at-loop-test .before in
+    sym (go-bad _ _ _ _ _ _ _ (at-loop-test .loop-test .taken) (at-if1 .if1 .left)
+    (sym (at-read-child .read-child .ensures) ∙ c .before .n .given .1) (at-loop .loop .inv .1))
 
-read-children-enum-known-next : (t : ℕ) → read-children-lts.Need-enum-known-next (read-children-calls t) (read-children-at t) read-children.Post read-children-Inv-loop read-children-μ-loop
+read-children-enum-known-next : (t : ℕ)
+    → read-children-lts.Need-enum-known-next (read-children-calls t) (read-children-at t) read-children.Post read-children-Inv-loop read-children-μ-loop
 read-children-enum-known-next t c = search needs
 
-read-children-after-row-requires : (t : ℕ) → read-children-lts.Need-after-row-requires (read-children-calls t) (read-children-at t) read-children.Post read-children-Inv-loop read-children-μ-loop
+read-children-after-row-requires : (t : ℕ)
+    → read-children-lts.Need-after-row-requires (read-children-calls t) (read-children-at t) read-children.Post read-children-Inv-loop read-children-μ-loop
 read-children-after-row-requires t c κs = search needs
 
-read-children-loop-less : (t : ℕ) → read-children-lts.Need-loop-less (read-children-calls t) (read-children-at t) read-children.Post read-children-Inv-loop read-children-μ-loop
-read-children-loop-less t c = omega (arith, child-within _ _ _ _ _ _ _ _ (sym (c .before .before .before .before .read-child .ensures) ∙ c .before .before .next .given .1))
+read-children-loop-less : (t : ℕ)
+    → read-children-lts.Need-loop-less (read-children-calls t) (read-children-at t) read-children.Post read-children-Inv-loop read-children-μ-loop
+read-children-loop-less t c =
+    let at-read-child = c .before .before .before .before in
+    omega (arith, child-within _ _ _ _ _ _ _ _ (sym (at-read-child .read-child .ensures) ∙ c .before .before .next .given .1))
 
-read-children-loop-again : (t : ℕ) → read-children-lts.Need-loop-again (read-children-calls t) (read-children-at t) read-children.Post read-children-Inv-loop read-children-μ-loop
-read-children-loop-again t c = let w = child-within _ _ _ _ _ _ _ _ (sym (c .before .before .before .before .read-child .ensures) ∙ c .before .before .next .given .1) in (w .1, rw (c .after-row .ensures) (go-on _ _ _ _ _ _ (c .before .before .before .before .before .before .loop-test .taken) (c .before .before .before .before .before .if1 .left) (sym (c .before .before .before .before .read-child .ensures) ∙ c .before .before .next .given .1) (w .0) (c .before .before .before .before .before .before .before .loop .inv .1)))
+read-children-loop-again : (t : ℕ)
+    → read-children-lts.Need-loop-again (read-children-calls t) (read-children-at t) read-children.Post read-children-Inv-loop read-children-μ-loop
+read-children-loop-again t c =
+    let at-read-child = c .before .before .before .before in
+    let at-if1 = at-read-child .before in
+    let at-loop-test = at-if1 .before in
+    let at-loop = at-loop-test .before in
+    let w = child-within _ _ _ _ _ _ _ _ (sym (at-read-child .read-child .ensures) ∙ c .before .before .next .given .1) in (
+      w .1,
+      rw (c .after-row .ensures) (go-on _ _ _ _ _ _ (at-loop-test .loop-test .taken) (at-if1 .if1 .left)
+          (sym (at-read-child .read-child .ensures) ∙ c .before .before .next .given .1) (w .0) (at-loop .loop .inv .1)),
+    )
 
-read-children-is-over-requires : (t : ℕ) → read-children-lts.Need-is-over-requires (read-children-calls t) (read-children-at t) read-children.Post read-children-Inv-loop read-children-μ-loop
+read-children-is-over-requires : (t : ℕ)
+    → read-children-lts.Need-is-over-requires (read-children-calls t) (read-children-at t) read-children.Post read-children-Inv-loop read-children-μ-loop
 read-children-is-over-requires t c κs = search needs
 
-read-children-returns-3 : (t : ℕ) → read-children-lts.Need-returns-3 (read-children-calls t) (read-children-at t) read-children.Post read-children-Inv-loop read-children-μ-loop
-read-children-returns-3 t c = sym (c .before .before .before .loop .inv .1 .same ∙ ap stepOf (ended _ _ _ _ _ (c .before .before .loop-test .left) (sym (c .before .is-over .ensures) ∙ c .if2 .taken)))
+read-children-returns-3 : (t : ℕ)
+    → read-children-lts.Need-returns-3 (read-children-calls t) (read-children-at t) read-children.Post read-children-Inv-loop read-children-μ-loop
+read-children-returns-3 t c =
+    let at-loop = c .before .before .before in
+    sym (at-loop .loop .inv .1 .same ∙ ap stepOf (ended _ _ _ _ _ (c .before .before .loop-test .left) (sym (c .before .is-over .ensures) ∙ c .if2 .taken)))
 
-read-children-returns-4 : (t : ℕ) → read-children-lts.Need-returns-4 (read-children-calls t) (read-children-at t) read-children.Post read-children-Inv-loop read-children-μ-loop
-read-children-returns-4 t c = sym (c .before .before .before .loop .inv .1 .same ∙ ap stepOf (missing _ _ _ _ _ (c .before .before .loop-test .left) (sym (c .before .is-over .ensures) ∙ c .if2 .left)))
+read-children-returns-4 : (t : ℕ)
+    → read-children-lts.Need-returns-4 (read-children-calls t) (read-children-at t) read-children.Post read-children-Inv-loop read-children-μ-loop
+read-children-returns-4 t c =
+    let at-loop = c .before .before .before in
+    sym (at-loop .loop .inv .1 .same ∙ ap stepOf (missing _ _ _ _ _ (c .before .before .loop-test .left) (sym (c .before .is-over .ensures) ∙ c .if2 .left)))
 
 read-record-opening-requires : (t : ℕ) → read-record-lts.Need-opening-requires (read-record-calls t) (read-record-at t) read-record.Post
 read-record-opening-requires t c κs = search needs
@@ -148,16 +183,25 @@ read-record-enum-known-first : (t : ℕ) → read-record-lts.Need-enum-known-fir
 read-record-enum-known-first t c = search needs
 
 read-record-sub-read-children : (t : ℕ) → read-record-lts.Need-sub-read-children (read-record-calls t) (read-record-at t) read-record.Post
-read-record-sub-read-children t c = let w = open-record _ _ _ _ _ _ _ _ _ _ (sym (c .before .before .before .opening .ensures) ∙ c .before .first .given .1) in omega (arith, w .held .more)
+read-record-sub-read-children t c =
+    let at-opening = c .before .before .before in
+    let w = open-record _ _ _ _ _ _ _ _ _ _ (sym (at-opening .opening .ensures) ∙ c .before .first .given .1) in
+    omega (arith, w .held .more)
 
 read-record-read-children-requires : (t : ℕ) → read-record-lts.Need-read-children-requires (read-record-calls t) (read-record-at t) read-record.Post
-read-record-read-children-requires t c κs = let w = open-record _ _ _ _ _ _ _ _ _ _ (sym (c .before .before .before .opening .ensures) ∙ c .before .first .given .1) in (omega (arith, w .held .more), (omega (arith, w .first, w .stop, opened-order (w .held)), omega (arith, w .stop, w .held .right .within)))
+read-record-read-children-requires t c κs =
+    let at-opening = c .before .before .before in
+    let w = open-record _ _ _ _ _ _ _ _ _ _ (sym (at-opening .opening .ensures) ∙ c .before .first .given .1) in
+    (omega (arith, w .held .more), (omega (arith, w .first, w .stop, opened-order (w .held)), omega (arith, w .stop, w .held .right .within)))
 
 read-record-returns : (t : ℕ) → read-record-lts.Need-returns (read-record-calls t) (read-record-at t) read-record.Post
 read-record-returns t c = sym (ap stepOf (open-wrong _ _ _ _ _ _ _ _ _ (sym (c .before .before .before .opening .ensures) ∙ c .before .n .given .1)))
 
 read-record-returns-2 : (t : ℕ) → read-record-lts.Need-returns-2 (read-record-calls t) (read-record-at t) read-record.Post
-read-record-returns-2 t c = c .read-children .ensures ∙ sym (record-steps _ _ _ _ _ _ _ _ _ _ (open-record _ _ _ _ _ _ _ _ _ _ (sym (c .before .before .before .before .opening .ensures) ∙ c .before .before .first .given .1)))
+read-record-returns-2 t c =
+    let at-opening = c .before .before .before .before in
+    c .read-children .ensures
+    ∙ sym (record-steps _ _ _ _ _ _ _ _ _ _ (open-record _ _ _ _ _ _ _ _ _ _ (sym (at-opening .opening .ensures) ∙ c .before .before .first .given .1)))
 
 pub +read-child+read-children+read-record-spec : {M : Type 1} → statement M
 +read-child+read-children+read-record-spec =

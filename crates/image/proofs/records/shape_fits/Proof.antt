@@ -11,7 +11,8 @@ use Rattle.image.proofs.records.shape_fits.Tie as tie
 
 returns : tie.Need-returns
 unfolding shape
-returns c = simp (lt-leb (stopAt (c .before .before .args .b .now) (c .before .before .args .at)) (c .before .before .args .end) (omega arith)) (sym (simp and-false))
+returns c =
+    simp (lt-leb (stopAt (c .before .before .args .b .now) (c .before .before .args .at)) (c .before .before .args .end) (omega arith)) (sym (simp and-false))
 
 returns-2 : tie.Need-returns-2
 unfolding shape
@@ -23,11 +24,32 @@ returns-3 c = simp (← c .before .before .num32 .ensures .same, le-leb _ _ (c .
 
 returns-4 : tie.Need-returns-4
 unfolding shape
-returns-4 c = simp (← c .before .before .before .before .before .before .before .num32 .ensures .same, ← c .before .before .before .wide .ensures .0, le-leb _ _ (c .before .before .before .before .before .before .if2 .left), le-leb _ _ (c .before .before .before .before .before .if3 .left), sym (c .before .before .kind-fits .ensures) ∙ c .before .if4 .taken) (c .payload-fits .ensures)
+returns-4 c =
+    let at-wide = c .before .before .before in
+    let at-if3 = at-wide .before .before in
+    let at-if2 = at-if3 .before in
+    let at-num32 = at-if2 .before in
+    simp (
+      ← at-num32 .num32 .ensures .same,
+      ← at-wide .wide .ensures .0,
+      le-leb _ _ (at-if2 .if2 .left),
+      le-leb _ _ (at-if3 .if3 .left),
+      sym (c .before .before .kind-fits .ensures) ∙ c .before .if4 .taken,
+    ) (c .payload-fits .ensures)
 
 returns-5 : tie.Need-returns-5
 unfolding shape
-returns-5 c = simp (← c .before .before .before .before .before .before .num32 .ensures .same, ← c .before .before .wide .ensures .0, le-leb _ _ (c .before .before .before .before .before .if2 .left), le-leb _ _ (c .before .before .before .before .if3 .left), sym (c .before .kind-fits .ensures) ∙ c .if4 .left)
+returns-5 c =
+    let at-if3 = c .before .before .before .before in
+    let at-if2 = at-if3 .before in
+    let at-num32 = at-if2 .before in
+    simp (
+      ← at-num32 .num32 .ensures .same,
+      ← c .before .before .wide .ensures .0,
+      le-leb _ _ (at-if2 .if2 .left),
+      le-leb _ _ (at-if3 .if3 .left),
+      sym (c .before .kind-fits .ensures) ∙ c .if4 .left,
+    )
 
 pub shape-fits-spec : {M : Type 1} → statement M
 shape-fits-spec =

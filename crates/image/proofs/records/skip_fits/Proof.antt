@@ -12,7 +12,9 @@ returns c = simp (eq-eqb _ _ (c .before .if1 .taken), lt-leb (c .before .before 
 
 returns-2 : tie.Need-returns-2
 unfolding skips
-returns-2 c = simp (eq-eqb _ _ (c .before .before .if1 .taken), le-leb (c .before .before .before .before .args .at + 4) (c .before .before .before .before .args .end) (omega arith), ← c .num32 .ensures .same)
+returns-2 c =
+    let start = c .before .before .before .before in
+    simp (eq-eqb _ _ (c .before .before .if1 .taken), le-leb (start .args .at + 4) (start .args .end) (omega arith), ← c .num32 .ensures .same)
 
 returns-3 : tie.Need-returns-3
 unfolding skips

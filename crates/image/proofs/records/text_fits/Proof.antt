@@ -14,7 +14,8 @@ use Rattle.image.proofs.records.text_fits.Tie as tie
 
 returns : tie.Need-returns
 unfolding shape
-returns c = simp (lt-leb (stopAt (c .before .before .args .b .now) (c .before .before .args .at)) (c .before .before .args .end) (omega arith)) (sym (simp and-false))
+returns c =
+    simp (lt-leb (stopAt (c .before .before .args .b .now) (c .before .before .args .at)) (c .before .before .args .end) (omega arith)) (sym (simp and-false))
 
 returns-2 : tie.Need-returns-2
 unfolding shape
@@ -26,15 +27,50 @@ returns-3 c = simp (← c .before .before .num32 .ensures .same, le-leb _ _ (c .
 
 returns-4 : tie.Need-returns-4
 unfolding shape
-returns-4 c = simp (← c .before .before .before .before .before .num32 .ensures .same, ← c .before .wide .ensures .0, le-leb _ _ (c .before .before .before .before .if2 .left), le-leb _ _ (c .before .before .before .if3 .left), not-text _ (c .if4 .taken))
+returns-4 c =
+    let at-if3 = c .before .before .before in
+    let at-if2 = at-if3 .before in
+    let at-num32 = at-if2 .before in
+    simp (
+      ← at-num32 .num32 .ensures .same,
+      ← c .before .wide .ensures .0,
+      le-leb _ _ (at-if2 .if2 .left),
+      le-leb _ _ (at-if3 .if3 .left),
+      not-text _ (c .if4 .taken),
+    )
 
 returns-5 : tie.Need-returns-5
 unfolding shape kindFits payloadFits
-returns-5 c = simp (← c .before .before .before .before .before .before .num32 .ensures .same, ← c .before .before .wide .ensures .0, le-leb _ _ (c .before .before .before .before .before .if2 .left), le-leb _ _ (c .before .before .before .before .if3 .left), c .before .if4 .left, lt-leb (c .before .before .before .before .before .before .before .before .before .args .at + 13 + c .before .before .before .before .before .before .before .before .before .args .v) (c .before .before .before .before .before .before .before .before .before .args .at + 4 + c .before .before .before .before .before .before .num32 .result) (omega arith))
+returns-5 c =
+    let at-if3 = c .before .before .before .before in
+    let at-if2 = at-if3 .before in
+    let at-num32 = at-if2 .before in
+    let start = at-num32 .before .before .before in
+    simp (
+      ← at-num32 .num32 .ensures .same,
+      ← c .before .before .wide .ensures .0,
+      le-leb _ _ (at-if2 .if2 .left),
+      le-leb _ _ (at-if3 .if3 .left),
+      c .before .if4 .left,
+      lt-leb (start .args .at + 13 + start .args .v) (start .args .at + 4 + at-num32 .num32 .result) (omega arith),
+    )
 
 returns-6 : tie.Need-returns-6
 unfolding shape kindFits payloadFits
-returns-6 c = simp (← c .before .before .before .before .before .before .before .num32 .ensures .same, ← c .before .before .before .wide .ensures .0, le-leb _ _ (c .before .before .before .before .before .before .if2 .left), le-leb _ _ (c .before .before .before .before .before .if3 .left), c .before .before .if4 .left, le-leb (c .before .before .before .before .before .before .before .before .before .before .args .at + 13 + c .before .before .before .before .before .before .before .before .before .before .args .v) (c .before .before .before .before .before .before .before .before .before .before .args .at + 4 + c .before .before .before .before .before .before .before .num32 .result) (omega arith)) (c .is-text .ensures)
+returns-6 c =
+    let at-wide = c .before .before .before in
+    let at-if3 = at-wide .before .before in
+    let at-if2 = at-if3 .before in
+    let at-num32 = at-if2 .before in
+    let start = at-num32 .before .before .before in
+    simp (
+      ← at-num32 .num32 .ensures .same,
+      ← at-wide .wide .ensures .0,
+      le-leb _ _ (at-if2 .if2 .left),
+      le-leb _ _ (at-if3 .if3 .left),
+      c .before .before .if4 .left,
+      le-leb (start .args .at + 13 + start .args .v) (start .args .at + 4 + at-num32 .num32 .result) (omega arith),
+    ) (c .is-text .ensures)
 
 pub text-fits-spec : {M : Type 1} → statement M
 text-fits-spec =

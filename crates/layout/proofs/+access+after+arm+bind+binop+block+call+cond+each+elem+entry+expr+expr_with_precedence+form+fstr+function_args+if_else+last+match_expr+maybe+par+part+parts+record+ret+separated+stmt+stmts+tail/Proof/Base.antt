@@ -6,90 +6,91 @@ use borrow.Fn.Kinds.{In}
 use borrow.Fn.PlainCycle.{Measures, is, falls, and}
 use Rattle.layout.proofs.access.Reads as access
 use Rattle.layout.proofs.access.Kinds as access-kinds
-use Rattle.layout.proofs.+access+after+arm+bind+binop+block+call+cond+each+elem+entry+expr+expr_with_precedence+form+fstr+function_args+if_else+last+match_expr+maybe+par+part+parts+record+ret+separated+stmt+stmts+tail.Lts-access as access-lts
+use Rattle.layout.proofs.+access+after+arm+bind+binop+block+call+cond+each+elem+entry+expr+expr_with_precedence+form+fstr+function_args+if_else+last+match_expr+maybe+par+part+parts+record+ret+separated+stmt+stmts+tail as cycle
+use cycle.Lts-access as access-lts
 use Rattle.layout.proofs.after.Reads as after
 use Rattle.layout.proofs.after.Kinds as after-kinds
-use Rattle.layout.proofs.+access+after+arm+bind+binop+block+call+cond+each+elem+entry+expr+expr_with_precedence+form+fstr+function_args+if_else+last+match_expr+maybe+par+part+parts+record+ret+separated+stmt+stmts+tail.Lts-after as after-lts
+use cycle.Lts-after as after-lts
 use Rattle.layout.proofs.if_else.Reads as if-else
 use Rattle.layout.proofs.if_else.Kinds as if-else-kinds
-use Rattle.layout.proofs.+access+after+arm+bind+binop+block+call+cond+each+elem+entry+expr+expr_with_precedence+form+fstr+function_args+if_else+last+match_expr+maybe+par+part+parts+record+ret+separated+stmt+stmts+tail.Lts-if_else as if-else-lts
+use cycle.Lts-if_else as if-else-lts
 use Rattle.layout.proofs.arm.Reads as arm
 use Rattle.layout.proofs.arm.Kinds as arm-kinds
-use Rattle.layout.proofs.+access+after+arm+bind+binop+block+call+cond+each+elem+entry+expr+expr_with_precedence+form+fstr+function_args+if_else+last+match_expr+maybe+par+part+parts+record+ret+separated+stmt+stmts+tail.Lts-arm as arm-lts
+use cycle.Lts-arm as arm-lts
 use Rattle.layout.proofs.bind.Reads as bind
 use Rattle.layout.proofs.bind.Kinds as bind-kinds
-use Rattle.layout.proofs.+access+after+arm+bind+binop+block+call+cond+each+elem+entry+expr+expr_with_precedence+form+fstr+function_args+if_else+last+match_expr+maybe+par+part+parts+record+ret+separated+stmt+stmts+tail.Lts-bind as bind-lts
+use cycle.Lts-bind as bind-lts
 use Rattle.layout.proofs.binop.Reads as binop
 use Rattle.layout.proofs.binop.Kinds as binop-kinds
-use Rattle.layout.proofs.+access+after+arm+bind+binop+block+call+cond+each+elem+entry+expr+expr_with_precedence+form+fstr+function_args+if_else+last+match_expr+maybe+par+part+parts+record+ret+separated+stmt+stmts+tail.Lts-binop as binop-lts
+use cycle.Lts-binop as binop-lts
 use Rattle.layout.proofs.block.Reads as block
 use Rattle.layout.proofs.block.Kinds as block-kinds
-use Rattle.layout.proofs.+access+after+arm+bind+binop+block+call+cond+each+elem+entry+expr+expr_with_precedence+form+fstr+function_args+if_else+last+match_expr+maybe+par+part+parts+record+ret+separated+stmt+stmts+tail.Lts-block as block-lts
+use cycle.Lts-block as block-lts
 use Rattle.layout.proofs.call.Reads as call
 use Rattle.layout.proofs.call.Kinds as call-kinds
-use Rattle.layout.proofs.+access+after+arm+bind+binop+block+call+cond+each+elem+entry+expr+expr_with_precedence+form+fstr+function_args+if_else+last+match_expr+maybe+par+part+parts+record+ret+separated+stmt+stmts+tail.Lts-call as call-lts
+use cycle.Lts-call as call-lts
 use Rattle.layout.proofs.cond.Reads as cond
 use Rattle.layout.proofs.cond.Kinds as cond-kinds
-use Rattle.layout.proofs.+access+after+arm+bind+binop+block+call+cond+each+elem+entry+expr+expr_with_precedence+form+fstr+function_args+if_else+last+match_expr+maybe+par+part+parts+record+ret+separated+stmt+stmts+tail.Lts-cond as cond-lts
+use cycle.Lts-cond as cond-lts
 use Rattle.layout.proofs.each.Reads as each
 use Rattle.layout.proofs.each.Kinds as each-kinds
-use Rattle.layout.proofs.+access+after+arm+bind+binop+block+call+cond+each+elem+entry+expr+expr_with_precedence+form+fstr+function_args+if_else+last+match_expr+maybe+par+part+parts+record+ret+separated+stmt+stmts+tail.Lts-each as each-lts
+use cycle.Lts-each as each-lts
 use Rattle.layout.proofs.elem.Reads as elem
 use Rattle.layout.proofs.elem.Kinds as elem-kinds
-use Rattle.layout.proofs.+access+after+arm+bind+binop+block+call+cond+each+elem+entry+expr+expr_with_precedence+form+fstr+function_args+if_else+last+match_expr+maybe+par+part+parts+record+ret+separated+stmt+stmts+tail.Lts-elem as elem-lts
+use cycle.Lts-elem as elem-lts
 use Rattle.layout.proofs.entry.Reads as entry
 use Rattle.layout.proofs.entry.Kinds as entry-kinds
-use Rattle.layout.proofs.+access+after+arm+bind+binop+block+call+cond+each+elem+entry+expr+expr_with_precedence+form+fstr+function_args+if_else+last+match_expr+maybe+par+part+parts+record+ret+separated+stmt+stmts+tail.Lts-entry as entry-lts
+use cycle.Lts-entry as entry-lts
 use Rattle.layout.proofs.expr.Reads as expr
 use Rattle.layout.proofs.expr.Kinds as expr-kinds
-use Rattle.layout.proofs.+access+after+arm+bind+binop+block+call+cond+each+elem+entry+expr+expr_with_precedence+form+fstr+function_args+if_else+last+match_expr+maybe+par+part+parts+record+ret+separated+stmt+stmts+tail.Lts-expr as expr-lts
+use cycle.Lts-expr as expr-lts
 use Rattle.layout.proofs.expr_with_precedence.Reads as expr-with-precedence
 use Rattle.layout.proofs.expr_with_precedence.Kinds as expr-with-precedence-kinds
-use Rattle.layout.proofs.+access+after+arm+bind+binop+block+call+cond+each+elem+entry+expr+expr_with_precedence+form+fstr+function_args+if_else+last+match_expr+maybe+par+part+parts+record+ret+separated+stmt+stmts+tail.Lts-expr_with_precedence as expr-with-precedence-lts
+use cycle.Lts-expr_with_precedence as expr-with-precedence-lts
 use Rattle.layout.proofs.form.Reads as form
 use Rattle.layout.proofs.form.Kinds as form-kinds
-use Rattle.layout.proofs.+access+after+arm+bind+binop+block+call+cond+each+elem+entry+expr+expr_with_precedence+form+fstr+function_args+if_else+last+match_expr+maybe+par+part+parts+record+ret+separated+stmt+stmts+tail.Lts-form as form-lts
+use cycle.Lts-form as form-lts
 use Rattle.layout.proofs.fstr.Reads as fstr
 use Rattle.layout.proofs.fstr.Kinds as fstr-kinds
-use Rattle.layout.proofs.+access+after+arm+bind+binop+block+call+cond+each+elem+entry+expr+expr_with_precedence+form+fstr+function_args+if_else+last+match_expr+maybe+par+part+parts+record+ret+separated+stmt+stmts+tail.Lts-fstr as fstr-lts
+use cycle.Lts-fstr as fstr-lts
 use Rattle.layout.proofs.function_args.Reads as function-args
 use Rattle.layout.proofs.function_args.Kinds as function-args-kinds
-use Rattle.layout.proofs.+access+after+arm+bind+binop+block+call+cond+each+elem+entry+expr+expr_with_precedence+form+fstr+function_args+if_else+last+match_expr+maybe+par+part+parts+record+ret+separated+stmt+stmts+tail.Lts-function_args as function-args-lts
+use cycle.Lts-function_args as function-args-lts
 use Rattle.layout.proofs.last.Reads as last
 use Rattle.layout.proofs.last.Kinds as last-kinds
-use Rattle.layout.proofs.+access+after+arm+bind+binop+block+call+cond+each+elem+entry+expr+expr_with_precedence+form+fstr+function_args+if_else+last+match_expr+maybe+par+part+parts+record+ret+separated+stmt+stmts+tail.Lts-last as last-lts
+use cycle.Lts-last as last-lts
 use Rattle.layout.proofs.match_expr.Reads as match-expr
 use Rattle.layout.proofs.match_expr.Kinds as match-expr-kinds
-use Rattle.layout.proofs.+access+after+arm+bind+binop+block+call+cond+each+elem+entry+expr+expr_with_precedence+form+fstr+function_args+if_else+last+match_expr+maybe+par+part+parts+record+ret+separated+stmt+stmts+tail.Lts-match_expr as match-expr-lts
+use cycle.Lts-match_expr as match-expr-lts
 use Rattle.layout.proofs.maybe.Reads as maybe
 use Rattle.layout.proofs.maybe.Kinds as maybe-kinds
-use Rattle.layout.proofs.+access+after+arm+bind+binop+block+call+cond+each+elem+entry+expr+expr_with_precedence+form+fstr+function_args+if_else+last+match_expr+maybe+par+part+parts+record+ret+separated+stmt+stmts+tail.Lts-maybe as maybe-lts
+use cycle.Lts-maybe as maybe-lts
 use Rattle.layout.proofs.par.Reads as par
 use Rattle.layout.proofs.par.Kinds as par-kinds
-use Rattle.layout.proofs.+access+after+arm+bind+binop+block+call+cond+each+elem+entry+expr+expr_with_precedence+form+fstr+function_args+if_else+last+match_expr+maybe+par+part+parts+record+ret+separated+stmt+stmts+tail.Lts-par as par-lts
+use cycle.Lts-par as par-lts
 use Rattle.layout.proofs.part.Reads as part
 use Rattle.layout.proofs.part.Kinds as part-kinds
-use Rattle.layout.proofs.+access+after+arm+bind+binop+block+call+cond+each+elem+entry+expr+expr_with_precedence+form+fstr+function_args+if_else+last+match_expr+maybe+par+part+parts+record+ret+separated+stmt+stmts+tail.Lts-part as part-lts
+use cycle.Lts-part as part-lts
 use Rattle.layout.proofs.parts.Reads as parts
 use Rattle.layout.proofs.parts.Kinds as parts-kinds
-use Rattle.layout.proofs.+access+after+arm+bind+binop+block+call+cond+each+elem+entry+expr+expr_with_precedence+form+fstr+function_args+if_else+last+match_expr+maybe+par+part+parts+record+ret+separated+stmt+stmts+tail.Lts-parts as parts-lts
+use cycle.Lts-parts as parts-lts
 use Rattle.layout.proofs.record.Kinds as record-kinds
-use Rattle.layout.proofs.+access+after+arm+bind+binop+block+call+cond+each+elem+entry+expr+expr_with_precedence+form+fstr+function_args+if_else+last+match_expr+maybe+par+part+parts+record+ret+separated+stmt+stmts+tail.Lts-record as record-lts
+use cycle.Lts-record as record-lts
 use Rattle.layout.proofs.ret.Reads as ret
 use Rattle.layout.proofs.ret.Kinds as ret-kinds
-use Rattle.layout.proofs.+access+after+arm+bind+binop+block+call+cond+each+elem+entry+expr+expr_with_precedence+form+fstr+function_args+if_else+last+match_expr+maybe+par+part+parts+record+ret+separated+stmt+stmts+tail.Lts-ret as ret-lts
+use cycle.Lts-ret as ret-lts
 use Rattle.layout.proofs.separated.Reads as separated
 use Rattle.layout.proofs.separated.Kinds as separated-kinds
-use Rattle.layout.proofs.+access+after+arm+bind+binop+block+call+cond+each+elem+entry+expr+expr_with_precedence+form+fstr+function_args+if_else+last+match_expr+maybe+par+part+parts+record+ret+separated+stmt+stmts+tail.Lts-separated as separated-lts
+use cycle.Lts-separated as separated-lts
 use Rattle.layout.proofs.stmt.Reads as stmt
 use Rattle.layout.proofs.stmt.Kinds as stmt-kinds
-use Rattle.layout.proofs.+access+after+arm+bind+binop+block+call+cond+each+elem+entry+expr+expr_with_precedence+form+fstr+function_args+if_else+last+match_expr+maybe+par+part+parts+record+ret+separated+stmt+stmts+tail.Lts-stmt as stmt-lts
+use cycle.Lts-stmt as stmt-lts
 use Rattle.layout.proofs.stmts.Reads as stmts
 use Rattle.layout.proofs.stmts.Kinds as stmts-kinds
-use Rattle.layout.proofs.+access+after+arm+bind+binop+block+call+cond+each+elem+entry+expr+expr_with_precedence+form+fstr+function_args+if_else+last+match_expr+maybe+par+part+parts+record+ret+separated+stmt+stmts+tail.Lts-stmts as stmts-lts
+use cycle.Lts-stmts as stmts-lts
 use Rattle.layout.proofs.tail.Reads as tail
 use Rattle.layout.proofs.tail.Kinds as tail-kinds
-use Rattle.layout.proofs.+access+after+arm+bind+binop+block+call+cond+each+elem+entry+expr+expr_with_precedence+form+fstr+function_args+if_else+last+match_expr+maybe+par+part+parts+record+ret+separated+stmt+stmts+tail.Lts-tail as tail-lts
+use cycle.Lts-tail as tail-lts
 use Rattle.comments.proofs.pop_trailing_comment.Reads as pop-trailing-comment-reads
 use Rattle.layout.proofs.blocks.after_stmt.Reads as after-stmt-reads
 use Rattle.layout.proofs.blocks.arm_comma.Reads as arm-comma-reads
@@ -123,15 +124,15 @@ use Rattle.layout.proofs.pieces.begin_list.Reads as begin-list-reads
 use Rattle.layout.proofs.pieces.empty_list.Reads as empty-list-reads
 use Rattle.layout.proofs.pieces.finish_list.Reads as finish-list-reads
 use Rattle.layout.proofs.pieces.gap.Reads as gap-reads
-use Rattle.state.proofs.leaves.line.Reads as line-reads
-use Rattle.state.proofs.leaves.line_or_space.Reads as line-or-space-reads
-use Rattle.state.proofs.parts.close.Reads as close-reads
-use Rattle.state.proofs.parts.open_call.Reads as open-call-reads
-use Rattle.state.proofs.parts.open_group.Reads as open-group-reads
-use Rattle.state.proofs.parts.open_indent.Reads as open-indent-reads
-use Rattle.state.proofs.parts.open_indent_next.Reads as open-indent-next-reads
-use Rattle.state.proofs.parts.set_second.Reads as set-second-reads
-use Rattle.state.proofs.words.word.Reads as word-reads
+use Rattle.acts.proofs.leaves.line.Reads as line-reads
+use Rattle.acts.proofs.leaves.line_or_space.Reads as line-or-space-reads
+use Rattle.acts.proofs.parts.close.Reads as close-reads
+use Rattle.acts.proofs.parts.open_call.Reads as open-call-reads
+use Rattle.acts.proofs.parts.open_group.Reads as open-group-reads
+use Rattle.acts.proofs.parts.open_indent.Reads as open-indent-reads
+use Rattle.acts.proofs.parts.open_indent_next.Reads as open-indent-next-reads
+use Rattle.acts.proofs.parts.set_second.Reads as set-second-reads
+use Rattle.acts.proofs.words.word.Reads as word-reads
 
 abbrev pub μ-access : Measures 3 access-kinds.ps ℕ
 μ-access κs a = 16 * be32 (a .1 .1 .1 .0 .now) (a .1 .1 .1 .1 .0) + 7
@@ -414,37 +415,172 @@ abbrev pub tail-below : ℕ → In 4 tail-kinds.ps
 tail-below t = and 4 tail-kinds.ps (falls 4 tail-kinds.ps _<_ μ-tail t) tail.Pre
 
 abbrev pub access-calls : ℕ → access-lts.Claims
-access-calls t = (second-reads.Asked, second-reads.Learnt, open-group-reads.Asked, open-group-reads.Learnt, open-indent-next-reads.Asked, open-indent-next-reads.Learnt, expr-with-precedence-below t, expr-with-precedence.Post, field-name-reads.Asked, field-name-reads.Learnt, close-reads.Asked, close-reads.Learnt)
+access-calls t = (
+  second-reads.Asked,
+  second-reads.Learnt,
+  open-group-reads.Asked,
+  open-group-reads.Learnt,
+  open-indent-next-reads.Asked,
+  open-indent-next-reads.Learnt,
+  expr-with-precedence-below t,
+  expr-with-precedence.Post,
+  field-name-reads.Asked,
+  field-name-reads.Learnt,
+  close-reads.Asked,
+  close-reads.Learnt,
+)
 
 abbrev pub after-calls : ℕ → after-lts.Claims
 after-calls t = (word-reads.Asked, word-reads.Learnt, expr-with-precedence-below t, expr-with-precedence.Post)
 
 abbrev pub if-else-calls : ℕ → if-else-lts.Claims
-if-else-calls t = (third-reads.Asked, third-reads.Learnt, cond-below t, cond.Post, is-absent-reads.Asked, is-absent-reads.Learnt, word-reads.Asked, word-reads.Learnt, block-below t, block.Post)
+if-else-calls t = (
+  third-reads.Asked,
+  third-reads.Learnt,
+  cond-below t,
+  cond.Post,
+  is-absent-reads.Asked,
+  is-absent-reads.Learnt,
+  word-reads.Asked,
+  word-reads.Learnt,
+  block-below t,
+  block.Post,
+)
 
 abbrev pub arm-calls : ℕ → arm-lts.Claims
-arm-calls t = (second-reads.Asked, second-reads.Learnt, third-reads.Asked, third-reads.Learnt, pattern-reads.Asked, pattern-reads.Learnt, maybe-below t, maybe.Post, word-reads.Asked, word-reads.Learnt, expr-below t, expr.Post, arm-comma-reads.Asked, arm-comma-reads.Learnt)
+arm-calls t = (
+  second-reads.Asked,
+  second-reads.Learnt,
+  third-reads.Asked,
+  third-reads.Learnt,
+  pattern-reads.Asked,
+  pattern-reads.Learnt,
+  maybe-below t,
+  maybe.Post,
+  word-reads.Asked,
+  word-reads.Learnt,
+  expr-below t,
+  expr.Post,
+  arm-comma-reads.Asked,
+  arm-comma-reads.Learnt,
+)
 
 abbrev pub bind-calls : ℕ → bind-lts.Claims
-bind-calls t = (second-reads.Asked, second-reads.Learnt, third-reads.Asked, third-reads.Learnt, word-reads.Asked, word-reads.Learnt, ident-reads.Asked, ident-reads.Learnt, let-type-reads.Asked, let-type-reads.Learnt, expr-below t, expr.Post)
+bind-calls t = (
+  second-reads.Asked,
+  second-reads.Learnt,
+  third-reads.Asked,
+  third-reads.Learnt,
+  word-reads.Asked,
+  word-reads.Learnt,
+  ident-reads.Asked,
+  ident-reads.Learnt,
+  let-type-reads.Asked,
+  let-type-reads.Learnt,
+  expr-below t,
+  expr.Post,
+)
 
 abbrev pub binop-calls : ℕ → binop-lts.Claims
-binop-calls t = (precedence-reads.Asked, precedence-reads.Learnt, leftmost-reads.Asked, leftmost-reads.Learnt, open-group-reads.Asked, open-group-reads.Learnt, expr-with-precedence-below t, expr-with-precedence.Post, line-or-space-reads.Asked, line-or-space-reads.Learnt, open-indent-reads.Asked, open-indent-reads.Learnt, tail-below t, tail.Post, close-reads.Asked, close-reads.Learnt)
+binop-calls t = (
+  precedence-reads.Asked,
+  precedence-reads.Learnt,
+  leftmost-reads.Asked,
+  leftmost-reads.Learnt,
+  open-group-reads.Asked,
+  open-group-reads.Learnt,
+  expr-with-precedence-below t,
+  expr-with-precedence.Post,
+  line-or-space-reads.Asked,
+  line-or-space-reads.Learnt,
+  open-indent-reads.Asked,
+  open-indent-reads.Learnt,
+  tail-below t,
+  tail.Post,
+  close-reads.Asked,
+  close-reads.Learnt,
+)
 
 abbrev pub block-calls : ℕ → block-lts.Claims
-block-calls t = (second-reads.Asked, second-reads.Learnt, no-stmts-reads.Asked, no-stmts-reads.Learnt, is-empty-reads.Asked, is-empty-reads.Learnt, open-group-reads.Asked, open-group-reads.Learnt, block-start-reads.Asked, block-start-reads.Learnt, open-indent-reads.Asked, open-indent-reads.Learnt, stmts-below t, stmts.Post, last-below t, last.Post, end-reads.Asked, end-reads.Learnt, gap-reads.Asked, gap-reads.Learnt, close-reads.Asked, close-reads.Learnt, line-reads.Asked, line-reads.Learnt, word-reads.Asked, word-reads.Learnt)
+block-calls t = (
+  second-reads.Asked,
+  second-reads.Learnt,
+  no-stmts-reads.Asked,
+  no-stmts-reads.Learnt,
+  is-empty-reads.Asked,
+  is-empty-reads.Learnt,
+  open-group-reads.Asked,
+  open-group-reads.Learnt,
+  block-start-reads.Asked,
+  block-start-reads.Learnt,
+  open-indent-reads.Asked,
+  open-indent-reads.Learnt,
+  stmts-below t,
+  stmts.Post,
+  last-below t,
+  last.Post,
+  end-reads.Asked,
+  end-reads.Learnt,
+  gap-reads.Asked,
+  gap-reads.Learnt,
+  close-reads.Asked,
+  close-reads.Learnt,
+  line-reads.Asked,
+  line-reads.Learnt,
+  word-reads.Asked,
+  word-reads.Learnt,
+)
 
 abbrev pub call-calls : ℕ → call-lts.Claims
-call-calls t = (second-reads.Asked, second-reads.Learnt, open-call-reads.Asked, open-call-reads.Learnt, expr-with-precedence-below t, expr-with-precedence.Post, function-args-below t, function-args.Post, set-second-reads.Asked, set-second-reads.Learnt, close-reads.Asked, close-reads.Learnt)
+call-calls t = (
+  second-reads.Asked,
+  second-reads.Learnt,
+  open-call-reads.Asked,
+  open-call-reads.Learnt,
+  expr-with-precedence-below t,
+  expr-with-precedence.Post,
+  function-args-below t,
+  function-args.Post,
+  set-second-reads.Asked,
+  set-second-reads.Learnt,
+  close-reads.Asked,
+  close-reads.Learnt,
+)
 
 abbrev pub cond-calls : ℕ → cond-lts.Claims
-cond-calls t = (word-reads.Asked, word-reads.Learnt, open-group-reads.Asked, open-group-reads.Learnt, open-indent-reads.Asked, open-indent-reads.Learnt, expr-below t, expr.Post, close-reads.Asked, close-reads.Learnt, past-reads.Asked, past-reads.Learnt, block-below t, block.Post)
+cond-calls t = (
+  word-reads.Asked,
+  word-reads.Learnt,
+  open-group-reads.Asked,
+  open-group-reads.Learnt,
+  open-indent-reads.Asked,
+  open-indent-reads.Learnt,
+  expr-below t,
+  expr.Post,
+  close-reads.Asked,
+  close-reads.Learnt,
+  past-reads.Asked,
+  past-reads.Learnt,
+  block-below t,
+  block.Post,
+)
 
 abbrev pub each-calls : ℕ → each-lts.Claims
 each-calls t = (second-reads.Asked, second-reads.Learnt, word-reads.Asked, word-reads.Learnt, ident-reads.Asked, ident-reads.Learnt, cond-below t, cond.Post)
 
 abbrev pub elem-calls : ℕ → elem-lts.Claims
-elem-calls t = (expr-below t, expr.Post, open-group-reads.Asked, open-group-reads.Learnt, close-reads.Asked, close-reads.Learnt, entry-below t, entry.Post, arm-below t, arm.Post)
+elem-calls t = (
+  expr-below t,
+  expr.Post,
+  open-group-reads.Asked,
+  open-group-reads.Learnt,
+  close-reads.Asked,
+  close-reads.Learnt,
+  entry-below t,
+  entry.Post,
+  arm-below t,
+  arm.Post,
+)
 
 abbrev pub entry-calls : ℕ → entry-lts.Claims
 entry-calls t = (second-reads.Asked, second-reads.Learnt, ident-reads.Asked, ident-reads.Learnt, word-reads.Asked, word-reads.Learnt, expr-below t, expr.Post)
@@ -456,19 +592,99 @@ abbrev pub expr-with-precedence-calls : ℕ → expr-with-precedence-lts.Claims
 expr-with-precedence-calls t = (form-below t, form.Post, pop-trailing-comment-reads.Asked, pop-trailing-comment-reads.Learnt)
 
 abbrev pub form-calls : ℕ → form-lts.Claims
-form-calls t = (kind-reads.Asked, kind-reads.Learnt, ret-below t, ret.Post, literal-reads.Asked, literal-reads.Learnt, block-below t, block.Post, match-expr-below t, match-expr.Post, call-below t, call.Post, access-below t, access.Post, path-reads.Asked, path-reads.Learnt, record-below t, record.Post, word-reads.Asked, word-reads.Learnt, second-reads.Asked, second-reads.Learnt, end-reads.Asked, end-reads.Learnt, separated-below t, separated.Post, after-below t, after.Post, third-reads.Asked, third-reads.Learnt, assign-word-reads.Asked, assign-word-reads.Learnt, binop-below t, binop.Post, if-else-below t, if-else.Post, cond-below t, cond.Post, each-below t, each.Post, expr-with-precedence-below t, expr-with-precedence.Post, fstr-below t, fstr.Post, par-below t, par.Post)
+form-calls t = (
+  kind-reads.Asked,
+  kind-reads.Learnt,
+  ret-below t,
+  ret.Post,
+  literal-reads.Asked,
+  literal-reads.Learnt,
+  block-below t,
+  block.Post,
+  match-expr-below t,
+  match-expr.Post,
+  call-below t,
+  call.Post,
+  access-below t,
+  access.Post,
+  path-reads.Asked,
+  path-reads.Learnt,
+  record-below t,
+  record.Post,
+  word-reads.Asked,
+  word-reads.Learnt,
+  second-reads.Asked,
+  second-reads.Learnt,
+  end-reads.Asked,
+  end-reads.Learnt,
+  separated-below t,
+  separated.Post,
+  after-below t,
+  after.Post,
+  third-reads.Asked,
+  third-reads.Learnt,
+  assign-word-reads.Asked,
+  assign-word-reads.Learnt,
+  binop-below t,
+  binop.Post,
+  if-else-below t,
+  if-else.Post,
+  cond-below t,
+  cond.Post,
+  each-below t,
+  each.Post,
+  expr-with-precedence-below t,
+  expr-with-precedence.Post,
+  fstr-below t,
+  fstr.Post,
+  par-below t,
+  par.Post,
+)
 
 abbrev pub fstr-calls : ℕ → fstr-lts.Claims
-fstr-calls t = (start-reads.Asked, start-reads.Learnt, gap-reads.Asked, gap-reads.Learnt, word-reads.Asked, word-reads.Learnt, second-reads.Asked, second-reads.Learnt, parts-below t, parts.Post)
+fstr-calls t = (
+  start-reads.Asked,
+  start-reads.Learnt,
+  gap-reads.Asked,
+  gap-reads.Learnt,
+  word-reads.Asked,
+  word-reads.Learnt,
+  second-reads.Asked,
+  second-reads.Learnt,
+  parts-below t,
+  parts.Post,
+)
 
 abbrev pub function-args-calls : ℕ → function-args-lts.Claims
 function-args-calls t = (end-reads.Asked, end-reads.Learnt, separated-below t, separated.Post)
 
 abbrev pub last-calls : ℕ → last-lts.Claims
-last-calls t = (is-absent-reads.Asked, is-absent-reads.Learnt, start-reads.Asked, start-reads.Learnt, before-stmt-reads.Asked, before-stmt-reads.Learnt, expr-below t, expr.Post, pop-trailing-comment-reads.Asked, pop-trailing-comment-reads.Learnt)
+last-calls t = (
+  is-absent-reads.Asked,
+  is-absent-reads.Learnt,
+  start-reads.Asked,
+  start-reads.Learnt,
+  before-stmt-reads.Asked,
+  before-stmt-reads.Learnt,
+  expr-below t,
+  expr.Post,
+  pop-trailing-comment-reads.Asked,
+  pop-trailing-comment-reads.Learnt,
+)
 
 abbrev pub match-expr-calls : ℕ → match-expr-lts.Claims
-match-expr-calls t = (second-reads.Asked, second-reads.Learnt, word-reads.Asked, word-reads.Learnt, expr-below t, expr.Post, end-reads.Asked, end-reads.Learnt, separated-below t, separated.Post)
+match-expr-calls t = (
+  second-reads.Asked,
+  second-reads.Learnt,
+  word-reads.Asked,
+  word-reads.Learnt,
+  expr-below t,
+  expr.Post,
+  end-reads.Asked,
+  end-reads.Learnt,
+  separated-below t,
+  separated.Post,
+)
 
 abbrev pub maybe-calls : ℕ → maybe-lts.Claims
 maybe-calls t = (is-absent-reads.Asked, is-absent-reads.Learnt, after-below t, after.Post)
@@ -489,13 +705,59 @@ abbrev pub ret-calls : ℕ → ret-lts.Claims
 ret-calls t = (payload-reads.Asked, payload-reads.Learnt, word-reads.Asked, word-reads.Learnt, maybe-below t, maybe.Post)
 
 abbrev pub separated-calls : ℕ → separated-lts.Claims
-separated-calls t = (past-reads.Asked, past-reads.Learnt, empty-list-reads.Asked, empty-list-reads.Learnt, begin-list-reads.Asked, begin-list-reads.Learnt, start-reads.Asked, start-reads.Learnt, before-elem-reads.Asked, before-elem-reads.Learnt, elem-below t, elem.Post, finish-list-reads.Asked, finish-list-reads.Learnt)
+separated-calls t = (
+  past-reads.Asked,
+  past-reads.Learnt,
+  empty-list-reads.Asked,
+  empty-list-reads.Learnt,
+  begin-list-reads.Asked,
+  begin-list-reads.Learnt,
+  start-reads.Asked,
+  start-reads.Learnt,
+  before-elem-reads.Asked,
+  before-elem-reads.Learnt,
+  elem-below t,
+  elem.Post,
+  finish-list-reads.Asked,
+  finish-list-reads.Learnt,
+)
 
 abbrev pub stmt-calls : ℕ → stmt-lts.Claims
-stmt-calls t = (kind-reads.Asked, kind-reads.Learnt, bind-below t, bind.Post, word-reads.Asked, word-reads.Learnt, import-path-reads.Asked, import-path-reads.Learnt, open-group-reads.Asked, open-group-reads.Learnt, expr-below t, expr.Post, semicolon-reads.Asked, semicolon-reads.Learnt, close-reads.Asked, close-reads.Learnt)
+stmt-calls t = (
+  kind-reads.Asked,
+  kind-reads.Learnt,
+  bind-below t,
+  bind.Post,
+  word-reads.Asked,
+  word-reads.Learnt,
+  import-path-reads.Asked,
+  import-path-reads.Learnt,
+  open-group-reads.Asked,
+  open-group-reads.Learnt,
+  expr-below t,
+  expr.Post,
+  semicolon-reads.Asked,
+  semicolon-reads.Learnt,
+  close-reads.Asked,
+  close-reads.Learnt,
+)
 
 abbrev pub stmts-calls : ℕ → stmts-lts.Claims
-stmts-calls t = (start-reads.Asked, start-reads.Learnt, before-stmt-reads.Asked, before-stmt-reads.Learnt, stmt-below t, stmt.Post, end-reads.Asked, end-reads.Learnt, after-stmt-reads.Asked, after-stmt-reads.Learnt, past-reads.Asked, past-reads.Learnt)
+stmts-calls t = (
+  start-reads.Asked,
+  start-reads.Learnt,
+  before-stmt-reads.Asked,
+  before-stmt-reads.Learnt,
+  stmt-below t,
+  stmt.Post,
+  end-reads.Asked,
+  end-reads.Learnt,
+  after-stmt-reads.Asked,
+  after-stmt-reads.Learnt,
+  past-reads.Asked,
+  past-reads.Learnt,
+)
 
 abbrev pub tail-calls : ℕ → tail-lts.Claims
-tail-calls t = (second-reads.Asked, second-reads.Learnt, operator-reads.Asked, operator-reads.Learnt, third-reads.Asked, third-reads.Learnt, expr-below t, expr.Post)
+tail-calls t =
+    (second-reads.Asked, second-reads.Learnt, operator-reads.Asked, operator-reads.Learnt, third-reads.Asked, third-reads.Learnt, expr-below t, expr.Post)

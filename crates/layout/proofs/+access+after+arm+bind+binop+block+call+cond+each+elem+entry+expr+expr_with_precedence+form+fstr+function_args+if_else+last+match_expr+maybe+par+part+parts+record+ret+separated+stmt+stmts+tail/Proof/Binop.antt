@@ -1,12 +1,12 @@
 use mathlib.Core.Path.{_≡_, refl, sym, _∙_, ap}
 use Prim.Native.Nat.{ℕ}
 use native.Mathlib.Omega.{arith}
-use Rattle.state.proofs.Laws.{lays, room-first, room-next}
+use Rattle.acts.proofs.Laws.{lays, room-first, room-next}
 use Rattle.layout.proofs.Lays.{lays-as, laid-as, lays-tail}
 use Rattle.ast.specs.Syntax.{binOp}
 use Rattle.ast.specs.Syntax as syntax
 use Rattle.tree.specs.At.{ExprAt}
-use Rattle.state.proofs.Nested.{opens-group, room-group, opens-indent, room-indent}
+use Rattle.acts.proofs.Nested.{opens-group, room-group, opens-indent, room-indent}
 use Rattle.comments.specs.Listed.{given}
 use Rattle.layout.specs.Layout as rules
 use Rattle.layout.specs.Forms.{four, exprWith}
@@ -18,56 +18,122 @@ use Rattle.layout.proofs.+access+after+arm+bind+binop+block+call+cond+e
 
 pub binop-precedence-requires : (t : ℕ) → binop-lts.Need-precedence-requires (binop-calls t) (binop-at t) binop.Post
 unfolding ExprAt
-binop-precedence-requires t c κs = (within (expr-whole _ _ _ (c .before .before .before .pre .1 .tree .1 .0) (c .before .before .before .pre .1 .held .1 .0)), omega (arith, c .before .before .before .pre .1 .held .1 .1 .ends .same, c .before .before .before .pre .1 .held .1 .1 .head .fits))
+binop-precedence-requires t c κs =
+    let start = c .before .before .before in (
+      within (expr-whole _ _ _ (start .pre .1 .tree .1 .0) (start .pre .1 .held .1 .0)),
+      omega (arith, start .pre .1 .held .1 .1 .ends .same, start .pre .1 .held .1 .1 .head .fits),
+    )
 
 pub binop-leftmost-requires : (t : ℕ) → binop-lts.Need-leftmost-requires (binop-calls t) (binop-at t) binop.Post
 unfolding ExprAt
-binop-leftmost-requires t c κs = (record { source = c .before .before .before .before .before .args .s .now; tree = c .before .before .before .before .before .pre .1 .tree; held = c .before .before .before .before .before .pre .1 .held; same = (ap rules.binopPrecedence (sym (c .before .before .before .before .before .pre .1 .held .1 .1 .which .byte)) ∙ sym (c .before .precedence .ensures)) }, refl)
+binop-leftmost-requires t c κs =
+    let start = c .before .before .before .before .before in (
+      record {
+        source = start .args .s .now;
+        tree = start .pre .1 .tree;
+        held = start .pre .1 .held;
+        same = (ap rules.binopPrecedence (sym (start .pre .1 .held .1 .1 .which .byte)) ∙ sym (c .before .precedence .ensures));
+      },
+      refl,
+    )
 
 pub binop-open-group-requires : (t : ℕ) → binop-lts.Need-open-group-requires (binop-calls t) (binop-at t) binop.Post
 unfolding ExprAt
-binop-open-group-requires t c κs = let same : rules.binopPrecedence (c .before .before .before .before .before .before .before .pre .1 .tree .1 .2) ≡ c .before .before .before .precedence .result = ap rules.binopPrecedence (sym (c .before .before .before .before .before .before .before .pre .1 .held .1 .1 .which .byte)) ∙ sym (c .before .before .before .precedence .ensures) in
-    let st = c .before .leftmost .ensures .of (c .before .before .before .before .before .before .before .args .s .now) (c .before .before .before .before .before .before .before .pre .1 .tree) (c .before .before .before .before .before .before .before .pre .1 .held) same in
-    let room = chain-room (st .above) _ (rw (chain-form _ _ (c .before .before .before .before .before .before .before .pre .1 .tree) _ _ _ st same) at (c .before .before .before .before .before .before .before .pre .1 .room)) in
+binop-open-group-requires t c κs =
+    let at-precedence = c .before .before .before in
+    let start = at-precedence .before .before .before .before in
+    let same : rules.binopPrecedence (start .pre .1 .tree .1 .2) ≡ at-precedence .precedence .result =
+    ap rules.binopPrecedence (sym (start .pre .1 .held .1 .1 .which .byte)) ∙ sym (at-precedence .precedence .ensures)
+    in
+    let st = c .before .leftmost .ensures .of (start .args .s .now) (start .pre .1 .tree) (start .pre .1 .held) same in
+    let room = chain-room (st .above) _ (rw (chain-form _ _ (start .pre .1 .tree) _ _ _ st same) at (start .pre .1 .room)) in
     opens-group _ room
 
 pub binop-expr-with-precedence-requires : (t : ℕ) → binop-lts.Need-expr-with-precedence-requires (binop-calls t) (binop-at t) binop.Post
 unfolding ExprAt
-binop-expr-with-precedence-requires t c κs = let same : rules.binopPrecedence (c .before .before .before .before .before .before .before .before .before .before .before .pre .1 .tree .1 .2) ≡ c .before .before .before .before .before .before .before .precedence .result = ap rules.binopPrecedence (sym (c .before .before .before .before .before .before .before .before .before .before .before .pre .1 .held .1 .1 .which .byte)) ∙ sym (c .before .before .before .before .before .before .before .precedence .ensures) in
-    let st = c .before .before .before .before .before .leftmost .ensures .of (c .before .before .before .before .before .before .before .before .before .before .before .args .s .now) (c .before .before .before .before .before .before .before .before .before .before .before .pre .1 .tree) (c .before .before .before .before .before .before .before .before .before .before .before .pre .1 .held) same in
-    let room = chain-room (st .above) _ (rw (chain-form _ _ (c .before .before .before .before .before .before .before .before .before .before .before .pre .1 .tree) _ _ _ st same) at (c .before .before .before .before .before .before .before .before .before .before .before .pre .1 .room)) in
-    (omega (arith, c .before .before .before .before .before .before .before .before .before .before .before .pre .0, above-size (st .above), c .before .before .before .before .before .leftmost .ensures .further), record { accepted = c .before .before .before .before .before .before .before .before .before .before .before .pre .1 .accepted; tree = st .tree; held = st .held; room = room-first _ (room-group _ room (c .before .before .before .open-group .ensures)) })
+binop-expr-with-precedence-requires t c κs =
+    let at-open-group = c .before .before .before in
+    let at-leftmost = at-open-group .before .before in
+    let at-precedence = at-leftmost .before .before in
+    let start = at-precedence .before .before .before .before in
+    let same : rules.binopPrecedence (start .pre .1 .tree .1 .2) ≡ at-precedence .precedence .result =
+    ap rules.binopPrecedence (sym (start .pre .1 .held .1 .1 .which .byte)) ∙ sym (at-precedence .precedence .ensures)
+    in
+    let st = at-leftmost .leftmost .ensures .of (start .args .s .now) (start .pre .1 .tree) (start .pre .1 .held) same in
+    let room = chain-room (st .above) _ (rw (chain-form _ _ (start .pre .1 .tree) _ _ _ st same) at (start .pre .1 .room)) in (
+      omega (arith, start .pre .0, above-size (st .above), at-leftmost .leftmost .ensures .further),
+      record {
+        accepted = start .pre .1 .accepted;
+        tree = st .tree;
+        held = st .held;
+        room = room-first _ (room-group _ room (at-open-group .open-group .ensures));
+      },
+    )
 
 pub binop-line-or-space-requires : (t : ℕ) → binop-lts.Need-line-or-space-requires (binop-calls t) (binop-at t) binop.Post
 unfolding ExprAt
-binop-line-or-space-requires t c κs = let same : rules.binopPrecedence (c .before .before .before .before .before .before .before .before .before .before .before .before .before .before .before .pre .1 .tree .1 .2) ≡ c .before .before .before .before .before .before .before .before .before .before .before .precedence .result = ap rules.binopPrecedence (sym (c .before .before .before .before .before .before .before .before .before .before .before .before .before .before .before .pre .1 .held .1 .1 .which .byte)) ∙ sym (c .before .before .before .before .before .before .before .before .before .before .before .precedence .ensures) in
-    let st = c .before .before .before .before .before .before .before .before .before .leftmost .ensures .of (c .before .before .before .before .before .before .before .before .before .before .before .before .before .before .before .args .s .now) (c .before .before .before .before .before .before .before .before .before .before .before .before .before .before .before .pre .1 .tree) (c .before .before .before .before .before .before .before .before .before .before .before .before .before .before .before .pre .1 .held) same in
-    let room = chain-room (st .above) _ (rw (chain-form _ _ (c .before .before .before .before .before .before .before .before .before .before .before .before .before .before .before .pre .1 .tree) _ _ _ st same) at (c .before .before .before .before .before .before .before .before .before .before .before .before .before .before .before .pre .1 .room)) in
-    room-first _ (room-next (room-group _ room (c .before .before .before .before .before .before .before .open-group .ensures)) (lays-as (c .before .before .before .before .before .before .before .before .before .before .before .before .before .before .before .pre .1 .accepted) (c .before .before .before .expr-with-precedence .ensures) .of (st .tree) (st .held)))
+binop-line-or-space-requires t c κs =
+    let at-expr-with-precedence = c .before .before .before in
+    let at-open-group = at-expr-with-precedence .before .before .before .before in
+    let at-leftmost = at-open-group .before .before in
+    let at-precedence = at-leftmost .before .before in
+    let start = at-precedence .before .before .before .before in
+    let same : rules.binopPrecedence (start .pre .1 .tree .1 .2) ≡ at-precedence .precedence .result =
+    ap rules.binopPrecedence (sym (start .pre .1 .held .1 .1 .which .byte)) ∙ sym (at-precedence .precedence .ensures)
+    in
+    let st = at-leftmost .leftmost .ensures .of (start .args .s .now) (start .pre .1 .tree) (start .pre .1 .held) same in
+    let room = chain-room (st .above) _ (rw (chain-form _ _ (start .pre .1 .tree) _ _ _ st same) at (start .pre .1 .room)) in
+    room-first _ (room-next (room-group _ room (at-open-group .open-group .ensures))
+    (lays-as (start .pre .1 .accepted) (at-expr-with-precedence .expr-with-precedence .ensures) .of (st .tree) (st .held)))
 
 pub binop-open-indent-requires : (t : ℕ) → binop-lts.Need-open-indent-requires (binop-calls t) (binop-at t) binop.Post
 unfolding ExprAt
-binop-open-indent-requires t c κs = let same : rules.binopPrecedence (c .before .before .before .before .before .before .before .before .before .before .before .before .before .before .before .before .before .before .before .pre .1 .tree .1 .2) ≡ c .before .before .before .before .before .before .before .before .before .before .before .before .before .before .before .precedence .result = ap rules.binopPrecedence (sym (c .before .before .before .before .before .before .before .before .before .before .before .before .before .before .before .before .before .before .before .pre .1 .held .1 .1 .which .byte)) ∙ sym (c .before .before .before .before .before .before .before .before .before .before .before .before .before .before .before .precedence .ensures) in
-    let st = c .before .before .before .before .before .before .before .before .before .before .before .before .before .leftmost .ensures .of (c .before .before .before .before .before .before .before .before .before .before .before .before .before .before .before .before .before .before .before .args .s .now) (c .before .before .before .before .before .before .before .before .before .before .before .before .before .before .before .before .before .before .before .pre .1 .tree) (c .before .before .before .before .before .before .before .before .before .before .before .before .before .before .before .before .before .before .before .pre .1 .held) same in
-    let room = chain-room (st .above) _ (rw (chain-form _ _ (c .before .before .before .before .before .before .before .before .before .before .before .before .before .before .before .before .before .before .before .pre .1 .tree) _ _ _ st same) at (c .before .before .before .before .before .before .before .before .before .before .before .before .before .before .before .before .before .before .before .pre .1 .room)) in
-    opens-indent _ (room-next (room-next (room-group _ room (c .before .before .before .before .before .before .before .before .before .before .before .open-group .ensures)) (lays-as (c .before .before .before .before .before .before .before .before .before .before .before .before .before .before .before .before .before .before .before .pre .1 .accepted) (c .before .before .before .before .before .before .before .expr-with-precedence .ensures) .of (st .tree) (st .held))) (lays (c .before .before .before .line-or-space .ensures)))
+binop-open-indent-requires t c κs =
+    let at-line-or-space = c .before .before .before in
+    let at-expr-with-precedence = at-line-or-space .before .before .before .before in
+    let at-open-group = at-expr-with-precedence .before .before .before .before in
+    let at-leftmost = at-open-group .before .before in
+    let at-precedence = at-leftmost .before .before in
+    let start = at-precedence .before .before .before .before in
+    let same : rules.binopPrecedence (start .pre .1 .tree .1 .2) ≡ at-precedence .precedence .result =
+    ap rules.binopPrecedence (sym (start .pre .1 .held .1 .1 .which .byte)) ∙ sym (at-precedence .precedence .ensures)
+    in
+    let st = at-leftmost .leftmost .ensures .of (start .args .s .now) (start .pre .1 .tree) (start .pre .1 .held) same in
+    let room = chain-room (st .above) _ (rw (chain-form _ _ (start .pre .1 .tree) _ _ _ st same) at (start .pre .1 .room)) in
+    opens-indent _ (room-next (room-next (room-group _ room (at-open-group .open-group .ensures))
+    (lays-as (start .pre .1 .accepted) (at-expr-with-precedence .expr-with-precedence .ensures) .of (st .tree) (st .held)))
+    (lays (at-line-or-space .line-or-space .ensures)))
 
 pub binop-tail-requires : (t : ℕ) → binop-lts.Need-tail-requires (binop-calls t) (binop-at t) binop.Post
 unfolding ExprAt
-binop-tail-requires t c κs = let same : rules.binopPrecedence (c .before .before .before .before .before .before .before .before .before .before .before .before .before .before .before .before .before .before .before .before .before .before .before .before .pre .1 .tree .1 .2) ≡ c .before .before .before .before .before .before .before .before .before .before .before .before .before .before .before .before .before .before .before .before .precedence .result = ap rules.binopPrecedence (sym (c .before .before .before .before .before .before .before .before .before .before .before .before .before .before .before .before .before .before .before .before .before .before .before .before .pre .1 .held .1 .1 .which .byte)) ∙ sym (c .before .before .before .before .before .before .before .before .before .before .before .before .before .before .before .before .before .before .before .before .precedence .ensures) in
-    let st = c .before .before .before .before .before .before .before .before .before .before .before .before .before .before .before .before .before .before .leftmost .ensures .of (c .before .before .before .before .before .before .before .before .before .before .before .before .before .before .before .before .before .before .before .before .before .before .before .before .args .s .now) (c .before .before .before .before .before .before .before .before .before .before .before .before .before .before .before .before .before .before .before .before .before .before .before .before .pre .1 .tree) (c .before .before .before .before .before .before .before .before .before .before .before .before .before .before .before .before .before .before .before .before .before .before .before .before .pre .1 .held) same in
-    let room = chain-room (st .above) _ (rw (chain-form _ _ (c .before .before .before .before .before .before .before .before .before .before .before .before .before .before .before .before .before .before .before .before .before .before .before .before .pre .1 .tree) _ _ _ st same) at (c .before .before .before .before .before .before .before .before .before .before .before .before .before .before .before .before .before .before .before .before .before .before .before .before .pre .1 .room)) in (
-      omega (arith, c .before .before .before .before .before .before .before .before .before .before .before .before .before .before .before .before .before .before .before .before .before .before .before .before .pre .0),
+binop-tail-requires t c κs =
+    let at-open-indent = c .before .before .before .before in
+    let at-line-or-space = at-open-indent .before .before .before .before in
+    let at-expr-with-precedence = at-line-or-space .before .before .before .before in
+    let at-open-group = at-expr-with-precedence .before .before .before .before in
+    let at-leftmost = at-open-group .before .before in
+    let at-precedence = at-leftmost .before .before in
+    let start = at-precedence .before .before .before .before in
+    let same : rules.binopPrecedence (start .pre .1 .tree .1 .2) ≡ at-precedence .precedence .result =
+    ap rules.binopPrecedence (sym (start .pre .1 .held .1 .1 .which .byte)) ∙ sym (at-precedence .precedence .ensures)
+    in
+    let st = at-leftmost .leftmost .ensures .of (start .args .s .now) (start .pre .1 .tree) (start .pre .1 .held) same in
+    let room = chain-room (st .above) _ (rw (chain-form _ _ (start .pre .1 .tree) _ _ _ st same) at (start .pre .1 .room)) in (
+      omega (arith, start .pre .0),
       record {
-        accepted = c .before .before .before .before .before .before .before .before .before .before .before .before .before .before .before .before .before .before .before .before .before .before .before .before .pre .1 .accepted;
-        tree = syntax.expr (c .before .before .before .before .before .before .before .before .before .before .before .before .before .before .before .before .before .before .before .before .before .before .before .before .pre .1 .tree .0) (four binOp (c .before .before .before .before .before .before .before .before .before .before .before .before .before .before .before .before .before .before .before .before .before .before .before .before .pre .1 .tree .1));
-        held = c .before .before .before .before .before .before .before .before .before .before .before .before .before .before .before .before .before .before .before .before .before .before .before .before .pre .1 .held;
-        precedence = c .before .before .before .before .before .before .before .before .before .before .before .before .before .before .before .before .before .before .before .before .precedence .result;
+        accepted = start .pre .1 .accepted;
+        tree = syntax.expr (start .pre .1 .tree .0) (four binOp (start .pre .1 .tree .1));
+        held = start .pre .1 .held;
+        precedence = at-precedence .precedence .result;
         low = st .tree;
         above = st .above;
-        filled = c .before .before .before .before .before .before .before .before .before .before .before .before .before .before .before .before .before .before .leftmost .ensures .filled;
-        head = exprWith (c .before .before .before .before .before .before .before .before .before .before .before .before .before .before .before .before .before .before .before .before .precedence .result) (given (c .before .before .before .before .before .before .before .before .before .before .before .before .before .before .before .before .before .before .before .before .before .before .before .before .args .s .now) (c .before .before .before .before .before .before .before .before .before .before .before .before .before .before .before .before .before .before .before .before .before .before .before .before .args .b .now)) (st .tree);
-        room = room-indent (room-next (room-next (room-group _ room (c .before .before .before .before .before .before .before .before .before .before .before .before .before .before .before .before .open-group .ensures)) (lays-as (c .before .before .before .before .before .before .before .before .before .before .before .before .before .before .before .before .before .before .before .before .before .before .before .before .pre .1 .accepted) (c .before .before .before .before .before .before .before .before .before .before .before .before .expr-with-precedence .ensures) .of (st .tree) (st .held))) (lays (c .before .before .before .before .before .before .before .before .line-or-space .ensures))) (c .before .before .before .before .open-indent .ensures);
+        filled = at-leftmost .leftmost .ensures .filled;
+        head = exprWith (at-precedence .precedence .result) (given (start .args .s .now) (start .args .b .now)) (st .tree);
+        room =
+            room-indent (room-next (room-next (room-group _ room (at-open-group .open-group .ensures))
+            (lays-as (start .pre .1 .accepted) (at-expr-with-precedence .expr-with-precedence .ensures) .of (st .tree) (st .held)))
+            (lays (at-line-or-space .line-or-space .ensures)))
+            (at-open-indent .open-indent .ensures);
       },
     )
 
@@ -78,19 +144,40 @@ pub binop-close-requires-2 : (t : ℕ) → binop-lts.Need-close-requires-2 (bino
 binop-close-requires-2 t c κs = tt
 
 pub binop-same-length : (t : ℕ) → binop-lts.Need-same-length (binop-calls t) (binop-at t) binop.Post
-binop-same-length t c = c .before .before .close2 .kept .0 ∙ c .before .before .before .before .before .before .close .kept .0 ∙ c .before .before .before .before .before .before .before .before .before .before .tail .kept .0 ∙ c .before .before .before .before .before .before .before .before .before .before .before .before .before .before .before .open-indent .kept .0 ∙ c .before .before .before .before .before .before .before .before .before .before .before .before .before .before .before .before .before .before .before .line-or-space .kept .0 ∙ c .before .before .before .before .before .before .before .before .before .before .before .before .before .before .before .before .before .before .before .before .before .before .before .expr-with-precedence .kept .0 ∙ c .before .before .before .before .before .before .before .before .before .before .before .before .before .before .before .before .before .before .before .before .before .before .before .before .before .before .before .open-group .kept .0
+binop-same-length t c =
+    let at-close = c .before .before .before .before .before .before in
+    let at-tail = at-close .before .before .before .before in
+    let at-open-indent = at-tail .before .before .before .before .before in
+    let at-line-or-space = at-open-indent .before .before .before .before in
+    let at-expr-with-precedence = at-line-or-space .before .before .before .before in
+    let at-open-group = at-expr-with-precedence .before .before .before .before in
+    c .before .before .close2 .kept .0 ∙ at-close .close .kept .0 ∙ at-tail .tail .kept .0 ∙ at-open-indent .open-indent .kept .0
+    ∙ at-line-or-space .line-or-space .kept .0 ∙ at-expr-with-precedence .expr-with-precedence .kept .0 ∙ at-open-group .open-group .kept .0
 
 pub binop-returns : (t : ℕ) → binop-lts.Need-returns (binop-calls t) (binop-at t) binop.Post
 unfolding ExprAt
-binop-returns t c = laid-as
+binop-returns t c =
+    let at-close = c .before .before .before .before .before .before in
+    let at-tail = at-close .before .before .before .before in
+    let at-open-indent = at-tail .before .before .before .before .before in
+    let at-line-or-space = at-open-indent .before .before .before .before in
+    let at-expr-with-precedence = at-line-or-space .before .before .before .before in
+    let at-open-group = at-expr-with-precedence .before .before .before .before in
+    let at-leftmost = at-open-group .before .before in
+    let at-precedence = at-leftmost .before .before in
+    let start = at-precedence .before .before .before .before in
+    laid-as
     (record {
       of =
           λ x a.
-          let same : rules.binopPrecedence (x .1 .2) ≡ c .before .before .before .before .before .before .before .before .before .before .before .before .before .before .before .before .before .before .before .before .before .before .before .before .before .before .before .before .before .before .before .precedence .result =
-          ap rules.binopPrecedence (sym (a .1 .1 .which .byte)) ∙ sym (c .before .before .before .before .before .before .before .before .before .before .before .before .before .before .before .before .before .before .before .before .before .before .before .before .before .before .before .before .before .before .before .precedence .ensures) in
-          let st = c .before .before .before .before .before .before .before .before .before .before .before .before .before .before .before .before .before .before .before .before .before .before .before .before .before .before .before .before .before .leftmost .ensures .of (c .before .before .before .before .before .before .before .before .before .before .before .before .before .before .before .before .before .before .before .before .before .before .before .before .before .before .before .before .before .before .before .before .before .before .before .args .s .now) x a same in
+          let same : rules.binopPrecedence (x .1 .2) ≡ at-precedence .precedence .result =
+          ap rules.binopPrecedence (sym (a .1 .1 .which .byte)) ∙ sym (at-precedence .precedence .ensures) in
+          let st = at-leftmost .leftmost .ensures .of (start .args .s .now) x a same in
           rw (chain-form _ _ x _ _ _ st same)
-          (chain-laid (st .above) _ (c .before .before .before .before .before .before .before .before .before .before .before .before .before .before .before .before .before .before .before .before .before .before .before .before .before .before .before .open-group .ensures) (lays-as (c .before .before .before .before .before .before .before .before .before .before .before .before .before .before .before .before .before .before .before .before .before .before .before .before .before .before .before .before .before .before .before .before .before .before .before .pre .1 .accepted) (c .before .before .before .before .before .before .before .before .before .before .before .before .before .before .before .before .before .before .before .before .before .before .before .expr-with-precedence .ensures) .of (st .tree) (st .held)) (lays (c .before .before .before .before .before .before .before .before .before .before .before .before .before .before .before .before .before .before .before .line-or-space .ensures)) (c .before .before .before .before .before .before .before .before .before .before .before .before .before .before .before .open-indent .ensures)
-          (lays-tail (c .before .before .before .before .before .before .before .before .before .before .before .before .before .before .before .before .before .before .before .before .before .before .before .before .before .before .before .before .before .before .before .before .before .before .before .pre .1 .accepted) (c .before .before .before .before .before .before .before .before .before .before .before .before .before .before .before .before .before .before .before .before .before .before .before .before .before .before .before .before .before .leftmost .ensures .filled) (c .before .before .before .before .before .before .before .before .before .before .tail .ensures) .of _ (syntax.expr (x .0) (four binOp (x .1))) a (st .tree) (st .above) _)
-          (c .before .before .before .before .before .before .close .ensures) (c .before .before .close2 .ensures));
+          (chain-laid (st .above) _ (at-open-group .open-group .ensures)
+          (lays-as (start .pre .1 .accepted) (at-expr-with-precedence .expr-with-precedence .ensures) .of (st .tree) (st .held))
+          (lays (at-line-or-space .line-or-space .ensures)) (at-open-indent .open-indent .ensures)
+          (lays-tail (start .pre .1 .accepted) (at-leftmost .leftmost .ensures .filled) (at-tail .tail .ensures) .of _
+          (syntax.expr (x .0) (four binOp (x .1))) a (st .tree) (st .above) _)
+          (at-close .close .ensures) (c .before .before .close2 .ensures));
     })

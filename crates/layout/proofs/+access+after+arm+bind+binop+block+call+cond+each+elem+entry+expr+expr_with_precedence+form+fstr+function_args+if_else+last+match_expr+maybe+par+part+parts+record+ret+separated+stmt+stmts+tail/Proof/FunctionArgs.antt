@@ -14,10 +14,28 @@ pub function-args-end-requires : (t : ℕ) → function-args-lts.Need-end-requir
 function-args-end-requires t c κs = head-whole (c .before .before .before .before .pre .1 .held .0)
 
 pub function-args-separated-requires : (t : ℕ) → function-args-lts.Need-separated-requires (function-args-calls t) (function-args-at t) function-args.Post
-function-args-separated-requires t c κs = (omega (arith, c .before .before .before .before .before .pre .0), record { accepted = c .before .before .before .before .before .pre .1 .accepted; tree = rules.exprElems _ (c .before .before .before .before .before .pre .1 .tree .1); held = list-of (c .before .before .before .before .before .pre .1 .held .0) (expr-elems _ _ _ _ (c .before .before .before .before .before .pre .1 .tree .1) (c .before .before .before .before .before .pre .1 .held .1)); span = c .before .before .before .before .before .pre .1 .tree .0; ended = c .end .ensures ∙ c .before .before .before .before .before .pre .1 .held .0 .end; room = c .before .before .before .before .before .pre .1 .room })
+function-args-separated-requires t c κs =
+    let start = c .before .before .before .before .before in (
+      omega (arith, start .pre .0),
+      record {
+        accepted = start .pre .1 .accepted;
+        tree = rules.exprElems _ (start .pre .1 .tree .1);
+        held = list-of (start .pre .1 .held .0) (expr-elems _ _ _ _ (start .pre .1 .tree .1) (start .pre .1 .held .1));
+        span = start .pre .1 .tree .0;
+        ended = c .end .ensures ∙ start .pre .1 .held .0 .end;
+        room = start .pre .1 .room;
+      },
+    )
 
 pub function-args-same-length : (t : ℕ) → function-args-lts.Need-same-length (function-args-calls t) (function-args-at t) function-args.Post
 function-args-same-length t c = c .before .before .separated .kept .0
 
 pub function-args-returns : (t : ℕ) → function-args-lts.Need-returns (function-args-calls t) (function-args-at t) function-args.Post
-function-args-returns t c = laid-as (record { of = λ x a. lays-list (c .before .before .before .before .before .before .before .before .pre .1 .accepted) (c .before .before .separated .ensures) .of (rules.exprElems _ (x .1)) (list-of (a .0) (expr-elems _ _ _ _ (x .1) (a .1))) (x .0) (c .before .before .before .end .ensures ∙ a .0 .end) })
+function-args-returns t c =
+    let at-end = c .before .before .before in
+    let start = at-end .before .before .before .before .before in
+    laid-as (record {
+      of =
+          λ x a. lays-list (start .pre .1 .accepted) (c .before .before .separated .ensures) .of (rules.exprElems _ (x .1))
+          (list-of (a .0) (expr-elems _ _ _ _ (x .1) (a .1))) (x .0) (at-end .end .ensures ∙ a .0 .end);
+    })

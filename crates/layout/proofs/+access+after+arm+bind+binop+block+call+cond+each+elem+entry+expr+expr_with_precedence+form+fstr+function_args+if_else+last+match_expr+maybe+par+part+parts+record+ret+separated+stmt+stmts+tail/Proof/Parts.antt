@@ -3,7 +3,7 @@ use mathlib.Core.List.{List}
 use Prim.Native.Nat.{ℕ, _≤_, _-_}
 use native.Mathlib.Omega.{arith}
 use lib.ListN.{length}
-use Rattle.state.specs.declared.Cursor.{Cursor}
+use Rattle.acts.specs.declared.Cursor.{Cursor}
 use Rattle.layout.specs.Contracts.{HasAll}
 use Rattle.layout.proofs.Lays.{LaysAll, lays-as, laid-all}
 use Rattle.tree.specs.At.{PartsAt}
@@ -26,16 +26,38 @@ pub parts-loop-holds : (t : ℕ) → parts-lts.Need-loop-holds (parts-calls t) (
 parts-loop-holds t c = (refl, omega arith, c .before .before .before .pre .1, λ x e l. l)
 
 pub parts-part-requires : (t : ℕ) → parts-lts.Need-part-requires (parts-calls t) (parts-at t) parts.Post parts-Inv-loop parts-μ-loop
-parts-part-requires t c κs = let m = parts-first (c .before .loop-test .taken) (c .before .before .loop .inv .2) in (omega (arith, c .before .before .before .before .before .before .pre .0, m .least, c .before .before .loop .inv .1), part-has m)
+parts-part-requires t c κs =
+    let start = c .before .before .before .before .before .before in
+    let m = parts-first (c .before .loop-test .taken) (c .before .before .loop .inv .2) in
+    (omega (arith, start .pre .0, m .least, c .before .before .loop .inv .1), part-has m)
 
 pub parts-past-requires : (t : ℕ) → parts-lts.Need-past-requires (parts-calls t) (parts-at t) parts.Post parts-Inv-loop parts-μ-loop
-parts-past-requires t c κs = let m = parts-first (c .before .before .before .before .loop-test .taken) (c .before .before .before .before .before .loop .inv .2) in record { fits = m .whole .fits }
+parts-past-requires t c κs =
+    let at-loop-test = c .before .before .before .before in
+    let at-loop = at-loop-test .before in
+    let m = parts-first (at-loop-test .loop-test .taken) (at-loop .loop .inv .2) in
+    record { fits = m .whole .fits }
 
 pub parts-loop-less : (t : ℕ) → parts-lts.Need-loop-less (parts-calls t) (parts-at t) parts.Post parts-Inv-loop parts-μ-loop
-parts-loop-less t c = let m = parts-first (c .before .before .before .before .before .loop-test .taken) (c .before .before .before .before .before .before .loop .inv .2) in omega (arith, m .least, m .whole .long, c .past .ensures, c .before .before .before .before .before .loop-test .taken)
+parts-loop-less t c =
+    let at-loop-test = c .before .before .before .before .before in
+    let at-loop = at-loop-test .before in
+    let m = parts-first (at-loop-test .loop-test .taken) (at-loop .loop .inv .2) in
+    omega (arith, m .least, m .whole .long, c .past .ensures, at-loop-test .loop-test .taken)
 
 pub parts-loop-again : (t : ℕ) → parts-lts.Need-loop-again (parts-calls t) (parts-at t) parts.Post parts-Inv-loop parts-μ-loop
-parts-loop-again t c = let m = parts-first (c .before .before .before .before .before .loop-test .taken) (c .before .before .before .before .before .before .loop .inv .2) in (c .before .before .before .part .kept .0 ∙ c .before .before .before .before .before .before .loop .inv .0, omega (arith, c .past .ensures, c .before .before .before .before .before .before .loop .inv .1), rw (c .past .ensures) (parts-rest m (lays-as (c .before .before .before .before .before .before .before .before .before .before .pre .1 .accepted) (c .before .before .before .part .ensures))), λ x e l. c .before .before .before .before .before .before .loop .inv .3 x e (parts-more (c .before .before .before .before .before .loop-test .taken) (lays-as (c .before .before .before .before .before .before .before .before .before .before .pre .1 .accepted) (c .before .before .before .part .ensures)) (rw (c .past .ensures) at l)))
+parts-loop-again t c =
+    let at-part = c .before .before .before in
+    let at-loop-test = at-part .before .before in
+    let at-loop = at-loop-test .before in
+    let start = at-loop .before .before .before .before in
+    let m = parts-first (at-loop-test .loop-test .taken) (at-loop .loop .inv .2) in (
+      at-part .part .kept .0 ∙ at-loop .loop .inv .0,
+      omega (arith, c .past .ensures, at-loop .loop .inv .1),
+      rw (c .past .ensures) (parts-rest m (lays-as (start .pre .1 .accepted) (at-part .part .ensures))),
+      λ x e l. at-loop .loop .inv .3 x e
+          (parts-more (at-loop-test .loop-test .taken) (lays-as (start .pre .1 .accepted) (at-part .part .ensures)) (rw (c .past .ensures) at l)),
+    )
 
 pub parts-same-length : (t : ℕ) → parts-lts.Need-same-length (parts-calls t) (parts-at t) parts.Post parts-Inv-loop parts-μ-loop
 parts-same-length t c = c .before .loop .inv .0

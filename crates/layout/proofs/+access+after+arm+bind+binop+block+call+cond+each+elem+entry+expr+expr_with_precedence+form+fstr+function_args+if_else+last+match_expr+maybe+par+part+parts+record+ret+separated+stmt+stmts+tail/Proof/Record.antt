@@ -14,10 +14,28 @@ pub record-end-requires : (t : ℕ) → record-lts.Need-end-requires (record-cal
 record-end-requires t c κs = head-whole (c .before .before .before .before .pre .1 .held .0)
 
 pub record-separated-requires : (t : ℕ) → record-lts.Need-separated-requires (record-calls t) (record-at t) record.Post
-record-separated-requires t c κs = (omega (arith, c .before .before .before .before .before .pre .0), record { accepted = c .before .before .before .before .before .pre .1 .accepted; tree = rules.entryElems _ (c .before .before .before .before .before .pre .1 .tree .1); held = list-of (c .before .before .before .before .before .pre .1 .held .0) (entry-elems _ _ _ _ (c .before .before .before .before .before .pre .1 .tree .1) (c .before .before .before .before .before .pre .1 .held .1)); span = c .before .before .before .before .before .pre .1 .tree .0; ended = c .end .ensures ∙ c .before .before .before .before .before .pre .1 .held .0 .end; room = c .before .before .before .before .before .pre .1 .room })
+record-separated-requires t c κs =
+    let start = c .before .before .before .before .before in (
+      omega (arith, start .pre .0),
+      record {
+        accepted = start .pre .1 .accepted;
+        tree = rules.entryElems _ (start .pre .1 .tree .1);
+        held = list-of (start .pre .1 .held .0) (entry-elems _ _ _ _ (start .pre .1 .tree .1) (start .pre .1 .held .1));
+        span = start .pre .1 .tree .0;
+        ended = c .end .ensures ∙ start .pre .1 .held .0 .end;
+        room = start .pre .1 .room;
+      },
+    )
 
 pub record-same-length : (t : ℕ) → record-lts.Need-same-length (record-calls t) (record-at t) record.Post
 record-same-length t c = c .before .before .separated .kept .0
 
 pub record-returns : (t : ℕ) → record-lts.Need-returns (record-calls t) (record-at t) record.Post
-record-returns t c = laid-as (record { of = λ x a. lays-list (c .before .before .before .before .before .before .before .before .pre .1 .accepted) (c .before .before .separated .ensures) .of (rules.entryElems _ (x .1)) (list-of (a .0) (entry-elems _ _ _ _ (x .1) (a .1))) (x .0) (c .before .before .before .end .ensures ∙ a .0 .end) })
+record-returns t c =
+    let at-end = c .before .before .before in
+    let start = at-end .before .before .before .before .before in
+    laid-as (record {
+      of =
+          λ x a. lays-list (start .pre .1 .accepted) (c .before .before .separated .ensures) .of (rules.entryElems _ (x .1))
+          (list-of (a .0) (entry-elems _ _ _ _ (x .1) (a .1))) (x .0) (at-end .end .ensures ∙ a .0 .end);
+    })

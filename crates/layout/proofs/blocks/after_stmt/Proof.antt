@@ -1,5 +1,5 @@
 use borrow.Author.Needs.{needs}
-use Rattle.state.proofs.Laws.{room-first, room-past, laid-then}
+use Rattle.acts.proofs.Laws.{room-first, room-past, laid-then}
 use Rattle.layout.specs.Layout.{afterStmt}
 use Rattle.layout.proofs.blocks.after_stmt.Statement.{statement}
 use Rattle.layout.proofs.blocks.after_stmt.Tie as tie
@@ -10,7 +10,10 @@ gap-requires c κs = (c .before .before .before .before .pre .0, room-first _ (c
 
 pop-trailing-comment-requires : tie.Need-pop-trailing-comment-requires
 unfolding afterStmt
-pop-trailing-comment-requires c κs = (c .before .before .before .before .before .before .before .before .pre .0 .listed, room-past (c .before .before .before .before .before .before .before .before .pre .1) (c .before .before .before .gap .ensures))
+pop-trailing-comment-requires c κs =
+    let at-gap = c .before .before .before in
+    let start = at-gap .before .before .before .before .before in
+    (start .pre .0 .listed, room-past (start .pre .1) (at-gap .gap .ensures))
 
 returns : tie.Need-returns
 unfolding afterStmt

@@ -12,7 +12,9 @@ add-result c = let h : c .payload .result < 5 = rw (c .payload .ensures, c .befo
     omega arith
 
 returns : tie.Need-returns
-returns c = let h : c .payload .result < 5 = rw (c .payload .ensures, c .before .second .ensures) (c .before .before .before .pre .1 .1) in
+returns c =
+    let start = c .before .before .before in
+    let h : c .payload .result < 5 = rw (c .payload .ensures, c .before .second .ensures) (start .pre .1 .1) in
     assign-word _ h ∙ rw (c .payload .ensures, c .before .second .ensures)
 
 pub assign-word-spec : {M : Type 1} → statement M

@@ -1,6 +1,6 @@
 use borrow.Author.Needs.{needs}
 use mathlib.Core.Path.{sym, _∙_}
-use Rattle.state.proofs.Laws.{laid-skip}
+use Rattle.acts.proofs.Laws.{laid-skip}
 use Rattle.layout.proofs.chains.between.Statement.{statement}
 use Rattle.layout.proofs.chains.between.Tie as tie
 
@@ -12,13 +12,18 @@ returns-2 c = rw (c .before .before .if1 .left, sym (c .before .is-whitespace .e
 
 line-or-space-requires : tie.Need-line-or-space-requires
 line-or-space-requires c κs =
-    rw (c .before .before .before .if1 .left, sym (c .before .before .is-whitespace .ensures) ∙ c .before .if2 .left) at
-    (c .before .before .before .before .before .pre)
+    let at-if1 = c .before .before .before in
+    let start = at-if1 .before .before in
+    rw (at-if1 .if1 .left, sym (c .before .before .is-whitespace .ensures) ∙ c .before .if2 .left) at
+    (start .pre)
 
 returns-3 : tie.Need-returns-3
 returns-3 c =
-    let no = sym (c .before .before .before .before .before .is-whitespace .ensures) ∙ c .before .before .before .before .if2 .left in
-    rw (c .before .before .before .before .before .before .if1 .left, no) (c .before .before .line-or-space .ensures)
+    let at-if2 = c .before .before .before .before in
+    let at-is-whitespace = at-if2 .before in
+    let at-if1 = at-is-whitespace .before in
+    let no = sym (at-is-whitespace .is-whitespace .ensures) ∙ at-if2 .if2 .left in
+    rw (at-if1 .if1 .left, no) (c .before .before .line-or-space .ensures)
 
 pub between-spec : {M : Type 1} → statement M
 between-spec = tie.close (tie.spec returns (λ c κs. search needs) returns-2 line-or-space-requires (λ c. search needs) returns-3)

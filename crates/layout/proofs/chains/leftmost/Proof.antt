@@ -44,10 +44,16 @@ loop-holds c = let h : length (c .before .args .ops .now) ≡ 64 = c .before .pr
     )
 
 kind-requires : tie.Need-kind-requires Inv-loop μ-loop
-kind-requires c κs = let z = c .loop .inv .5 (c .before .before .pre .0 .source) (c .before .before .pre .0 .tree) (c .before .before .pre .0 .held) (c .before .before .pre .0 .same) in expr-whole _ _ _ (z .0) (z .2)
+kind-requires c κs =
+    let z =
+    c .loop .inv .5 (c .before .before .pre .0 .source) (c .before .before .pre .0 .tree) (c .before .before .pre .0 .held) (c .before .before .pre .0 .same)
+    in
+    expr-whole _ _ _ (z .0) (z .2)
 
 precedence-requires : tie.Need-precedence-requires Inv-loop μ-loop
-precedence-requires c κs = let z = c .before .before .loop .inv .5 (c .before .before .before .before .pre .0 .source) (c .before .before .before .before .pre .0 .tree) (c .before .before .before .before .pre .0 .held) (c .before .before .before .before .pre .0 .same) in
+precedence-requires c κs =
+    let start = c .before .before .before .before in
+    let z = c .before .before .loop .inv .5 (start .pre .0 .source) (start .pre .0 .tree) (start .pre .0 .held) (start .pre .0 .same) in
     let w = symbol-of _ _ _ (sym (c .before .kind .ensures) ∙ c .if1 .left) (z .0) (z .2) in
     (w .operand, w .byte)
 
@@ -55,33 +61,64 @@ mul-ops : tie.Need-mul-ops Inv-loop μ-loop
 mul-ops c = omega (arith, c .before .before .before .before .loop .inv .3)
 
 element-write-ops-2 : tie.Need-element-write-ops-2 Inv-loop μ-loop
-element-write-ops-2 c = let z = c .before .before .before .before .loop .inv .5 (c .before .before .before .before .before .before .pre .0 .source) (c .before .before .before .before .before .before .pre .0 .tree) (c .before .before .before .before .before .before .pre .0 .held) (c .before .before .before .before .before .before .pre .0 .same) in let f = room-left _ _ (c .before .before .before .before .before .before .pre .0 .tree) _ _ _ _ (z .0) (c .before .before .before .before .before .before .pre .0 .held) (z .1) (z .2) (sym (c .before .before .before .kind .ensures) ∙ c .before .before .if1 .left) (c .before .before .before .before .loop .inv .1) in omega (arith, f, c .before .before .before .before .loop .inv .0)
+element-write-ops-2 c =
+    let at-kind = c .before .before .before in
+    let at-loop = at-kind .before in
+    let start = at-loop .before .before in
+    let z = at-loop .loop .inv .5 (start .pre .0 .source) (start .pre .0 .tree) (start .pre .0 .held) (start .pre .0 .same) in
+    let f =
+    room-left _ _ (start .pre .0 .tree) _ _ _ _ (z .0) (start .pre .0 .held) (z .1) (z .2)
+    (sym (at-kind .kind .ensures) ∙ c .before .before .if1 .left) (at-loop .loop .inv .1)
+    in
+    omega (arith, f, at-loop .loop .inv .0)
 
 add-n : tie.Need-add-n Inv-loop μ-loop
 add-n c = omega (arith, c .before .before .before .before .loop .inv .3)
 
 add-p-2 : tie.Need-add-p-2 Inv-loop μ-loop
-add-p-2 c = let z = c .before .before .before .before .loop .inv .5 (c .before .before .before .before .before .before .pre .0 .source) (c .before .before .before .before .before .before .pre .0 .tree) (c .before .before .before .before .before .before .pre .0 .held) (c .before .before .before .before .before .before .pre .0 .same) in let w = expr-whole _ _ _ (z .0) (z .2) in omega (arith, w .long, w .fits)
+add-p-2 c =
+    let at-loop = c .before .before .before .before in
+    let start = at-loop .before .before in
+    let z = at-loop .loop .inv .5 (start .pre .0 .source) (start .pre .0 .tree) (start .pre .0 .held) (start .pre .0 .same) in
+    let w = expr-whole _ _ _ (z .0) (z .2) in
+    omega (arith, w .long, w .fits)
 
 loop-less : tie.Need-loop-less Inv-loop μ-loop
-loop-less c = let z = c .before .before .before .before .loop .inv .5 (c .before .before .before .before .before .before .pre .0 .source) (c .before .before .before .before .before .before .pre .0 .tree) (c .before .before .before .before .before .before .pre .0 .held) (c .before .before .before .before .before .before .pre .0 .same) in let w = expr-whole _ _ _ (z .0) (z .2) in omega (arith, w .long, w .fits)
+loop-less c =
+    let at-loop = c .before .before .before .before in
+    let start = at-loop .before .before in
+    let z = at-loop .loop .inv .5 (start .pre .0 .source) (start .pre .0 .tree) (start .pre .0 .held) (start .pre .0 .same) in
+    let w = expr-whole _ _ _ (z .0) (z .2) in
+    omega (arith, w .long, w .fits)
 
 loop-again : tie.Need-loop-again Inv-loop μ-loop
-loop-again c = let z = c .before .before .before .before .loop .inv .5 (c .before .before .before .before .before .before .pre .0 .source) (c .before .before .before .before .before .before .pre .0 .tree) (c .before .before .before .before .before .before .pre .0 .held) (c .before .before .before .before .before .before .pre .0 .same) in
-    let f = room-left _ _ (c .before .before .before .before .before .before .pre .0 .tree) _ _ _ _ (z .0) (c .before .before .before .before .before .before .pre .0 .held) (z .1) (z .2) (sym (c .before .before .before .kind .ensures) ∙ c .before .before .if1 .left) (c .before .before .before .before .loop .inv .1) in (
-      length-set (c .before .before .before .before .loop .ops) (c .before .before .before .before .loop .n) (c .before .before .before .before .loop .p) ∙ c .before .before .before .before .loop .inv .0,
-      omega (arith, c .before .before .before .before .loop .inv .1),
+loop-again c =
+    let at-kind = c .before .before .before in
+    let at-loop = at-kind .before in
+    let start = at-loop .before .before in
+    let z = at-loop .loop .inv .5 (start .pre .0 .source) (start .pre .0 .tree) (start .pre .0 .held) (start .pre .0 .same) in
+    let f =
+    room-left _ _ (start .pre .0 .tree) _ _ _ _ (z .0) (start .pre .0 .held) (z .1) (z .2)
+    (sym (at-kind .kind .ensures) ∙ c .before .before .if1 .left) (at-loop .loop .inv .1)
+    in (
+      length-set (at-loop .loop .ops) (at-loop .loop .n) (at-loop .loop .p) ∙ at-loop .loop .inv .0,
+      omega (arith, at-loop .loop .inv .1),
       omega arith,
       omega (arith, f),
-      filled-more (c .before .before .before .before .loop .ops) _ _ _ (omega (arith, f, c .before .before .before .before .loop .inv .0)) (c .before .before .before .before .loop .inv .1) (c .before .before .before .before .loop .inv .4),
+      filled-more (at-loop .loop .ops) _ _ _ (omega (arith, f, at-loop .loop .inv .0)) (at-loop .loop .inv .1) (at-loop .loop .inv .4),
       λ s t a h.
-          let y = c .before .before .before .before .loop .inv .5 s t a h in
-          down s _ _ _ _ (sym (c .before .before .before .kind .ensures) ∙ c .before .before .if1 .left) (c .before .precedence .ensures) (c .if2 .left) (y .1) (y .2),
+          let y = at-loop .loop .inv .5 s t a h in
+          down s _ _ _ _ (sym (at-kind .kind .ensures) ∙ c .before .before .if1 .left) (c .before .precedence .ensures) (c .if2 .left) (y .1) (y .2),
     )
 
 returns : tie.Need-returns Inv-loop μ-loop
 returns c = record {
-  filled = record { count = c .before .before .loop .n; far = c .before .before .loop .inv .1; few = c .before .before .loop .inv .3; each = c .before .before .loop .inv .4 };
+  filled = record {
+    count = c .before .before .loop .n;
+    far = c .before .before .loop .inv .1;
+    few = c .before .before .loop .inv .3;
+    each = c .before .before .loop .inv .4;
+  };
   further = omega (arith, c .before .before .loop .inv .1, c .before .before .loop .inv .2);
   of =
       λ s t a h.
@@ -90,14 +127,23 @@ returns c = record {
 }
 
 returns-2 : tie.Need-returns-2 Inv-loop μ-loop
-returns-2 c = record {
-  filled = record { count = c .before .before .before .before .loop .n; far = c .before .before .before .before .loop .inv .1; few = c .before .before .before .before .loop .inv .3; each = c .before .before .before .before .loop .inv .4 };
-  further = omega (arith, c .before .before .before .before .loop .inv .1, c .before .before .before .before .loop .inv .2);
-  of =
-      λ s t a h.
-      let z = c .before .before .before .before .loop .inv .5 s t a h in
-      record { tree = z .0; above = z .1; held = z .2; stop = stop-op s _ _ _ _ (sym (c .before .before .before .kind .ensures) ∙ c .before .before .if1 .left) (c .before .precedence .ensures) (z .0) (c .if2 .taken) (z .2) };
-}
+returns-2 c =
+    let at-kind = c .before .before .before in
+    let at-loop = at-kind .before in
+    record {
+      filled = record { count = at-loop .loop .n; far = at-loop .loop .inv .1; few = at-loop .loop .inv .3; each = at-loop .loop .inv .4 };
+      further = omega (arith, at-loop .loop .inv .1, at-loop .loop .inv .2);
+      of =
+          λ s t a h.
+          let z = at-loop .loop .inv .5 s t a h in
+          record {
+            tree = z .0;
+            above = z .1;
+            held = z .2;
+            stop =
+                stop-op s _ _ _ _ (sym (at-kind .kind .ensures) ∙ c .before .before .if1 .left) (c .before .precedence .ensures) (z .0) (c .if2 .taken) (z .2);
+          };
+    }
 
 pub leftmost-spec : {M : Type 1} → statement M
 leftmost-spec =

@@ -6,7 +6,7 @@ use native.Mathlib.Omega.{arith}
 use mathlib.Core.List.{List}
 use lib.ListN.{length}
 use Rattle.tree.specs.At.{DeclarationsAt}
-use Rattle.state.specs.declared.Cursor.{Cursor}
+use Rattle.acts.specs.declared.Cursor.{Cursor}
 use Rattle.layout.specs.Contracts.{HasAll}
 use Rattle.layout.specs.Forms.{declarationsFrom}
 use Rattle.layout.proofs.DeclarationForms.{declarations-first, first-has, rest-has, declarations-none, declarations-more}
@@ -28,16 +28,35 @@ loop-holds : tie.Need-loop-holds Inv-loop μ-loop
 loop-holds c = (refl, c .before .before .before .pre, λ x e l. l)
 
 declaration-requires : tie.Need-declaration-requires Inv-loop μ-loop
-declaration-requires c κs = let m = declarations-first (c .before .before .loop .first) (c .before .loop-test .taken) (c .before .before .loop .inv .1) in first-has _ m
+declaration-requires c κs =
+    let m = declarations-first (c .before .before .loop .first) (c .before .loop-test .taken) (c .before .before .loop .inv .1) in first-has _ m
 
 past-requires : tie.Need-past-requires Inv-loop μ-loop
-past-requires c κs = let m = declarations-first (c .before .before .before .before .before .loop .first) (c .before .before .before .before .loop-test .taken) (c .before .before .before .before .before .loop .inv .1) in record { fits = m .whole .fits }
+past-requires c κs =
+    let at-loop-test = c .before .before .before .before in
+    let at-loop = at-loop-test .before in
+    let m = declarations-first (at-loop .loop .first) (at-loop-test .loop-test .taken) (at-loop .loop .inv .1) in
+    record { fits = m .whole .fits }
 
 loop-less : tie.Need-loop-less Inv-loop μ-loop
-loop-less c = let m = declarations-first (c .before .before .before .before .before .before .loop .first) (c .before .before .before .before .before .loop-test .taken) (c .before .before .before .before .before .before .loop .inv .1) in omega (arith, m .least, m .whole .long, c .past .ensures, c .before .before .before .before .before .loop-test .taken)
+loop-less c =
+    let at-loop-test = c .before .before .before .before .before in
+    let at-loop = at-loop-test .before in
+    let m = declarations-first (at-loop .loop .first) (at-loop-test .loop-test .taken) (at-loop .loop .inv .1) in
+    omega (arith, m .least, m .whole .long, c .past .ensures, at-loop-test .loop-test .taken)
 
 loop-again : tie.Need-loop-again Inv-loop μ-loop
-loop-again c = let m = declarations-first (c .before .before .before .before .before .before .loop .first) (c .before .before .before .before .before .loop-test .taken) (c .before .before .before .before .before .before .loop .inv .1) in (c .before .before .before .declaration .kept .0 ∙ c .before .before .before .before .before .before .loop .inv .0, rw (c .past .ensures) (rest-has _ m (lays-as (c .before .before .before .before .before .before .before .before .before .before .pre .accepted) (c .before .before .before .declaration .ensures))), λ x e l. c .before .before .before .before .before .before .loop .inv .2 x e (declarations-more (c .before .before .before .before .before .before .loop .first) (c .before .before .before .before .before .loop-test .taken) (lays-as (c .before .before .before .before .before .before .before .before .before .before .pre .accepted) (c .before .before .before .declaration .ensures)) (rw (c .past .ensures) at l)))
+loop-again c =
+    let at-declaration = c .before .before .before in
+    let at-loop-test = at-declaration .before .before in
+    let at-loop = at-loop-test .before in
+    let start = at-loop .before .before .before .before in
+    let m = declarations-first (at-loop .loop .first) (at-loop-test .loop-test .taken) (at-loop .loop .inv .1) in (
+      at-declaration .declaration .kept .0 ∙ at-loop .loop .inv .0,
+      rw (c .past .ensures) (rest-has _ m (lays-as (start .pre .accepted) (at-declaration .declaration .ensures))),
+      λ x e l. at-loop .loop .inv .2 x e (declarations-more (at-loop .loop .first) (at-loop-test .loop-test .taken)
+          (lays-as (start .pre .accepted) (at-declaration .declaration .ensures)) (rw (c .past .ensures) at l)),
+    )
 
 same-length : tie.Need-same-length Inv-loop μ-loop
 same-length c = c .before .loop .inv .0

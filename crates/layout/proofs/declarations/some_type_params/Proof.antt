@@ -14,19 +14,37 @@ returns : tie.Need-returns
 returns c = laid-as (no-params (absent (c .before .is-absent .ensures) (c .if1 .taken)))
 
 add-if2 : tie.Need-add-if2
-add-if2 c = let w = params-whole _ _ _ (present (c .before .is-absent .ensures) (c .if1 .left)) (c .before .before .before .before .before .pre .tree) (c .before .before .before .before .before .pre .held) in omega (arith, c .before .before .before .before .before .pre .accepted .small, w .long, w .fits)
+add-if2 c =
+    let start = c .before .before .before .before .before in
+    let w = params-whole _ _ _ (present (c .before .is-absent .ensures) (c .if1 .left)) (start .pre .tree) (start .pre .held) in
+    omega (arith, start .pre .accepted .small, w .long, w .fits)
 
 past-requires : tie.Need-past-requires
-past-requires c κs = let w = params-whole _ _ _ (present (c .before .is-absent .ensures) (c .if1 .left)) (c .before .before .before .before .before .pre .tree) (c .before .before .before .before .before .pre .held) in record { fits = w .fits }
+past-requires c κs =
+    let start = c .before .before .before .before .before in
+    let w = params-whole _ _ _ (present (c .before .is-absent .ensures) (c .if1 .left)) (start .pre .tree) (start .pre .held) in
+    record { fits = w .fits }
 
 returns-2 : tie.Need-returns-2
 returns-2 c = laid-as (empty-params (c .if2 .taken ∙ c .before .past .ensures))
 
 type-params-requires : tie.Need-type-params-requires
-type-params-requires c κs = params-has (present (c .before .before .before .before .is-absent .ensures) (c .before .before .before .if1 .left)) (λ e. c .before .if2 .left (e ∙ sym (c .before .before .past .ensures))) (c .before .before .before .before .before .before .before .before .pre)
+type-params-requires c κs =
+    let at-if1 = c .before .before .before in
+    let at-is-absent = at-if1 .before in
+    let start = at-is-absent .before .before .before .before in
+    params-has (present (at-is-absent .is-absent .ensures) (at-if1 .if1 .left))
+    (λ e. c .before .if2 .left (e ∙ sym (c .before .before .past .ensures))) (start .pre)
 
 returns-3 : tie.Need-returns-3
-returns-3 c = laid-as (some-params (present (c .before .before .before .before .before .before .before .is-absent .ensures) (c .before .before .before .before .before .before .if1 .left)) (λ e. c .before .before .before .before .if2 .left (e ∙ sym (c .before .before .before .before .before .past .ensures))) (lays-as (c .before .before .before .before .before .before .before .before .before .before .before .pre .accepted) (c .before .before .type-params .ensures)))
+returns-3 c =
+    let at-if2 = c .before .before .before .before in
+    let at-past = at-if2 .before in
+    let at-if1 = at-past .before in
+    let at-is-absent = at-if1 .before in
+    let start = at-is-absent .before .before .before .before in
+    laid-as (some-params (present (at-is-absent .is-absent .ensures) (at-if1 .if1 .left))
+    (λ e. at-if2 .if2 .left (e ∙ sym (at-past .past .ensures))) (lays-as (start .pre .accepted) (c .before .before .type-params .ensures)))
 
 pub some-type-params-spec : {M : Type 1} → statement M
 some-type-params-spec =

@@ -1,5 +1,5 @@
 use borrow.Author.Needs.{needs}
-use Rattle.state.proofs.Laws.{lays, room-first, room-next, lays-then}
+use Rattle.acts.proofs.Laws.{lays, room-first, room-next, lays-then}
 use Rattle.layout.specs.Layout as rules
 use Rattle.tree.specs.At.{DeclarationAt}
 use Rattle.layout.proofs.Places.{within, ident-whole}
@@ -13,19 +13,47 @@ second-requires c κs = within (ident-whole (c .before .before .before .pre .hel
 
 declares-requires : tie.Need-declares-requires
 unfolding DeclarationAt rules.declaration
-declares-requires c κs = record { accepted = c .before .before .before .before .before .pre .accepted; tree = c .before .before .before .before .before .pre .tree .0; held = c .before .before .before .before .before .pre .held .1; room = room-first _ (c .before .before .before .before .before .pre .room) }
+declares-requires c κs =
+    let start = c .before .before .before .before .before in
+    record { accepted = start .pre .accepted; tree = start .pre .tree .0; held = start .pre .held .1; room = room-first _ (start .pre .room) }
 
 word-requires : tie.Need-word-requires
 unfolding DeclarationAt rules.declaration
-word-requires c κs = room-first _ (room-next (c .before .before .before .before .before .before .before .before .before .pre .room) (lays-as (c .before .before .before .before .before .before .before .before .before .pre .accepted) (c .before .before .before .declares .ensures) .of (c .before .before .before .before .before .before .before .before .before .pre .tree .0) (c .before .before .before .before .before .before .before .before .before .pre .held .1)))
+word-requires c κs =
+    let at-declares = c .before .before .before in
+    let start = at-declares .before .before .before .before .before .before in
+    room-first _
+    (room-next (start .pre .room) (lays-as (start .pre .accepted) (at-declares .declares .ensures) .of (start .pre .tree .0) (start .pre .held .1)))
 
 block-requires : tie.Need-block-requires
 unfolding DeclarationAt rules.declaration
-block-requires c κs = rw (c .before .before .before .before .before .before .before .before .before .second .ensures) (record { accepted = c .before .before .before .before .before .before .before .before .before .before .before .before .before .pre .accepted; tree = c .before .before .before .before .before .before .before .before .before .before .before .before .before .pre .tree .1; held = c .before .before .before .before .before .before .before .before .before .before .before .before .before .pre .held .2; room = room-next (room-next (c .before .before .before .before .before .before .before .before .before .before .before .before .before .pre .room) (lays-as (c .before .before .before .before .before .before .before .before .before .before .before .before .before .pre .accepted) (c .before .before .before .before .before .before .before .declares .ensures) .of (c .before .before .before .before .before .before .before .before .before .before .before .before .before .pre .tree .0) (c .before .before .before .before .before .before .before .before .before .before .before .before .before .pre .held .1))) (lays (c .before .before .before .word .ensures)) })
+block-requires c κs =
+    let at-word = c .before .before .before in
+    let at-declares = at-word .before .before .before .before in
+    let at-second = at-declares .before .before in
+    let start = at-second .before .before .before .before in
+    rw (at-second .second .ensures) (record {
+      accepted = start .pre .accepted;
+      tree = start .pre .tree .1;
+      held = start .pre .held .2;
+      room =
+          room-next
+          (room-next (start .pre .room) (lays-as (start .pre .accepted) (at-declares .declares .ensures) .of (start .pre .tree .0) (start .pre .held .1)))
+          (lays (at-word .word .ensures));
+    })
 
 returns : tie.Need-returns
 unfolding DeclarationAt rules.declaration
-returns c = laid-as (record { of = λ x a. lays-then (lays-as (c .before .before .before .before .before .before .before .before .before .before .before .before .before .before .before .before .pre .accepted) (c .before .before .before .before .before .before .before .before .before .before .declares .ensures) .of (x .0) (a .1)) (lays-then (lays (c .before .before .before .before .before .before .word .ensures)) (lays-as (c .before .before .before .before .before .before .before .before .before .before .before .before .before .before .before .before .pre .accepted) (c .before .before .block .ensures) .of (x .1) (rw (c .before .before .before .before .before .before .before .before .before .before .before .before .second .ensures) (a .2)))) })
+returns c =
+    let at-word = c .before .before .before .before .before .before in
+    let at-declares = at-word .before .before .before .before in
+    let at-second = at-declares .before .before in
+    let start = at-second .before .before .before .before in
+    laid-as (record {
+      of =
+          λ x a. lays-then (lays-as (start .pre .accepted) (at-declares .declares .ensures) .of (x .0) (a .1)) (lays-then (lays (at-word .word .ensures))
+          (lays-as (start .pre .accepted) (c .before .before .block .ensures) .of (x .1) (rw (at-second .second .ensures) (a .2))));
+    })
 
 pub test-spec : {M : Type 1} → statement M
 test-spec =

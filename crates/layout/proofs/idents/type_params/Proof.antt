@@ -11,13 +11,30 @@ end-requires : tie.Need-end-requires
 end-requires c κs = head-whole (c .before .before .before .before .pre .held .head)
 
 separated-requires : tie.Need-separated-requires
-separated-requires c κs = record { accepted = c .before .before .before .before .before .pre .accepted; tree = rules.identElems (given (c .before .before .before .before .before .args .s .now) (c .before .before .before .before .before .args .b .now)) (c .before .before .before .before .before .pre .tree .elems); held = list-of (c .before .before .before .before .before .pre .held .head) (ident-elems _ _ _ _ (c .before .before .before .before .before .pre .tree .elems) (c .before .before .before .before .before .pre .held .elems)); span = c .before .before .before .before .before .pre .tree .span; ended = c .end .ensures ∙ c .before .before .before .before .before .pre .held .head .end; room = c .before .before .before .before .before .pre .room }
+separated-requires c κs =
+    let start = c .before .before .before .before .before in
+    record {
+      accepted = start .pre .accepted;
+      tree = rules.identElems (given (start .args .s .now) (start .args .b .now)) (start .pre .tree .elems);
+      held = list-of (start .pre .held .head) (ident-elems _ _ _ _ (start .pre .tree .elems) (start .pre .held .elems));
+      span = start .pre .tree .span;
+      ended = c .end .ensures ∙ start .pre .held .head .end;
+      room = start .pre .room;
+    }
 
 same-length : tie.Need-same-length
 same-length c = c .before .before .separated .kept .0
 
 returns : tie.Need-returns
-returns c = laid-as (record { of = λ x a. lays-list (c .before .before .before .before .before .before .before .before .pre .accepted) (c .before .before .separated .ensures) .of (rules.identElems (given (c .before .before .before .before .before .before .before .before .args .s .now) (c .before .before .before .before .before .before .before .before .args .b .now)) (x .elems)) (list-of (a .head) (ident-elems _ _ _ _ (x .elems) (a .elems))) (x .span) (c .before .before .before .end .ensures ∙ a .head .end) })
+returns c =
+    let at-end = c .before .before .before in
+    let start = at-end .before .before .before .before .before in
+    laid-as (record {
+      of =
+          λ x a. lays-list (start .pre .accepted) (c .before .before .separated .ensures) .of
+          (rules.identElems (given (start .args .s .now) (start .args .b .now)) (x .elems))
+          (list-of (a .head) (ident-elems _ _ _ _ (x .elems) (a .elems))) (x .span) (at-end .end .ensures ∙ a .head .end);
+    })
 
 pub type-params-spec : {M : Type 1} → statement M
 type-params-spec = tie.close (tie.spec end-requires separated-requires same-length returns)

@@ -15,7 +15,11 @@ path-requires : tie.Need-path-requires
 path-requires c κs = has-path (present (c .before .before .is-absent .ensures) (c .before .if1 .left)) (c .before .before .before .before .before .before .pre)
 
 returns-2 : tie.Need-returns-2
-returns-2 c = laid-as (some-path (present (c .before .before .before .before .before .is-absent .ensures) (c .before .before .before .before .if1 .left)) (lays-as (c .before .before .before .before .before .before .before .before .before .pre .accepted) (c .before .before .path .ensures)))
+returns-2 c =
+    let at-if1 = c .before .before .before .before in
+    let at-is-absent = at-if1 .before in
+    let start = at-is-absent .before .before .before .before in
+    laid-as (some-path (present (at-is-absent .is-absent .ensures) (at-if1 .if1 .left)) (lays-as (start .pre .accepted) (c .before .before .path .ensures)))
 
 pub import-first-spec : {M : Type 1} → statement M
 import-first-spec = tie.close (tie.spec is-absent-requires returns path-requires (λ c. search needs) returns-2)

@@ -1,5 +1,5 @@
 use borrow.Author.Needs.{needs}
-use Rattle.state.proofs.Laws.{laid-skip}
+use Rattle.acts.proofs.Laws.{laid-skip}
 use Rattle.layout.proofs.paths.line_if.Statement.{statement}
 use Rattle.layout.proofs.paths.line_if.Tie as tie
 

@@ -6,7 +6,7 @@ use native.Mathlib.Omega.{arith}
 use mathlib.Core.List.{List}
 use lib.ListN.{length}
 use Rattle.tree.specs.At.{IdentsAt}
-use Rattle.state.specs.declared.Cursor.{Cursor}
+use Rattle.acts.specs.declared.Cursor.{Cursor}
 use Rattle.layout.specs.Layout.{pathMore}
 use Rattle.layout.specs.Contracts.{HasAll}
 use Rattle.layout.proofs.IdentLaws.{idents-first, first-has, rest-has, idents-none, idents-more}
@@ -31,13 +31,32 @@ path-next-requires : tie.Need-path-next-requires Inv-loop μ-loop
 path-next-requires c κs = first-has _ (idents-first _ (c .before .loop-test .taken) (c .before .before .loop .inv .1))
 
 past-requires : tie.Need-past-requires Inv-loop μ-loop
-past-requires c κs = let m = idents-first _ (c .before .before .before .before .loop-test .taken) (c .before .before .before .before .before .loop .inv .1) in record { fits = omega (arith, m .least, c .before .before .before .before .before .before .before .before .before .pre .inside) }
+past-requires c κs =
+    let at-loop-test = c .before .before .before .before in
+    let at-loop = at-loop-test .before in
+    let start = at-loop .before .before .before .before in
+    let m = idents-first _ (at-loop-test .loop-test .taken) (at-loop .loop .inv .1) in
+    record { fits = omega (arith, m .least, start .pre .inside) }
 
 loop-less : tie.Need-loop-less Inv-loop μ-loop
-loop-less c = let m = idents-first _ (c .before .before .before .before .before .loop-test .taken) (c .before .before .before .before .before .before .loop .inv .1) in omega (arith, m .least, m .held .head .long, c .past .ensures, c .before .before .before .before .before .loop-test .taken)
+loop-less c =
+    let at-loop-test = c .before .before .before .before .before in
+    let at-loop = at-loop-test .before in
+    let m = idents-first _ (at-loop-test .loop-test .taken) (at-loop .loop .inv .1) in
+    omega (arith, m .least, m .held .head .long, c .past .ensures, at-loop-test .loop-test .taken)
 
 loop-again : tie.Need-loop-again Inv-loop μ-loop
-loop-again c = let m = idents-first _ (c .before .before .before .before .before .loop-test .taken) (c .before .before .before .before .before .before .loop .inv .1) in (c .before .before .before .path-next .kept .0 ∙ c .before .before .before .before .before .before .loop .inv .0, rw (c .past .ensures) (rest-has _ m (lays-as (c .before .before .before .before .before .before .before .before .before .before .pre .accepted) (c .before .before .before .path-next .ensures))), λ x e l. c .before .before .before .before .before .before .loop .inv .2 x e (idents-more _ (c .before .before .before .before .before .loop-test .taken) (lays-as (c .before .before .before .before .before .before .before .before .before .before .pre .accepted) (c .before .before .before .path-next .ensures)) (rw (c .past .ensures) at l)))
+loop-again c =
+    let at-path-next = c .before .before .before in
+    let at-loop-test = at-path-next .before .before in
+    let at-loop = at-loop-test .before in
+    let start = at-loop .before .before .before .before in
+    let m = idents-first _ (at-loop-test .loop-test .taken) (at-loop .loop .inv .1) in (
+      at-path-next .path-next .kept .0 ∙ at-loop .loop .inv .0,
+      rw (c .past .ensures) (rest-has _ m (lays-as (start .pre .accepted) (at-path-next .path-next .ensures))),
+      λ x e l. at-loop .loop .inv .2 x e
+          (idents-more _ (at-loop-test .loop-test .taken) (lays-as (start .pre .accepted) (at-path-next .path-next .ensures)) (rw (c .past .ensures) at l)),
+    )
 
 same-length : tie.Need-same-length Inv-loop μ-loop
 same-length c = c .before .loop .inv .0

@@ -1,5 +1,5 @@
 use borrow.Author.Needs.{needs}
-use Rattle.state.proofs.Laws.{lays, room-first, room-next, lays-then}
+use Rattle.acts.proofs.Laws.{lays, room-first, room-next, lays-then}
 use Rattle.layout.specs.Layout.{pathNext}
 use Rattle.layout.proofs.Places.{ident-whole}
 use Rattle.layout.proofs.Lays.{lays-as, laid-as, has-at}
@@ -12,19 +12,49 @@ line-if-requires c κs = room-first _ (c .before .before .before .before .before
 
 gap-requires : tie.Need-gap-requires
 unfolding pathNext
-gap-requires c κs = (c .before .before .before .before .before .before .before .before .before .pre .accepted, rw (c .before .before .before .before .before .end .ensures, c .before .before .before .before .before .before .before .before .before .pre .held .head .end) (room-first _ (room-next (c .before .before .before .before .before .before .before .before .before .pre .room) (lays (c .before .before .before .line-if .ensures)))))
+gap-requires c κs =
+    let at-line-if = c .before .before .before in
+    let at-end = at-line-if .before .before in
+    let start = at-end .before .before .before .before in (
+      start .pre .accepted,
+      rw (at-end .end .ensures, start .pre .held .head .end) (room-first _ (room-next (start .pre .room) (lays (at-line-if .line-if .ensures)))),
+    )
 
 word-requires : tie.Need-word-requires
 unfolding pathNext
-word-requires c κs = room-first _ (room-next (room-next (c .before .before .before .before .before .before .before .before .before .before .before .before .before .pre .room) (lays (c .before .before .before .before .before .before .before .line-if .ensures))) (rw (c .before .before .before .before .before .before .before .before .before .end .ensures, c .before .before .before .before .before .before .before .before .before .before .before .before .before .pre .held .head .end) at (lays (c .before .before .before .gap .ensures))))
+word-requires c κs =
+    let at-gap = c .before .before .before in
+    let at-line-if = at-gap .before .before .before .before in
+    let at-end = at-line-if .before .before in
+    let start = at-end .before .before .before .before in
+    room-first _ (room-next (room-next (start .pre .room) (lays (at-line-if .line-if .ensures)))
+    (rw (at-end .end .ensures, start .pre .held .head .end) at (lays (at-gap .gap .ensures))))
 
 ident-requires : tie.Need-ident-requires
 unfolding pathNext
-ident-requires c κs = has-at (c .before .before .before .before .before .before .before .before .before .before .before .before .before .before .before .before .before .pre) (room-next (room-next (room-next (c .before .before .before .before .before .before .before .before .before .before .before .before .before .before .before .before .before .pre .room) (lays (c .before .before .before .before .before .before .before .before .before .before .before .line-if .ensures))) (rw (c .before .before .before .before .before .before .before .before .before .before .before .before .before .end .ensures, c .before .before .before .before .before .before .before .before .before .before .before .before .before .before .before .before .before .pre .held .head .end) at (lays (c .before .before .before .before .before .before .before .gap .ensures)))) (lays (c .before .before .before .word .ensures)))
+ident-requires c κs =
+    let at-word = c .before .before .before in
+    let at-gap = at-word .before .before .before .before in
+    let at-line-if = at-gap .before .before .before .before in
+    let at-end = at-line-if .before .before in
+    let start = at-end .before .before .before .before in
+    has-at (start .pre) (room-next (room-next (room-next (start .pre .room) (lays (at-line-if .line-if .ensures)))
+    (rw (at-end .end .ensures, start .pre .held .head .end) at (lays (at-gap .gap .ensures))))
+    (lays (at-word .word .ensures)))
 
 returns : tie.Need-returns
 unfolding pathNext
-returns c = laid-as (record { of = λ i h. lays-then (lays (c .before .before .before .before .before .before .before .before .before .before .before .before .before .before .line-if .ensures)) (lays-then (rw (c .before .before .before .before .before .before .before .before .before .before .before .before .before .before .before .before .end .ensures, h .head .end) at (lays (c .before .before .before .before .before .before .before .before .before .before .gap .ensures))) (lays-then (lays (c .before .before .before .before .before .before .word .ensures)) (lays-as (c .before .before .before .before .before .before .before .before .before .before .before .before .before .before .before .before .before .before .before .before .pre .accepted) (c .before .before .ident .ensures) .of i h))) })
+returns c =
+    let at-word = c .before .before .before .before .before .before in
+    let at-gap = at-word .before .before .before .before in
+    let at-line-if = at-gap .before .before .before .before in
+    let at-end = at-line-if .before .before in
+    let start = at-end .before .before .before .before in
+    laid-as (record {
+      of =
+          λ i h. lays-then (lays (at-line-if .line-if .ensures)) (lays-then (rw (at-end .end .ensures, h .head .end) at (lays (at-gap .gap .ensures)))
+          (lays-then (lays (at-word .word .ensures)) (lays-as (start .pre .accepted) (c .before .before .ident .ensures) .of i h)));
+    })
 
 pub path-next-spec : {M : Type 1} → statement M
 path-next-spec =

@@ -11,13 +11,29 @@ sub-close : tie.Need-sub-close
 sub-close c = omega (arith, indent-row (c .before .before .before .before .before .before .before .before .before .pre))
 
 close-list-requires : tie.Need-close-list-requires
-close-list-requires c κs = (c .before .before .before .before .before .before .before .before .before .before .before .before .before .pre .accepted, close-room (c .before .before .before .before .before .before .before .before .before .before .before .before .before .pre) (c .before .before .before .before .before .before .before .before .end-elems .ensures) (c .before .before .before .close .ensures))
+close-list-requires c κs =
+    let at-close = c .before .before .before in
+    let at-end-elems = at-close .before .before .before .before .before in
+    let start = at-end-elems .before .before .before .before .before in
+    (start .pre .accepted, close-room (start .pre) (at-end-elems .end-elems .ensures) (at-close .close .ensures))
 
 same-length : tie.Need-same-length
-same-length c = c .before .before .close2 .kept .0 ∙ c .before .before .before .before .before .before .close-list .kept .0 ∙ c .before .before .before .before .before .before .before .before .before .before .close .kept .0 ∙ c .before .before .before .before .before .before .before .before .before .before .before .before .before .before .before .end-elems .kept .0
+same-length c =
+    let at-close-list = c .before .before .before .before .before .before in
+    let at-close = at-close-list .before .before .before .before in
+    let at-end-elems = at-close .before .before .before .before .before in
+    c .before .before .close2 .kept .0 ∙ at-close-list .close-list .kept .0 ∙ at-close .close .kept .0 ∙ at-end-elems .end-elems .kept .0
 
 returns : tie.Need-returns
-returns c = record { of = λ h. list-ended h (c .before .before .before .before .before .before .before .before .before .before .before .before .before .before .before .end-elems .ensures) (c .before .before .before .before .before .before .before .before .before .before .close .ensures) (c .before .before .before .before .before .before .close-list .ensures) (c .before .before .close2 .ensures) }
+returns c =
+    let at-close-list = c .before .before .before .before .before .before in
+    let at-close = at-close-list .before .before .before .before in
+    let at-end-elems = at-close .before .before .before .before .before in
+    record {
+      of =
+          λ h. list-ended h (at-end-elems .end-elems .ensures) (at-close .close .ensures)
+          (at-close-list .close-list .ensures) (c .before .before .close2 .ensures);
+    }
 
 pub finish-list-spec : {M : Type 1} → statement M
 finish-list-spec =

@@ -4,12 +4,13 @@ use mathlib.Core.List.{List}
 use Prim.Native.Nat.{ℕ, _+_, _≤_, _*_, _<_, _-_}
 use native.Mathlib.Omega.{arith}
 use lib.ListN.{length}
-use Rattle.state.specs.declared.Cursor.{Cursor}
-use Rattle.state.proofs.Laws.{lays, lays-then, room-first, room-next}
+use Rattle.acts.specs.declared.Cursor.{Cursor}
+use Rattle.acts.proofs.Laws.{lays, lays-then, room-first, room-next}
 use Rattle.layout.specs.Contracts.{HasAll}
 use Rattle.layout.specs.Elems.{TypeElem, ElemsAt, elementsRule}
 use Rattle.layout.proofs.Lays.{LaysAll, lays-as, laid-list, lays-empty, laid-as, lays-list}
-use Rattle.layout.proofs.Runs.{elems-first, before-room, elem-has, elems-rest, elems-none, elems-more, elem-of, elem-laid, list-of, field-elems, empty-has, empty-laid, begins, elems-all, elems-done, list-laid}
+use Rattle.layout.proofs.Runs.{elems-first, before-room, elem-has, elems-rest, elems-none, elems-more, elem-of, elem-laid}
+use Rattle.layout.proofs.Runs.{list-of, field-elems, empty-has, empty-laid, begins, elems-all, elems-done, list-laid}
 use Rattle.tree.specs.At.{TypeAt}
 use Rattle.tree.specs.CommentList.{span}
 use Rattle.layout.specs.Layout as rules
@@ -49,7 +50,7 @@ use Rattle.layout.proofs.pieces.before_elem.Reads as before-elem-reads
 use Rattle.layout.proofs.pieces.begin_list.Reads as begin-list-reads
 use Rattle.layout.proofs.pieces.empty_list.Reads as empty-list-reads
 use Rattle.layout.proofs.pieces.finish_list.Reads as finish-list-reads
-use Rattle.state.proofs.words.word.Reads as word-reads
+use Rattle.acts.proofs.words.word.Reads as word-reads
 use Rattle.layout.proofs.types.+elem+field+record_type+separated+type_expr+type_path.{statement}
 use Rattle.layout.proofs.types.+elem+field+record_type+separated+type_expr+type_path.Tie.{close}
 
@@ -116,79 +117,179 @@ abbrev elem-calls : ℕ → elem-lts.Claims
 elem-calls t = (type-expr-below t, type-expr.Post, field-below t, field.Post)
 
 abbrev field-calls : ℕ → field-lts.Claims
-field-calls t = (second-reads.Asked, second-reads.Learnt, ident-reads.Asked, ident-reads.Learnt, word-reads.Asked, word-reads.Learnt, type-expr-below t, type-expr.Post)
+field-calls t =
+    (second-reads.Asked, second-reads.Learnt, ident-reads.Asked, ident-reads.Learnt, word-reads.Asked, word-reads.Learnt, type-expr-below t, type-expr.Post)
 
 abbrev record-type-calls : ℕ → record-type-lts.Claims
 record-type-calls t = (end-reads.Asked, end-reads.Learnt, separated-below t, separated.Post)
 
 abbrev separated-calls : ℕ → separated-lts.Claims
-separated-calls t = (past-reads.Asked, past-reads.Learnt, empty-list-reads.Asked, empty-list-reads.Learnt, begin-list-reads.Asked, begin-list-reads.Learnt, start-reads.Asked, start-reads.Learnt, before-elem-reads.Asked, before-elem-reads.Learnt, elem-below t, elem.Post, finish-list-reads.Asked, finish-list-reads.Learnt)
+separated-calls t = (
+  past-reads.Asked,
+  past-reads.Learnt,
+  empty-list-reads.Asked,
+  empty-list-reads.Learnt,
+  begin-list-reads.Asked,
+  begin-list-reads.Learnt,
+  start-reads.Asked,
+  start-reads.Learnt,
+  before-elem-reads.Asked,
+  before-elem-reads.Learnt,
+  elem-below t,
+  elem.Post,
+  finish-list-reads.Asked,
+  finish-list-reads.Learnt,
+)
 
 abbrev type-expr-calls : ℕ → type-expr-lts.Claims
-type-expr-calls t = (kind-reads.Asked, kind-reads.Learnt, type-expr-below t, type-expr.Post, word-reads.Asked, word-reads.Learnt, type-path-below t, type-path.Post, record-type-below t, record-type.Post)
+type-expr-calls t = (
+  kind-reads.Asked,
+  kind-reads.Learnt,
+  type-expr-below t,
+  type-expr.Post,
+  word-reads.Asked,
+  word-reads.Learnt,
+  type-path-below t,
+  type-path.Post,
+  record-type-below t,
+  record-type.Post,
+)
 
 abbrev type-path-calls : ℕ → type-path-lts.Claims
-type-path-calls t = (second-reads.Asked, second-reads.Learnt, path-reads.Asked, path-reads.Learnt, is-absent-reads.Asked, is-absent-reads.Learnt, end-reads.Asked, end-reads.Learnt, separated-below t, separated.Post)
+type-path-calls t = (
+  second-reads.Asked,
+  second-reads.Learnt,
+  path-reads.Asked,
+  path-reads.Learnt,
+  is-absent-reads.Asked,
+  is-absent-reads.Learnt,
+  end-reads.Asked,
+  end-reads.Learnt,
+  separated-below t,
+  separated.Post,
+)
 
 elem-enum-told : (t : ℕ) → elem-lts.Need-enum-told (elem-calls t) (elem-at t) elem.Post
 elem-enum-told t c = search needs
 
 elem-type-expr-requires : (t : ℕ) → elem-lts.Need-type-expr-requires (elem-calls t) (elem-at t) elem.Post
-elem-type-expr-requires t c κs = (omega (arith, c .before .before .before .before .before .before .pre .0), elem-of (rw (c .before .enum-told .given .1) at (c .before .before .before .before .before .before .pre .1)))
+elem-type-expr-requires t c κs =
+    let start = c .before .before .before .before .before .before in
+    (omega (arith, start .pre .0), elem-of (rw (c .before .enum-told .given .1) at (start .pre .1)))
 
 elem-enum-told-2 : (t : ℕ) → elem-lts.Need-enum-told-2 (elem-calls t) (elem-at t) elem.Post
 elem-enum-told-2 t c = search needs
 
 elem-field-requires : (t : ℕ) → elem-lts.Need-field-requires (elem-calls t) (elem-at t) elem.Post
-elem-field-requires t c κs = (omega (arith, c .before .before .before .before .before .before .pre .0), elem-of (rw (c .before .enum-told2 .given .1) at (c .before .before .before .before .before .before .pre .1)))
+elem-field-requires t c κs =
+    let start = c .before .before .before .before .before .before in
+    (omega (arith, start .pre .0), elem-of (rw (c .before .enum-told2 .given .1) at (start .pre .1)))
 
 elem-same-length : (t : ℕ) → elem-lts.Need-same-length (elem-calls t) (elem-at t) elem.Post
 elem-same-length t c = c .before .before .type-expr .kept .0
 
 elem-returns : (t : ℕ) → elem-lts.Need-returns (elem-calls t) (elem-at t) elem.Post
-elem-returns t c = rw (c .before .before .before .before .enum-told .given .1) (laid-as (elem-laid (lays-as (c .before .before .before .before .before .before .before .before .before .pre .1 .accepted) (c .before .before .type-expr .ensures))))
+elem-returns t c =
+    let at-enum-told = c .before .before .before .before in
+    let start = at-enum-told .before .before .before .before .before in
+    rw (at-enum-told .enum-told .given .1) (laid-as (elem-laid (lays-as (start .pre .1 .accepted) (c .before .before .type-expr .ensures))))
 
 elem-same-length-2 : (t : ℕ) → elem-lts.Need-same-length-2 (elem-calls t) (elem-at t) elem.Post
 elem-same-length-2 t c = c .before .before .field .kept .0
 
 elem-returns-2 : (t : ℕ) → elem-lts.Need-returns-2 (elem-calls t) (elem-at t) elem.Post
-elem-returns-2 t c = rw (c .before .before .before .before .enum-told2 .given .1) (laid-as (elem-laid (lays-as (c .before .before .before .before .before .before .before .before .before .pre .1 .accepted) (c .before .before .field .ensures))))
+elem-returns-2 t c =
+    let at-enum-told2 = c .before .before .before .before in
+    let start = at-enum-told2 .before .before .before .before .before in
+    rw (at-enum-told2 .enum-told2 .given .1) (laid-as (elem-laid (lays-as (start .pre .1 .accepted) (c .before .before .field .ensures))))
 
 field-second-requires : (t : ℕ) → field-lts.Need-second-requires (field-calls t) (field-at t) field.Post
 field-second-requires t c κs = within (ident-whole (c .before .before .before .pre .1 .held .1))
 
 field-add-ident : (t : ℕ) → field-lts.Need-add-ident (field-calls t) (field-at t) field.Post
-field-add-ident t c = omega (arith, c .before .before .before .before .before .pre .1 .accepted .small, c .before .before .before .before .before .pre .1 .held .0 .long, c .before .before .before .before .before .pre .1 .held .0 .fits)
+field-add-ident t c =
+    let start = c .before .before .before .before .before in
+    omega (arith, start .pre .1 .accepted .small, start .pre .1 .held .0 .long, start .pre .1 .held .0 .fits)
 
 field-ident-requires : (t : ℕ) → field-lts.Need-ident-requires (field-calls t) (field-at t) field.Post
-field-ident-requires t c κs = record { accepted = c .before .before .before .before .before .pre .1 .accepted; tree = c .before .before .before .before .before .pre .1 .tree .1; held = c .before .before .before .before .before .pre .1 .held .1; room = room-first _ (c .before .before .before .before .before .pre .1 .room) }
+field-ident-requires t c κs =
+    let start = c .before .before .before .before .before in
+    record { accepted = start .pre .1 .accepted; tree = start .pre .1 .tree .1; held = start .pre .1 .held .1; room = room-first _ (start .pre .1 .room) }
 
 field-word-requires : (t : ℕ) → field-lts.Need-word-requires (field-calls t) (field-at t) field.Post
-field-word-requires t c κs = room-first _ (room-next (c .before .before .before .before .before .before .before .before .before .pre .1 .room) (lays-as (c .before .before .before .before .before .before .before .before .before .pre .1 .accepted) (c .before .before .before .ident .ensures) .of (c .before .before .before .before .before .before .before .before .before .pre .1 .tree .1) (c .before .before .before .before .before .before .before .before .before .pre .1 .held .1)))
+field-word-requires t c κs =
+    let at-ident = c .before .before .before in
+    let start = at-ident .before .before .before .before .before .before in
+    room-first _
+    (room-next (start .pre .1 .room) (lays-as (start .pre .1 .accepted) (at-ident .ident .ensures) .of (start .pre .1 .tree .1) (start .pre .1 .held .1)))
 
 field-type-expr-requires : (t : ℕ) → field-lts.Need-type-expr-requires (field-calls t) (field-at t) field.Post
-field-type-expr-requires t c κs = rw (c .before .before .before .before .before .before .before .before .before .second .ensures) (omega (arith, c .before .before .before .before .before .before .before .before .before .before .before .before .before .pre .0, c .before .before .before .before .before .before .before .before .before .before .before .before .before .pre .1 .held .3 .same), record { accepted = c .before .before .before .before .before .before .before .before .before .before .before .before .before .pre .1 .accepted; tree = c .before .before .before .before .before .before .before .before .before .before .before .before .before .pre .1 .tree .2; held = c .before .before .before .before .before .before .before .before .before .before .before .before .before .pre .1 .held .2; room = room-next (room-next (c .before .before .before .before .before .before .before .before .before .before .before .before .before .pre .1 .room) (lays-as (c .before .before .before .before .before .before .before .before .before .before .before .before .before .pre .1 .accepted) (c .before .before .before .before .before .before .before .ident .ensures) .of (c .before .before .before .before .before .before .before .before .before .before .before .before .before .pre .1 .tree .1) (c .before .before .before .before .before .before .before .before .before .before .before .before .before .pre .1 .held .1))) (lays (c .before .before .before .word .ensures)) })
+field-type-expr-requires t c κs =
+    let at-word = c .before .before .before in
+    let at-ident = at-word .before .before .before .before in
+    let at-second = at-ident .before .before in
+    let start = at-second .before .before .before .before in
+    rw (at-second .second .ensures) (
+      omega (arith, start .pre .0, start .pre .1 .held .3 .same),
+      record {
+        accepted = start .pre .1 .accepted;
+        tree = start .pre .1 .tree .2;
+        held = start .pre .1 .held .2;
+        room =
+            room-next (room-next (start .pre .1 .room)
+            (lays-as (start .pre .1 .accepted) (at-ident .ident .ensures) .of (start .pre .1 .tree .1) (start .pre .1 .held .1)))
+            (lays (at-word .word .ensures));
+      },
+    )
 
 field-same-length : (t : ℕ) → field-lts.Need-same-length (field-calls t) (field-at t) field.Post
-field-same-length t c = c .before .before .type-expr .kept .0 ∙ c .before .before .before .before .before .before .word .kept .0 ∙ c .before .before .before .before .before .before .before .before .before .before .ident .kept .0
+field-same-length t c =
+    let at-word = c .before .before .before .before .before .before in
+    let at-ident = at-word .before .before .before .before in
+    c .before .before .type-expr .kept .0 ∙ at-word .word .kept .0 ∙ at-ident .ident .kept .0
 
 field-returns : (t : ℕ) → field-lts.Need-returns (field-calls t) (field-at t) field.Post
-field-returns t c = laid-as
+field-returns t c =
+    let at-word = c .before .before .before .before .before .before in
+    let at-ident = at-word .before .before .before .before in
+    let at-second = at-ident .before .before in
+    let start = at-second .before .before .before .before in
+    laid-as
     (record {
-      of = λ x a. lays-then (lays-as (c .before .before .before .before .before .before .before .before .before .before .before .before .before .before .before .before .pre .1 .accepted) (c .before .before .before .before .before .before .before .before .before .before .ident .ensures) .of (x .1) (a .1)) (lays-then (lays (c .before .before .before .before .before .before .word .ensures)) (lays-as (c .before .before .before .before .before .before .before .before .before .before .before .before .before .before .before .before .pre .1 .accepted) (c .before .before .type-expr .ensures) .of (x .2) (rw (c .before .before .before .before .before .before .before .before .before .before .before .before .second .ensures) (a .2))));
+      of =
+          λ x a. lays-then (lays-as (start .pre .1 .accepted) (at-ident .ident .ensures) .of (x .1) (a .1)) (lays-then (lays (at-word .word .ensures))
+          (lays-as (start .pre .1 .accepted) (c .before .before .type-expr .ensures) .of (x .2) (rw (at-second .second .ensures) (a .2))));
     })
 
 record-type-end-requires : (t : ℕ) → record-type-lts.Need-end-requires (record-type-calls t) (record-type-at t) record-type.Post
 record-type-end-requires t c κs = head-whole (c .before .before .before .before .pre .1 .held .0)
 
 record-type-separated-requires : (t : ℕ) → record-type-lts.Need-separated-requires (record-type-calls t) (record-type-at t) record-type.Post
-record-type-separated-requires t c κs = (omega (arith, c .before .before .before .before .before .pre .0), record { accepted = c .before .before .before .before .before .pre .1 .accepted; tree = rules.fieldElems _ (c .before .before .before .before .before .pre .1 .tree .1); held = list-of (c .before .before .before .before .before .pre .1 .held .0) (field-elems _ _ _ _ (c .before .before .before .before .before .pre .1 .tree .1) (c .before .before .before .before .before .pre .1 .held .1)); span = c .before .before .before .before .before .pre .1 .tree .0; ended = c .end .ensures ∙ c .before .before .before .before .before .pre .1 .held .0 .end; room = c .before .before .before .before .before .pre .1 .room })
+record-type-separated-requires t c κs =
+    let start = c .before .before .before .before .before in (
+      omega (arith, start .pre .0),
+      record {
+        accepted = start .pre .1 .accepted;
+        tree = rules.fieldElems _ (start .pre .1 .tree .1);
+        held = list-of (start .pre .1 .held .0) (field-elems _ _ _ _ (start .pre .1 .tree .1) (start .pre .1 .held .1));
+        span = start .pre .1 .tree .0;
+        ended = c .end .ensures ∙ start .pre .1 .held .0 .end;
+        room = start .pre .1 .room;
+      },
+    )
 
 record-type-same-length : (t : ℕ) → record-type-lts.Need-same-length (record-type-calls t) (record-type-at t) record-type.Post
 record-type-same-length t c = c .before .before .separated .kept .0
 
 record-type-returns : (t : ℕ) → record-type-lts.Need-returns (record-type-calls t) (record-type-at t) record-type.Post
-record-type-returns t c = laid-as (record { of = λ x a. lays-list (c .before .before .before .before .before .before .before .before .pre .1 .accepted) (c .before .before .separated .ensures) .of (rules.fieldElems _ (x .1)) (list-of (a .0) (field-elems _ _ _ _ (x .1) (a .1))) (x .0) (c .before .before .before .end .ensures ∙ a .0 .end) })
+record-type-returns t c =
+    let at-end = c .before .before .before in
+    let start = at-end .before .before .before .before .before in
+    laid-as (record {
+      of =
+          λ x a. lays-list (start .pre .1 .accepted) (c .before .before .separated .ensures) .of (rules.fieldElems _ (x .1))
+          (list-of (a .0) (field-elems _ _ _ _ (x .1) (a .1))) (x .0) (at-end .end .ensures ∙ a .0 .end);
+    })
 
 abbrev separated-Inv-loop : separated-lts.InvT-loop
 separated-Inv-loop store₀ c s b at to form k last i p₀ d₀ first₀ store p d first = (length store ≡ length store₀)
@@ -204,123 +305,265 @@ separated-past-requires : (t : ℕ) → separated-lts.Need-past-requires (separa
 separated-past-requires t c κs = record { fits = c .before .before .before .pre .1 .held .fits }
 
 separated-add-if1 : (t : ℕ) → separated-lts.Need-add-if1 (separated-calls t) (separated-at t) separated.Post separated-Inv-loop separated-μ-loop
-separated-add-if1 t c = omega (arith, c .before .before .before .before .pre .1 .accepted .small, c .before .before .before .before .pre .1 .held .long, c .before .before .before .before .pre .1 .held .fits)
+separated-add-if1 t c =
+    let start = c .before .before .before .before in
+    omega (arith, start .pre .1 .accepted .small, start .pre .1 .held .long, start .pre .1 .held .fits)
 
-separated-empty-list-requires : (t : ℕ) → separated-lts.Need-empty-list-requires (separated-calls t) (separated-at t) separated.Post separated-Inv-loop separated-μ-loop
-separated-empty-list-requires t c κs = empty-has (c .before .if1 .taken ∙ c .before .before .past .ensures) (c .before .before .before .before .before .before .pre .1)
+separated-empty-list-requires : (t : ℕ)
+    → separated-lts.Need-empty-list-requires (separated-calls t) (separated-at t) separated.Post separated-Inv-loop separated-μ-loop
+separated-empty-list-requires t c κs =
+    let start = c .before .before .before .before .before .before in
+    empty-has (c .before .if1 .taken ∙ c .before .before .past .ensures) (start .pre .1)
 
 separated-same-length : (t : ℕ) → separated-lts.Need-same-length (separated-calls t) (separated-at t) separated.Post separated-Inv-loop separated-μ-loop
 separated-same-length t c = c .before .before .empty-list .kept .0
 
 separated-returns : (t : ℕ) → separated-lts.Need-returns (separated-calls t) (separated-at t) separated.Post separated-Inv-loop separated-μ-loop
-separated-returns t c = laid-list (empty-laid (c .before .before .before .before .if1 .taken ∙ c .before .before .before .before .before .past .ensures) (lays-empty (c .before .before .before .before .before .before .before .before .before .pre .1 .accepted) (c .before .before .empty-list .ensures)))
+separated-returns t c =
+    let at-if1 = c .before .before .before .before in
+    let at-past = at-if1 .before in
+    let start = at-past .before .before .before .before in
+    laid-list (empty-laid (at-if1 .if1 .taken ∙ at-past .past .ensures) (lays-empty (start .pre .1 .accepted) (c .before .before .empty-list .ensures)))
 
-separated-begin-list-requires : (t : ℕ) → separated-lts.Need-begin-list-requires (separated-calls t) (separated-at t) separated.Post separated-Inv-loop separated-μ-loop
-separated-begin-list-requires t c κs = begins (λ e. c .before .if1 .left (e ∙ sym (c .before .before .past .ensures))) (c .before .before .before .before .before .before .pre .1)
+separated-begin-list-requires : (t : ℕ)
+    → separated-lts.Need-begin-list-requires (separated-calls t) (separated-at t) separated.Post separated-Inv-loop separated-μ-loop
+separated-begin-list-requires t c κs =
+    let start = c .before .before .before .before .before .before in
+    begins (λ e. c .before .if1 .left (e ∙ sym (c .before .before .past .ensures))) (start .pre .1)
 
 separated-add-p : (t : ℕ) → separated-lts.Need-add-p (separated-calls t) (separated-at t) separated.Post separated-Inv-loop separated-μ-loop
-separated-add-p t c = omega (arith, c .before .before .before .before .before .before .before .before .before .pre .1 .accepted .small, c .before .before .before .before .before .before .before .before .before .pre .1 .held .long, c .before .before .before .before .before .before .before .before .before .pre .1 .held .fits)
+separated-add-p t c =
+    let start = c .before .before .before .before .before .before .before .before .before in
+    omega (arith, start .pre .1 .accepted .small, start .pre .1 .held .long, start .pre .1 .held .fits)
 
 separated-loop-holds : (t : ℕ) → separated-lts.Need-loop-holds (separated-calls t) (separated-at t) separated.Post separated-Inv-loop separated-μ-loop
-separated-loop-holds t c = (refl, omega arith, rw (c .before .before .before .before .before .past .ensures) (elems-all (λ e. c .before .before .before .before .if1 .left (e ∙ sym (c .before .before .before .before .before .past .ensures))) (c .before .before .before .before .before .before .before .before .before .pre .1) (c .before .before .begin-list .ensures)), λ x e l. l)
+separated-loop-holds t c =
+    let at-if1 = c .before .before .before .before in
+    let at-past = at-if1 .before in
+    let start = at-past .before .before .before .before in (
+      refl,
+      omega arith,
+      rw (at-past .past .ensures)
+          (elems-all (λ e. at-if1 .if1 .left (e ∙ sym (at-past .past .ensures))) (start .pre .1) (c .before .before .begin-list .ensures)),
+      λ x e l. l,
+    )
 
 separated-start-requires : (t : ℕ) → separated-lts.Need-start-requires (separated-calls t) (separated-at t) separated.Post separated-Inv-loop separated-μ-loop
-separated-start-requires t c κs = let m = elems-first _ (c .before .before .before .before .before .before .before .before .before .before .before .before .args .form .commas) (c .before .before .loop .first) (c .before .loop-test .taken) (c .before .before .loop .inv .2) in m .whole
+separated-start-requires t c κs =
+    let start = c .before .before .before .before .before .before .before .before .before .before .before .before in
+    let m = elems-first _ (start .args .form .commas) (c .before .before .loop .first) (c .before .loop-test .taken) (c .before .before .loop .inv .2) in
+    m .whole
 
-separated-before-elem-requires : (t : ℕ) → separated-lts.Need-before-elem-requires (separated-calls t) (separated-at t) separated.Post separated-Inv-loop separated-μ-loop
-separated-before-elem-requires t c κs = let m = elems-first _ (c .before .before .before .before .before .before .before .before .before .before .before .before .before .args .form .commas) (c .before .before .before .loop .first) (c .before .before .loop-test .taken) (c .before .before .before .loop .inv .2) in (c .before .before .before .before .before .before .before .before .before .before .before .before .before .pre .1 .accepted, before-room _ _ _ m (c .start .ensures))
+separated-before-elem-requires : (t : ℕ)
+    → separated-lts.Need-before-elem-requires (separated-calls t) (separated-at t) separated.Post separated-Inv-loop separated-μ-loop
+separated-before-elem-requires t c κs =
+    let at-loop = c .before .before .before in
+    let start = at-loop .before .before .before .before .before .before .before .before .before .before in
+    let m = elems-first _ (start .args .form .commas) (at-loop .loop .first) (c .before .before .loop-test .taken) (at-loop .loop .inv .2) in
+    (start .pre .1 .accepted, before-room _ _ _ m (c .start .ensures))
 
 separated-elem-requires : (t : ℕ) → separated-lts.Need-elem-requires (separated-calls t) (separated-at t) separated.Post separated-Inv-loop separated-μ-loop
-separated-elem-requires t c κs = let m = elems-first _ (c .before .before .before .before .before .before .before .before .before .before .before .before .before .before .before .before .before .args .form .commas) (c .before .before .before .before .before .before .before .loop .first) (c .before .before .before .before .before .before .loop-test .taken) (c .before .before .before .before .before .before .before .loop .inv .2) in (omega (arith, c .before .before .before .before .before .before .before .before .before .before .before .before .before .before .before .before .before .pre .0, m .least, c .before .before .before .before .before .before .before .loop .inv .1, c .before .before .before .before .before .before .before .before .before .before .before .before .before .past .ensures), elem-has _ _ _ m (c .before .before .before .before .start .ensures) (lays (c .before .before .before .before-elem .ensures)))
+separated-elem-requires t c κs =
+    let at-before-elem = c .before .before .before in
+    let at-start = at-before-elem .before in
+    let at-loop-test = at-start .before .before in
+    let at-loop = at-loop-test .before in
+    let at-past = at-loop .before .before .before .before .before .before in
+    let start = at-past .before .before .before .before in
+    let m = elems-first _ (start .args .form .commas) (at-loop .loop .first) (at-loop-test .loop-test .taken) (at-loop .loop .inv .2) in (
+      omega (arith, start .pre .0, m .least, at-loop .loop .inv .1, at-past .past .ensures),
+      elem-has _ _ _ m (at-start .start .ensures) (lays (at-before-elem .before-elem .ensures)),
+    )
 
 separated-past-requires-2 : (t : ℕ) → separated-lts.Need-past-requires-2 (separated-calls t) (separated-at t) separated.Post separated-Inv-loop separated-μ-loop
-separated-past-requires-2 t c κs = let m = elems-first _ (c .before .before .before .before .before .before .before .before .before .before .before .before .before .before .before .before .before .before .before .before .args .form .commas) (c .before .before .before .before .before .before .before .before .before .before .loop .first) (c .before .before .before .before .before .before .before .before .before .loop-test .taken) (c .before .before .before .before .before .before .before .before .before .before .loop .inv .2) in record { fits = m .whole .fits }
+separated-past-requires-2 t c κs =
+    let at-loop-test = c .before .before .before .before .before .before .before .before .before in
+    let at-loop = at-loop-test .before in
+    let start = at-loop .before .before .before .before .before .before .before .before .before .before in
+    let m = elems-first _ (start .args .form .commas) (at-loop .loop .first) (at-loop-test .loop-test .taken) (at-loop .loop .inv .2) in
+    record { fits = m .whole .fits }
 
 separated-loop-less : (t : ℕ) → separated-lts.Need-loop-less (separated-calls t) (separated-at t) separated.Post separated-Inv-loop separated-μ-loop
-separated-loop-less t c = let m = elems-first _ (c .before .before .before .before .before .before .before .before .before .before .before .before .before .before .before .before .before .before .before .before .before .args .form .commas) (c .before .before .before .before .before .before .before .before .before .before .before .loop .first) (c .before .before .before .before .before .before .before .before .before .before .loop-test .taken) (c .before .before .before .before .before .before .before .before .before .before .before .loop .inv .2) in omega (arith, m .least, m .whole .long, c .past2 .ensures, c .before .before .before .before .before .before .before .before .before .before .loop-test .taken)
+separated-loop-less t c =
+    let at-loop-test = c .before .before .before .before .before .before .before .before .before .before in
+    let at-loop = at-loop-test .before in
+    let start = at-loop .before .before .before .before .before .before .before .before .before .before in
+    let m = elems-first _ (start .args .form .commas) (at-loop .loop .first) (at-loop-test .loop-test .taken) (at-loop .loop .inv .2) in
+    omega (arith, m .least, m .whole .long, c .past2 .ensures, at-loop-test .loop-test .taken)
 
 separated-loop-again : (t : ℕ) → separated-lts.Need-loop-again (separated-calls t) (separated-at t) separated.Post separated-Inv-loop separated-μ-loop
-separated-loop-again t c = let m = elems-first _ (c .before .before .before .before .before .before .before .before .before .before .before .before .before .before .before .before .before .before .before .before .before .args .form .commas) (c .before .before .before .before .before .before .before .before .before .before .before .loop .first) (c .before .before .before .before .before .before .before .before .before .before .loop-test .taken) (c .before .before .before .before .before .before .before .before .before .before .before .loop .inv .2) in (
-  c .before .before .before .elem .kept .0 ∙ c .before .before .before .before .before .before .before .before-elem .kept .0 ∙ c .before .before .before .before .before .before .before .before .before .before .before .loop .inv .0,
-  omega (arith, c .past2 .ensures, c .before .before .before .before .before .before .before .before .before .before .before .loop .inv .1),
-  rw (c .past2 .ensures) (elems-rest _ _ _ m (c .before .before .before .before .before .before .before .before .start .ensures) (lays (c .before .before .before .before .before .before .before .before-elem .ensures)) (lays-as (c .before .before .before .before .before .before .before .before .before .before .before .before .before .before .before .before .before .before .before .before .before .pre .1 .accepted) (c .before .before .before .elem .ensures))),
-  λ x e l. c .before .before .before .before .before .before .before .before .before .before .before .loop .inv .3 x e (elems-more _ (c .before .before .before .before .before .before .before .before .before .before .before .before .before .before .before .before .before .before .before .before .before .args .form .commas) (c .before .before .before .before .before .before .before .before .before .before .before .loop .first) (c .before .before .before .before .before .before .before .before .before .before .loop-test .taken) (c .before .before .before .before .before .before .before .before .start .ensures) (lays (c .before .before .before .before .before .before .before .before-elem .ensures)) (lays-as (c .before .before .before .before .before .before .before .before .before .before .before .before .before .before .before .before .before .before .before .before .before .pre .1 .accepted) (c .before .before .before .elem .ensures)) (rw (c .past2 .ensures) at l)),
-)
+separated-loop-again t c =
+    let at-elem = c .before .before .before in
+    let at-before-elem = at-elem .before .before .before .before in
+    let at-start = at-before-elem .before in
+    let at-loop-test = at-start .before .before in
+    let at-loop = at-loop-test .before in
+    let start = at-loop .before .before .before .before .before .before .before .before .before .before in
+    let m = elems-first _ (start .args .form .commas) (at-loop .loop .first) (at-loop-test .loop-test .taken) (at-loop .loop .inv .2) in (
+      at-elem .elem .kept .0 ∙ at-before-elem .before-elem .kept .0 ∙ at-loop .loop .inv .0,
+      omega (arith, c .past2 .ensures, at-loop .loop .inv .1),
+      rw (c .past2 .ensures) (elems-rest _ _ _ m (at-start .start .ensures) (lays (at-before-elem .before-elem .ensures))
+          (lays-as (start .pre .1 .accepted) (at-elem .elem .ensures))),
+      λ x e l. at-loop .loop .inv .3 x e (elems-more _ (start .args .form .commas) (at-loop .loop .first) (at-loop-test .loop-test .taken)
+          (at-start .start .ensures) (lays (at-before-elem .before-elem .ensures))
+          (lays-as (start .pre .1 .accepted) (at-elem .elem .ensures)) (rw (c .past2 .ensures) at l)),
+    )
 
-separated-finish-list-requires : (t : ℕ) → separated-lts.Need-finish-list-requires (separated-calls t) (separated-at t) separated.Post separated-Inv-loop separated-μ-loop
-separated-finish-list-requires t c κs = elems-done (λ e. c .before .before .before .before .before .before .before .if1 .left (e ∙ sym (c .before .before .before .before .before .before .before .before .past .ensures))) (c .before .before .before .before .before .before .before .before .before .before .before .before .pre .1) (c .before .before .before .before .before .begin-list .ensures) (rw (c .before .before .before .before .before .before .before .before .past .ensures) at (c .before .before .loop .inv .3 _ _ (elems-none _ (c .before .before .before .before .before .before .before .before .before .before .before .before .args .form .commas) (c .before .before .loop .first) (c .before .loop-test .left))))
+separated-finish-list-requires : (t : ℕ)
+    → separated-lts.Need-finish-list-requires (separated-calls t) (separated-at t) separated.Post separated-Inv-loop separated-μ-loop
+separated-finish-list-requires t c κs =
+    let at-begin-list = c .before .before .before .before .before in
+    let at-if1 = at-begin-list .before .before in
+    let at-past = at-if1 .before in
+    let start = at-past .before .before .before .before in
+    elems-done (λ e. at-if1 .if1 .left (e ∙ sym (at-past .past .ensures))) (start .pre .1) (at-begin-list .begin-list .ensures)
+    (rw (at-past .past .ensures)
+    at (c .before .before .loop .inv .3 _ _ (elems-none _ (start .args .form .commas) (c .before .before .loop .first) (c .before .loop-test .left))))
 
 separated-same-length-2 : (t : ℕ) → separated-lts.Need-same-length-2 (separated-calls t) (separated-at t) separated.Post separated-Inv-loop separated-μ-loop
-separated-same-length-2 t c = c .before .before .finish-list .kept .0 ∙ c .before .before .before .before .before .loop .inv .0 ∙ c .before .before .before .before .before .before .before .before .begin-list .kept .0
+separated-same-length-2 t c =
+    let at-loop = c .before .before .before .before .before in
+    let at-begin-list = at-loop .before .before .before in
+    c .before .before .finish-list .kept .0 ∙ at-loop .loop .inv .0 ∙ at-begin-list .begin-list .kept .0
 
 separated-returns-2 : (t : ℕ) → separated-lts.Need-returns-2 (separated-calls t) (separated-at t) separated.Post separated-Inv-loop separated-μ-loop
-separated-returns-2 t c = laid-list (list-laid (λ e. c .before .before .before .before .before .before .before .before .before .before .if1 .left (e ∙ sym (c .before .before .before .before .before .before .before .before .before .before .before .past .ensures))) (c .before .before .before .before .before .before .before .before .before .before .before .before .before .before .before .pre .1 .accepted) (c .before .before .before .before .before .before .before .before .begin-list .ensures) (rw (c .before .before .before .before .before .before .before .before .before .before .before .past .ensures) at (c .before .before .before .before .before .loop .inv .3 _ _ (elems-none _ (c .before .before .before .before .before .before .before .before .before .before .before .before .before .before .before .args .form .commas) (c .before .before .before .before .before .loop .first) (c .before .before .before .before .loop-test .left)))) (c .before .before .finish-list .ensures))
+separated-returns-2 t c =
+    let at-loop-test = c .before .before .before .before in
+    let at-loop = at-loop-test .before in
+    let at-begin-list = at-loop .before .before .before in
+    let at-if1 = at-begin-list .before .before in
+    let at-past = at-if1 .before in
+    let start = at-past .before .before .before .before in
+    laid-list (list-laid (λ e. at-if1 .if1 .left (e ∙ sym (at-past .past .ensures))) (start .pre .1 .accepted)
+    (at-begin-list .begin-list .ensures) (rw (at-past .past .ensures)
+    at (at-loop .loop .inv .3 _ _ (elems-none _ (start .args .form .commas) (at-loop .loop .first) (at-loop-test .loop-test .left))))
+    (c .before .before .finish-list .ensures))
 
 type-expr-kind-requires : (t : ℕ) → type-expr-lts.Need-kind-requires (type-expr-calls t) (type-expr-at t) type-expr.Post
 type-expr-kind-requires t c κs = type-whole _ _ _ (c .before .before .before .pre .1 .tree) (c .before .before .before .pre .1 .held)
 
 type-expr-add-type-expr : (t : ℕ) → type-expr-lts.Need-add-type-expr (type-expr-calls t) (type-expr-at t) type-expr.Post
-type-expr-add-type-expr t c = let w = type-whole _ _ _ (c .before .before .before .before .before .before .pre .1 .tree) (c .before .before .before .before .before .before .pre .1 .held) in omega (arith, c .before .before .before .before .before .before .pre .1 .accepted .small, w .long, w .fits)
+type-expr-add-type-expr t c =
+    let start = c .before .before .before .before .before .before in
+    let w = type-whole _ _ _ (start .pre .1 .tree) (start .pre .1 .held) in
+    omega (arith, start .pre .1 .accepted .small, w .long, w .fits)
 
 type-expr-type-expr-requires : (t : ℕ) → type-expr-lts.Need-type-expr-requires (type-expr-calls t) (type-expr-at t) type-expr.Post
 unfolding TypeAt rules.typeForm
-type-expr-type-expr-requires t c κs = let h = type-has _ (type-is _ _ _ 40 (sym (c .before .before .kind .ensures) ∙ c .before .match .keys1)) (c .before .before .before .before .before .before .pre .1) in (omega (arith, c .before .before .before .before .before .before .pre .0, h .held .1 .1 .same), record { accepted = c .before .before .before .before .before .before .pre .1 .accepted; tree = h .tree .1; held = h .held .1 .0; room = room-first _ (h .room) })
+type-expr-type-expr-requires t c κs =
+    let start = c .before .before .before .before .before .before in
+    let h = type-has _ (type-is _ _ _ 40 (sym (c .before .before .kind .ensures) ∙ c .before .match .keys1)) (start .pre .1) in (
+      omega (arith, start .pre .0, h .held .1 .1 .same),
+      record { accepted = start .pre .1 .accepted; tree = h .tree .1; held = h .held .1 .0; room = room-first _ (h .room) },
+    )
 
 type-expr-word-requires : (t : ℕ) → type-expr-lts.Need-word-requires (type-expr-calls t) (type-expr-at t) type-expr.Post
 unfolding TypeAt rules.typeForm
-type-expr-word-requires t c κs = let h = type-has _ (type-is _ _ _ 40 (sym (c .before .before .before .before .before .before .kind .ensures) ∙ c .before .before .before .before .before .match .keys1)) (c .before .before .before .before .before .before .before .before .before .before .pre .1) in room-next (h .room) (lays-as (c .before .before .before .before .before .before .before .before .before .before .pre .1 .accepted) (c .before .before .before .type-expr .ensures) .of (h .tree .1) (h .held .1 .0))
+type-expr-word-requires t c κs =
+    let at-type-expr = c .before .before .before in
+    let at-match = at-type-expr .before .before in
+    let at-kind = at-match .before in
+    let start = at-kind .before .before .before .before in
+    let h = type-has _ (type-is _ _ _ 40 (sym (at-kind .kind .ensures) ∙ at-match .match .keys1)) (start .pre .1) in
+    room-next (h .room) (lays-as (start .pre .1 .accepted) (at-type-expr .type-expr .ensures) .of (h .tree .1) (h .held .1 .0))
 
 type-expr-type-path-requires : (t : ℕ) → type-expr-lts.Need-type-path-requires (type-expr-calls t) (type-expr-at t) type-expr.Post
-type-expr-type-path-requires t c κs = (omega (arith, c .before .before .before .before .before .before .pre .0), type-has _ (type-is _ _ _ 41 (sym (c .before .before .kind .ensures) ∙ c .before .match .keys2)) (c .before .before .before .before .before .before .pre .1))
+type-expr-type-path-requires t c κs =
+    let start = c .before .before .before .before .before .before in
+    (omega (arith, start .pre .0), type-has _ (type-is _ _ _ 41 (sym (c .before .before .kind .ensures) ∙ c .before .match .keys2)) (start .pre .1))
 
 type-expr-word-requires-2 : (t : ℕ) → type-expr-lts.Need-word-requires-2 (type-expr-calls t) (type-expr-at t) type-expr.Post
 unfolding rules.typeForm
-type-expr-word-requires-2 t c κs = type-has neverOf (type-is _ _ _ 42 (sym (c .before .before .kind .ensures) ∙ c .before .match .keys3)) (c .before .before .before .before .before .before .pre .1) .room
+type-expr-word-requires-2 t c κs =
+    let start = c .before .before .before .before .before .before in
+    type-has neverOf (type-is _ _ _ 42 (sym (c .before .before .kind .ensures) ∙ c .before .match .keys3)) (start .pre .1) .room
 
 type-expr-word-requires-3 : (t : ℕ) → type-expr-lts.Need-word-requires-3 (type-expr-calls t) (type-expr-at t) type-expr.Post
 unfolding rules.typeForm
-type-expr-word-requires-3 t c κs = type-has unitOf (type-is _ _ _ 43 (sym (c .before .before .kind .ensures) ∙ c .before .match .keys4)) (c .before .before .before .before .before .before .pre .1) .room
+type-expr-word-requires-3 t c κs =
+    let start = c .before .before .before .before .before .before in
+    type-has unitOf (type-is _ _ _ 43 (sym (c .before .before .kind .ensures) ∙ c .before .match .keys4)) (start .pre .1) .room
 
 type-expr-add-record-type : (t : ℕ) → type-expr-lts.Need-add-record-type (type-expr-calls t) (type-expr-at t) type-expr.Post
-type-expr-add-record-type t c = let w = type-whole _ _ _ (c .before .before .before .before .before .before .pre .1 .tree) (c .before .before .before .before .before .before .pre .1 .held) in omega (arith, c .before .before .before .before .before .before .pre .1 .accepted .small, w .long, w .fits)
+type-expr-add-record-type t c =
+    let start = c .before .before .before .before .before .before in
+    let w = type-whole _ _ _ (start .pre .1 .tree) (start .pre .1 .held) in
+    omega (arith, start .pre .1 .accepted .small, w .long, w .fits)
 
 type-expr-record-type-requires : (t : ℕ) → type-expr-lts.Need-record-type-requires (type-expr-calls t) (type-expr-at t) type-expr.Post
 unfolding TypeAt rules.typeForm
-type-expr-record-type-requires t c κs = let h = type-has _ (type-is _ _ _ 44 (omega (arith, c .before .match .rest, c .before .before .kind .ensures, type-kind _ _ _ (c .before .before .before .before .before .before .pre .1 .tree) (c .before .before .before .before .before .before .pre .1 .held)))) (c .before .before .before .before .before .before .pre .1) in (omega (arith, c .before .before .before .before .before .before .pre .0, h .held .1 .2 .same), record { accepted = c .before .before .before .before .before .before .pre .1 .accepted; tree = (h .tree .1 .0, h .tree .1 .1); held = (h .held .1 .0, h .held .1 .1); room = h .room })
+type-expr-record-type-requires t c κs =
+    let start = c .before .before .before .before .before .before in
+    let h =
+    type-has _
+    (type-is _ _ _ 44 (omega (arith, c .before .match .rest, c .before .before .kind .ensures, type-kind _ _ _ (start .pre .1 .tree) (start .pre .1 .held))))
+    (start .pre .1)
+    in (
+      omega (arith, start .pre .0, h .held .1 .2 .same),
+      record { accepted = start .pre .1 .accepted; tree = (h .tree .1 .0, h .tree .1 .1); held = (h .held .1 .0, h .held .1 .1); room = h .room },
+    )
 
 type-expr-same-length : (t : ℕ) → type-expr-lts.Need-same-length (type-expr-calls t) (type-expr-at t) type-expr.Post
 type-expr-same-length t c = c .before .before .word .kept .0 ∙ c .before .before .before .before .before .before .type-expr .kept .0
 
 type-expr-returns : (t : ℕ) → type-expr-lts.Need-returns (type-expr-calls t) (type-expr-at t) type-expr.Post
 unfolding TypeAt rules.typeForm
-type-expr-returns t c = laid-as (type-laid _ (type-is _ _ _ 40 (sym (c .before .before .before .before .before .before .before .before .before .kind .ensures) ∙ c .before .before .before .before .before .before .before .before .match .keys1)) (record { of = λ x a. lays-then (lays-as (c .before .before .before .before .before .before .before .before .before .before .before .before .before .pre .1 .accepted) (c .before .before .before .before .before .before .type-expr .ensures) .of (x .1) (a .1 .0)) (lays (c .before .before .word .ensures)) }))
+type-expr-returns t c =
+    let at-type-expr = c .before .before .before .before .before .before in
+    let at-match = at-type-expr .before .before in
+    let at-kind = at-match .before in
+    let start = at-kind .before .before .before .before in
+    laid-as (type-laid _ (type-is _ _ _ 40 (sym (at-kind .kind .ensures) ∙ at-match .match .keys1)) (record {
+      of =
+          λ x a. lays-then (lays-as (start .pre .1 .accepted) (at-type-expr .type-expr .ensures) .of (x .1) (a .1 .0))
+          (lays (c .before .before .word .ensures));
+    }))
 
 type-expr-same-length-2 : (t : ℕ) → type-expr-lts.Need-same-length-2 (type-expr-calls t) (type-expr-at t) type-expr.Post
 type-expr-same-length-2 t c = c .before .before .type-path .kept .0
 
 type-expr-returns-2 : (t : ℕ) → type-expr-lts.Need-returns-2 (type-expr-calls t) (type-expr-at t) type-expr.Post
-type-expr-returns-2 t c = laid-as (type-laid _ (type-is _ _ _ 41 (sym (c .before .before .before .before .before .kind .ensures) ∙ c .before .before .before .before .match .keys2)) (lays-as (c .before .before .before .before .before .before .before .before .before .pre .1 .accepted) (c .before .before .type-path .ensures)))
+type-expr-returns-2 t c =
+    let at-match = c .before .before .before .before in
+    let at-kind = at-match .before in
+    let start = at-kind .before .before .before .before in
+    laid-as (type-laid _ (type-is _ _ _ 41 (sym (at-kind .kind .ensures) ∙ at-match .match .keys2))
+    (lays-as (start .pre .1 .accepted) (c .before .before .type-path .ensures)))
 
 type-expr-same-length-3 : (t : ℕ) → type-expr-lts.Need-same-length-3 (type-expr-calls t) (type-expr-at t) type-expr.Post
 type-expr-same-length-3 t c = c .before .before .word2 .kept .0
 
 type-expr-returns-3 : (t : ℕ) → type-expr-lts.Need-returns-3 (type-expr-calls t) (type-expr-at t) type-expr.Post
 unfolding rules.typeForm
-type-expr-returns-3 t c = laid-as (type-laid neverOf (type-is _ _ _ 42 (sym (c .before .before .before .before .before .kind .ensures) ∙ c .before .before .before .before .match .keys3)) (record { of = λ x a. lays (c .before .before .word2 .ensures) }))
+type-expr-returns-3 t c =
+    let at-match = c .before .before .before .before in
+    let at-kind = at-match .before in
+    laid-as (type-laid neverOf (type-is _ _ _ 42 (sym (at-kind .kind .ensures) ∙ at-match .match .keys3))
+    (record { of = λ x a. lays (c .before .before .word2 .ensures) }))
 
 type-expr-same-length-4 : (t : ℕ) → type-expr-lts.Need-same-length-4 (type-expr-calls t) (type-expr-at t) type-expr.Post
 type-expr-same-length-4 t c = c .before .before .word3 .kept .0
 
 type-expr-returns-4 : (t : ℕ) → type-expr-lts.Need-returns-4 (type-expr-calls t) (type-expr-at t) type-expr.Post
 unfolding rules.typeForm
-type-expr-returns-4 t c = laid-as (type-laid unitOf (type-is _ _ _ 43 (sym (c .before .before .before .before .before .kind .ensures) ∙ c .before .before .before .before .match .keys4)) (record { of = λ x a. lays (c .before .before .word3 .ensures) }))
+type-expr-returns-4 t c =
+    let at-match = c .before .before .before .before in
+    let at-kind = at-match .before in
+    laid-as (type-laid unitOf (type-is _ _ _ 43 (sym (at-kind .kind .ensures) ∙ at-match .match .keys4))
+    (record { of = λ x a. lays (c .before .before .word3 .ensures) }))
 
 type-expr-same-length-5 : (t : ℕ) → type-expr-lts.Need-same-length-5 (type-expr-calls t) (type-expr-at t) type-expr.Post
 type-expr-same-length-5 t c = c .before .before .record-type .kept .0
 
 type-expr-returns-5 : (t : ℕ) → type-expr-lts.Need-returns-5 (type-expr-calls t) (type-expr-at t) type-expr.Post
 unfolding TypeAt rules.typeForm
-type-expr-returns-5 t c = laid-as (type-laid _ (type-is _ _ _ 44 (omega (arith, c .before .before .before .before .match .rest, c .before .before .before .before .before .kind .ensures, type-kind _ _ _ (c .before .before .before .before .before .before .before .before .before .pre .1 .tree) (c .before .before .before .before .before .before .before .before .before .pre .1 .held)))) (record { of = λ x a. lays-as (c .before .before .before .before .before .before .before .before .before .pre .1 .accepted) (c .before .before .record-type .ensures) .of (x .1 .0, x .1 .1) (a .1 .0, a .1 .1) }))
+type-expr-returns-5 t c =
+    let at-match = c .before .before .before .before in
+    let at-kind = at-match .before in
+    let start = at-kind .before .before .before .before in
+    laid-as (type-laid _
+    (type-is _ _ _ 44 (omega (arith, at-match .match .rest, at-kind .kind .ensures, type-kind _ _ _ (start .pre .1 .tree) (start .pre .1 .held))))
+    (record { of = λ x a. lays-as (start .pre .1 .accepted) (c .before .before .record-type .ensures) .of (x .1 .0, x .1 .1) (a .1 .0, a .1 .1) }))
 
 type-path-second-requires : (t : ℕ) → type-path-lts.Need-second-requires (type-path-calls t) (type-path-at t) type-path.Post
 unfolding TypeAt
@@ -328,44 +571,90 @@ type-path-second-requires t c κs = within (path-whole (c .before .before .befor
 
 type-path-add-path : (t : ℕ) → type-path-lts.Need-add-path (type-path-calls t) (type-path-at t) type-path.Post
 unfolding TypeAt
-type-path-add-path t c = omega (arith, c .before .before .before .before .before .pre .1 .accepted .small, c .before .before .before .before .before .pre .1 .held .0 .long, c .before .before .before .before .before .pre .1 .held .0 .fits)
+type-path-add-path t c =
+    let start = c .before .before .before .before .before in
+    omega (arith, start .pre .1 .accepted .small, start .pre .1 .held .0 .long, start .pre .1 .held .0 .fits)
 
 type-path-path-requires : (t : ℕ) → type-path-lts.Need-path-requires (type-path-calls t) (type-path-at t) type-path.Post
 unfolding TypeAt rules.typeForm
-type-path-path-requires t c κs = record { accepted = c .before .before .before .before .before .pre .1 .accepted; tree = c .before .before .before .before .before .pre .1 .tree .1 .0; held = c .before .before .before .before .before .pre .1 .held .1 .0; room = room-first _ (c .before .before .before .before .before .pre .1 .room) }
+type-path-path-requires t c κs =
+    let start = c .before .before .before .before .before in
+    record { accepted = start .pre .1 .accepted; tree = start .pre .1 .tree .1 .0; held = start .pre .1 .held .1 .0; room = room-first _ (start .pre .1 .room) }
 
 type-path-is-absent-requires : (t : ℕ) → type-path-lts.Need-is-absent-requires (type-path-calls t) (type-path-at t) type-path.Post
 unfolding TypeAt
-type-path-is-absent-requires t c κs = rw (c .before .before .before .before .second .ensures) (args-within _ _ _ (c .before .before .before .before .before .before .before .before .pre .1 .tree .1 .1) (c .before .before .before .before .before .before .before .before .pre .1 .held .1 .1))
+type-path-is-absent-requires t c κs =
+    let at-second = c .before .before .before .before in
+    let start = at-second .before .before .before .before in
+    rw (at-second .second .ensures) (args-within _ _ _ (start .pre .1 .tree .1 .1) (start .pre .1 .held .1 .1))
 
 type-path-same-length : (t : ℕ) → type-path-lts.Need-same-length (type-path-calls t) (type-path-at t) type-path.Post
 type-path-same-length t c = c .before .before .before .before .path .kept .0
 
 type-path-returns : (t : ℕ) → type-path-lts.Need-returns (type-path-calls t) (type-path-at t) type-path.Post
 unfolding TypeAt rules.typeForm
-type-path-returns t c = laid-as
-    (let e : be32 (c .before .before .before .before .before .before .before .before .before .before .args .b .now) (stopAt (c .before .before .before .before .before .before .before .before .before .before .args .b .now) (c .before .before .before .before .before .before .before .before .before .before .args .at + 13)) ≡ 0 = absent (rw (c .before .before .before .before .before .before .second .ensures) at (c .before .is-absent .ensures)) (c .if1 .taken) in
-    record { of = λ x a. lays-then (lays-as (c .before .before .before .before .before .before .before .before .before .before .pre .1 .accepted) (c .before .before .before .before .path .ensures) .of (x .1 .0) (a .1 .0)) (no-args e .of (x .1 .1) (a .1 .1)) })
+type-path-returns t c =
+    let at-path = c .before .before .before .before in
+    let at-second = at-path .before .before in
+    let start = at-second .before .before .before .before in
+    laid-as
+    (let e : be32 (start .args .b .now) (stopAt (start .args .b .now) (start .args .at + 13)) ≡ 0 =
+    absent (rw (at-second .second .ensures) at (c .before .is-absent .ensures)) (c .if1 .taken)
+    in
+    record { of = λ x a. lays-then (lays-as (start .pre .1 .accepted) (at-path .path .ensures) .of (x .1 .0) (a .1 .0)) (no-args e .of (x .1 .1) (a .1 .1)) })
 
 type-path-end-requires : (t : ℕ) → type-path-lts.Need-end-requires (type-path-calls t) (type-path-at t) type-path.Post
 unfolding TypeAt
-type-path-end-requires t c κs = let f : be32 (c .before .before .before .before .before .before .before .before .before .before .before .args .b .now) (stopAt (c .before .before .before .before .before .before .before .before .before .before .before .args .b .now) (c .before .before .before .before .before .before .before .before .before .before .before .args .at + 13)) ≡ 0 → ⊥ = present (rw (c .before .before .before .before .before .before .before .second .ensures) at (c .before .before .is-absent .ensures)) (c .before .if1 .left) in
-    rw (c .before .before .before .before .before .before .before .second .ensures) (args-whole _ _ _ f (c .before .before .before .before .before .before .before .before .before .before .before .pre .1 .tree .1 .1) (c .before .before .before .before .before .before .before .before .before .before .before .pre .1 .held .1 .1))
+type-path-end-requires t c κs =
+    let at-second = c .before .before .before .before .before .before .before in
+    let start = at-second .before .before .before .before in
+    let f : be32 (start .args .b .now) (stopAt (start .args .b .now) (start .args .at + 13)) ≡ 0 → ⊥ =
+    present (rw (at-second .second .ensures) at (c .before .before .is-absent .ensures)) (c .before .if1 .left)
+    in
+    rw (at-second .second .ensures) (args-whole _ _ _ f (start .pre .1 .tree .1 .1) (start .pre .1 .held .1 .1))
 
 type-path-separated-requires : (t : ℕ) → type-path-lts.Need-separated-requires (type-path-calls t) (type-path-at t) type-path.Post
 unfolding TypeAt rules.typeForm
-type-path-separated-requires t c κs = let f : be32 (c .before .before .before .before .before .before .before .before .before .before .before .before .args .b .now) (stopAt (c .before .before .before .before .before .before .before .before .before .before .before .before .args .b .now) (c .before .before .before .before .before .before .before .before .before .before .before .before .args .at + 13)) ≡ 0 → ⊥ = present (rw (c .before .before .before .before .before .before .before .before .second .ensures) at (c .before .before .before .is-absent .ensures)) (c .before .before .if1 .left) in
-    rw (c .end .ensures, c .before .before .before .before .before .before .before .before .second .ensures) (omega (arith, c .before .before .before .before .before .before .before .before .before .before .before .before .pre .0, c .before .before .before .before .before .before .before .before .before .before .before .before .pre .1 .held .1 .2 .same), args-list f (record { accepted = c .before .before .before .before .before .before .before .before .before .before .before .before .pre .1 .accepted; tree = c .before .before .before .before .before .before .before .before .before .before .before .before .pre .1 .tree .1 .1; held = c .before .before .before .before .before .before .before .before .before .before .before .before .pre .1 .held .1 .1; room = room-next (c .before .before .before .before .before .before .before .before .before .before .before .before .pre .1 .room) (lays-as (c .before .before .before .before .before .before .before .before .before .before .before .before .pre .1 .accepted) (c .before .before .before .before .before .before .path .ensures) .of (c .before .before .before .before .before .before .before .before .before .before .before .before .pre .1 .tree .1 .0) (c .before .before .before .before .before .before .before .before .before .before .before .before .pre .1 .held .1 .0)) }))
+type-path-separated-requires t c κs =
+    let at-is-absent = c .before .before .before in
+    let at-path = at-is-absent .before .before .before in
+    let at-second = at-path .before .before in
+    let start = at-second .before .before .before .before in
+    let f : be32 (start .args .b .now) (stopAt (start .args .b .now) (start .args .at + 13)) ≡ 0 → ⊥ =
+    present (rw (at-second .second .ensures) at (at-is-absent .is-absent .ensures)) (c .before .before .if1 .left)
+    in
+    rw (c .end .ensures, at-second .second .ensures) (
+      omega (arith, start .pre .0, start .pre .1 .held .1 .2 .same),
+      args-list f (record {
+        accepted = start .pre .1 .accepted;
+        tree = start .pre .1 .tree .1 .1;
+        held = start .pre .1 .held .1 .1;
+        room =
+            room-next (start .pre .1 .room)
+            (lays-as (start .pre .1 .accepted) (at-path .path .ensures) .of (start .pre .1 .tree .1 .0) (start .pre .1 .held .1 .0));
+      }),
+    )
 
 type-path-same-length-2 : (t : ℕ) → type-path-lts.Need-same-length-2 (type-path-calls t) (type-path-at t) type-path.Post
 type-path-same-length-2 t c = c .before .before .separated .kept .0 ∙ c .before .before .before .before .before .before .before .before .before .path .kept .0
 
 type-path-returns-2 : (t : ℕ) → type-path-lts.Need-returns-2 (type-path-calls t) (type-path-at t) type-path.Post
 unfolding TypeAt rules.typeForm
-type-path-returns-2 t c = laid-as
-    (let f : be32 (c .before .before .before .before .before .before .before .before .before .before .before .before .before .before .before .args .b .now) (stopAt (c .before .before .before .before .before .before .before .before .before .before .before .before .before .before .before .args .b .now) (c .before .before .before .before .before .before .before .before .before .before .before .before .before .before .before .args .at + 13)) ≡ 0 → ⊥ = present (rw (c .before .before .before .before .before .before .before .before .before .before .before .second .ensures) at (c .before .before .before .before .before .before .is-absent .ensures)) (c .before .before .before .before .before .if1 .left) in
-    let l = rw (c .before .before .before .end .ensures, c .before .before .before .before .before .before .before .before .before .before .before .second .ensures) at (lays-list (c .before .before .before .before .before .before .before .before .before .before .before .before .before .before .before .pre .1 .accepted) (c .before .before .separated .ensures)) in
-    record { of = λ x a. lays-then (lays-as (c .before .before .before .before .before .before .before .before .before .before .before .before .before .before .before .pre .1 .accepted) (c .before .before .before .before .before .before .before .before .before .path .ensures) .of (x .1 .0) (a .1 .0)) (some-args f l .of (x .1 .1) (a .1 .1)) })
+type-path-returns-2 t c =
+    let at-end = c .before .before .before in
+    let at-if1 = at-end .before .before in
+    let at-is-absent = at-if1 .before in
+    let at-path = at-is-absent .before .before .before in
+    let at-second = at-path .before .before in
+    let start = at-second .before .before .before .before in
+    laid-as
+    (let f : be32 (start .args .b .now) (stopAt (start .args .b .now) (start .args .at + 13)) ≡ 0 → ⊥ =
+    present (rw (at-second .second .ensures) at (at-is-absent .is-absent .ensures)) (at-if1 .if1 .left)
+    in
+    let l = rw (at-end .end .ensures, at-second .second .ensures) at (lays-list (start .pre .1 .accepted) (c .before .before .separated .ensures)) in
+    record {
+      of = λ x a. lays-then (lays-as (start .pre .1 .accepted) (at-path .path .ensures) .of (x .1 .0) (a .1 .0)) (some-args f l .of (x .1 .1) (a .1 .1));
+    })
 
 pub +elem+field+record-type+separated+type-expr+type-path-spec : {M : Type 1} → statement M
 +elem+field+record-type+separated+type-expr+type-path-spec =

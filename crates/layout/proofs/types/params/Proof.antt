@@ -10,13 +10,29 @@ end-requires : tie.Need-end-requires
 end-requires c κs = head-whole (c .before .before .before .before .pre .held .0)
 
 separated-requires : tie.Need-separated-requires
-separated-requires c κs = record { accepted = c .before .before .before .before .before .pre .accepted; tree = rules.fieldElems _ (c .before .before .before .before .before .pre .tree .1); held = list-of (c .before .before .before .before .before .pre .held .0) (field-elems _ _ _ _ (c .before .before .before .before .before .pre .tree .1) (c .before .before .before .before .before .pre .held .1)); span = c .before .before .before .before .before .pre .tree .0; ended = c .end .ensures ∙ c .before .before .before .before .before .pre .held .0 .end; room = c .before .before .before .before .before .pre .room }
+separated-requires c κs =
+    let start = c .before .before .before .before .before in
+    record {
+      accepted = start .pre .accepted;
+      tree = rules.fieldElems _ (start .pre .tree .1);
+      held = list-of (start .pre .held .0) (field-elems _ _ _ _ (start .pre .tree .1) (start .pre .held .1));
+      span = start .pre .tree .0;
+      ended = c .end .ensures ∙ start .pre .held .0 .end;
+      room = start .pre .room;
+    }
 
 same-length : tie.Need-same-length
 same-length c = c .before .before .separated .kept .0
 
 returns : tie.Need-returns
-returns c = laid-as (record { of = λ x a. lays-list (c .before .before .before .before .before .before .before .before .pre .accepted) (c .before .before .separated .ensures) .of (rules.fieldElems _ (x .1)) (list-of (a .0) (field-elems _ _ _ _ (x .1) (a .1))) (x .0) (c .before .before .before .end .ensures ∙ a .0 .end) })
+returns c =
+    let at-end = c .before .before .before in
+    let start = at-end .before .before .before .before .before in
+    laid-as (record {
+      of =
+          λ x a. lays-list (start .pre .accepted) (c .before .before .separated .ensures) .of (rules.fieldElems _ (x .1))
+          (list-of (a .0) (field-elems _ _ _ _ (x .1) (a .1))) (x .0) (at-end .end .ensures ∙ a .0 .end);
+    })
 
 pub params-spec : {M : Type 1} → statement M
 params-spec = tie.close (tie.spec end-requires separated-requires same-length returns)

@@ -27,13 +27,19 @@ past-requires-2 c κs = let lt = rw (c .before .loop .inv .1) at (c .loop-test .
     record { fits = rw (c .before .loop .inv .1) (first-whole (types-rest lt (c .before .loop .inv .0)) .fits) }
 
 loop-less : tie.Need-loop-less Inv-loop μ-loop
-loop-less c = let lt = rw (c .before .before .loop .inv .1) at (c .before .loop-test .taken) in
+loop-less c =
+    let start = c .before .before .before .before .before in
+    let lt = rw (c .before .before .loop .inv .1) at (c .before .loop-test .taken) in
     let w = first-whole (types-rest lt (c .before .before .loop .inv .0)) in
-    omega (arith, w .long, c .before .loop-test .taken, ap (λ (n : ℕ). n + 4 + be32 (c .before .before .before .before .before .args .b .now) n) (c .before .before .loop .inv .1), c .past2 .ensures)
+    omega
+    (arith, w .long, c .before .loop-test .taken, ap (λ (n : ℕ). n + 4 + be32 (start .args .b .now) n) (c .before .before .loop .inv .1), c .past2 .ensures)
 
 loop-again : tie.Need-loop-again Inv-loop μ-loop
-loop-again c = let lt = rw (c .before .before .loop .inv .1) at (c .before .loop-test .taken) in
-    (rw (c .before .before .loop .inv .1) (types-rest lt (c .before .before .loop .inv .0)), c .past2 .ensures, λ r l. c .before .before .loop .inv .2 r (last-more lt (rw (c .before .before .loop .inv .1) at l)))
+loop-again c = let lt = rw (c .before .before .loop .inv .1) at (c .before .loop-test .taken) in (
+  rw (c .before .before .loop .inv .1) (types-rest lt (c .before .before .loop .inv .0)),
+  c .past2 .ensures,
+  λ r l. c .before .before .loop .inv .2 r (last-more lt (rw (c .before .before .loop .inv .1) at l)),
+)
 
 end-requires : tie.Need-end-requires Inv-loop μ-loop
 end-requires c κs = first-whole (c .before .loop .inv .0)

@@ -8,7 +8,9 @@ cast-pop-whitespace : tie.Need-cast-pop-whitespace
 cast-pop-whitespace c = omega (arith, source-short (c .before .before .before .before .before .pre .0))
 
 pop-whitespace-requires : tie.Need-pop-whitespace-requires
-pop-whitespace-requires c κs = (comment-list (c .before .before .before .before .before .pre .0), rw (c .before .has-declarations .ensures) (c .before .before .before .before .before .pre .1))
+pop-whitespace-requires c κs =
+    let start = c .before .before .before .before .before in
+    (comment-list (start .pre .0), rw (c .before .has-declarations .ensures) (start .pre .1))
 
 returns : tie.Need-returns
 returns c = rw (c .before .before .before .before .before .has-declarations .ensures) at (c .before .before .before .pop-whitespace .ensures .laid)

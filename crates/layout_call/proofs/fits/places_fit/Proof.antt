@@ -13,7 +13,12 @@ returns-3 : tie.Need-returns-3
 returns-3 c = rw (le-ltb _ _ (c .before .before .before .before .if1 .left), le-ltb _ _ (c .before .before .if2 .left), lt-ltb _ _ (c .if3 .taken))
 
 returns-4 : tie.Need-returns-4
-returns-4 c = rw (le-ltb _ _ (c .before .before .before .before .before .if1 .left), le-ltb _ _ (c .before .before .before .if2 .left), le-ltb _ _ (c .before .if3 .left)) (at-most (c .before .before .before .before .before .before .before .args .state .row) (c .before .before .before .before .before .before .before .args .rows))
+returns-4 c =
+    let at-if2 = c .before .before .before in
+    let at-if1 = at-if2 .before .before in
+    let start = at-if1 .before .before in
+    rw (le-ltb _ _ (at-if1 .if1 .left), le-ltb _ _ (at-if2 .if2 .left), le-ltb _ _ (c .before .if3 .left))
+    (at-most (start .args .state .row) (start .args .rows))
 
 pub places-fit-spec : {M : Type 1} → statement M
 places-fit-spec = tie.close (tie.spec returns returns-2 returns-3 returns-4)

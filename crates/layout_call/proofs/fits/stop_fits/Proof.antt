@@ -13,7 +13,10 @@ returns-3 : tie.Need-returns-3
 returns-3 c = rw (le-ltb _ _ (c .before .before .before .if1 .left), le-ltb _ _ (c .before .if2 .left), c .if3 .taken)
 
 returns-4 : tie.Need-returns-4
-returns-4 c = rw (le-ltb _ _ (c .before .before .before .before .before .if1 .left), le-ltb _ _ (c .before .before .before .if2 .left), c .before .before .if3 .left, c .before .if4 .taken) (last _)
+returns-4 c =
+    let at-if2 = c .before .before .before in
+    let at-if1 = at-if2 .before .before in
+    rw (le-ltb _ _ (at-if1 .if1 .left), le-ltb _ _ (at-if2 .if2 .left), c .before .before .if3 .left, c .before .if4 .taken) (last _)
 
 returns-5 : tie.Need-returns-5
 returns-5 c = rw (le-ltb _ _ (c .before .before .before .before .if1 .left), le-ltb _ _ (c .before .before .if2 .left), c .before .if3 .left, c .if4 .left)

@@ -8,7 +8,18 @@ mul-most : tie.Need-mul-most
 mul-most c = omega (arith, stands (c .before .before .before .pre .0) .small)
 
 returns : tie.Need-returns
-returns c = record { short = λ h. absurd (omega arith); enough = λ h. omega (arith, few-rows (c .before .before .before .before .pre .0) (c .before .before .before .before .args .state) (c .before .before .before .before .args .args) (c .before .before .before .before .pre .1 .0) (c .before .before .before .before .args .c) (c .before .before .before .before .pre .1 .1 .1), c .before .to-usize .ensures, c .if1 .taken) }
+returns c =
+    let start = c .before .before .before .before in
+    record {
+      short = λ h. absurd (omega arith);
+      enough =
+          λ h. omega (
+            arith,
+            few-rows (start .pre .0) (start .args .state) (start .args .args) (start .pre .1 .0) (start .args .c) (start .pre .1 .1 .1),
+            c .before .to-usize .ensures,
+            c .if1 .taken,
+          );
+    }
 
 pub rows-wanted-spec : {M : Type 1} → statement M
 rows-wanted-spec =

@@ -21,7 +21,9 @@ loop-holds : tie.Need-loop-holds Inv-loop μ-loop
 loop-holds c = (omega arith, c .second .ensures ∙ sym (starts-first (c .before .before .before .pre .0)))
 
 past-requires : tie.Need-past-requires Inv-loop μ-loop
-past-requires c κs = rw (c .before .loop .inv .1) (record-in (c .before .before .before .before .before .pre .0) (c .before .loop .i) (omega (arith, c .before .before .before .before .before .pre .1, c .loop-test .taken)))
+past-requires c κs =
+    let start = c .before .before .before .before .before in
+    rw (c .before .loop .inv .1) (record-in (start .pre .0) (c .before .loop .i) (omega (arith, start .pre .1, c .loop-test .taken)))
 
 add-i : tie.Need-add-i Inv-loop μ-loop
 add-i c = omega (arith, c .before .loop-test .taken)
@@ -30,7 +32,12 @@ loop-less : tie.Need-loop-less Inv-loop μ-loop
 loop-less c = omega (arith, c .before .loop-test .taken)
 
 loop-again : tie.Need-loop-again Inv-loop μ-loop
-loop-again c = (omega (arith, c .before .loop-test .taken), c .past .ensures ∙ ap (stopAt _) (c .before .before .loop .inv .1) ∙ goes-on (c .before .before .before .before .before .before .pre .0) (c .before .before .loop .i) (omega (arith, c .before .before .before .before .before .before .pre .1, c .before .loop-test .taken)))
+loop-again c =
+    let start = c .before .before .before .before .before .before in (
+      omega (arith, c .before .loop-test .taken),
+      c .past .ensures ∙ ap (stopAt _) (c .before .before .loop .inv .1)
+          ∙ goes-on (start .pre .0) (c .before .before .loop .i) (omega (arith, start .pre .1, c .before .loop-test .taken)),
+    )
 
 returns : tie.Need-returns Inv-loop μ-loop
 returns c = c .before .loop .inv .1 ∙ ap (startOf _ _ _) (omega (arith, c .before .loop .inv .0, c .loop-test .left))

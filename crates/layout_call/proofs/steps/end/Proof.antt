@@ -1,10 +1,12 @@
-use Rattle.state.proofs.Laws.{laid-skip}
+use Rattle.acts.proofs.Laws.{laid-skip}
 use borrow.Author.Needs.{needs}
 use Rattle.layout_call.proofs.steps.end.Statement.{statement}
 use Rattle.layout_call.proofs.steps.end.Tie as tie
 
 close-document-requires : tie.Need-close-document-requires
-close-document-requires c κs = (c .before .before .before .before .before .pre .0, rw (c .before .if1 .taken) at (c .before .before .before .before .before .pre .1))
+close-document-requires c κs =
+    let start = c .before .before .before .before .before in
+    (start .pre .0, rw (c .before .if1 .taken) at (start .pre .1))
 
 returns : tie.Need-returns
 returns c = rw (c .before .before .before .before .if1 .taken) (c .before .before .close-document .ensures)

@@ -14,7 +14,10 @@ loop-holds : tie.Need-loop-holds Inv-loop μ-loop
 loop-holds c = putting-start _ _ _ _ _
 
 row-aside-requires : tie.Need-row-aside-requires Inv-loop μ-loop
-row-aside-requires c κs = omega (arith, c .before .before .before .loop .inv .rows, c .before .before .before .before .before .before .pre, c .before .before .loop-test .taken)
+row-aside-requires c κs =
+    let at-loop = c .before .before .before in
+    let start = at-loop .before .before .before in
+    omega (arith, at-loop .loop .inv .rows, start .pre, c .before .before .loop-test .taken)
 
 add-row : tie.Need-add-row Inv-loop μ-loop
 add-row c = omega (arith, c .before .before .before .before .before .before .before .loop-test .taken)
@@ -23,7 +26,11 @@ loop-less : tie.Need-loop-less Inv-loop μ-loop
 loop-less c = omega (arith, c .before .before .before .before .before .before .before .loop-test .taken)
 
 loop-again : tie.Need-loop-again Inv-loop μ-loop
-loop-again c = putting-more _ _ _ _ _ _ _ _ _ _ (c .before .before .before .before .before .before .before .before .loop .inv) (c .before .before .before .before .before .before .before .loop-test .taken) (c .before .before .before .before .row-aside .ensures)
+loop-again c =
+    let at-row-aside = c .before .before .before .before in
+    let at-loop-test = at-row-aside .before .before .before in
+    let at-loop = at-loop-test .before in
+    putting-more _ _ _ _ _ _ _ _ _ _ (at-loop .loop .inv) (at-loop-test .loop-test .taken) (at-row-aside .row-aside .ensures)
 
 same-length : tie.Need-same-length Inv-loop μ-loop
 same-length c = c .before .loop .inv .rows

@@ -16,13 +16,20 @@ sub-row : tie.Need-sub-row Inv-loop μ-loop
 sub-row c = omega (arith, c .loop-test .taken)
 
 row-back-requires : tie.Need-row-back-requires Inv-loop μ-loop
-row-back-requires c κs = omega (arith, c .before .before .before .loop .inv .rows, c .before .before .before .loop .inv .high, c .before .before .before .before .before .before .pre .1, c .before .before .loop-test .taken)
+row-back-requires c κs =
+    let at-loop = c .before .before .before in
+    let start = at-loop .before .before .before in
+    omega (arith, at-loop .loop .inv .rows, at-loop .loop .inv .high, start .pre .1, c .before .before .loop-test .taken)
 
 loop-less : tie.Need-loop-less Inv-loop μ-loop
 loop-less c = omega (arith, c .before .before .before .before .before .before .before .loop-test .taken)
 
 loop-again : tie.Need-loop-again Inv-loop μ-loop
-loop-again c = backing-more _ _ _ _ _ _ _ _ _ (c .before .before .before .before .before .before .before .before .loop .inv) (c .before .before .before .before .before .before .before .loop-test .taken) (c .before .before .before .before .row-back .ensures)
+loop-again c =
+    let at-row-back = c .before .before .before .before in
+    let at-loop-test = at-row-back .before .before .before in
+    let at-loop = at-loop-test .before in
+    backing-more _ _ _ _ _ _ _ _ _ (at-loop .loop .inv) (at-loop-test .loop-test .taken) (at-row-back .row-back .ensures)
 
 same-length : tie.Need-same-length Inv-loop μ-loop
 same-length c = c .before .loop .inv .rows

@@ -19,7 +19,10 @@ shared-slice-read-if1 : tie.Need-shared-slice-read-if1 Inv-loop μ-loop
 shared-slice-read-if1 c = omega (arith, c .before .before .before .pre, c .before .loop-test .taken)
 
 returns : tie.Need-returns Inv-loop μ-loop
-returns c = odd-found _ _ _ (c .before .before .before .loop .inv) (c .before .before .loop-test .taken) (c .before .before .before .before .pre) (c .if1 .taken)
+returns c =
+    let at-loop = c .before .before .before in
+    let start = at-loop .before in
+    odd-found _ _ _ (at-loop .loop .inv) (c .before .before .loop-test .taken) (start .pre) (c .if1 .taken)
 
 add-i : tie.Need-add-i Inv-loop μ-loop
 add-i c = omega (arith, c .before .before .loop-test .taken)

@@ -13,7 +13,10 @@ returns-2 : tie.Need-returns-2
 returns-2 c = simp (le-ltb _ _ (c .before .before .if1 .left), lt-ltb _ _ (c .if2 .taken))
 
 returns-3 : tie.Need-returns-3
-returns-3 c = simp (le-ltb _ _ (c .before .before .before .if1 .left), le-ltb _ _ (c .before .if2 .left)) (at-most (c .before .before .before .before .before .args .state .column .0) MAX-COLUMN)
+returns-3 c =
+    let at-if1 = c .before .before .before in
+    let start = at-if1 .before .before in
+    simp (le-ltb _ _ (at-if1 .if1 .left), le-ltb _ _ (c .before .if2 .left)) (at-most (start .args .state .column .0) MAX-COLUMN)
 
 pub pen-fits-spec : {M : Type 1} → statement M
 pen-fits-spec = tie.close (tie.spec returns returns-2 returns-3)

@@ -12,13 +12,44 @@ returns : tie.Need-returns
 returns c = simp (sym (c .before .source-fits .ensures) ∙ not-true _ (c .if1 .taken))
 
 returns-2 : tie.Need-returns-2
-returns-2 c = simp (sym (c .before .before .before .source-fits .ensures) ∙ not-false _ (c .before .before .if1 .left), sym (c .before .header-fits .ensures) ∙ not-true _ (c .if2 .taken))
+returns-2 c =
+    let at-source-fits = c .before .before .before in
+    simp (
+      sym (at-source-fits .source-fits .ensures) ∙ not-false _ (c .before .before .if1 .left),
+      sym (c .before .header-fits .ensures) ∙ not-true _ (c .if2 .taken),
+    )
 
 returns-3 : tie.Need-returns-3
-returns-3 c = simp (sym (c .before .before .before .before .before .before .before .source-fits .ensures) ∙ not-false _ (c .before .before .before .before .before .before .if1 .left), sym (c .before .before .before .before .before .header-fits .ensures) ∙ not-false _ (c .before .before .before .before .if2 .left), found-wrong (wrongPlace (c .before .before .before .before .before .before .before .before .before .before .before .before .args .source .now) (c .before .before .before .before .before .before .before .before .before .before .before .before .args .image .now) (c .before .before .before .before .before .before .before .before .before .before .before .before .args .store .now) (c .before .before .before .before .before .before .before .before .before .before .before .before .args .state .row) (c .before .before .before .before .before .before .before .before .before .before .before .before .args .args .stop)) _ (c .before .before .before .check-rows .ensures) _ (c .before .row .given .1))
+returns-3 c =
+    let at-check-rows = c .before .before .before in
+    let at-if2 = at-check-rows .before in
+    let at-header-fits = at-if2 .before in
+    let at-if1 = at-header-fits .before in
+    let at-source-fits = at-if1 .before in
+    let start = at-source-fits .before .before .before .before .before in
+    simp (
+      sym (at-source-fits .source-fits .ensures) ∙ not-false _ (at-if1 .if1 .left),
+      sym (at-header-fits .header-fits .ensures) ∙ not-false _ (at-if2 .if2 .left),
+      found-wrong
+          (wrongPlace (start .args .source .now) (start .args .image .now) (start .args .store .now) (start .args .state .row) (start .args .args .stop)) _
+          (at-check-rows .check-rows .ensures) _ (c .before .row .given .1),
+    )
 
 returns-4 : tie.Need-returns-4
-returns-4 c = simp (sym (c .before .before .before .before .before .before .before .source-fits .ensures) ∙ not-false _ (c .before .before .before .before .before .before .if1 .left), sym (c .before .before .before .before .before .header-fits .ensures) ∙ not-false _ (c .before .before .before .before .if2 .left), found-right (wrongPlace (c .before .before .before .before .before .before .before .before .before .before .before .before .args .source .now) (c .before .before .before .before .before .before .before .before .before .before .before .before .args .image .now) (c .before .before .before .before .before .before .before .before .before .before .before .before .args .store .now) (c .before .before .before .before .before .before .before .before .before .before .before .before .args .state .row) (c .before .before .before .before .before .before .before .before .before .before .before .before .args .args .stop)) _ (c .before .before .before .check-rows .ensures) (c .before .enum-told .given .1)) (c .state-refusal .ensures)
+returns-4 c =
+    let at-check-rows = c .before .before .before in
+    let at-if2 = at-check-rows .before in
+    let at-header-fits = at-if2 .before in
+    let at-if1 = at-header-fits .before in
+    let at-source-fits = at-if1 .before in
+    let start = at-source-fits .before .before .before .before .before in
+    simp (
+      sym (at-source-fits .source-fits .ensures) ∙ not-false _ (at-if1 .if1 .left),
+      sym (at-header-fits .header-fits .ensures) ∙ not-false _ (at-if2 .if2 .left),
+      found-right
+          (wrongPlace (start .args .source .now) (start .args .image .now) (start .args .store .now) (start .args .state .row) (start .args .args .stop)) _
+          (at-check-rows .check-rows .ensures) (c .before .enum-told .given .1),
+    ) (c .state-refusal .ensures)
 
 pub refusal-spec : {M : Type 1} → statement M
 refusal-spec =

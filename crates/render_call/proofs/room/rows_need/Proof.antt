@@ -24,10 +24,16 @@ row-marks-requires : tie.Need-row-marks-requires Inv-loop μ-loop
 row-marks-requires c κs = omega (arith, c .before .before .before .before .pre .1 .0, c .loop-test .taken)
 
 row-most-requires : tie.Need-row-most-requires Inv-loop μ-loop
-row-most-requires c κs = (omega (arith, c .before .before .before .before .before .before .pre .1 .0, c .before .before .loop-test .taken), c .before .before .before .before .before .before .pre .1 .1 .1)
+row-most-requires c κs =
+    let start = c .before .before .before .before .before .before in
+    (omega (arith, start .pre .1 .0, c .before .before .loop-test .taken), start .pre .1 .1 .1)
 
 add-sum : tie.Need-add-sum Inv-loop μ-loop
-add-sum c = omega (arith, c .before .row-most .ensures .1, c .before .before .before .before .before .loop .inv .1 .few, c .before .before .before .before .loop-test .taken, c .before .before .before .before .before .before .before .before .pre .1 .1 .0, c .before .before .before .before .before .before .before .before .pre .1 .1 .1)
+add-sum c =
+    let at-loop-test = c .before .before .before .before in
+    let at-loop = at-loop-test .before in
+    let start = at-loop .before .before .before in
+    omega (arith, c .before .row-most .ensures .1, at-loop .loop .inv .1 .few, at-loop-test .loop-test .taken, start .pre .1 .1 .0, start .pre .1 .1 .1)
 
 add-row : tie.Need-add-row Inv-loop μ-loop
 add-row c = omega (arith, c .before .before .before .before .loop-test .taken)
@@ -36,7 +42,14 @@ loop-less : tie.Need-loop-less Inv-loop μ-loop
 loop-less c = omega (arith, c .before .before .before .before .loop-test .taken)
 
 loop-again : tie.Need-loop-again Inv-loop μ-loop
-loop-again c = (needing-more _ _ _ _ _ _ _ (c .before .before .before .before .before .loop .inv .0) (c .before .before .before .before .loop-test .taken) (c .before .before .before .row-marks .ensures .0) (c .before .before .larger .ensures), summing-more _ _ _ _ _ _ _ (c .before .before .before .before .before .loop .inv .1) (c .before .before .before .before .loop-test .taken) (c .before .row-most .ensures .0) (c .before .row-most .ensures .1))
+loop-again c =
+    let at-row-marks = c .before .before .before in
+    let at-loop-test = at-row-marks .before in
+    let at-loop = at-loop-test .before in (
+      needing-more _ _ _ _ _ _ _ (at-loop .loop .inv .0) (at-loop-test .loop-test .taken) (at-row-marks .row-marks .ensures .0)
+          (c .before .before .larger .ensures),
+      summing-more _ _ _ _ _ _ _ (at-loop .loop .inv .1) (at-loop-test .loop-test .taken) (c .before .row-most .ensures .0) (c .before .row-most .ensures .1),
+    )
 
 returns : tie.Need-returns Inv-loop μ-loop
 returns c = (needing-end _ _ _ _ _ (c .before .loop .inv .0) (c .loop-test .left), summing-end _ _ _ _ _ _ (c .before .loop .inv .1) (c .loop-test .left))

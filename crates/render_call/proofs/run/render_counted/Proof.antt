@@ -6,13 +6,26 @@ use Rattle.render_call.proofs.run.render_counted.Statement.{statement}
 use Rattle.render_call.proofs.run.render_counted.Tie as tie
 
 returns : tie.Need-returns
-returns c = ends-ten _ _ _ _ _ _ (c .before .before .before .before .before .before .before .before .before .before .before .before .before .before .before .before .pre .0) _ _ _ _ _ (c .before .before .before .before .before .before .before .bytes-needed .ensures) (c .if1 .taken)
+returns c =
+    let at-bytes-needed = c .before .before .before .before .before .before .before in
+    let start = at-bytes-needed .before .before .before .before .before .before .before .before .before in
+    ends-ten _ _ _ _ _ _ (start .pre .0) _ _ _ _ _ (at-bytes-needed .bytes-needed .ensures) (c .if1 .taken)
 
 write-rows-requires : tie.Need-write-rows-requires
-write-rows-requires c κs = (has-room _ _ _ _ _ _ (c .before .before .before .before .before .before .before .before .before .before .before .before .before .before .before .before .before .before .before .pre .0) _ _ _ _ _ (c .before .before .before .before .before .before .before .before .before .before .bytes-needed .ensures) (c .before .before .before .if1 .left), still-needed _ _ _ _ _ _ (c .before .before .before .before .before .before .before .before .before .before .before .before .before .before .before .before .before .before .before .pre .0) _ _ _ _ _ (c .before .before .before .before .before .before .before .before .before .before .bytes-needed .ensures) _ (c .before .before .before .before .before .before .before .before .before .before .before .before .before .before .before .before .before .before .before .pre .1))
+write-rows-requires c κs =
+    let at-if1 = c .before .before .before in
+    let at-bytes-needed = at-if1 .before .before .before .before .before .before .before in
+    let start = at-bytes-needed .before .before .before .before .before .before .before .before .before in (
+      has-room _ _ _ _ _ _ (start .pre .0) _ _ _ _ _ (at-bytes-needed .bytes-needed .ensures) (at-if1 .if1 .left),
+      still-needed _ _ _ _ _ _ (start .pre .0) _ _ _ _ _ (at-bytes-needed .bytes-needed .ensures) _ (start .pre .1),
+    )
 
 returns-2 : tie.Need-returns-2
-returns-2 c = then-run _ _ _ _ _ _ (c .before .before .before .before .before .before .before .before .before .before .before .before .before .before .before .before .before .before .before .before .before .before .before .before .pre .0) _ _ _ _ _ (c .before .before .before .before .before .before .before .before .before .before .before .before .before .before .before .bytes-needed .ensures) _ _ _ (c .before .before .before .before .write-rows .ensures)
+returns-2 c =
+    let at-write-rows = c .before .before .before .before in
+    let at-bytes-needed = at-write-rows .before .before .before .before .before .before .before .before .before .before .before in
+    let start = at-bytes-needed .before .before .before .before .before .before .before .before .before in
+    then-run _ _ _ _ _ _ (start .pre .0) _ _ _ _ _ (at-bytes-needed .bytes-needed .ensures) _ _ _ (at-write-rows .write-rows .ensures)
 
 pub render-counted-spec : {M : Type 1} → statement M
 render-counted-spec =

@@ -21,7 +21,10 @@ returns-3 : tie.Need-returns-3
 returns-3 c = simp (le-ltb _ _ (c .before .before .before .before .if1 .left), le-ltb _ _ (c .before .before .if2 .left), eq-eqb _ _ (c .if3 .taken))
 
 returns-4 : tie.Need-returns-4
-returns-4 c = simp (le-ltb _ _ (c .before .before .before .before .before .before .if1 .left), le-ltb _ _ (c .before .before .before .before .if2 .left), ne-eqb _ _ (c .before .before .if3 .left)) (not-other _)
+returns-4 c =
+    let at-if2 = c .before .before .before .before in
+    let at-if1 = at-if2 .before .before in
+    simp (le-ltb _ _ (at-if1 .if1 .left), le-ltb _ _ (at-if2 .if2 .left), ne-eqb _ _ (c .before .before .if3 .left)) (not-other _)
 
 pub width-fits-spec : {M : Type 1} → statement M
 width-fits-spec = tie.close (tie.spec returns returns-2 returns-3 returns-4)

@@ -12,16 +12,34 @@ add-result : tie.Need-add-result
 add-result c = omega (arith, c .before .before .pre, one-low (c .before .before .args .f .wrap) (c .bit .result) (c .bit .ensures))
 
 mul-result-3 : tie.Need-mul-result-3
-mul-result-3 c = omega (arith, one-low (c .before .before .before .args .f .early) (c .bit2 .result) (c .bit2 .ensures))
+mul-result-3 c = omega (arith, one-low (c .before .before .before .args .f .first) (c .bit2 .result) (c .bit2 .ensures))
 
 add-result-2 : tie.Need-add-result-2
-add-result-2 c = omega (arith, c .before .before .before .pre, one-low (c .before .before .before .args .f .wrap) (c .before .bit .result) (c .before .bit .ensures), one-low (c .before .before .before .args .f .early) (c .bit2 .result) (c .bit2 .ensures))
+add-result-2 c =
+    let start = c .before .before .before in
+    omega (
+      arith,
+      start .pre,
+      one-low (start .args .f .wrap) (c .before .bit .result) (c .before .bit .ensures),
+      one-low (start .args .f .first) (c .bit2 .result) (c .bit2 .ensures),
+    )
 
 add-result-3 : tie.Need-add-result-3
-add-result-3 c = omega (arith, c .before .before .before .before .pre, one-low (c .before .before .before .before .args .f .wrap) (c .before .before .bit .result) (c .before .before .bit .ensures), one-low (c .before .before .before .before .args .f .early) (c .before .bit2 .result) (c .before .bit2 .ensures), one-low (c .before .before .before .before .args .f .deep) (c .bit3 .result) (c .bit3 .ensures))
+add-result-3 c =
+    let start = c .before .before .before .before in
+    omega (
+      arith,
+      start .pre,
+      one-low (start .args .f .wrap) (c .before .before .bit .result) (c .before .before .bit .ensures),
+      one-low (start .args .f .first) (c .before .bit2 .result) (c .before .bit2 .ensures),
+      one-low (start .args .f .deeper) (c .bit3 .result) (c .bit3 .ensures),
+    )
 
 returns : tie.Need-returns
-returns c = packed (c .before .before .before .before .args .f) _ (c .before .before .bit .result) (c .before .bit2 .result) (c .bit3 .result) (c .before .before .bit .ensures) (c .before .bit2 .ensures) (c .bit3 .ensures) refl
+returns c =
+    let start = c .before .before .before .before in
+    packed (start .args .f) _ (c .before .before .bit .result) (c .before .bit2 .result) (c .bit3 .result)
+    (c .before .before .bit .ensures) (c .before .bit2 .ensures) (c .bit3 .ensures) refl
 
 pub pack-spec : {M : Type 1} → statement M
 pack-spec =

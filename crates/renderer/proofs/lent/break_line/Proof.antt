@@ -1,4 +1,5 @@
--- `lent::break_line` meets its contract: a walk of its MIR, by hand. The borrow is opened, the pen behind it is copied and passed to `broken`, what that returns is stored behind it, and the borrow is closed there.
+-- `lent::break_line` meets its contract: a walk of its MIR, by hand. The borrow is opened, the pen behind it
+-- is copied and passed to `broken`, what that returns is stored behind it, and the borrow is closed there.
 -- All that the proof knows of `broken` is that it meets its contract. Assumes nothing.
 use mathlib.Core.Path.{_≡_, refl}
 use Prim.Native.Nat.{ℕ, _+_, _≤_}
@@ -15,8 +16,10 @@ use prog.Wp.{Heap, Calls, Loops, WpFn, Tables}
 use ghost.Atoms.{Atoms, sem}
 use contract.Monad.{Fun, fact}
 use contract.Running.{givenOf, tables, tablesOf}
-use types.Kit.{Given, ‵, raw, some, later, _⊛_, _$_, _∵_, !, qed, by, move, keep, drop, use1, split, join, pick, fsplit, fsplit3, fjoin, fjoin3, feqI, suffices, frame, await, done}
-use types.Run.{look, look-raw, init, store-raw, forget, stop, hop, from, load, unit-lit, of-opd, and-then, no-more, assigns, land, returns, enter, alloc1, alloc0, params1, pass1, pass0, free1, free0}
+use types.Kit.{Given, ‵, raw, some, later, _⊛_, _$_, _∵_, !, qed, by, move, keep, drop, use1, split}
+use types.Kit.{join, pick, fsplit, fsplit3, fjoin, fjoin3, feqI, suffices, frame, await, done}
+use types.Run.{look, look-raw, init, store-raw, forget, stop, hop, from, load, unit-lit, of-opd, and-then}
+use types.Run.{no-more, assigns, land, returns, enter, alloc1, alloc0, params1, pass1, pass0, free1, free0}
 use types.SemTy.{Body}
 use sound.WpLaws.{FmC, fmOf, WpFn-mono}
 use denote.RattleType.{owns}
@@ -56,7 +59,8 @@ module _ {M : Type 1} (𝓤 : URA M) (H : Heap 𝓤) (A : Atoms 𝓤) (mem : Mem
   abbrev Broken : Contract 𝓤
   Broken = tripleOf 𝓤 H A by-value.signature (by-value.spec 𝓤 H A mem run)
 
-module _ {M : Type 1} (𝓤 : URA M) (H : Heap 𝓤) (A : Atoms 𝓤) (W : Given 𝓤 H A) (at-mem : Memory → SProp 𝓤) (run : Routine → Fun 𝓤) (κ : Lft) (q : Share) (b o : ℕ) (γ : GName) (h : Pen) (ok : h .indent + h .«next_indent» ≤ 384) where
+module _ {M : Type 1} (𝓤 : URA M) (H : Heap 𝓤) (A : Atoms 𝓤) (W : Given 𝓤 H A) (at-mem : Memory → SProp 𝓤) (run : Routine → Fun 𝓤)
+    (κ : Lft) (q : Share) (b o : ℕ) (γ : GName) (h : Pen) (ok : h .indent + h .«next_indent» ≤ 384) where
   abbrev x : RefT Pen × Unit {0}
   x = (record { ptr = (b, o); name = γ; now = h }, tt)
 
@@ -75,46 +79,62 @@ module _ {M : Type 1} (𝓤 : URA M) (H : Heap 𝓤) (A : Atoms 𝓤) (W : Given
   said : (r : Pen) → ent 𝓤 (ensured 𝓤 H A by-value.ended (by-value.clauses 𝓤 H A at-mem run) tt (h, tt) tt r) (fact 𝓤 (r ≡ onNewLine h))
   said r = exE 𝓤 _ (λ ws. snd∗ 𝓤 (sem 𝓤 H A (lasts by-value.ended tt (h, tt) ws)) (fact 𝓤 (r ≡ onNewLine h)))
 
-  exits : (r : Pen) → r ≡ onNewLine h → ent 𝓤 (sep 𝓤 (A .obs γ (T.the-row .coded .code r)) (sep 𝓤 (A .bor κ (Body (mem T.the-row) b o γ)) (A .lft κ q))) (Post vunit)
+  exits : (r : Pen) → r ≡ onNewLine h
+      → ent 𝓤 (sep 𝓤 (A .obs γ (T.the-row .coded .code r)) (sep 𝓤 (A .bor κ (Body (mem T.the-row) b o γ)) (A .lft κ q))) (Post vunit)
   exits r e =
       qed W (‵ (fobs γ (T.the-row .coded .code r)) ∷ ‵ (fbor κ (Body (mem T.the-row) b o γ)) ∷ ‵ (flft κ q) ∷ []) ∵
-      suffices ! _ (ends-at 𝓤 H A break-line.ended stayed (break-line.clauses 𝓤 H A at-mem run) W (((κ, tt), (q, tt), tt, x, at), tt) vunit tt (r, tt) (tt, tt)) $ says ! e $ nothing ! $ move ! (3 ∷ 0 ∷ []) $ join ! $
+      suffices ! _
+      (ends-at 𝓤 H A break-line.ended stayed (break-line.clauses 𝓤 H A at-mem run) W (((κ, tt), (q, tt), tt, x, at), tt) vunit tt (r, tt) (tt, tt)) $
+      says ! e $ nothing ! $ move ! (3 ∷ 0 ∷ []) $ join ! $
       frame ! $ feqI ! (List Val) (vptr b o ∷ []) (vptr b o ∷ []) refl $ fjoin3 ! $ nothing ! $ move ! (1 ∷ 0 ∷ []) $ fjoin ! $
       feqI ! (List Val) (vunit ∷ []) (vunit ∷ []) refl $ move ! (1 ∷ 0 ∷ []) $ done !
 
   module _ (C : Calls 𝓤 H) (Λ : Loops 𝓤 H) (fm : FmC 𝓤 H (W .laws) C) (known : Triple 𝓤 (C #renderer·lent·broken) (Broken 𝓤 H A at-mem run)) where
     walk : ent 𝓤 (onEntry 𝓤 H A break-line.signature (κ, tt) (q, tt) x at) (WpFn 𝓤 H C Λ code.function (vptr b o ∷ []) Post)
     walk =
-        qed W ((‵ (flft κ q) ⊛ ‵ ftrue) ∷ ‵ (owns (MutRef (named 0) κ T.the-row ∷ []) x at) ∷ []) ∵ split ! $ move ! (2 ∷ []) $ fsplit ! $ fsplit3 ! $ drop ! $ move ! (0 ∷ 1 ∷ 3 ∷ []) $
+        qed W ((‵ (flft κ q) ⊛ ‵ ftrue) ∷ ‵ (owns (MutRef (named 0) κ T.the-row ∷ []) x at) ∷ []) ∵ split ! $ move ! (2 ∷ []) $ fsplit ! $ fsplit3 ! $
+        drop ! $ move ! (0 ∷ 1 ∷ 3 ∷ []) $
         enter ! C Λ code.function (vptr b o ∷ []) _ $
         alloc1 ! (λ l₀. alloc1 ! (λ l₁. alloc1 ! (λ l₂. alloc1 ! (λ l₃. alloc0 ! $ params1 ! $ pass1 ! (init ! 4 refl (tt, tt)) $ pass0 ! $
-        move ! (8 ∷ 9 ∷ 10 ∷ []) $ opens ! tt T.the-row {h = h} b o (λ vs. spelt ! T.the-row (Is T.the-row) (shows 𝓤 H A T.the-row) vals (LL.tells T.the-type T′.the-laws) fullShare h vs b o $
+        move ! (8 ∷ 9 ∷ 10 ∷ []) $
+        opens ! tt T.the-row {h = h} b o
+        (λ vs. spelt ! T.the-row (Is T.the-row) (shows 𝓤 H A T.the-row) vals (LL.tells T.the-type T′.the-laws) fullShare h vs b o $
         move ! (1 ∷ []) $ peeks ! T.the-row (Is T.the-row) (shows 𝓤 H A T.the-row) h (vals h) (λ was.
         -- [what the pen owns; their cell; the open borrow; obs; auth; room for _3; …; room for _2; …; _1; …; room for _0; …]
-        assigns ! (of-opd ! (load ! (from ! (hop ! (look ! 9 refl) (stop !))) (look-raw ! 1 refl))) (from ! (stop !)) (init ! 5 refl (LL.lawful T.the-type T′.the-laws 𝓤 H A W .typed h _ was .0)) $
+        assigns ! (of-opd ! (load ! (from ! (hop ! (look ! 9 refl) (stop !))) (look-raw ! 1 refl))) (from ! (stop !))
+        (init ! 5 refl (LL.lawful T.the-type T′.the-laws 𝓤 H A W .typed h _ was .0)) $
         use1 W (raw (Broken 𝓤 H A at-mem run .pre to)) goes $
         calls-at ! fm (Broken 𝓤 H A at-mem run) known to (and-then ! (load ! (from ! (stop !)) (look ! 5 refl)) (no-more !)) (λ v.
-        use1 W (later (some (λ (r : Pen). (‵ ftrue ⊛ ‵ (T.the-row .own r (v ∷ []))) ⊛ raw (ensured 𝓤 H A by-value.ended (by-value.clauses 𝓤 H A at-mem run) tt (h, tt) tt r)))) (id⊢ 𝓤 _) $ await ! tt $ pick ! (λ r.
+        use1 W (later (some
+        (λ (r : Pen). (‵ ftrue ⊛ ‵ (T.the-row .own r (v ∷ []))) ⊛ raw (ensured 𝓤 H A by-value.ended (by-value.clauses 𝓤 H A at-mem run) tt (h, tt) tt r))))
+        (id⊢ 𝓤 _) $
+        await ! tt $ pick ! (λ r.
         split ! $ move ! (1 ∷ []) $ use1 W (raw (fact 𝓤 (r ≡ onNewLine h))) (said r) $ heard ! (r ≡ onNewLine h) (λ e. split ! $ drop ! $
         peeks ! T.the-row (Is T.the-row) (shows 𝓤 H A T.the-row) r (v ∷ []) (λ is.
         -- [what the result owns; the cell; the open borrow; obs; auth; _3; …; room for _2; …; _1; …; room for _0; …]
         land ! (from ! (stop !)) (init ! 7 refl (LL.lawful T.the-type T′.the-laws 𝓤 H A W .typed r _ is .0)) $
-        assigns ! (of-opd ! (load ! (from ! (stop !)) (look ! 7 refl))) (from ! (hop ! (look ! 9 refl) (stop !))) (store-raw ! 1 refl (LL.lawful T.the-type T′.the-laws 𝓤 H A W .typed r _ is .0)) $
+        assigns ! (of-opd ! (load ! (from ! (stop !)) (look ! 7 refl))) (from ! (hop ! (look ! 9 refl) (stop !)))
+        (store-raw ! 1 refl (LL.lawful T.the-type T′.the-laws 𝓤 H A W .typed r _ is .0)) $
         assigns ! (of-opd ! (unit-lit !)) (from ! (stop !)) (init ! 11 refl (tt, tt)) $
         move ! (1 ∷ 0 ∷ []) $ closes ! tt T.the-row r (v ∷ []) b o $
         returns ! (look ! 9 refl) $ forget ! 3 refl $ forget ! 5 refl $ forget ! 7 refl $ forget ! 9 refl $
-        move ! (9 ∷ 10 ∷ []) $ free1 ! $ move ! (7 ∷ 8 ∷ []) $ free1 ! $ move ! (5 ∷ 6 ∷ []) $ free1 ! $ move ! (3 ∷ 4 ∷ []) $ free1 ! $ free0 ! $ keep ! (0 ∷ 1 ∷ 2 ∷ []) $ by ! (exits r e)))))))))))
+        move ! (9 ∷ 10 ∷ []) $ free1 ! $ move ! (7 ∷ 8 ∷ []) $ free1 ! $ move ! (5 ∷ 6 ∷ []) $ free1 ! $ move ! (3 ∷ 4 ∷ []) $ free1 ! $ free0 ! $
+        keep ! (0 ∷ 1 ∷ 2 ∷ []) $ by ! (exits r e)))))))))))
 
 module _ {M : Type 1} (𝓤 : URA M) (H : Heap 𝓤) (A : Atoms 𝓤) (W : Given 𝓤 H A) (mem : Memory → SProp 𝓤) (run : Routine → Fun 𝓤) where
   break-line-walks : (C : Calls 𝓤 H) (Λ : Loops 𝓤 H) → FmC 𝓤 H (W .laws) C → Triple 𝓤 (C #renderer·lent·broken) (Broken 𝓤 H A mem run)
       → Walks 𝓤 H A break-line.ended stayed (WpFn 𝓤 H C Λ code.function) (break-line.clauses 𝓤 H A mem run)
-  break-line-walks C Λ fm known = walked 𝓤 H A break-line.ended stayed (break-line.clauses 𝓤 H A mem run) (WpFn 𝓤 H C Λ code.function) (λ κs. (ptr-vals, tt)) (λ κs. (mut-tells (named 0) (κs .0) T.the-row, tt))
+  break-line-walks C Λ fm known =
+      walked 𝓤 H A break-line.ended stayed (break-line.clauses 𝓤 H A mem run) (WpFn 𝓤 H C Λ code.function) (λ κs. (ptr-vals, tt))
+      (λ κs. (mut-tells (named 0) (κs .0) T.the-row, tt))
       (λ κs qs bounds a g are. needs 𝓤 _ _ (λ ok. walk 𝓤 H A W mem run (κs .0) (qs .0) (a .0 .ptr .0) (a .0 .ptr .1) (a .0 .name) (a .0 .now) ok C Λ fm known))
 
 break-line-meets : {M : Type 1} (𝓤 : URA M) (H : Heap 𝓤) (A : Atoms 𝓤) → Given 𝓤 H A → (mem : Memory → SProp 𝓤) (run : Routine → Fun 𝓤) (𝓣 : Tables 𝓤 H)
     → Triple 𝓤 (𝓣 .C #renderer·lent·broken) (Broken 𝓤 H A mem run)
     → Meets 𝓤 H A break-line.signature (WpFn 𝓤 H (𝓣 .C) (𝓣 .Λ) code.function) (break-line.spec 𝓤 H A mem run)
-break-line-meets 𝓤 H A W mem run 𝓣 known = walk-meets 𝓤 H A break-line.ended stayed W (goes-ref 𝓤 H A W 1 0 tt (plain (λ _. T.the-row)), tt) (break-line.clauses 𝓤 H A mem run) (WpFn 𝓤 H (𝓣 .C) (𝓣 .Λ) code.function) (WpFn-mono 𝓤 H (W .laws) 𝓣 code.function)
+break-line-meets 𝓤 H A W mem run 𝓣 known =
+    walk-meets 𝓤 H A break-line.ended stayed W (goes-ref 𝓤 H A W 1 0 tt (plain (λ _. T.the-row)), tt)
+    (break-line.clauses 𝓤 H A mem run) (WpFn 𝓤 H (𝓣 .C) (𝓣 .Λ) code.function) (WpFn-mono 𝓤 H (W .laws) 𝓣 code.function)
     (break-line-walks 𝓤 H A W mem run (𝓣 .C) (𝓣 .Λ) (fmOf 𝓤 H (W .laws) 𝓣) known)
 
 pub break-line-spec : {M : Type 1} → stated.statement M
@@ -123,4 +143,5 @@ break-line-spec 𝓤 H 𝓜 𝓖 𝓡 =
     entered 𝓤 H (tripleOf 𝓤 H (𝓖 .A) break-line.signature (break-line.spec 𝓤 H (𝓖 .A) (𝓜 .mem) (𝓡 .run)))
     (tables 𝓤 H 𝓜 𝓡 code.env .C) (tables 𝓤 H 𝓜 𝓡 code.env .Λ) #renderer·lent·break-line code.function (code.unfolded 𝓤 H 𝓜 𝓡)
     (break-line-meets 𝓤 H (𝓖 .A) (givenOf 𝓤 H 𝓜 𝓖) (𝓜 .mem) (𝓡 .run) (tablesOf 𝓤 H 𝓜 (tables 𝓤 H 𝓜 𝓡 code.env))
-    (cited 𝓤 H (Broken 𝓤 H (𝓖 .A) (𝓜 .mem) (𝓡 .run)) 𝓜 𝓡 code.env #renderer·lent·broken by-value-def.routine code.calls-renderer·lent·broken (by-value-thm.met 𝓤 H 𝓜 𝓖 𝓡)))
+    (cited 𝓤 H (Broken 𝓤 H (𝓖 .A) (𝓜 .mem) (𝓡 .run)) 𝓜 𝓡 code.env #renderer·lent·broken by-value-def.routine
+    code.calls-renderer·lent·broken (by-value-thm.met 𝓤 H 𝓜 𝓖 𝓡)))

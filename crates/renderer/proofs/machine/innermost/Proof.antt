@@ -7,7 +7,9 @@ use Rattle.renderer.proofs.machine.innermost.Statement.{statement}
 use Rattle.renderer.proofs.machine.innermost.Tie as tie
 
 returns : tie.Need-returns
-returns c = some-open (c .before .before .before .args .depth) _ _ _ (c .before .before .if1 .taken) (c .unpack .ensures ∙ at-packed (c .before .before .before .args .frames .now) (c .before .before .before .args .depth - 1))
+returns c =
+    let start = c .before .before .before in
+    some-open (start .args .depth) _ _ _ (c .before .before .if1 .taken) (c .unpack .ensures ∙ at-packed (start .args .frames .now) (start .args .depth - 1))
 
 returns-2 : tie.Need-returns-2
 returns-2 c = none-open (c .before .args .depth) _ _ (c .if1 .left)

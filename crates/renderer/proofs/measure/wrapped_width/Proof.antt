@@ -23,11 +23,20 @@ leave-open : (c : tie.Else1 Inv-loop μ-loop) → 0 < c .before .before .loop .d
 leave-open c = inner _ _ _ _ _ _ _ _ _ (c .before .before .loop .inv .0) (c .if1 .left) (c .before .loop-test .taken)
 
 -- where a part is opened or left, the sum goes on further down
-moved : (c : tie.Joined1 Inv-loop μ-loop) → (c .before .before .loop .row < c .if1 .row) × Open (c .before .before .before .before .before .args .store .now) (c .before .before .before .before .before .args .marks .now) (c .before .before .before .before .before .args .from) (c .before .before .before .before .before .args .to) (c .if1 .ends) (c .if1 .depth) (c .if1 .row) (c .if1 .end) (c .before .before .loop .sum .0)
+moved : (c : tie.Joined1 Inv-loop μ-loop)
+    → (c .before .before .loop .row < c .if1 .row)
+    × Open (c .before .before .before .before .before .args .store .now) (c .before .before .before .before .before .args .marks .now)
+    (c .before .before .before .before .before .args .from) (c .before .before .before .before .before .args .to) (c .if1 .ends)
+    (c .if1 .depth) (c .if1 .row) (c .if1 .end) (c .before .before .loop .sum .0)
 moved c =
     ⊎-elim
-    (λ w. rw (w .2, w .3, w .4, w .5) (omega arith, first-part _ _ _ _ _ _ _ _ _ (c .before .before .loop .inv .0) (w .1 .result) (w .0 .taken) (c .before .before .loop .inv .1 (w .0 .taken)) (w .1 .ensures .0)))
-    (λ w. rw (w .3, w .4, w .5, w .6, w .1 .ensures) (leaves _ _ _ _ _ _ _ _ _ (w .2 .result) (c .before .before .loop .inv .0) (w .0 .left) (inner _ _ _ _ _ _ _ _ _ (c .before .before .loop .inv .0) (w .0 .left) (c .before .loop-test .taken)) (w .2 .ensures .0)))
+    (λ w. rw (w .2, w .3, w .4, w .5) (
+      omega arith,
+      first-part _ _ _ _ _ _ _ _ _ (c .before .before .loop .inv .0) (w .1 .result) (w .0 .taken)
+          (c .before .before .loop .inv .1 (w .0 .taken)) (w .1 .ensures .0),
+    ))
+    (λ w. rw (w .3, w .4, w .5, w .6, w .1 .ensures) (leaves _ _ _ _ _ _ _ _ _ (w .2 .result) (c .before .before .loop .inv .0) (w .0 .left)
+    (inner _ _ _ _ _ _ _ _ _ (c .before .before .loop .inv .0) (w .0 .left) (c .before .loop-test .taken)) (w .2 .ensures .0)))
     (c .if1 .came)
 
 loop-holds : tie.Need-loop-holds Inv-loop μ-loop
@@ -71,45 +80,86 @@ until-wrapped-requires c κs = part-nested _ _ _ _ _ _ _ _ _ (moved (c .before .
 
 add-t26 : tie.Need-add-t26 Inv-loop μ-loop
 add-t26 c =
-    let at = rw (c .before .before .before .at .given .1) at (c .before .before .before .before .before .until-wrapped .ensures) in
-    omega (arith, capped _ _ _ _ _ _ _ _ _ (further _ _ _ _ _ _ _ _ _ (moved (c .before .before .before .before .before .before .before .before) .1) _ _ (at .0)) (c .before .before .before .before .before .before .before .before .before .before .before .before .before .pre .0 .few))
+    let at-at = c .before .before .before in
+    let at-until-wrapped = at-at .before .before in
+    let start = at-until-wrapped .before .before .before .before .before .before .before .before in
+    let at = rw (at-at .at .given .1) at (at-until-wrapped .until-wrapped .ensures) in
+    omega (arith, capped _ _ _ _ _ _ _ _ _ (further _ _ _ _ _ _ _ _ _ (moved (at-until-wrapped .before .before .before) .1) _ _ (at .0)) (start .pre .0 .few))
 
 loop-less : tie.Need-loop-less Inv-loop μ-loop
 loop-less c =
-    let at = rw (c .before .before .before .at .given .1) at (c .before .before .before .before .before .until-wrapped .ensures) in
-    omega (arith, moved (c .before .before .before .before .before .before .before .before) .0, at .0 .cap, c .before .before .before .before .before .before .before .before .before .loop-test .taken)
+    let at-at = c .before .before .before in
+    let at-until-wrapped = at-at .before .before in
+    let at-loop-test = at-until-wrapped .before .before .before .before in
+    let at = rw (at-at .at .given .1) at (at-until-wrapped .until-wrapped .ensures) in
+    omega (arith, moved (at-until-wrapped .before .before .before) .0, at .0 .cap, at-loop-test .loop-test .taken)
 
 loop-again : tie.Need-loop-again Inv-loop μ-loop
 loop-again c =
-    let at = rw (c .before .before .before .at .given .1) at (c .before .before .before .before .before .until-wrapped .ensures) in
-    (further _ _ _ _ _ _ _ _ _ (moved (c .before .before .before .before .before .before .before .before) .1) _ _ (at .0), λ h. at .1, omega (arith, at .3, c .before .before .before .before .before .before .before .before .before .before .loop .inv .2))
+    let at-at = c .before .before .before in
+    let at-until-wrapped = at-at .before .before in
+    let at-loop = at-until-wrapped .before .before .before .before .before in
+    let at = rw (at-at .at .given .1) at (at-until-wrapped .until-wrapped .ensures) in
+    (further _ _ _ _ _ _ _ _ _ (moved (at-until-wrapped .before .before .before) .1) _ _ (at .0), λ h. at .1, omega (arith, at .3, at-loop .loop .inv .2))
 
 sub-if2 : tie.Need-sub-if2 Inv-loop μ-loop
-sub-if2 c = c .before .before .before .before .before .before .before .before .before .before .loop .inv .2
+sub-if2 c =
+    let at-loop = c .before .before .before .before .before .before .before .before .before .before in
+    at-loop .loop .inv .2
 
 add-t29 : tie.Need-add-t29 Inv-loop μ-loop
 add-t29 c =
-    let w = rw (c .before .before .before .before .before .before .w .given .1) at (c .before .before .before .before .before .before .before .before .until-wrapped .ensures) in
-    let n = measured _ _ _ _ _ _ (c .before .before .before .before .before .before .before .before .before .before .before .before .before .before .before .before .pre .0) (no-room _ _ _ _ _ _ _ _ _ (moved (c .before .before .before .before .before .before .before .before .before .before .before) .1) _ _ (c .before .before .before .before .before .before .before .before .before .before .before .before .before .loop .inv .2) w (c .before .if2 .taken)) in
+    let at-w = c .before .before .before .before .before .before in
+    let at-until-wrapped = at-w .before .before in
+    let at-loop = at-until-wrapped .before .before .before .before .before in
+    let start = at-loop .before .before .before in
+    let w = rw (at-w .w .given .1) at (at-until-wrapped .until-wrapped .ensures) in
+    let n =
+    measured _ _ _ _ _ _ (start .pre .0)
+    (no-room _ _ _ _ _ _ _ _ _ (moved (at-until-wrapped .before .before .before) .1) _ _ (at-loop .loop .inv .2) w (c .before .if2 .taken))
+    in
     omega (arith, n)
 
 returns : tie.Need-returns Inv-loop μ-loop
-returns c = no-room _ _ _ _ _ _ _ _ _ (moved (c .before .before .before .before .before .before .before .before .before .before .before) .1) _ _ (c .before .before .before .before .before .before .before .before .before .before .before .before .before .loop .inv .2) (rw (c .before .before .before .before .before .before .w .given .1) at (c .before .before .before .before .before .before .before .before .until-wrapped .ensures)) (c .before .if2 .taken)
+returns c =
+    let at-w = c .before .before .before .before .before .before in
+    let at-until-wrapped = at-w .before .before in
+    let at-loop = at-until-wrapped .before .before .before .before .before in
+    no-room _ _ _ _ _ _ _ _ _ (moved (at-until-wrapped .before .before .before) .1) _ _ (at-loop .loop .inv .2)
+    (rw (at-w .w .given .1) at (at-until-wrapped .until-wrapped .ensures)) (c .before .if2 .taken)
 
 add-t27 : tie.Need-add-t27 Inv-loop μ-loop
 add-t27 c =
-    let w = rw (c .before .before .before .before .before .before .before .w .given .1) at (c .before .before .before .before .before .before .before .before .before .until-wrapped .ensures) in
-    omega (arith, capped _ _ _ _ _ _ _ _ _ (part-over _ _ _ _ _ _ _ _ _ (moved (c .before .before .before .before .before .before .before .before .before .before .before .before) .1) _ _ (c .before .before .before .before .before .before .before .before .before .before .before .before .before .before .loop .inv .2) w (c .before .before .if2 .left)) (c .before .before .before .before .before .before .before .before .before .before .before .before .before .before .before .before .before .pre .0 .few))
+    let at-w = c .before .before .before .before .before .before .before in
+    let at-until-wrapped = at-w .before .before in
+    let at-loop = at-until-wrapped .before .before .before .before .before in
+    let start = at-loop .before .before .before in
+    let w = rw (at-w .w .given .1) at (at-until-wrapped .until-wrapped .ensures) in
+    omega (
+      arith,
+      capped _ _ _ _ _ _ _ _ _
+          (part-over _ _ _ _ _ _ _ _ _ (moved (at-until-wrapped .before .before .before) .1) _ _ (at-loop .loop .inv .2) w (c .before .before .if2 .left))
+          (start .pre .0 .few),
+    )
 
 loop-less-2 : tie.Need-loop-less-2 Inv-loop μ-loop
 loop-less-2 c =
-    let w = rw (c .before .before .before .before .before .before .before .w .given .1) at (c .before .before .before .before .before .before .before .before .before .until-wrapped .ensures) in
-    omega (arith, moved (c .before .before .before .before .before .before .before .before .before .before .before .before) .0, w .cap, c .before .before .before .before .before .before .before .before .before .before .before .before .before .loop-test .taken)
+    let at-w = c .before .before .before .before .before .before .before in
+    let at-until-wrapped = at-w .before .before in
+    let at-loop-test = at-until-wrapped .before .before .before .before in
+    let w = rw (at-w .w .given .1) at (at-until-wrapped .until-wrapped .ensures) in
+    omega (arith, moved (at-until-wrapped .before .before .before) .0, w .cap, at-loop-test .loop-test .taken)
 
 loop-again-2 : tie.Need-loop-again-2 Inv-loop μ-loop
 loop-again-2 c =
-    let w = rw (c .before .before .before .before .before .before .before .w .given .1) at (c .before .before .before .before .before .before .before .before .before .until-wrapped .ensures) in
-    (part-over _ _ _ _ _ _ _ _ _ (moved (c .before .before .before .before .before .before .before .before .before .before .before .before) .1) _ _ (c .before .before .before .before .before .before .before .before .before .before .before .before .before .before .loop .inv .2) w (c .before .before .if2 .left), λ h. absurd (omega (arith, h)), omega (arith, c .before .before .if2 .left, c .before .before .before .before .before .before .before .before .before .before .before .before .before .before .loop .inv .2))
+    let at-w = c .before .before .before .before .before .before .before in
+    let at-until-wrapped = at-w .before .before in
+    let at-loop = at-until-wrapped .before .before .before .before .before in
+    let w = rw (at-w .w .given .1) at (at-until-wrapped .until-wrapped .ensures) in (
+      part-over _ _ _ _ _ _ _ _ _ (moved (at-until-wrapped .before .before .before) .1) _ _ (at-loop .loop .inv .2) w (c .before .before .if2 .left),
+      λ h. absurd (omega (arith, h)),
+      omega (arith, c .before .before .if2 .left, at-loop .loop .inv .2),
+    )
 
 returns-2 : tie.Need-returns-2 Inv-loop μ-loop
 returns-2 c = all _ _ _ _ _ _ _ _ _ (c .before .loop .inv .0) _ (c .before .loop .inv .2) (c .loop-test .left)

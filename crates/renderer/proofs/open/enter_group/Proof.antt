@@ -6,11 +6,17 @@ use Rattle.renderer.proofs.open.enter_group.Tie as tie
 
 group-wraps-requires : tie.Need-group-wraps-requires
 group-wraps-requires c κs =
-    (nested-to _ _ _ _ (c .before .before .place .ensures .0) (c .before .before .before .before .before .before .pre .1), (omega (arith, c .before .before .before .before .before .before .pre .0 .indent), c .before .before .before .before .before .before .pre .0 .column))
+    let start = c .before .before .before .before .before .before in
+    (nested-to _ _ _ _ (c .before .before .place .ensures .0) (start .pre .1), (omega (arith, start .pre .0 .indent), start .pre .0 .column))
 
 returns : tie.Need-returns
 returns c =
-    group-opened _ _ _ _ _ _ (c .before .before .before .before .before .before .before .before .before .place .result) (c .before .before .before .before .before .before .before .before .place2 .result) (c .before .before .before .before .before .before .group-wraps .result) (c .before .before .before .before .before .before .before .before .before .place .ensures .0) (c .before .before .before .before .before .before .before .before .place2 .ensures .0) (c .before .before .before .before .before .before .group-wraps .ensures) (c .before .before .before .before .insert .ensures) (c .opened .ensures)
+    let at-insert = c .before .before .before .before in
+    let at-group-wraps = at-insert .before .before in
+    let at-place2 = at-group-wraps .before .before in
+    let at-place = at-place2 .before in
+    group-opened _ _ _ _ _ _ (at-place .place .result) (at-place2 .place2 .result) (at-group-wraps .group-wraps .result) (at-place .place .ensures .0)
+    (at-place2 .place2 .ensures .0) (at-group-wraps .group-wraps .ensures) (at-insert .insert .ensures) (c .opened .ensures)
 
 pub enter-group-spec : {M : Type 1} → statement M
 enter-group-spec =

@@ -6,11 +6,22 @@ use Rattle.renderer.proofs.open.enter_if.Tie as tie
 
 returns : tie.Need-returns
 returns c =
-    if-first (c .before .before .before .before .before .before .before .before .args .store .now) (c .before .before .before .before .before .before .before .before .args .marks .now) (wholeRun (c .before .before .before .before .before .before .before .before .args .frames .now) (c .before .before .before .before .before .before .before .before .args .r)) (c .before .before .before .before .before .before .before .before .args .wrap) (c .before .before .before .before .place .result) (c .before .before .before .is-wrapped .result) _ (c .before .before .before .before .place .ensures .0) (c .before .before .before .is-wrapped .ensures) (c .before .before .if1 .taken) (c .opened .ensures)
+    let at-is-wrapped = c .before .before .before in
+    let at-place = at-is-wrapped .before in
+    let start = at-place .before .before .before .before in
+    if-first (start .args .store .now) (start .args .marks .now) (wholeRun (start .args .frames .now) (start .args .r))
+    (start .args .wrap) (at-place .place .result) (at-is-wrapped .is-wrapped .result) _ (at-place .place .ensures .0)
+    (at-is-wrapped .is-wrapped .ensures) (c .before .before .if1 .taken) (c .opened .ensures)
 
 returns-2 : tie.Need-returns-2
 returns-2 c =
-    if-second (c .before .before .before .before .before .before .before .before .before .args .store .now) (c .before .before .before .before .before .before .before .before .before .args .marks .now) (wholeRun (c .before .before .before .before .before .before .before .before .before .args .frames .now) (c .before .before .before .before .before .before .before .before .before .args .r)) (c .before .before .before .before .before .before .before .before .before .args .wrap) (c .before .before .before .before .before .place .result) (c .before .before .before .before .is-wrapped .result) _ (c .before .before .before .before .before .place .ensures .0) (c .before .before .before .before .is-wrapped .ensures) (c .before .place2 .result) (c .before .place2 .ensures .0) (c .before .before .before .if1 .left) (c .opened2 .ensures)
+    let at-if1 = c .before .before .before in
+    let at-is-wrapped = at-if1 .before in
+    let at-place = at-is-wrapped .before in
+    let start = at-place .before .before .before .before in
+    if-second (start .args .store .now) (start .args .marks .now) (wholeRun (start .args .frames .now) (start .args .r)) (start .args .wrap)
+    (at-place .place .result) (at-is-wrapped .is-wrapped .result) _ (at-place .place .ensures .0) (at-is-wrapped .is-wrapped .ensures)
+    (c .before .place2 .result) (c .before .place2 .ensures .0) (at-if1 .if1 .left) (c .opened2 .ensures)
 
 pub enter-if-spec : {M : Type 1} → statement M
 enter-if-spec =

@@ -5,10 +5,18 @@ use Rattle.renderer.proofs.open.enter_indent.Statement.{statement}
 use Rattle.renderer.proofs.open.enter_indent.Tie as tie
 
 returns : tie.Need-returns
-returns c = indent-kind _ (wholeRun (c .before .before .before .before .before .before .args .frames .now) (c .before .before .before .before .before .before .args .r)) _ _ _ _ (c .before .before .before .before .if1 .taken) (c .before .before .indent .ensures) (c .before .set-pen .ensures) (c .opened .ensures)
+returns c =
+    let at-if1 = c .before .before .before .before in
+    let start = at-if1 .before .before in
+    indent-kind _ (wholeRun (start .args .frames .now) (start .args .r)) _ _ _ _ (at-if1 .if1 .taken)
+    (c .before .before .indent .ensures) (c .before .set-pen .ensures) (c .opened .ensures)
 
 returns-2 : tie.Need-returns-2
-returns-2 c = next-kind _ (wholeRun (c .before .before .before .before .before .before .args .frames .now) (c .before .before .before .before .before .before .args .r)) _ _ _ _ (c .before .before .before .before .if1 .left) (c .before .before .indent-next .ensures) (c .before .set-pen2 .ensures) (c .opened2 .ensures)
+returns-2 c =
+    let at-if1 = c .before .before .before .before in
+    let start = at-if1 .before .before in
+    next-kind _ (wholeRun (start .args .frames .now) (start .args .r)) _ _ _ _ (at-if1 .if1 .left)
+    (c .before .before .indent-next .ensures) (c .before .set-pen2 .ensures) (c .opened2 .ensures)
 
 pub enter-indent-spec : {M : Type 1} → statement M
 enter-indent-spec =

@@ -5,7 +5,20 @@ use Rattle.renderer.proofs.output.copy.Statement.{statement}
 use Rattle.renderer.proofs.output.copy.Tie as tie
 
 returns : tie.Need-returns
-returns c = (c .before .before .put-origin .ensures ∙ text-below (c .before .before .before .before .before .before .before .before .before .before .args .limit .0) (c .before .before .before .before .before .before .before .before .before .before .args .out .now) (c .before .before .before .before .before .before .before .before .before .before .args .at) (c .before .before .before .before .before .before .before .before .before .before .args .source .now) (c .before .before .before .before .before .before .before .before .before .before .args .image .now) (c .before .before .before .before .before .before .before .before .before .before .args .t .origin) (c .before .before .before .before .before .before .before .before .before .before .args .t .start) (c .before .before .before .before .before .before .before .before .before .before .args .t .size .0) _ _ (c .before .before .before .before .before .before .before .before .before .before .pre) (text-count (c .before .before .before .before .before .before .before .before .before .before .args .source .now) (c .before .before .before .before .before .before .before .before .before .before .args .image .now) (c .before .before .before .before .before .before .before .before .before .before .args .t .origin) (c .before .before .before .before .before .before .before .before .before .before .args .t .start) (c .before .before .before .before .before .before .before .before .before .before .args .t .size .0) _ _ (c .before .before .before .before .before .before .origin-size .ensures) (c .before .before .before .before .before .clipped .ensures)) (c .before .before .before .clipped2 .ensures), (text-count (c .before .before .before .before .before .before .before .before .before .before .args .source .now) (c .before .before .before .before .before .before .before .before .before .before .args .image .now) (c .before .before .before .before .before .before .before .before .before .before .args .t .origin) (c .before .before .before .before .before .before .before .before .before .before .args .t .start) (c .before .before .before .before .before .before .before .before .before .before .args .t .size .0) _ _ (c .before .before .before .before .before .before .origin-size .ensures) (c .before .before .before .before .before .clipped .ensures)))
+returns c =
+    let at-clipped2 = c .before .before .before in
+    let at-clipped = at-clipped2 .before .before in
+    let at-origin-size = at-clipped .before in
+    let start = at-origin-size .before .before .before .before in (
+      c .before .before .put-origin .ensures
+          ∙ text-below (start .args .limit .0) (start .args .out .now) (start .args .at) (start .args .source .now)
+          (start .args .image .now) (start .args .t .origin) (start .args .t .start) (start .args .t .size .0) _ _ (start .pre)
+          (text-count (start .args .source .now) (start .args .image .now) (start .args .t .origin) (start .args .t .start)
+          (start .args .t .size .0) _ _ (at-origin-size .origin-size .ensures) (at-clipped .clipped .ensures))
+          (at-clipped2 .clipped2 .ensures),
+      (text-count (start .args .source .now) (start .args .image .now) (start .args .t .origin) (start .args .t .start)
+          (start .args .t .size .0) _ _ (at-origin-size .origin-size .ensures) (at-clipped .clipped .ensures)),
+    )
 
 pub copy-spec : {M : Type 1} → statement M
 copy-spec =

@@ -28,7 +28,10 @@ loop-less : tie.Need-loop-less Inv-loop μ-loop
 loop-less c = omega (arith, c .loop-test .taken)
 
 loop-again : tie.Need-loop-again Inv-loop μ-loop
-loop-again c = copied-more _ _ _ _ _ _ _ (c .before .loop .inv) (blanks-in (c .before .before .args .n) (c .before .loop .k) (c .loop-test .taken)) (omega (arith, c .before .before .pre, c .loop-test .taken)) (sym (getD-replicate (c .before .before .args .n) (c .before .loop .k) 0x20 0 (c .loop-test .taken)))
+loop-again c =
+    copied-more _ _ _ _ _ _ _ (c .before .loop .inv) (blanks-in (c .before .before .args .n) (c .before .loop .k) (c .loop-test .taken))
+    (omega (arith, c .before .before .pre, c .loop-test .taken))
+    (sym (getD-replicate (c .before .before .args .n) (c .before .loop .k) 0x20 0 (c .loop-test .taken)))
 
 same-length : tie.Need-same-length Inv-loop μ-loop
 same-length c = c .before .loop .inv .size

@@ -33,13 +33,22 @@ loop-less : tie.Need-loop-less Inv-loop μ-loop
 loop-less c = omega (arith, c .before .loop-test .taken)
 
 loop-again : tie.Need-loop-again Inv-loop μ-loop
-loop-again c = copied-more _ _ _ _ _ _ _ (c .before .before .loop .inv) (let e = part-size (c .before .before .before .args .text .now) (c .before .before .before .args .start) (c .before .before .before .args .n) (c .before .before .before .pre .1) in omega (arith, c .before .loop-test .taken)) (omega (arith, c .before .before .before .pre .0, c .before .loop-test .taken)) (part-at (c .before .before .before .args .text .now) (c .before .before .before .args .start) (c .before .before .before .args .n) (c .before .before .loop .j) (c .before .loop-test .taken))
+loop-again c =
+    let start = c .before .before .before in
+    copied-more _ _ _ _ _ _ _ (c .before .before .loop .inv)
+    (let e = part-size (start .args .text .now) (start .args .start) (start .args .n) (start .pre .1) in omega (arith, c .before .loop-test .taken))
+    (omega (arith, start .pre .0, c .before .loop-test .taken))
+    (part-at (start .args .text .now) (start .args .start) (start .args .n) (c .before .before .loop .j) (c .before .loop-test .taken))
 
 same-length : tie.Need-same-length Inv-loop μ-loop
 same-length c = c .before .loop .inv .size
 
 returns : tie.Need-returns Inv-loop μ-loop
-returns c = copied-end _ _ _ _ _ _ (c .before .loop .inv) (let e = part-size (c .before .before .args .text .now) (c .before .before .args .start) (c .before .before .args .n) (c .before .before .pre .1) in omega (arith, c .loop-test .left))
+returns c =
+    copied-end _ _ _ _ _ _ (c .before .loop .inv) (let e =
+    part-size (c .before .before .args .text .now) (c .before .before .args .start) (c .before .before .args .n) (c .before .before .pre .1)
+    in
+    omega (arith, c .loop-test .left))
 
 pub put-part-spec : {M : Type 1} → statement M
 put-part-spec =

@@ -5,7 +5,11 @@ use Rattle.renderer.proofs.output.spaces.Statement.{statement}
 use Rattle.renderer.proofs.output.spaces.Tie as tie
 
 returns : tie.Need-returns
-returns c = c .before .before .put-blanks .ensures ∙ blanks-below (c .before .before .before .before .before .before .args .limit .0) (c .before .before .before .before .before .before .args .out .now) (c .before .before .before .before .before .before .args .at) (c .before .before .before .before .before .before .args .n .0) _ (c .before .before .before .before .before .before .pre) (c .before .before .before .clipped .ensures)
+returns c =
+    let at-clipped = c .before .before .before in
+    let start = at-clipped .before .before .before in
+    c .before .before .put-blanks .ensures
+    ∙ blanks-below (start .args .limit .0) (start .args .out .now) (start .args .at) (start .args .n .0) _ (start .pre) (at-clipped .clipped .ensures)
 
 pub spaces-spec : {M : Type 1} → statement M
 spaces-spec =

@@ -4,7 +4,11 @@ use Rattle.renderer.proofs.writing.new_line.Statement.{statement}
 use Rattle.renderer.proofs.writing.new_line.Tie as tie
 
 returns : tie.Need-returns
-returns c = line-writes _ _ _ _ _ _ _ (c .before .before .before .before .before .before .before .on-new-line .ensures) (c .before .before .before .before .before .if1 .taken) (c .before .before .before .push .ensures) (c .set-pen .ensures)
+returns c =
+    let at-push = c .before .before .before in
+    let at-if1 = at-push .before .before in
+    let at-on-new-line = at-if1 .before .before in
+    line-writes _ _ _ _ _ _ _ (at-on-new-line .on-new-line .ensures) (at-if1 .if1 .taken) (at-push .push .ensures) (c .set-pen .ensures)
 
 returns-2 : tie.Need-returns-2
 returns-2 c = none-writes _ _ _ _ _ (c .before .before .before .on-new-line .ensures) (c .set-pen2 .ensures) (c .before .if1 .left)

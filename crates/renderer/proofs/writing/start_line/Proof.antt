@@ -5,7 +5,11 @@ use Rattle.renderer.proofs.writing.start_line.Tie as tie
 
 returns : tie.Need-returns
 returns c =
-    margin-writes _ _ _ _ _ (c .before .before .before .before .before .before .before .margin-bytes .result .0) (c .before .before .before .before .before .before .margin-columns .result .0) (c .before .before .before .before .before .before .before .margin-bytes .ensures) (c .before .before .before .before .before .before .margin-columns .ensures) (c .moved-to .ensures) (c .before .before .before .before .spaces .ensures)
+    let at-spaces = c .before .before .before .before in
+    let at-margin-columns = at-spaces .before .before in
+    let at-margin-bytes = at-margin-columns .before in
+    margin-writes _ _ _ _ _ (at-margin-bytes .margin-bytes .result .0) (at-margin-columns .margin-columns .result .0)
+    (at-margin-bytes .margin-bytes .ensures) (at-margin-columns .margin-columns .ensures) (c .moved-to .ensures) (at-spaces .spaces .ensures)
 
 pub start-line-spec : {M : Type 1} → statement M
 start-line-spec =

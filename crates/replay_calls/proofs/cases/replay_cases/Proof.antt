@@ -6,7 +6,9 @@ use Rattle.replay_calls.proofs.cases.replay_cases.Statement.{statement}
 use Rattle.replay_calls.proofs.cases.replay_cases.Tie as tie
 
 abbrev Inv-loop : tie.InvT-loop
-Inv-loop d store₀ marks₀ text₀ counts₀ at₀ cases₀ differ₀ store marks text counts at cases differ = (length store ≡ length store₀) × (length marks ≡ length marks₀) × (length text ≡ length text₀) × (length counts ≡ length counts₀) × (cases ≤ at) × (differ ≤ cases)
+Inv-loop d store₀ marks₀ text₀ counts₀ at₀ cases₀ differ₀ store marks text counts at cases differ =
+    (length store ≡ length store₀) × (length marks ≡ length marks₀) × (length text ≡ length text₀)
+    × (length counts ≡ length counts₀) × (cases ≤ at) × (differ ≤ cases)
 
 abbrev μ-loop : tie.MeasureT-loop
 μ-loop d store₀ marks₀ text₀ counts₀ at₀ cases₀ differ₀ store marks text counts at cases differ = length d - at

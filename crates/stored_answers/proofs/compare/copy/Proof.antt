@@ -19,7 +19,10 @@ slice-write-b : tie.Need-slice-write-b Inv-loop μ-loop
 slice-write-b c = omega (arith, c .before .before .loop .inv .size, c .before .loop-test .taken)
 
 loop-again : tie.Need-loop-again Inv-loop μ-loop
-loop-again c = filling-more _ _ _ _ _ _ _ _ _ (c .before .before .before .loop .inv) (omega (arith, c .before .before .before .loop .inv .size, c .before .before .loop-test .taken)) (c .before .byte .ensures .0) (c .past .ensures)
+loop-again c =
+    let at-loop = c .before .before .before in
+    filling-more _ _ _ _ _ _ _ _ _ (at-loop .loop .inv) (omega (arith, at-loop .loop .inv .size, c .before .before .loop-test .taken))
+    (c .before .byte .ensures .0) (c .past .ensures)
 
 same-length : tie.Need-same-length Inv-loop μ-loop
 same-length c = c .before .loop .inv .size

@@ -9,7 +9,15 @@ use Rattle.stored_answers.proofs.found.refusal_found.Statement.{stateme
 use Rattle.stored_answers.proofs.found.refusal_found.Tie as tie
 
 returns : tie.Need-returns
-returns c = c .first .ensures ∙ ap₂ firstOf (c .before .before .before .before .unless .ensures ∙ ap (λ (n : ℕ). orSame (eqb n (c .before .before .before .before .before .before .before .args .number)) Number) (c .before .before .before .before .before .byte .ensures .0)) (c .before .unless2 .ensures ∙ ap (λ (n : ℕ). orSame (eqb n (c .before .before .before .before .before .before .before .args .place)) Place) (c .before .before .eight .ensures ∙ ap (eight (c .before .before .before .before .before .before .before .args .d .now)) (c .before .before .before .past .ensures)))
+returns c =
+    let at-past = c .before .before .before in
+    let at-unless = at-past .before in
+    let at-byte = at-unless .before in
+    let start = at-byte .before .before in
+    c .first .ensures
+    ∙ ap₂ firstOf (at-unless .unless .ensures ∙ ap (λ (n : ℕ). orSame (eqb n (start .args .number)) Number) (at-byte .byte .ensures .0))
+    (c .before .unless2 .ensures
+    ∙ ap (λ (n : ℕ). orSame (eqb n (start .args .place)) Place) (c .before .before .eight .ensures ∙ ap (eight (start .args .d .now)) (at-past .past .ensures)))
 
 pub refusal-found-spec : {M : Type 1} → statement M
 refusal-found-spec =

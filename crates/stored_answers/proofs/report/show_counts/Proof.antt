@@ -25,7 +25,10 @@ loop-less : tie.Need-loop-less Inv-loop μ-loop
 loop-less c = omega (arith, c .before .before .before .before .loop-test .taken)
 
 loop-again : tie.Need-loop-again Inv-loop μ-loop
-loop-again c = counting-more _ _ _ (c .before .before .before .before .before .loop .inv) _ (c .before .before .before .before .loop-test .taken) (c .past .ensures)
+loop-again c =
+    let at-loop-test = c .before .before .before .before in
+    let at-loop = at-loop-test .before in
+    counting-more _ _ _ (at-loop .loop .inv) _ (at-loop-test .loop-test .taken) (c .past .ensures)
 
 returns : tie.Need-returns Inv-loop μ-loop
 returns c = counting-end _ _ _ (c .before .loop .inv) (c .loop-test .left)

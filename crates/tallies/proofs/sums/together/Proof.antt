@@ -18,13 +18,19 @@ add-t7 : tie.Need-add-t7
 add-t7 c = omega (arith, c .before .before .before .before .before .before .before .before .before .pre)
 
 add-t8 : tie.Need-add-t8
-add-t8 c = omega (arith, c .before .before .before .before .before .before .before .before .before .before .before .pre)
+add-t8 c =
+    let start = c .before .before .before .before .before .before .before .before .before .before .before in
+    omega (arith, start .pre)
 
 add-t9 : tie.Need-add-t9
-add-t9 c = omega (arith, c .before .before .before .before .before .before .before .before .before .before .before .before .before .pre)
+add-t9 c =
+    let start = c .before .before .before .before .before .before .before .before .before .before .before .before .before in
+    omega (arith, start .pre)
 
 returns : tie.Need-returns
-returns c = rw (c .before .before .before .before .before .before .before .before .before .before .before .before .larger .ensures)
+returns c =
+    let at-larger = c .before .before .before .before .before .before .before .before .before .before .before .before in
+    rw (at-larger .larger .ensures)
 
 pub together-spec : {M : Type 1} → statement M
 together-spec =

@@ -11,7 +11,9 @@ returns c = sym (simp (lt-leb _ _ (c .if1 .taken)))
 
 returns-2 : tie.Need-returns-2
 unfolding isRange
-returns-2 c = simp (le-leb _ _ (c .before .before .before .if1 .left), sym (c .before .before .is-boundary .ensures) ∙ c .before .if2 .taken) (c .is-boundary2 .ensures)
+returns-2 c =
+    let at-if1 = c .before .before .before in
+    simp (le-leb _ _ (at-if1 .if1 .left), sym (c .before .before .is-boundary .ensures) ∙ c .before .if2 .taken) (c .is-boundary2 .ensures)
 
 returns-3 : tie.Need-returns-3
 unfolding isRange

@@ -79,7 +79,10 @@ loop-less : tie.Need-loop-less Inv-loop μ-loop
 loop-less c = omega (arith, c .before .before .loop-test .taken)
 
 loop-again : tie.Need-loop-again Inv-loop μ-loop
-loop-again c = ⊎-elim (λ w. told (going-on (c .before .before .before .loop .inv) (c .before .before .loop-test .taken) (w .0 .taken)) (w .1) (w .2)) (λ w. told (going-past (c .before .before .before .loop .inv) (c .before .before .loop-test .taken) (w .0 .left)) (w .1) (w .2)) (c .if1 .came)
+loop-again c =
+    let at-loop = c .before .before .before in
+    ⊎-elim (λ w. told (going-on (at-loop .loop .inv) (c .before .before .loop-test .taken) (w .0 .taken)) (w .1) (w .2))
+    (λ w. told (going-past (at-loop .loop .inv) (c .before .before .loop-test .taken) (w .0 .left)) (w .1) (w .2)) (c .if1 .came)
 
 returns : tie.Need-returns Inv-loop μ-loop
 returns c = going-ends (c .before .loop .inv) (c .loop-test .left)

@@ -23,16 +23,40 @@ returns : tie.Need-returns Inv-loop μ-loop
 returns c = seek-nothing _ _ _ (sym (c .before .before .char-at .ensures) ∙ c .enum-told .given .1) (c .before .before .before .before .loop .inv)
 
 returns-2 : tie.Need-returns-2 Inv-loop μ-loop
-returns-2 c = seek-found _ _ _ _ _ (c .before .before .before .before .before .before .loop-test .taken) (sym (c .before .before .before .before .before .char-at .ensures) ∙ c .before .before .before .c .given .1) (sym (c .before .is-passed .ensures) ∙ not-true _ (c .if1 .taken)) (c .before .before .before .before .before .before .before .loop .inv)
+returns-2 c =
+    let at-c = c .before .before .before in
+    let at-char-at = at-c .before .before in
+    let at-loop-test = at-char-at .before in
+    let at-loop = at-loop-test .before in
+    seek-found _ _ _ _ _ (at-loop-test .loop-test .taken) (sym (at-char-at .char-at .ensures) ∙ at-c .c .given .1)
+    (sym (c .before .is-passed .ensures) ∙ not-true _ (c .if1 .taken)) (at-loop .loop .inv)
 
 add-here : tie.Need-add-here Inv-loop μ-loop
-add-here c = let inside = at-inside (c .before .before .before .before .before .before .before .before .before .args .s .now) (c .before .before .before .before .before .before .before .loop .here) _ _ (sym (c .before .before .before .before .before .char-at .ensures) ∙ c .before .before .before .c .given .1) in omega arith
+add-here c =
+    let at-c = c .before .before .before in
+    let at-char-at = at-c .before .before in
+    let at-loop = at-char-at .before .before in
+    let start = at-loop .before .before in
+    let inside = at-inside (start .args .s .now) (at-loop .loop .here) _ _ (sym (at-char-at .char-at .ensures) ∙ at-c .c .given .1) in
+    omega arith
 
 loop-less : tie.Need-loop-less Inv-loop μ-loop
-loop-less c = let inside = at-inside (c .before .before .before .before .before .before .before .before .before .args .s .now) (c .before .before .before .before .before .before .before .loop .here) _ _ (sym (c .before .before .before .before .before .char-at .ensures) ∙ c .before .before .before .c .given .1) in omega arith
+loop-less c =
+    let at-c = c .before .before .before in
+    let at-char-at = at-c .before .before in
+    let at-loop = at-char-at .before .before in
+    let start = at-loop .before .before in
+    let inside = at-inside (start .args .s .now) (at-loop .loop .here) _ _ (sym (at-char-at .char-at .ensures) ∙ at-c .c .given .1) in
+    omega arith
 
 loop-again : tie.Need-loop-again Inv-loop μ-loop
-loop-again c = seek-next _ _ _ _ _ (c .before .before .before .before .before .before .loop-test .taken) (sym (c .before .before .before .before .before .char-at .ensures) ∙ c .before .before .before .c .given .1) (sym (c .before .is-passed .ensures) ∙ not-false _ (c .if1 .left)) (c .before .before .before .before .before .before .before .loop .inv)
+loop-again c =
+    let at-c = c .before .before .before in
+    let at-char-at = at-c .before .before in
+    let at-loop-test = at-char-at .before in
+    let at-loop = at-loop-test .before in
+    seek-next _ _ _ _ _ (at-loop-test .loop-test .taken) (sym (at-char-at .char-at .ensures) ∙ at-c .c .given .1)
+    (sym (c .before .is-passed .ensures) ∙ not-false _ (c .if1 .left)) (at-loop .loop .inv)
 
 returns-3 : tie.Need-returns-3 Inv-loop μ-loop
 returns-3 c = seek-nothing _ _ _ (none-at-end _ _ (c .loop-test .left)) (c .before .loop .inv)

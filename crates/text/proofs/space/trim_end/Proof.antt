@@ -22,16 +22,43 @@ returns : tie.Need-returns Inv-loop μ-loop
 returns c = trim-nothing _ _ _ _ (sym (c .before .before .char-before .ensures) ∙ c .enum-told .given .1) (c .before .before .before .before .loop .inv)
 
 returns-2 : tie.Need-returns-2 Inv-loop μ-loop
-returns-2 c = trim-text _ _ _ _ _ _ (sym (c .before .before .before .before .before .char-before .ensures) ∙ c .before .before .before .c .given .1) (sym (c .before .is-whitespace .ensures) ∙ not-true _ (c .if1 .taken)) (c .before .before .before .before .before .before .before .loop .inv)
+returns-2 c =
+    let at-c = c .before .before .before in
+    let at-char-before = at-c .before .before in
+    let at-loop = at-char-before .before .before in
+    trim-text _ _ _ _ _ _ (sym (at-char-before .char-before .ensures) ∙ at-c .c .given .1)
+    (sym (c .before .is-whitespace .ensures) ∙ not-true _ (c .if1 .taken)) (at-loop .loop .inv)
 
 sub-end : tie.Need-sub-end Inv-loop μ-loop
-sub-end c = let inside = before-inside (c .before .before .before .before .before .before .before .before .before .args .s .now) (c .before .before .before .before .before .before .before .before .before .args .from) (c .before .before .before .before .before .before .before .loop .end) _ _ (sym (c .before .before .before .before .before .char-before .ensures) ∙ c .before .before .before .c .given .1) in omega arith
+sub-end c =
+    let at-c = c .before .before .before in
+    let at-char-before = at-c .before .before in
+    let at-loop = at-char-before .before .before in
+    let start = at-loop .before .before in
+    let inside =
+    before-inside (start .args .s .now) (start .args .from) (at-loop .loop .end) _ _ (sym (at-char-before .char-before .ensures) ∙ at-c .c .given .1)
+    in
+    omega arith
 
 loop-less : tie.Need-loop-less Inv-loop μ-loop
-loop-less c = let inside = before-inside (c .before .before .before .before .before .before .before .before .before .args .s .now) (c .before .before .before .before .before .before .before .before .before .args .from) (c .before .before .before .before .before .before .before .loop .end) _ _ (sym (c .before .before .before .before .before .char-before .ensures) ∙ c .before .before .before .c .given .1) in omega arith
+loop-less c =
+    let at-c = c .before .before .before in
+    let at-char-before = at-c .before .before in
+    let at-loop = at-char-before .before .before in
+    let start = at-loop .before .before in
+    let inside =
+    before-inside (start .args .s .now) (start .args .from) (at-loop .loop .end) _ _ (sym (at-char-before .char-before .ensures) ∙ at-c .c .given .1)
+    in
+    omega arith
 
 loop-again : tie.Need-loop-again Inv-loop μ-loop
-loop-again c = trim-next _ _ _ _ _ _ (c .before .before .before .before .before .before .loop-test .taken) (sym (c .before .before .before .before .before .char-before .ensures) ∙ c .before .before .before .c .given .1) (sym (c .before .is-whitespace .ensures) ∙ not-false _ (c .if1 .left)) (c .before .before .before .before .before .before .before .loop .inv)
+loop-again c =
+    let at-c = c .before .before .before in
+    let at-char-before = at-c .before .before in
+    let at-loop-test = at-char-before .before in
+    let at-loop = at-loop-test .before in
+    trim-next _ _ _ _ _ _ (at-loop-test .loop-test .taken) (sym (at-char-before .char-before .ensures) ∙ at-c .c .given .1)
+    (sym (c .before .is-whitespace .ensures) ∙ not-false _ (c .if1 .left)) (at-loop .loop .inv)
 
 returns-3 : tie.Need-returns-3 Inv-loop μ-loop
 returns-3 c = trim-nothing _ _ _ _ (before-empty _ _ _ (c .loop-test .left)) (c .before .loop .inv)

@@ -9,7 +9,9 @@ returns : tie.Need-returns
 returns c = at-decoded _ _ _ _ (c .before .sequence .ensures) (decoded-none _ _ _ (c .if1 .taken))
 
 code-point-requires : tie.Need-code-point-requires
-code-point-requires c κs = omega (arith, c .before .sequence .ensures, sequence-inside (c .before .before .before .args .s .now) (c .before .before .before .args .at) (omega (arith, c .before .sequence .ensures)))
+code-point-requires c κs =
+    let start = c .before .before .before in
+    omega (arith, c .before .sequence .ensures, sequence-inside (start .args .s .now) (start .args .at) (omega (arith, c .before .sequence .ensures)))
 
 returns-2 : tie.Need-returns-2
 returns-2 c = at-decoded _ _ _ _ (c .before .before .sequence .ensures) (decoded-char _ _ _ _ (c .before .if1 .left) (c .code-point .ensures))

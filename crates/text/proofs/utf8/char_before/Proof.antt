@@ -11,10 +11,20 @@ returns : tie.Need-returns
 returns c = before-decoded _ _ _ _ _ (c .before .ending .ensures) (decoded-none _ _ _ (c .if1 .taken))
 
 sub-code-point : tie.Need-sub-code-point
-sub-code-point c = let some = ending-fits (c .before .before .before .args .s .now) (c .before .before .before .args .from) (c .before .before .before .args .to) (omega (arith, c .before .ending .ensures)) in omega (arith, c .before .ending .ensures)
+sub-code-point c =
+    let start = c .before .before .before in
+    let some = ending-fits (start .args .s .now) (start .args .from) (start .args .to) (omega (arith, c .before .ending .ensures)) in
+    omega (arith, c .before .ending .ensures)
 
 code-point-requires : tie.Need-code-point-requires
-code-point-requires c κs = let some = ending-fits (c .before .before .before .args .s .now) (c .before .before .before .args .from) (c .before .before .before .args .to) (omega (arith, c .before .ending .ensures)) in let inside = sequence-inside (c .before .before .before .args .s .now) (c .before .before .before .args .to - ending (c .before .before .before .args .s .now) (c .before .before .before .args .from) (c .before .before .before .args .to)) (omega (arith, c .before .ending .ensures)) in omega (arith, c .before .ending .ensures)
+code-point-requires c κs =
+    let start = c .before .before .before in
+    let some = ending-fits (start .args .s .now) (start .args .from) (start .args .to) (omega (arith, c .before .ending .ensures)) in
+    let inside =
+    sequence-inside (start .args .s .now) (start .args .to - ending (start .args .s .now) (start .args .from) (start .args .to))
+    (omega (arith, c .before .ending .ensures))
+    in
+    omega (arith, c .before .ending .ensures)
 
 returns-2 : tie.Need-returns-2
 returns-2 c = before-decoded _ _ _ _ _ (c .before .before .ending .ensures) (decoded-char _ _ _ _ (c .before .if1 .left) (c .code-point .ensures))

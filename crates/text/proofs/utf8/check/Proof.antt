@@ -19,16 +19,30 @@ stride-requires : tie.Need-stride-requires Inv-loop μ-loop
 stride-requires c κs = c .loop-test .taken
 
 returns : tie.Need-returns Inv-loop μ-loop
-returns c = checked-bad _ _ (stop _ _ (stride-none _ _ (sym (c .before .stride .ensures) ∙ c .if1 .taken)) (c .before .before .before .loop .inv .1)) (c .before .before .loop-test .taken)
+returns c =
+    let at-loop = c .before .before .before in
+    checked-bad _ _ (stop _ _ (stride-none _ _ (sym (c .before .stride .ensures) ∙ c .if1 .taken)) (at-loop .loop .inv .1))
+    (c .before .before .loop-test .taken)
 
 add-at : tie.Need-add-at Inv-loop μ-loop
-add-at c = omega (arith, c .before .stride .ensures, stride-fits (c .before .before .before .before .before .args .s .now) (c .before .before .before .loop .at) (c .before .before .before .loop .inv .0))
+add-at c =
+    let at-loop = c .before .before .before in
+    let at-args-5 = at-loop .before .before in
+    omega (arith, c .before .stride .ensures, stride-fits (at-args-5 .args .s .now) (at-loop .loop .at) (at-loop .loop .inv .0))
 
 loop-less : tie.Need-loop-less Inv-loop μ-loop
-loop-less c = omega (arith, c .if1 .left, c .before .stride .ensures, stride-fits (c .before .before .before .before .before .args .s .now) (c .before .before .before .loop .at) (c .before .before .before .loop .inv .0))
+loop-less c =
+    let at-loop = c .before .before .before in
+    let at-args-5 = at-loop .before .before in
+    omega (arith, c .if1 .left, c .before .stride .ensures, stride-fits (at-args-5 .args .s .now) (at-loop .loop .at) (at-loop .loop .inv .0))
 
 loop-again : tie.Need-loop-again Inv-loop μ-loop
-loop-again c = (omega (arith, c .before .stride .ensures, stride-fits (c .before .before .before .before .before .args .s .now) (c .before .before .before .loop .at) (c .before .before .before .loop .inv .0)), next-stride _ _ _ (c .before .before .loop-test .taken) (c .before .stride .ensures) (omega (arith, c .if1 .left)) (c .before .before .before .loop .inv .1))
+loop-again c =
+    let at-loop = c .before .before .before in
+    let at-args-5 = at-loop .before .before in (
+      omega (arith, c .before .stride .ensures, stride-fits (at-args-5 .args .s .now) (at-loop .loop .at) (at-loop .loop .inv .0)),
+      next-stride _ _ _ (c .before .before .loop-test .taken) (c .before .stride .ensures) (omega (arith, c .if1 .left)) (at-loop .loop .inv .1),
+    )
 
 returns-2 : tie.Need-returns-2 Inv-loop μ-loop
 returns-2 c = checked-good _ (stop _ _ (none-past _ _ (c .loop-test .left)) (c .before .loop .inv .1) ∙ omega arith)

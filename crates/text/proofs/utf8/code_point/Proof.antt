@@ -29,13 +29,37 @@ unfolding scalar
 returns c = simp (le-leb _ _ (c .if1 .taken)) (c .before .wide .ensures .0 ∙ c .before .before .byte .ensures)
 
 returns-2 : tie.Need-returns-2
-returns-2 c = of-two _ _ _ _ _ _ _ (c .before .before .before .before .wide .ensures .0 ∙ c .before .before .before .before .before .byte .ensures) (c .before .wide2 .ensures .0 ∙ c .before .before .byte2 .ensures) refl refl (c .before .before .before .if1 .left) (c .if2 .taken)
+returns-2 c =
+    let at-if1 = c .before .before .before in
+    let at-wide = at-if1 .before in
+    let at-byte = at-wide .before in
+    of-two _ _ _ _ _ _ _ (at-wide .wide .ensures .0 ∙ at-byte .byte .ensures)
+    (c .before .wide2 .ensures .0 ∙ c .before .before .byte2 .ensures) refl refl (at-if1 .if1 .left) (c .if2 .taken)
 
 returns-3 : tie.Need-returns-3
-returns-3 c = of-three _ _ _ _ _ _ _ (c .before .before .before .before .before .before .before .wide .ensures .0 ∙ c .before .before .before .before .before .before .before .before .byte .ensures) (c .before .before .before .before .wide2 .ensures .0 ∙ c .before .before .before .before .before .byte2 .ensures) (c .before .wide3 .ensures .0 ∙ c .before .before .byte3 .ensures) refl (c .before .before .before .before .before .before .if1 .left) (c .before .before .before .if2 .left) (c .if3 .taken)
+returns-3 c =
+    let at-if2 = c .before .before .before in
+    let at-wide2 = at-if2 .before in
+    let at-byte2 = at-wide2 .before in
+    let at-if1 = at-byte2 .before in
+    let at-wide = at-if1 .before in
+    let at-byte = at-wide .before in
+    of-three _ _ _ _ _ _ _ (at-wide .wide .ensures .0 ∙ at-byte .byte .ensures) (at-wide2 .wide2 .ensures .0 ∙ at-byte2 .byte2 .ensures)
+    (c .before .wide3 .ensures .0 ∙ c .before .before .byte3 .ensures) refl (at-if1 .if1 .left) (at-if2 .if2 .left) (c .if3 .taken)
 
 returns-4 : tie.Need-returns-4
-returns-4 c = of-four _ _ _ _ _ _ _ (c .before .before .before .before .before .before .before .before .before .wide .ensures .0 ∙ c .before .before .before .before .before .before .before .before .before .before .byte .ensures) (c .before .before .before .before .before .before .wide2 .ensures .0 ∙ c .before .before .before .before .before .before .before .byte2 .ensures) (c .before .before .before .wide3 .ensures .0 ∙ c .before .before .before .before .byte3 .ensures) (c .wide4 .ensures .0 ∙ c .before .byte4 .ensures) (c .before .before .before .before .before .before .before .before .if1 .left) (c .before .before .before .before .before .if2 .left) (c .before .before .if3 .left)
+returns-4 c =
+    let at-wide3 = c .before .before .before in
+    let at-byte3 = at-wide3 .before in
+    let at-if2 = at-byte3 .before in
+    let at-wide2 = at-if2 .before in
+    let at-byte2 = at-wide2 .before in
+    let at-if1 = at-byte2 .before in
+    let at-wide = at-if1 .before in
+    let at-byte = at-wide .before in
+    of-four _ _ _ _ _ _ _ (at-wide .wide .ensures .0 ∙ at-byte .byte .ensures)
+    (at-wide2 .wide2 .ensures .0 ∙ at-byte2 .byte2 .ensures) (at-wide3 .wide3 .ensures .0 ∙ at-byte3 .byte3 .ensures)
+    (c .wide4 .ensures .0 ∙ c .before .byte4 .ensures) (at-if1 .if1 .left) (at-if2 .if2 .left) (c .before .before .if3 .left)
 
 pub code-point-spec : {M : Type 1} → statement M
 code-point-spec =

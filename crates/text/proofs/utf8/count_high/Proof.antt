@@ -34,14 +34,17 @@ loop-less : tie.Need-loop-less Inv-loop μ-loop
 loop-less c = omega arith
 
 loop-again : tie.Need-loop-again Inv-loop μ-loop
-loop-again c = (
-  omega arith,
-  omega (arith, c .shared-slice-known .given (c .before .before .before .args .at + c .before .before .loop .k)),
-  highs-more (c .before .before .loop .k) (c .before .before .before .args .s .now) (c .before .before .before .args .at) (c .before .before .loop .n) (c .before .before .loop .inv .2),
-)
+loop-again c =
+    let start = c .before .before .before in (
+      omega arith,
+      omega (arith, c .shared-slice-known .given (start .args .at + c .before .before .loop .k)),
+      highs-more (c .before .before .loop .k) (start .args .s .now) (start .args .at) (c .before .before .loop .n) (c .before .before .loop .inv .2),
+    )
 
 returns : tie.Need-returns Inv-loop μ-loop
-returns c = counted (c .before .loop .k) (c .before .before .args .s .now) (c .before .before .args .at) (c .before .loop .n) (omega arith) (omega arith) (c .before .loop .inv .2)
+returns c =
+    counted (c .before .loop .k) (c .before .before .args .s .now) (c .before .before .args .at)
+    (c .before .loop .n) (omega arith) (omega arith) (c .before .loop .inv .2)
 
 pub count-high-spec : {M : Type 1} → statement M
 count-high-spec =

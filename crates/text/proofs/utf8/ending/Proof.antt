@@ -11,19 +11,51 @@ returns c = sym (simp (sym (c .before .is-ending .ensures) ∙ c .if1 .taken))
 
 returns-2 : tie.Need-returns-2
 unfolding ending
-returns-2 c = sym (simp (sym (c .before .before .before .is-ending .ensures) ∙ c .before .before .if1 .left, sym (c .before .is-ending2 .ensures) ∙ c .if2 .taken))
+returns-2 c =
+    let at-is-ending = c .before .before .before in
+    sym (simp (sym (at-is-ending .is-ending .ensures) ∙ c .before .before .if1 .left, sym (c .before .is-ending2 .ensures) ∙ c .if2 .taken))
 
 returns-3 : tie.Need-returns-3
 unfolding ending
-returns-3 c = sym (simp (sym (c .before .before .before .before .before .is-ending .ensures) ∙ c .before .before .before .before .if1 .left, sym (c .before .before .before .is-ending2 .ensures) ∙ c .before .before .if2 .left, sym (c .before .is-ending3 .ensures) ∙ c .if3 .taken))
+returns-3 c =
+    let at-is-ending2 = c .before .before .before in
+    let at-if1 = at-is-ending2 .before in
+    let at-is-ending = at-if1 .before in
+    sym (simp (
+      sym (at-is-ending .is-ending .ensures) ∙ at-if1 .if1 .left,
+      sym (at-is-ending2 .is-ending2 .ensures) ∙ c .before .before .if2 .left,
+      sym (c .before .is-ending3 .ensures) ∙ c .if3 .taken,
+    ))
 
 returns-4 : tie.Need-returns-4
 unfolding ending
-returns-4 c = sym (simp (sym (c .before .before .before .before .before .before .before .is-ending .ensures) ∙ c .before .before .before .before .before .before .if1 .left, sym (c .before .before .before .before .before .is-ending2 .ensures) ∙ c .before .before .before .before .if2 .left, sym (c .before .before .before .is-ending3 .ensures) ∙ c .before .before .if3 .left, sym (c .before .is-ending4 .ensures) ∙ c .if4 .taken))
+returns-4 c =
+    let at-is-ending3 = c .before .before .before in
+    let at-if2 = at-is-ending3 .before in
+    let at-is-ending2 = at-if2 .before in
+    let at-if1 = at-is-ending2 .before in
+    let at-is-ending = at-if1 .before in
+    sym (simp (
+      sym (at-is-ending .is-ending .ensures) ∙ at-if1 .if1 .left,
+      sym (at-is-ending2 .is-ending2 .ensures) ∙ at-if2 .if2 .left,
+      sym (at-is-ending3 .is-ending3 .ensures) ∙ c .before .before .if3 .left,
+      sym (c .before .is-ending4 .ensures) ∙ c .if4 .taken,
+    ))
 
 returns-5 : tie.Need-returns-5
 unfolding ending
-returns-5 c = sym (simp (sym (c .before .before .before .before .before .before .before .is-ending .ensures) ∙ c .before .before .before .before .before .before .if1 .left, sym (c .before .before .before .before .before .is-ending2 .ensures) ∙ c .before .before .before .before .if2 .left, sym (c .before .before .before .is-ending3 .ensures) ∙ c .before .before .if3 .left, sym (c .before .is-ending4 .ensures) ∙ c .if4 .left))
+returns-5 c =
+    let at-is-ending3 = c .before .before .before in
+    let at-if2 = at-is-ending3 .before in
+    let at-is-ending2 = at-if2 .before in
+    let at-if1 = at-is-ending2 .before in
+    let at-is-ending = at-if1 .before in
+    sym (simp (
+      sym (at-is-ending .is-ending .ensures) ∙ at-if1 .if1 .left,
+      sym (at-is-ending2 .is-ending2 .ensures) ∙ at-if2 .if2 .left,
+      sym (at-is-ending3 .is-ending3 .ensures) ∙ c .before .before .if3 .left,
+      sym (c .before .is-ending4 .ensures) ∙ c .if4 .left,
+    ))
 
 pub ending-spec : {M : Type 1} → statement M
 ending-spec =

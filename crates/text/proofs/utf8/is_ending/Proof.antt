@@ -14,11 +14,15 @@ returns c = sym (simp (lt-leb (c .before .before .args .from + c .before .before
 
 returns-2 : tie.Need-returns-2
 unfolding ends
-returns-2 c = sym (simp (lt-leb (c .before .before .before .args .from + c .before .before .before .args .k) (c .before .before .before .args .to) (omega arith)))
+returns-2 c =
+    let start = c .before .before .before in
+    sym (simp (lt-leb (start .args .from + start .args .k) (start .args .to) (omega arith)))
 
 returns-3 : tie.Need-returns-3
 unfolding ends
-returns-3 c = simp (le-leb (c .before .before .before .before .args .from + c .before .before .before .before .args .k) (c .before .before .before .before .args .to) (omega arith)) (ap (λ n. eqb n (c .before .before .before .before .args .k)) (c .sequence .ensures))
+returns-3 c =
+    let start = c .before .before .before .before in
+    simp (le-leb (start .args .from + start .args .k) (start .args .to) (omega arith)) (ap (λ n. eqb n (start .args .k)) (c .sequence .ensures))
 
 pub is-ending-spec : {M : Type 1} → statement M
 is-ending-spec = tie.close (tie.spec returns returns-2 (λ c κs. search needs) returns-3)

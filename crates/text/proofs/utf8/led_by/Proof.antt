@@ -29,7 +29,8 @@ module _ (s : List ℕ) (at : ℕ) (l : Lead) (inside : at < length s) (led : l 
     by-second : l .2 ≡ 2 → l .2 ≡ sequence s at
     by-second h =
         sym (sequence-by s at l inside led
-        ∙ simp (lt-leb (l .2) 1 (omega arith), within-in (l .0) (l .1) (getD s (at + 1) 0) low high, le-leb (l .2) 2 (omega arith), le-leb (l .2) 3 (omega arith)))
+        ∙ simp
+        (lt-leb (l .2) 1 (omega arith), within-in (l .0) (l .1) (getD s (at + 1) 0) low high, le-leb (l .2) 2 (omega arith), le-leb (l .2) 3 (omega arith)))
 
     third-off : 2 < l .2 → continues (getD s (at + 2) 0) ≡ false → 0 ≡ sequence s at
     third-off h k =
@@ -39,7 +40,8 @@ module _ (s : List ℕ) (at : ℕ) (l : Lead) (inside : at < length s) (led : l 
     by-third : l .2 ≡ 3 → continues (getD s (at + 2) 0) ≡ true → l .2 ≡ sequence s at
     by-third h k =
         sym (sequence-by s at l inside led
-        ∙ simp (lt-leb (l .2) 1 (omega arith), within-in (l .0) (l .1) (getD s (at + 1) 0) low high, lt-leb (l .2) 2 (omega arith), k, le-leb (l .2) 3 (omega arith)))
+        ∙ simp
+        (lt-leb (l .2) 1 (omega arith), within-in (l .0) (l .1) (getD s (at + 1) 0) low high, lt-leb (l .2) 2 (omega arith), k, le-leb (l .2) 3 (omega arith)))
 
     fourth-off : 3 < l .2 → continues (getD s (at + 2) 0) ≡ true → continues (getD s (at + 3) 0) ≡ false → 0 ≡ sequence s at
     fourth-off h j k =
@@ -55,25 +57,60 @@ returns : tie.Need-returns
 returns c = by-first _ _ _ (c .before .before .pre .0) (c .before .before .pre .1) (c .if1 .taken)
 
 returns-2 : tie.Need-returns-2
-returns-2 c = second-low _ _ _ (c .before .before .before .before .before .pre .0) (c .before .before .before .before .before .pre .1) (c .before .before .before .if1 .left) (omega (arith, c .before .before .byte .ensures))
+returns-2 c =
+    let at-if1 = c .before .before .before in
+    let start = at-if1 .before .before in
+    second-low _ _ _ (start .pre .0) (start .pre .1) (at-if1 .if1 .left) (omega (arith, c .before .before .byte .ensures))
 
 returns-3 : tie.Need-returns-3
-returns-3 c = second-high _ _ _ (c .before .before .before .before .before .before .before .pre .0) (c .before .before .before .before .before .before .before .pre .1) (c .before .before .before .before .before .if1 .left) (omega (arith, c .before .before .before .before .byte .ensures)) (omega (arith, c .before .before .before .before .byte .ensures))
+returns-3 c =
+    let at-byte = c .before .before .before .before in
+    let at-if1 = at-byte .before in
+    let start = at-if1 .before .before in
+    second-high _ _ _ (start .pre .0) (start .pre .1) (at-if1 .if1 .left) (omega (arith, at-byte .byte .ensures)) (omega (arith, at-byte .byte .ensures))
 
 returns-4 : tie.Need-returns-4
-returns-4 c = by-second _ _ _ (c .before .before .before .before .before .before .before .before .pre .0) (c .before .before .before .before .before .before .before .before .pre .1) (omega (arith, c .before .before .before .before .before .byte .ensures)) (omega (arith, c .before .before .before .before .before .byte .ensures)) (c .if4 .taken)
+returns-4 c =
+    let at-byte = c .before .before .before .before .before in
+    let start = at-byte .before .before .before in
+    by-second _ _ _ (start .pre .0) (start .pre .1) (omega (arith, at-byte .byte .ensures)) (omega (arith, at-byte .byte .ensures)) (c .if4 .taken)
 
 returns-5 : tie.Need-returns-5
-returns-5 c = third-off _ _ _ (c .before .before .before .before .before .before .before .before .before .before .before .pre .0) (c .before .before .before .before .before .before .before .before .before .before .before .pre .1) (omega (arith, c .before .before .before .before .before .before .before .before .byte .ensures)) (omega (arith, c .before .before .before .before .before .before .before .before .byte .ensures)) (omega arith) (ap continues (sym (c .before .before .byte2 .ensures)) ∙ sym (c .before .is-continuation .ensures) ∙ not-true _ (c .if5 .taken))
+returns-5 c =
+    let at-byte = c .before .before .before .before .before .before .before .before in
+    let start = at-byte .before .before .before in
+    third-off _ _ _ (start .pre .0) (start .pre .1) (omega (arith, at-byte .byte .ensures)) (omega (arith, at-byte .byte .ensures)) (omega arith)
+    (ap continues (sym (c .before .before .byte2 .ensures)) ∙ sym (c .before .is-continuation .ensures) ∙ not-true _ (c .if5 .taken))
 
 returns-6 : tie.Need-returns-6
-returns-6 c = by-third _ _ _ (c .before .before .before .before .before .before .before .before .before .before .before .before .pre .0) (c .before .before .before .before .before .before .before .before .before .before .before .before .pre .1) (omega (arith, c .before .before .before .before .before .before .before .before .before .byte .ensures)) (omega (arith, c .before .before .before .before .before .before .before .before .before .byte .ensures)) (c .if6 .taken) (ap continues (sym (c .before .before .before .byte2 .ensures)) ∙ sym (c .before .before .is-continuation .ensures) ∙ not-false _ (c .before .if5 .left))
+returns-6 c =
+    let at-byte2 = c .before .before .before in
+    let at-byte = at-byte2 .before .before .before .before .before .before in
+    let start = at-byte .before .before .before in
+    by-third _ _ _ (start .pre .0) (start .pre .1) (omega (arith, at-byte .byte .ensures)) (omega (arith, at-byte .byte .ensures)) (c .if6 .taken)
+    (ap continues (sym (at-byte2 .byte2 .ensures)) ∙ sym (c .before .before .is-continuation .ensures) ∙ not-false _ (c .before .if5 .left))
 
 returns-7 : tie.Need-returns-7
-returns-7 c = fourth-off _ _ _ (c .before .before .before .before .before .before .before .before .before .before .before .before .before .before .before .pre .0) (c .before .before .before .before .before .before .before .before .before .before .before .before .before .before .before .pre .1) (omega (arith, c .before .before .before .before .before .before .before .before .before .before .before .before .byte .ensures)) (omega (arith, c .before .before .before .before .before .before .before .before .before .before .before .before .byte .ensures)) (omega arith) (ap continues (sym (c .before .before .before .before .before .before .byte2 .ensures)) ∙ sym (c .before .before .before .before .before .is-continuation .ensures) ∙ not-false _ (c .before .before .before .before .if5 .left)) (ap continues (sym (c .before .before .byte3 .ensures)) ∙ sym (c .before .is-continuation2 .ensures) ∙ not-true _ (c .if7 .taken))
+returns-7 c =
+    let at-if5 = c .before .before .before .before in
+    let at-is-continuation = at-if5 .before in
+    let at-byte2 = at-is-continuation .before in
+    let at-byte = at-byte2 .before .before .before .before .before .before in
+    let start = at-byte .before .before .before in
+    fourth-off _ _ _ (start .pre .0) (start .pre .1) (omega (arith, at-byte .byte .ensures)) (omega (arith, at-byte .byte .ensures)) (omega arith)
+    (ap continues (sym (at-byte2 .byte2 .ensures)) ∙ sym (at-is-continuation .is-continuation .ensures) ∙ not-false _ (at-if5 .if5 .left))
+    (ap continues (sym (c .before .before .byte3 .ensures)) ∙ sym (c .before .is-continuation2 .ensures) ∙ not-true _ (c .if7 .taken))
 
 returns-8 : tie.Need-returns-8
-returns-8 c = by-fourth _ _ _ (c .before .before .before .before .before .before .before .before .before .before .before .before .before .before .before .pre .0) (c .before .before .before .before .before .before .before .before .before .before .before .before .before .before .before .pre .1) (omega (arith, c .before .before .before .before .before .before .before .before .before .before .before .before .byte .ensures)) (omega (arith, c .before .before .before .before .before .before .before .before .before .before .before .before .byte .ensures)) (omega arith) (ap continues (sym (c .before .before .before .before .before .before .byte2 .ensures)) ∙ sym (c .before .before .before .before .before .is-continuation .ensures) ∙ not-false _ (c .before .before .before .before .if5 .left)) (ap continues (sym (c .before .before .byte3 .ensures)) ∙ sym (c .before .is-continuation2 .ensures) ∙ not-false _ (c .if7 .left))
+returns-8 c =
+    let at-if5 = c .before .before .before .before in
+    let at-is-continuation = at-if5 .before in
+    let at-byte2 = at-is-continuation .before in
+    let at-byte = at-byte2 .before .before .before .before .before .before in
+    let start = at-byte .before .before .before in
+    by-fourth _ _ _ (start .pre .0) (start .pre .1) (omega (arith, at-byte .byte .ensures)) (omega (arith, at-byte .byte .ensures)) (omega arith)
+    (ap continues (sym (at-byte2 .byte2 .ensures)) ∙ sym (at-is-continuation .is-continuation .ensures) ∙ not-false _ (at-if5 .if5 .left))
+    (ap continues (sym (c .before .before .byte3 .ensures)) ∙ sym (c .before .is-continuation2 .ensures) ∙ not-false _ (c .if7 .left))
 
 pub led-by-spec : {M : Type 1} → statement M
 led-by-spec =

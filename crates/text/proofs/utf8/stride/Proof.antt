@@ -11,7 +11,9 @@ returns-2 : tie.Need-returns-2
 returns-2 c = stride-plain _ _ (c .before .before .if1 .left) (sym (c .before .is-plain .ensures) ∙ c .if2 .taken)
 
 returns-3 : tie.Need-returns-3
-returns-3 c = stride-one _ _ _ (c .before .before .before .if1 .left) (sym (c .before .before .is-plain .ensures) ∙ c .before .if2 .left) (c .sequence2 .ensures)
+returns-3 c =
+    let at-if1 = c .before .before .before in
+    stride-one _ _ _ (at-if1 .if1 .left) (sym (c .before .before .is-plain .ensures) ∙ c .before .if2 .left) (c .sequence2 .ensures)
 
 pub stride-spec : {M : Type 1} → statement M
 stride-spec =

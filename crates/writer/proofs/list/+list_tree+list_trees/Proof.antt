@@ -47,13 +47,34 @@ list-trees-below t =
     and 2 list-trees-kinds.ps (falls 2 list-trees-kinds.ps _<_ μ-list-trees t) list-trees.Pre
 
 abbrev list-tree-calls : ℕ → list-tree-lts.Claims
-list-tree-calls t = (num32-reads.Asked, num32-reads.Learnt, put-reads.Asked, put-reads.Learnt, copy-reads.Asked, copy-reads.Learnt, list-payload-reads.Asked, list-payload-reads.Learnt, wide-reads.Asked, wide-reads.Learnt, first-child-reads.Asked, first-child-reads.Learnt, list-trees-below t, list-trees.Post)
+list-tree-calls t = (
+  num32-reads.Asked,
+  num32-reads.Learnt,
+  put-reads.Asked,
+  put-reads.Learnt,
+  copy-reads.Asked,
+  copy-reads.Learnt,
+  list-payload-reads.Asked,
+  list-payload-reads.Learnt,
+  wide-reads.Asked,
+  wide-reads.Learnt,
+  first-child-reads.Asked,
+  first-child-reads.Learnt,
+  list-trees-below t,
+  list-trees.Post,
+)
 
 abbrev list-trees-calls : ℕ → list-trees-lts.Claims
 list-trees-calls t = (list-tree-below t, list-tree.Post, num32-reads.Asked, num32-reads.Learnt)
 
 list-tree-num32-requires : (t : ℕ) → list-tree-lts.Need-num32-requires (list-tree-calls t) (list-tree-at t) list-tree.Post
-list-tree-num32-requires t c κs = omega (arith, (tree-within (c .before .before .args .b .now) _ _ (c .before .before .pre .1)) .0, (tree-within (c .before .before .args .b .now) _ _ (c .before .before .pre .1)) .1, c .before .before .pre .1 .below, c .before .before .pre .1 .short)
+list-tree-num32-requires t c κs = omega (
+  arith,
+  (tree-within (c .before .before .args .b .now) _ _ (c .before .before .pre .1)) .0,
+  (tree-within (c .before .before .args .b .now) _ _ (c .before .before .pre .1)) .1,
+  c .before .before .pre .1 .below,
+  c .before .before .pre .1 .short,
+)
 
 list-tree-cast-put : (t : ℕ) → list-tree-lts.Need-cast-put (list-tree-calls t) (list-tree-at t) list-tree.Post
 list-tree-cast-put t c = search needs
@@ -62,19 +83,49 @@ list-tree-put-requires : (t : ℕ) → list-tree-lts.Need-put-requires (list-tre
 list-tree-put-requires t c κs = search needs
 
 list-tree-add-result : (t : ℕ) → list-tree-lts.Need-add-result (list-tree-calls t) (list-tree-at t) list-tree.Post
-list-tree-add-result t c = omega (arith, (tree-within (c .before .before .before .before .before .before .before .before .args .b .now) _ _ (c .before .before .before .before .before .before .before .before .pre .1)) .0, (tree-within (c .before .before .before .before .before .before .before .before .args .b .now) _ _ (c .before .before .before .before .before .before .before .before .pre .1)) .1, c .before .before .before .before .before .before .before .before .pre .1 .below, c .before .before .before .before .before .before .before .before .pre .1 .short)
+list-tree-add-result t c =
+    let start = c .before .before .before .before .before .before .before .before in
+    omega (
+      arith,
+      (tree-within (start .args .b .now) _ _ (start .pre .1)) .0,
+      (tree-within (start .args .b .now) _ _ (start .pre .1)) .1,
+      start .pre .1 .below,
+      start .pre .1 .short,
+    )
 
 list-tree-same-length : (t : ℕ) → list-tree-lts.Need-same-length (list-tree-calls t) (list-tree-at t) list-tree.Post
 list-tree-same-length t c = search needs
 
 list-tree-returns : (t : ℕ) → list-tree-lts.Need-returns (list-tree-calls t) (list-tree-at t) list-tree.Post
-list-tree-returns t c = puts-absent (c .before .before .before .before .before .before .before .before .args .b .now) _ _ _ _ (sym (c .before .before .before .before .before .num32 .ensures .same) ∙ c .before .before .before .before .if1 .taken) (c .before .before .put .ensures)
+list-tree-returns t c =
+    let at-if1 = c .before .before .before .before in
+    let at-num32 = at-if1 .before in
+    let start = at-num32 .before .before .before in
+    puts-absent (start .args .b .now) _ _ _ _ (sym (at-num32 .num32 .ensures .same) ∙ at-if1 .if1 .taken) (c .before .before .put .ensures)
 
 list-tree-add-stop : (t : ℕ) → list-tree-lts.Need-add-stop (list-tree-calls t) (list-tree-at t) list-tree.Post
-list-tree-add-stop t c = omega (arith, (tree-head (c .before .before .before .before .args .b .now) _ _ (c .before .before .before .before .pre .1) (λ z. c .if1 .left (c .before .num32 .ensures .same ∙ z))) .0 .long, (tree-head (c .before .before .before .before .args .b .now) _ _ (c .before .before .before .before .pre .1) (λ z. c .if1 .left (c .before .num32 .ensures .same ∙ z))) .0 .inside, c .before .before .before .before .pre .1 .below, c .before .before .before .before .pre .1 .short, c .before .num32 .ensures .same)
+list-tree-add-stop t c =
+    let start = c .before .before .before .before in
+    omega (
+      arith,
+      (tree-head (start .args .b .now) _ _ (start .pre .1) (λ z. c .if1 .left (c .before .num32 .ensures .same ∙ z))) .0 .long,
+      (tree-head (start .args .b .now) _ _ (start .pre .1) (λ z. c .if1 .left (c .before .num32 .ensures .same ∙ z))) .0 .inside,
+      start .pre .1 .below,
+      start .pre .1 .short,
+      c .before .num32 .ensures .same,
+    )
 
 list-tree-add-stop-2 : (t : ℕ) → list-tree-lts.Need-add-stop-2 (list-tree-calls t) (list-tree-at t) list-tree.Post
-list-tree-add-stop-2 t c = omega (arith, (tree-head (c .before .before .before .before .args .b .now) _ _ (c .before .before .before .before .pre .1) (λ z. c .if1 .left (c .before .num32 .ensures .same ∙ z))) .0 .long, (tree-head (c .before .before .before .before .args .b .now) _ _ (c .before .before .before .before .pre .1) (λ z. c .if1 .left (c .before .num32 .ensures .same ∙ z))) .0 .inside, c .before .before .before .before .pre .1 .below, c .before .before .before .before .pre .1 .short, c .before .num32 .ensures .same)
+list-tree-add-stop-2 t c =
+    let start = c .before .before .before .before in
+    omega (
+      arith,
+      (tree-head (start .args .b .now) _ _ (start .pre .1) (λ z. c .if1 .left (c .before .num32 .ensures .same ∙ z))) .0 .long,
+      (tree-head (start .args .b .now) _ _ (start .pre .1) (λ z. c .if1 .left (c .before .num32 .ensures .same ∙ z))) .0 .inside,
+      start .pre .1 .below,
+      start .pre .1 .short,
+      c .before .num32 .ensures .same,
+    )
 
 list-tree-cast-put-2 : (t : ℕ) → list-tree-lts.Need-cast-put-2 (list-tree-calls t) (list-tree-at t) list-tree.Post
 list-tree-cast-put-2 t c = search needs
@@ -83,40 +134,181 @@ list-tree-put-requires-2 : (t : ℕ) → list-tree-lts.Need-put-requires-2 (list
 list-tree-put-requires-2 t c κs = search needs
 
 list-tree-add-copy : (t : ℕ) → list-tree-lts.Need-add-copy (list-tree-calls t) (list-tree-at t) list-tree.Post
-list-tree-add-copy t c = omega (arith, (tree-head (c .before .before .before .before .before .before .before .before .args .b .now) _ _ (c .before .before .before .before .before .before .before .before .pre .1) (λ z. c .before .before .before .before .if1 .left (c .before .before .before .before .before .num32 .ensures .same ∙ z))) .0 .long, (tree-head (c .before .before .before .before .before .before .before .before .args .b .now) _ _ (c .before .before .before .before .before .before .before .before .pre .1) (λ z. c .before .before .before .before .if1 .left (c .before .before .before .before .before .num32 .ensures .same ∙ z))) .0 .inside, c .before .before .before .before .before .before .before .before .pre .1 .below, c .before .before .before .before .before .before .before .before .pre .1 .short, c .before .before .before .before .before .num32 .ensures .same)
+list-tree-add-copy t c =
+    let at-if1 = c .before .before .before .before in
+    let at-num32 = at-if1 .before in
+    let start = at-num32 .before .before .before in
+    omega (
+      arith,
+      (tree-head (start .args .b .now) _ _ (start .pre .1) (λ z. at-if1 .if1 .left (at-num32 .num32 .ensures .same ∙ z))) .0 .long,
+      (tree-head (start .args .b .now) _ _ (start .pre .1) (λ z. at-if1 .if1 .left (at-num32 .num32 .ensures .same ∙ z))) .0 .inside,
+      start .pre .1 .below,
+      start .pre .1 .short,
+      at-num32 .num32 .ensures .same,
+    )
 
 list-tree-add-copy-2 : (t : ℕ) → list-tree-lts.Need-add-copy-2 (list-tree-calls t) (list-tree-at t) list-tree.Post
-list-tree-add-copy-2 t c = omega (arith, (tree-head (c .before .before .before .before .before .before .before .before .args .b .now) _ _ (c .before .before .before .before .before .before .before .before .pre .1) (λ z. c .before .before .before .before .if1 .left (c .before .before .before .before .before .num32 .ensures .same ∙ z))) .0 .long, (tree-head (c .before .before .before .before .before .before .before .before .args .b .now) _ _ (c .before .before .before .before .before .before .before .before .pre .1) (λ z. c .before .before .before .before .if1 .left (c .before .before .before .before .before .num32 .ensures .same ∙ z))) .0 .inside, c .before .before .before .before .before .before .before .before .pre .1 .below, c .before .before .before .before .before .before .before .before .pre .1 .short, c .before .before .before .before .before .num32 .ensures .same)
+list-tree-add-copy-2 t c =
+    let at-if1 = c .before .before .before .before in
+    let at-num32 = at-if1 .before in
+    let start = at-num32 .before .before .before in
+    omega (
+      arith,
+      (tree-head (start .args .b .now) _ _ (start .pre .1) (λ z. at-if1 .if1 .left (at-num32 .num32 .ensures .same ∙ z))) .0 .long,
+      (tree-head (start .args .b .now) _ _ (start .pre .1) (λ z. at-if1 .if1 .left (at-num32 .num32 .ensures .same ∙ z))) .0 .inside,
+      start .pre .1 .below,
+      start .pre .1 .short,
+      at-num32 .num32 .ensures .same,
+    )
 
 list-tree-add-copy-3 : (t : ℕ) → list-tree-lts.Need-add-copy-3 (list-tree-calls t) (list-tree-at t) list-tree.Post
-list-tree-add-copy-3 t c = omega (arith, (tree-head (c .before .before .before .before .before .before .before .before .before .args .b .now) _ _ (c .before .before .before .before .before .before .before .before .before .pre .1) (λ z. c .before .before .before .before .before .if1 .left (c .before .before .before .before .before .before .num32 .ensures .same ∙ z))) .0 .long, (tree-head (c .before .before .before .before .before .before .before .before .before .args .b .now) _ _ (c .before .before .before .before .before .before .before .before .before .pre .1) (λ z. c .before .before .before .before .before .if1 .left (c .before .before .before .before .before .before .num32 .ensures .same ∙ z))) .0 .inside, c .before .before .before .before .before .before .before .before .before .pre .1 .below, c .before .before .before .before .before .before .before .before .before .pre .1 .short, c .before .before .before .before .before .before .num32 .ensures .same)
+list-tree-add-copy-3 t c =
+    let at-if1 = c .before .before .before .before .before in
+    let at-num32 = at-if1 .before in
+    let start = at-num32 .before .before .before in
+    omega (
+      arith,
+      (tree-head (start .args .b .now) _ _ (start .pre .1) (λ z. at-if1 .if1 .left (at-num32 .num32 .ensures .same ∙ z))) .0 .long,
+      (tree-head (start .args .b .now) _ _ (start .pre .1) (λ z. at-if1 .if1 .left (at-num32 .num32 .ensures .same ∙ z))) .0 .inside,
+      start .pre .1 .below,
+      start .pre .1 .short,
+      at-num32 .num32 .ensures .same,
+    )
 
 list-tree-copy-requires : (t : ℕ) → list-tree-lts.Need-copy-requires (list-tree-calls t) (list-tree-at t) list-tree.Post
-list-tree-copy-requires t c κs = (omega arith, (omega (arith, (tree-head (c .before .before .before .before .before .before .before .before .before .args .b .now) _ _ (c .before .before .before .before .before .before .before .before .before .pre .1) (λ z. c .before .before .before .before .before .if1 .left (c .before .before .before .before .before .before .num32 .ensures .same ∙ z))) .0 .long, (tree-head (c .before .before .before .before .before .before .before .before .before .args .b .now) _ _ (c .before .before .before .before .before .before .before .before .before .pre .1) (λ z. c .before .before .before .before .before .if1 .left (c .before .before .before .before .before .before .num32 .ensures .same ∙ z))) .0 .inside, c .before .before .before .before .before .before .before .before .before .pre .1 .below, c .before .before .before .before .before .before .before .before .before .pre .1 .short, c .before .before .before .before .before .before .num32 .ensures .same), omega (arith, (tree-head (c .before .before .before .before .before .before .before .before .before .args .b .now) _ _ (c .before .before .before .before .before .before .before .before .before .pre .1) (λ z. c .before .before .before .before .before .if1 .left (c .before .before .before .before .before .before .num32 .ensures .same ∙ z))) .0 .long, (tree-head (c .before .before .before .before .before .before .before .before .before .args .b .now) _ _ (c .before .before .before .before .before .before .before .before .before .pre .1) (λ z. c .before .before .before .before .before .if1 .left (c .before .before .before .before .before .before .num32 .ensures .same ∙ z))) .0 .inside, c .before .before .before .before .before .before .before .before .before .pre .1 .below, c .before .before .before .before .before .before .before .before .before .pre .1 .short, c .before .before .before .before .before .before .num32 .ensures .same)))
+list-tree-copy-requires t c κs =
+    let at-if1 = c .before .before .before .before .before in
+    let at-num32 = at-if1 .before in
+    let start = at-num32 .before .before .before in (
+      omega arith,
+      (
+        omega (
+          arith,
+          (tree-head (start .args .b .now) _ _ (start .pre .1) (λ z. at-if1 .if1 .left (at-num32 .num32 .ensures .same ∙ z))) .0 .long,
+          (tree-head (start .args .b .now) _ _ (start .pre .1) (λ z. at-if1 .if1 .left (at-num32 .num32 .ensures .same ∙ z))) .0 .inside,
+          start .pre .1 .below,
+          start .pre .1 .short,
+          at-num32 .num32 .ensures .same,
+        ),
+        omega (
+          arith,
+          (tree-head (start .args .b .now) _ _ (start .pre .1) (λ z. at-if1 .if1 .left (at-num32 .num32 .ensures .same ∙ z))) .0 .long,
+          (tree-head (start .args .b .now) _ _ (start .pre .1) (λ z. at-if1 .if1 .left (at-num32 .num32 .ensures .same ∙ z))) .0 .inside,
+          start .pre .1 .below,
+          start .pre .1 .short,
+          at-num32 .num32 .ensures .same,
+        ),
+      ),
+    )
 
 list-tree-add-list-payload : (t : ℕ) → list-tree-lts.Need-add-list-payload (list-tree-calls t) (list-tree-at t) list-tree.Post
-list-tree-add-list-payload t c = omega (arith, (tree-head (c .before .before .before .before .before .before .before .before .before .before .before .before .before .args .b .now) _ _ (c .before .before .before .before .before .before .before .before .before .before .before .before .before .pre .1) (λ z. c .before .before .before .before .before .before .before .before .before .if1 .left (c .before .before .before .before .before .before .before .before .before .before .num32 .ensures .same ∙ z))) .0 .long, (tree-head (c .before .before .before .before .before .before .before .before .before .before .before .before .before .args .b .now) _ _ (c .before .before .before .before .before .before .before .before .before .before .before .before .before .pre .1) (λ z. c .before .before .before .before .before .before .before .before .before .if1 .left (c .before .before .before .before .before .before .before .before .before .before .num32 .ensures .same ∙ z))) .0 .inside, c .before .before .before .before .before .before .before .before .before .before .before .before .before .pre .1 .below, c .before .before .before .before .before .before .before .before .before .before .before .before .before .pre .1 .short, c .before .before .before .before .before .before .before .before .before .before .num32 .ensures .same)
+list-tree-add-list-payload t c =
+    let at-if1 = c .before .before .before .before .before .before .before .before .before in
+    let at-num32 = at-if1 .before in
+    let start = at-num32 .before .before .before in
+    omega (
+      arith,
+      (tree-head (start .args .b .now) _ _ (start .pre .1) (λ z. at-if1 .if1 .left (at-num32 .num32 .ensures .same ∙ z))) .0 .long,
+      (tree-head (start .args .b .now) _ _ (start .pre .1) (λ z. at-if1 .if1 .left (at-num32 .num32 .ensures .same ∙ z))) .0 .inside,
+      start .pre .1 .below,
+      start .pre .1 .short,
+      at-num32 .num32 .ensures .same,
+    )
 
 list-tree-list-payload-requires : (t : ℕ) → list-tree-lts.Need-list-payload-requires (list-tree-calls t) (list-tree-at t) list-tree.Post
-list-tree-list-payload-requires t c κs = record { whole = (tree-head (c .before .before .before .before .before .before .before .before .before .before .before .before .before .args .b .now) _ _ (c .before .before .before .before .before .before .before .before .before .before .before .before .before .pre .1) (λ z. c .before .before .before .before .before .before .before .before .before .if1 .left (c .before .before .before .before .before .before .before .before .before .before .num32 .ensures .same ∙ z))) .0; below = omega (arith, c .before .before .before .before .before .before .before .before .before .before .before .before .before .pre .1 .below); short = c .before .before .before .before .before .before .before .before .before .before .before .before .before .pre .1 .short }
+list-tree-list-payload-requires t c κs =
+    let at-if1 = c .before .before .before .before .before .before .before .before .before in
+    let at-num32 = at-if1 .before in
+    let start = at-num32 .before .before .before in
+    record {
+      whole = (tree-head (start .args .b .now) _ _ (start .pre .1) (λ z. at-if1 .if1 .left (at-num32 .num32 .ensures .same ∙ z))) .0;
+      below = omega (arith, start .pre .1 .below);
+      short = start .pre .1 .short;
+    }
 
 list-tree-add-wide : (t : ℕ) → list-tree-lts.Need-add-wide (list-tree-calls t) (list-tree-at t) list-tree.Post
-list-tree-add-wide t c = omega (arith, (tree-head (c .before .before .before .before .before .before .before .before .before .before .before .before .before .before .before .before .args .b .now) _ _ (c .before .before .before .before .before .before .before .before .before .before .before .before .before .before .before .before .pre .1) (λ z. c .before .before .before .before .before .before .before .before .before .before .before .before .if1 .left (c .before .before .before .before .before .before .before .before .before .before .before .before .before .num32 .ensures .same ∙ z))) .0 .long, (tree-head (c .before .before .before .before .before .before .before .before .before .before .before .before .before .before .before .before .args .b .now) _ _ (c .before .before .before .before .before .before .before .before .before .before .before .before .before .before .before .before .pre .1) (λ z. c .before .before .before .before .before .before .before .before .before .before .before .before .if1 .left (c .before .before .before .before .before .before .before .before .before .before .before .before .before .num32 .ensures .same ∙ z))) .0 .inside, c .before .before .before .before .before .before .before .before .before .before .before .before .before .before .before .before .pre .1 .below, c .before .before .before .before .before .before .before .before .before .before .before .before .before .before .before .before .pre .1 .short, c .before .before .before .before .before .before .before .before .before .before .before .before .before .num32 .ensures .same)
+list-tree-add-wide t c =
+    let at-if1 = c .before .before .before .before .before .before .before .before .before .before .before .before in
+    let at-num32 = at-if1 .before in
+    let start = at-num32 .before .before .before in
+    omega (
+      arith,
+      (tree-head (start .args .b .now) _ _ (start .pre .1) (λ z. at-if1 .if1 .left (at-num32 .num32 .ensures .same ∙ z))) .0 .long,
+      (tree-head (start .args .b .now) _ _ (start .pre .1) (λ z. at-if1 .if1 .left (at-num32 .num32 .ensures .same ∙ z))) .0 .inside,
+      start .pre .1 .below,
+      start .pre .1 .short,
+      at-num32 .num32 .ensures .same,
+    )
 
 list-tree-shared-slice-read-wide : (t : ℕ) → list-tree-lts.Need-shared-slice-read-wide (list-tree-calls t) (list-tree-at t) list-tree.Post
-list-tree-shared-slice-read-wide t c = omega (arith, (tree-head (c .before .before .before .before .before .before .before .before .before .before .before .before .before .before .before .before .before .args .b .now) _ _ (c .before .before .before .before .before .before .before .before .before .before .before .before .before .before .before .before .before .pre .1) (λ z. c .before .before .before .before .before .before .before .before .before .before .before .before .before .if1 .left (c .before .before .before .before .before .before .before .before .before .before .before .before .before .before .num32 .ensures .same ∙ z))) .0 .long, (tree-head (c .before .before .before .before .before .before .before .before .before .before .before .before .before .before .before .before .before .args .b .now) _ _ (c .before .before .before .before .before .before .before .before .before .before .before .before .before .before .before .before .before .pre .1) (λ z. c .before .before .before .before .before .before .before .before .before .before .before .before .before .if1 .left (c .before .before .before .before .before .before .before .before .before .before .before .before .before .before .num32 .ensures .same ∙ z))) .0 .inside, c .before .before .before .before .before .before .before .before .before .before .before .before .before .before .before .before .before .pre .1 .below, c .before .before .before .before .before .before .before .before .before .before .before .before .before .before .before .before .before .pre .1 .short, c .before .before .before .before .before .before .before .before .before .before .before .before .before .before .num32 .ensures .same)
+list-tree-shared-slice-read-wide t c =
+    let at-if1 = c .before .before .before .before .before .before .before .before .before .before .before .before .before in
+    let at-num32 = at-if1 .before in
+    let start = at-num32 .before .before .before in
+    omega (
+      arith,
+      (tree-head (start .args .b .now) _ _ (start .pre .1) (λ z. at-if1 .if1 .left (at-num32 .num32 .ensures .same ∙ z))) .0 .long,
+      (tree-head (start .args .b .now) _ _ (start .pre .1) (λ z. at-if1 .if1 .left (at-num32 .num32 .ensures .same ∙ z))) .0 .inside,
+      start .pre .1 .below,
+      start .pre .1 .short,
+      at-num32 .num32 .ensures .same,
+    )
 
 list-tree-wide-requires : (t : ℕ) → list-tree-lts.Need-wide-requires (list-tree-calls t) (list-tree-at t) list-tree.Post
 list-tree-wide-requires t c κs = search needs
 
 list-tree-add-first-child : (t : ℕ) → list-tree-lts.Need-add-first-child (list-tree-calls t) (list-tree-at t) list-tree.Post
-list-tree-add-first-child t c = omega (arith, (tree-head (c .before .before .before .before .before .before .before .before .before .before .before .before .before .before .before .before .before .before .args .b .now) _ _ (c .before .before .before .before .before .before .before .before .before .before .before .before .before .before .before .before .before .before .pre .1) (λ z. c .before .before .before .before .before .before .before .before .before .before .before .before .before .before .if1 .left (c .before .before .before .before .before .before .before .before .before .before .before .before .before .before .before .num32 .ensures .same ∙ z))) .0 .long, (tree-head (c .before .before .before .before .before .before .before .before .before .before .before .before .before .before .before .before .before .before .args .b .now) _ _ (c .before .before .before .before .before .before .before .before .before .before .before .before .before .before .before .before .before .before .pre .1) (λ z. c .before .before .before .before .before .before .before .before .before .before .before .before .before .before .if1 .left (c .before .before .before .before .before .before .before .before .before .before .before .before .before .before .before .num32 .ensures .same ∙ z))) .0 .inside, c .before .before .before .before .before .before .before .before .before .before .before .before .before .before .before .before .before .before .pre .1 .below, c .before .before .before .before .before .before .before .before .before .before .before .before .before .before .before .before .before .before .pre .1 .short, c .before .before .before .before .before .before .before .before .before .before .before .before .before .before .before .num32 .ensures .same)
+list-tree-add-first-child t c =
+    let at-if1 = c .before .before .before .before .before .before .before .before .before .before .before .before .before .before in
+    let at-num32 = at-if1 .before in
+    let start = at-num32 .before .before .before in
+    omega (
+      arith,
+      (tree-head (start .args .b .now) _ _ (start .pre .1) (λ z. at-if1 .if1 .left (at-num32 .num32 .ensures .same ∙ z))) .0 .long,
+      (tree-head (start .args .b .now) _ _ (start .pre .1) (λ z. at-if1 .if1 .left (at-num32 .num32 .ensures .same ∙ z))) .0 .inside,
+      start .pre .1 .below,
+      start .pre .1 .short,
+      at-num32 .num32 .ensures .same,
+    )
 
 list-tree-first-child-requires : (t : ℕ) → list-tree-lts.Need-first-child-requires (list-tree-calls t) (list-tree-at t) list-tree.Post
-list-tree-first-child-requires t c κs = omega (arith, (tree-head (c .before .before .before .before .before .before .before .before .before .before .before .before .before .before .before .before .before .before .args .b .now) _ _ (c .before .before .before .before .before .before .before .before .before .before .before .before .before .before .before .before .before .before .pre .1) (λ z. c .before .before .before .before .before .before .before .before .before .before .before .before .before .before .if1 .left (c .before .before .before .before .before .before .before .before .before .before .before .before .before .before .before .num32 .ensures .same ∙ z))) .0 .long, (tree-head (c .before .before .before .before .before .before .before .before .before .before .before .before .before .before .before .before .before .before .args .b .now) _ _ (c .before .before .before .before .before .before .before .before .before .before .before .before .before .before .before .before .before .before .pre .1) (λ z. c .before .before .before .before .before .before .before .before .before .before .before .before .before .before .if1 .left (c .before .before .before .before .before .before .before .before .before .before .before .before .before .before .before .num32 .ensures .same ∙ z))) .0 .inside, c .before .before .before .before .before .before .before .before .before .before .before .before .before .before .before .before .before .before .pre .1 .below, c .before .before .before .before .before .before .before .before .before .before .before .before .before .before .before .before .before .before .pre .1 .short, c .before .before .before .before .before .before .before .before .before .before .before .before .before .before .before .num32 .ensures .same)
+list-tree-first-child-requires t c κs =
+    let at-if1 = c .before .before .before .before .before .before .before .before .before .before .before .before .before .before in
+    let at-num32 = at-if1 .before in
+    let start = at-num32 .before .before .before in
+    omega (
+      arith,
+      (tree-head (start .args .b .now) _ _ (start .pre .1) (λ z. at-if1 .if1 .left (at-num32 .num32 .ensures .same ∙ z))) .0 .long,
+      (tree-head (start .args .b .now) _ _ (start .pre .1) (λ z. at-if1 .if1 .left (at-num32 .num32 .ensures .same ∙ z))) .0 .inside,
+      start .pre .1 .below,
+      start .pre .1 .short,
+      at-num32 .num32 .ensures .same,
+    )
 
 list-tree-list-trees-requires : (t : ℕ) → list-tree-lts.Need-list-trees-requires (list-tree-calls t) (list-tree-at t) list-tree.Post
-list-tree-list-trees-requires t c κs = (omega (arith, c .before .before .before .before .before .before .before .before .before .before .before .before .before .before .before .before .before .before .before .before .pre .0, (tree-head (c .before .before .before .before .before .before .before .before .before .before .before .before .before .before .before .before .before .before .before .before .args .b .now) _ _ (c .before .before .before .before .before .before .before .before .before .before .before .before .before .before .before .before .before .before .before .before .pre .1) (λ z. c .before .before .before .before .before .before .before .before .before .before .before .before .before .before .before .before .if1 .left (c .before .before .before .before .before .before .before .before .before .before .before .before .before .before .before .before .before .num32 .ensures .same ∙ z))) .0 .long, (tree-head (c .before .before .before .before .before .before .before .before .before .before .before .before .before .before .before .before .before .before .before .before .args .b .now) _ _ (c .before .before .before .before .before .before .before .before .before .before .before .before .before .before .before .before .before .before .before .before .pre .1) (λ z. c .before .before .before .before .before .before .before .before .before .before .before .before .before .before .before .before .if1 .left (c .before .before .before .before .before .before .before .before .before .before .before .before .before .before .before .before .before .num32 .ensures .same ∙ z))) .0 .inside, c .before .before .before .before .before .before .before .before .before .before .before .before .before .before .before .before .before .before .before .before .pre .1 .below, c .before .before .before .before .before .before .before .before .before .before .before .before .before .before .before .before .before .before .before .before .pre .1 .short, c .before .before .before .before .before .before .before .before .before .before .before .before .before .before .before .before .before .num32 .ensures .same, first-is (c .before .before .before .before .before .before .before .before .before .before .before .before .before .before .before .before .before .before .before .before .args .b .now) _ _ _ _ (c .before .before .wide .ensures .0) (c .before .before .before .before .before .before .before .before .before .before .before .before .before .before .before .before .before .num32 .ensures .same) (c .before .first-child .ensures), first-behind (c .before .before .before .before .before .before .before .before .before .before .before .before .before .before .before .before .before .before .before .before .args .b .now) _ ((tree-head (c .before .before .before .before .before .before .before .before .before .before .before .before .before .before .before .before .before .before .before .before .args .b .now) _ _ (c .before .before .before .before .before .before .before .before .before .before .before .before .before .before .before .before .before .before .before .before .pre .1) (λ z. c .before .before .before .before .before .before .before .before .before .before .before .before .before .before .before .before .if1 .left (c .before .before .before .before .before .before .before .before .before .before .before .before .before .before .before .before .before .num32 .ensures .same ∙ z))) .0)), row-there (c .before .before .before .before .before .before .before .before .before .before .before .before .before .before .before .before .before .before .before .before .args .b .now) _ _ _ _ _ (c .before .before .before .before .before .before .before .before .before .before .copy .last .1 .1 .1 .0) (c .before .before .before .before .before .before .list-payload .last .1 .1 .0) (c .before .before .before .before .before .before .before .before .before .before .before .before .before .before .before .before .before .before .before .before .pre .1) (λ z. c .before .before .before .before .before .before .before .before .before .before .before .before .before .before .before .before .if1 .left (c .before .before .before .before .before .before .before .before .before .before .before .before .before .before .before .before .before .num32 .ensures .same ∙ z)) (c .before .before .before .before .before .before .before .before .before .before .before .before .before .before .before .before .before .num32 .ensures .same) (first-is (c .before .before .before .before .before .before .before .before .before .before .before .before .before .before .before .before .before .before .before .before .args .b .now) _ _ _ _ (c .before .before .wide .ensures .0) (c .before .before .before .before .before .before .before .before .before .before .before .before .before .before .before .before .before .num32 .ensures .same) (c .before .first-child .ensures)) (c .before .before .before .before .before .before .list-payload .ensures))
+list-tree-list-trees-requires t c κs =
+    let at-list-payload = c .before .before .before .before .before .before in
+    let at-copy = at-list-payload .before .before .before .before in
+    let at-if1 = at-copy .before .before .before .before .before .before in
+    let at-num32 = at-if1 .before in
+    let start = at-num32 .before .before .before in (
+      omega (
+        arith,
+        start .pre .0,
+        (tree-head (start .args .b .now) _ _ (start .pre .1) (λ z. at-if1 .if1 .left (at-num32 .num32 .ensures .same ∙ z))) .0 .long,
+        (tree-head (start .args .b .now) _ _ (start .pre .1) (λ z. at-if1 .if1 .left (at-num32 .num32 .ensures .same ∙ z))) .0 .inside,
+        start .pre .1 .below,
+        start .pre .1 .short,
+        at-num32 .num32 .ensures .same,
+        first-is (start .args .b .now) _ _ _ _ (c .before .before .wide .ensures .0) (at-num32 .num32 .ensures .same) (c .before .first-child .ensures),
+        first-behind (start .args .b .now) _
+            ((tree-head (start .args .b .now) _ _ (start .pre .1) (λ z. at-if1 .if1 .left (at-num32 .num32 .ensures .same ∙ z))) .0),
+      ),
+      row-there (start .args .b .now) _ _ _ _ _ (at-copy .copy .last .1 .1 .1 .0) (at-list-payload .list-payload .last .1 .1 .0) (start .pre .1)
+          (λ z. at-if1 .if1 .left (at-num32 .num32 .ensures .same ∙ z)) (at-num32 .num32 .ensures .same)
+          (first-is (start .args .b .now) _ _ _ _ (c .before .before .wide .ensures .0) (at-num32 .num32 .ensures .same) (c .before .first-child .ensures))
+          (at-list-payload .list-payload .ensures),
+    )
 
 list-tree-cast-put-3 : (t : ℕ) → list-tree-lts.Need-cast-put-3 (list-tree-calls t) (list-tree-at t) list-tree.Post
 list-tree-cast-put-3 t c = search needs
@@ -125,13 +317,51 @@ list-tree-put-requires-3 : (t : ℕ) → list-tree-lts.Need-put-requires-3 (list
 list-tree-put-requires-3 t c κs = search needs
 
 list-tree-add-result-2 : (t : ℕ) → list-tree-lts.Need-add-result-2 (list-tree-calls t) (list-tree-at t) list-tree.Post
-list-tree-add-result-2 t c = omega (arith, row-last (c .before .before .before .before .before .before .before .before .before .before .before .before .before .before .before .before .before .before .before .before .before .before .before .before .before .before .before .args .b .now) _ _ _ _ _ _ (row-there (c .before .before .before .before .before .before .before .before .before .before .before .before .before .before .before .before .before .before .before .before .before .before .before .before .before .before .before .args .b .now) _ _ _ _ _ (c .before .before .before .before .before .before .before .before .before .before .before .before .before .before .before .before .before .copy .last .1 .1 .1 .0) (c .before .before .before .before .before .before .before .before .before .before .before .before .before .list-payload .last .1 .1 .0) (c .before .before .before .before .before .before .before .before .before .before .before .before .before .before .before .before .before .before .before .before .before .before .before .before .before .before .before .pre .1) (λ z. c .before .before .before .before .before .before .before .before .before .before .before .before .before .before .before .before .before .before .before .before .before .before .before .if1 .left (c .before .before .before .before .before .before .before .before .before .before .before .before .before .before .before .before .before .before .before .before .before .before .before .before .num32 .ensures .same ∙ z)) (c .before .before .before .before .before .before .before .before .before .before .before .before .before .before .before .before .before .before .before .before .before .before .before .before .num32 .ensures .same) (first-is (c .before .before .before .before .before .before .before .before .before .before .before .before .before .before .before .before .before .before .before .before .before .before .before .before .before .before .before .args .b .now) _ _ _ _ (c .before .before .before .before .before .before .before .before .before .wide .ensures .0) (c .before .before .before .before .before .before .before .before .before .before .before .before .before .before .before .before .before .before .before .before .before .before .before .before .num32 .ensures .same) (c .before .before .before .before .before .before .before .before .first-child .ensures)) (c .before .before .before .before .before .before .before .before .before .before .before .before .before .list-payload .ensures)) (c .before .before .before .before .before .before .list-trees .ensures), (tree-head (c .before .before .before .before .before .before .before .before .before .before .before .before .before .before .before .before .before .before .before .before .before .before .before .before .before .before .before .args .b .now) _ _ (c .before .before .before .before .before .before .before .before .before .before .before .before .before .before .before .before .before .before .before .before .before .before .before .before .before .before .before .pre .1) (λ z. c .before .before .before .before .before .before .before .before .before .before .before .before .before .before .before .before .before .before .before .before .before .before .before .if1 .left (c .before .before .before .before .before .before .before .before .before .before .before .before .before .before .before .before .before .before .before .before .before .before .before .before .num32 .ensures .same ∙ z))) .0 .long, (tree-head (c .before .before .before .before .before .before .before .before .before .before .before .before .before .before .before .before .before .before .before .before .before .before .before .before .before .before .before .args .b .now) _ _ (c .before .before .before .before .before .before .before .before .before .before .before .before .before .before .before .before .before .before .before .before .before .before .before .before .before .before .before .pre .1) (λ z. c .before .before .before .before .before .before .before .before .before .before .before .before .before .before .before .before .before .before .before .before .before .before .before .if1 .left (c .before .before .before .before .before .before .before .before .before .before .before .before .before .before .before .before .before .before .before .before .before .before .before .before .num32 .ensures .same ∙ z))) .0 .inside, c .before .before .before .before .before .before .before .before .before .before .before .before .before .before .before .before .before .before .before .before .before .before .before .before .before .before .before .pre .1 .below, c .before .before .before .before .before .before .before .before .before .before .before .before .before .before .before .before .before .before .before .before .before .before .before .before .before .before .before .pre .1 .short, c .before .before .before .before .before .before .before .before .before .before .before .before .before .before .before .before .before .before .before .before .before .before .before .before .num32 .ensures .same)
+list-tree-add-result-2 t c =
+    let at-list-trees = c .before .before .before .before .before .before in
+    let at-first-child = at-list-trees .before .before in
+    let at-wide = at-first-child .before in
+    let at-list-payload = at-wide .before .before .before .before in
+    let at-copy = at-list-payload .before .before .before .before in
+    let at-if1 = at-copy .before .before .before .before .before .before in
+    let at-num32 = at-if1 .before in
+    let start = at-num32 .before .before .before in
+    omega (
+      arith,
+      row-last (start .args .b .now) _ _ _ _ _ _ (row-there (start .args .b .now) _ _ _ _ _ (at-copy .copy .last .1 .1 .1 .0)
+          (at-list-payload .list-payload .last .1 .1 .0) (start .pre .1) (λ z. at-if1 .if1 .left (at-num32 .num32 .ensures .same ∙ z))
+          (at-num32 .num32 .ensures .same)
+          (first-is (start .args .b .now) _ _ _ _ (at-wide .wide .ensures .0) (at-num32 .num32 .ensures .same) (at-first-child .first-child .ensures))
+          (at-list-payload .list-payload .ensures))
+          (at-list-trees .list-trees .ensures),
+      (tree-head (start .args .b .now) _ _ (start .pre .1) (λ z. at-if1 .if1 .left (at-num32 .num32 .ensures .same ∙ z))) .0 .long,
+      (tree-head (start .args .b .now) _ _ (start .pre .1) (λ z. at-if1 .if1 .left (at-num32 .num32 .ensures .same ∙ z))) .0 .inside,
+      start .pre .1 .below,
+      start .pre .1 .short,
+      at-num32 .num32 .ensures .same,
+    )
 
 list-tree-same-length-2 : (t : ℕ) → list-tree-lts.Need-same-length-2 (list-tree-calls t) (list-tree-at t) list-tree.Post
 list-tree-same-length-2 t c = search needs
 
 list-tree-returns-2 : (t : ℕ) → list-tree-lts.Need-returns-2 (list-tree-calls t) (list-tree-at t) list-tree.Post
-list-tree-returns-2 t c = puts-record (c .before .before .before .before .before .before .before .before .before .before .before .before .before .before .before .before .before .before .before .before .before .before .before .before .before .before .before .args .b .now) _ _ _ _ _ _ _ _ _ _ (λ i. omega (arith, c .before .before .before .before .before .before .before .before .before .before .shared-slice-known2 .given i)) (λ z. c .before .before .before .before .before .before .before .before .before .before .before .before .before .before .before .before .before .before .before .before .before .before .before .if1 .left (c .before .before .before .before .before .before .before .before .before .before .before .before .before .before .before .before .before .before .before .before .before .before .before .before .num32 .ensures .same ∙ z)) (c .before .before .before .before .before .before .before .before .before .before .before .before .before .before .before .before .before .before .before .before .before .put2 .ensures) (c .before .before .before .before .before .before .before .before .before .before .before .before .before .before .before .before .before .copy .ensures) (c .before .before .before .before .before .before .before .before .before .before .before .before .before .list-payload .ensures) (row-at (c .before .before .before .before .before .before .before .before .before .before .before .before .before .before .before .before .before .before .before .before .before .before .before .before .before .before .before .args .b .now) _ _ _ _ _ _ _ (c .before .before .before .before .before .before .before .before .before .before .before .before .before .before .before .before .before .before .before .before .before .before .before .before .num32 .ensures .same) (first-is (c .before .before .before .before .before .before .before .before .before .before .before .before .before .before .before .before .before .before .before .before .before .before .before .before .before .before .before .args .b .now) _ _ _ _ (c .before .before .before .before .before .before .before .before .before .wide .ensures .0) (c .before .before .before .before .before .before .before .before .before .before .before .before .before .before .before .before .before .before .before .before .before .before .before .before .num32 .ensures .same) (c .before .before .before .before .before .before .before .before .first-child .ensures)) (c .before .before .before .before .before .before .list-trees .ensures)) (c .before .before .put3 .ensures)
+list-tree-returns-2 t c =
+    let at-list-trees = c .before .before .before .before .before .before in
+    let at-first-child = at-list-trees .before .before in
+    let at-wide = at-first-child .before in
+    let at-shared-slice-known2 = at-wide .before in
+    let at-list-payload = at-shared-slice-known2 .before .before .before in
+    let at-copy = at-list-payload .before .before .before .before in
+    let at-put2 = at-copy .before .before .before .before in
+    let at-if1 = at-put2 .before .before in
+    let at-num32 = at-if1 .before in
+    let start = at-num32 .before .before .before in
+    puts-record (start .args .b .now) _ _ _ _ _ _ _ _ _ _ (λ i. omega (arith, at-shared-slice-known2 .shared-slice-known2 .given i))
+    (λ z. at-if1 .if1 .left (at-num32 .num32 .ensures .same ∙ z)) (at-put2 .put2 .ensures) (at-copy .copy .ensures)
+    (at-list-payload .list-payload .ensures) (row-at (start .args .b .now) _ _ _ _ _ _ _ (at-num32 .num32 .ensures .same)
+    (first-is (start .args .b .now) _ _ _ _ (at-wide .wide .ensures .0) (at-num32 .num32 .ensures .same) (at-first-child .first-child .ensures))
+    (at-list-trees .list-trees .ensures))
+    (c .before .before .put3 .ensures)
 
 abbrev list-trees-Inv-loop : list-trees-lts.InvT-loop
 list-trees-Inv-loop b first stop out₀ start at₀ pos₀ out at pos = Rows b first stop start out₀ at pos out
@@ -142,23 +372,65 @@ list-trees-μ-loop b first stop out₀ start at₀ pos₀ out at pos = stop - at
 list-trees-loop-holds : (t : ℕ) → list-trees-lts.Need-loop-holds (list-trees-calls t) (list-trees-at t) list-trees.Post list-trees-Inv-loop list-trees-μ-loop
 list-trees-loop-holds t c = rows-none _ _ _ _ _ (c .before .before .pre .1)
 
-list-trees-list-tree-requires : (t : ℕ) → list-trees-lts.Need-list-tree-requires (list-trees-calls t) (list-trees-at t) list-trees.Post list-trees-Inv-loop list-trees-μ-loop
-list-trees-list-tree-requires t c κs = (omega (arith, c .before .before .before .before .before .pre .0, c .before .before .loop .inv .from), row-tree (c .before .before .before .before .before .args .b .now) _ _ _ _ _ _ _ (c .before .before .before .before .before .pre .1) (c .before .before .loop .inv) (c .before .loop-test .taken))
+list-trees-list-tree-requires : (t : ℕ)
+    → list-trees-lts.Need-list-tree-requires (list-trees-calls t) (list-trees-at t) list-trees.Post list-trees-Inv-loop list-trees-μ-loop
+list-trees-list-tree-requires t c κs =
+    let start = c .before .before .before .before .before in (
+      omega (arith, start .pre .0, c .before .before .loop .inv .from),
+      row-tree (start .args .b .now) _ _ _ _ _ _ _ (start .pre .1) (c .before .before .loop .inv) (c .before .loop-test .taken),
+    )
 
-list-trees-num32-requires : (t : ℕ) → list-trees-lts.Need-num32-requires (list-trees-calls t) (list-trees-at t) list-trees.Post list-trees-Inv-loop list-trees-μ-loop
-list-trees-num32-requires t c κs = omega (arith, (tree-within (c .before .before .before .before .before .before .before .before .args .b .now) _ _ (row-tree (c .before .before .before .before .before .before .before .before .args .b .now) _ _ _ _ _ _ _ (c .before .before .before .before .before .before .before .before .pre .1) (c .before .before .before .before .before .loop .inv) (c .before .before .before .before .loop-test .taken))) .0, (tree-within (c .before .before .before .before .before .before .before .before .args .b .now) _ _ (row-tree (c .before .before .before .before .before .before .before .before .args .b .now) _ _ _ _ _ _ _ (c .before .before .before .before .before .before .before .before .pre .1) (c .before .before .before .before .before .loop .inv) (c .before .before .before .before .loop-test .taken))) .1)
+list-trees-num32-requires : (t : ℕ)
+    → list-trees-lts.Need-num32-requires (list-trees-calls t) (list-trees-at t) list-trees.Post list-trees-Inv-loop list-trees-μ-loop
+list-trees-num32-requires t c κs =
+    let at-loop-test = c .before .before .before .before in
+    let at-loop = at-loop-test .before in
+    let start = at-loop .before .before .before in
+    omega (
+      arith,
+      (tree-within (start .args .b .now) _ _
+          (row-tree (start .args .b .now) _ _ _ _ _ _ _ (start .pre .1) (at-loop .loop .inv) (at-loop-test .loop-test .taken))) .0,
+      (tree-within (start .args .b .now) _ _
+          (row-tree (start .args .b .now) _ _ _ _ _ _ _ (start .pre .1) (at-loop .loop .inv) (at-loop-test .loop-test .taken))) .1,
+    )
 
 list-trees-add-at : (t : ℕ) → list-trees-lts.Need-add-at (list-trees-calls t) (list-trees-at t) list-trees.Post list-trees-Inv-loop list-trees-μ-loop
 list-trees-add-at t c = omega (arith, c .num32 .ensures .small)
 
 list-trees-add-at-2 : (t : ℕ) → list-trees-lts.Need-add-at-2 (list-trees-calls t) (list-trees-at t) list-trees.Post list-trees-Inv-loop list-trees-μ-loop
-list-trees-add-at-2 t c = omega (arith, (tree-within (c .before .before .before .before .before .before .before .before .before .args .b .now) _ _ (row-tree (c .before .before .before .before .before .before .before .before .before .args .b .now) _ _ _ _ _ _ _ (c .before .before .before .before .before .before .before .before .before .pre .1) (c .before .before .before .before .before .before .loop .inv) (c .before .before .before .before .before .loop-test .taken))) .1, c .num32 .ensures .same, c .before .before .before .before .before .before .before .before .before .pre .1 .short)
+list-trees-add-at-2 t c =
+    let at-loop-test = c .before .before .before .before .before in
+    let at-loop = at-loop-test .before in
+    let start = at-loop .before .before .before in
+    omega (
+      arith,
+      (tree-within (start .args .b .now) _ _
+          (row-tree (start .args .b .now) _ _ _ _ _ _ _ (start .pre .1) (at-loop .loop .inv) (at-loop-test .loop-test .taken))) .1,
+      c .num32 .ensures .same,
+      start .pre .1 .short,
+    )
 
 list-trees-loop-less : (t : ℕ) → list-trees-lts.Need-loop-less (list-trees-calls t) (list-trees-at t) list-trees.Post list-trees-Inv-loop list-trees-μ-loop
-list-trees-loop-less t c = omega (arith, (tree-within (c .before .before .before .before .before .before .before .before .before .args .b .now) _ _ (row-tree (c .before .before .before .before .before .before .before .before .before .args .b .now) _ _ _ _ _ _ _ (c .before .before .before .before .before .before .before .before .before .pre .1) (c .before .before .before .before .before .before .loop .inv) (c .before .before .before .before .before .loop-test .taken))) .0, c .num32 .ensures .same, c .before .before .before .before .before .loop-test .taken)
+list-trees-loop-less t c =
+    let at-loop-test = c .before .before .before .before .before in
+    let at-loop = at-loop-test .before in
+    let start = at-loop .before .before .before in
+    omega (
+      arith,
+      (tree-within (start .args .b .now) _ _
+          (row-tree (start .args .b .now) _ _ _ _ _ _ _ (start .pre .1) (at-loop .loop .inv) (at-loop-test .loop-test .taken))) .0,
+      c .num32 .ensures .same,
+      at-loop-test .loop-test .taken,
+    )
 
 list-trees-loop-again : (t : ℕ) → list-trees-lts.Need-loop-again (list-trees-calls t) (list-trees-at t) list-trees.Post list-trees-Inv-loop list-trees-μ-loop
-list-trees-loop-again t c = rows-one (c .before .before .before .before .before .before .before .before .before .args .b .now) _ _ _ _ _ _ _ _ _ _ (c .before .before .before .before .before .before .before .before .before .pre .1) (c .before .before .before .before .before .before .loop .inv) (c .before .before .before .before .before .loop-test .taken) (c .before .before .before .list-tree .kept .1 .1 .0) (omega (arith, c .num32 .ensures .same)) (c .before .before .before .list-tree .ensures)
+list-trees-loop-again t c =
+    let at-list-tree = c .before .before .before in
+    let at-loop-test = at-list-tree .before .before in
+    let at-loop = at-loop-test .before in
+    let start = at-loop .before .before .before in
+    rows-one (start .args .b .now) _ _ _ _ _ _ _ _ _ _ (start .pre .1) (at-loop .loop .inv) (at-loop-test .loop-test .taken)
+    (at-list-tree .list-tree .kept .1 .1 .0) (omega (arith, c .num32 .ensures .same)) (at-list-tree .list-tree .ensures)
 
 list-trees-same-length : (t : ℕ) → list-trees-lts.Need-same-length (list-trees-calls t) (list-trees-at t) list-trees.Post list-trees-Inv-loop list-trees-μ-loop
 list-trees-same-length t c = c .before .loop .inv .room

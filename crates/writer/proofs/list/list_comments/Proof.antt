@@ -17,28 +17,69 @@ loop-holds : tie.Need-loop-holds Inv-loop μ-loop
 loop-holds c = pairs-none _ _ _
 
 add-copy : tie.Need-add-copy Inv-loop μ-loop
-add-copy c = omega (arith, c .before .before .before .before .before .before .before .before .pre .0, c .before .before .before .before .before .before .before .before .pre .1, c .before .before .before .before .before .loop .inv .place, c .before .before .before .before .before .loop .inv .far, c .before .before .before .before .loop-test .taken)
+add-copy c =
+    let at-loop-test = c .before .before .before .before in
+    let at-loop = at-loop-test .before in
+    let start = at-loop .before .before .before in
+    omega (arith, start .pre .0, start .pre .1, at-loop .loop .inv .place, at-loop .loop .inv .far, at-loop-test .loop-test .taken)
 
 add-copy-2 : tie.Need-add-copy-2 Inv-loop μ-loop
-add-copy-2 c = omega (arith, c .before .before .before .before .before .before .before .before .before .pre .0, c .before .before .before .before .before .before .before .before .before .pre .1, c .before .before .before .before .before .before .loop .inv .place, c .before .before .before .before .before .before .loop .inv .far, c .before .before .before .before .before .loop-test .taken)
+add-copy-2 c =
+    let at-loop-test = c .before .before .before .before .before in
+    let at-loop = at-loop-test .before in
+    let start = at-loop .before .before .before in
+    omega (arith, start .pre .0, start .pre .1, at-loop .loop .inv .place, at-loop .loop .inv .far, at-loop-test .loop-test .taken)
 
 copy-requires : tie.Need-copy-requires Inv-loop μ-loop
-copy-requires c κs = (omega arith, (omega (arith, c .before .before .before .before .before .before .before .before .before .pre .0, c .before .before .before .before .before .before .before .before .before .pre .1, c .before .before .before .before .before .before .loop .inv .place, c .before .before .before .before .before .before .loop .inv .far, c .before .before .before .before .before .loop-test .taken), omega (arith, c .before .before .before .before .before .before .before .before .before .pre .0, c .before .before .before .before .before .before .before .before .before .pre .1, c .before .before .before .before .before .before .loop .inv .place, c .before .before .before .before .before .before .loop .inv .far, c .before .before .before .before .before .loop-test .taken)))
+copy-requires c κs =
+    let at-loop-test = c .before .before .before .before .before in
+    let at-loop = at-loop-test .before in
+    let start = at-loop .before .before .before in (
+      omega arith,
+      (
+        omega (arith, start .pre .0, start .pre .1, at-loop .loop .inv .place, at-loop .loop .inv .far, at-loop-test .loop-test .taken),
+        omega (arith, start .pre .0, start .pre .1, at-loop .loop .inv .place, at-loop .loop .inv .far, at-loop-test .loop-test .taken),
+      ),
+    )
 
 add-i : tie.Need-add-i Inv-loop μ-loop
-add-i c = omega (arith, c .before .before .before .before .before .before .before .before .before .before .before .before .pre .0, c .before .before .before .before .before .before .before .before .before .before .before .before .pre .1, c .before .before .before .before .before .before .before .before .before .loop .inv .place, c .before .before .before .before .before .before .before .before .before .loop .inv .far, c .before .before .before .before .before .before .before .before .loop-test .taken)
+add-i c =
+    let at-loop-test = c .before .before .before .before .before .before .before .before in
+    let at-loop = at-loop-test .before in
+    let start = at-loop .before .before .before in
+    omega (arith, start .pre .0, start .pre .1, at-loop .loop .inv .place, at-loop .loop .inv .far, at-loop-test .loop-test .taken)
 
 add-at : tie.Need-add-at Inv-loop μ-loop
-add-at c = omega (arith, c .before .before .before .before .before .before .before .before .before .before .before .before .pre .0, c .before .before .before .before .before .before .before .before .before .before .before .before .pre .1, c .before .before .before .before .before .before .before .before .before .loop .inv .place, c .before .before .before .before .before .before .before .before .before .loop .inv .far, c .before .before .before .before .before .before .before .before .loop-test .taken)
+add-at c =
+    let at-loop-test = c .before .before .before .before .before .before .before .before in
+    let at-loop = at-loop-test .before in
+    let start = at-loop .before .before .before in
+    omega (arith, start .pre .0, start .pre .1, at-loop .loop .inv .place, at-loop .loop .inv .far, at-loop-test .loop-test .taken)
 
 add-pos : tie.Need-add-pos Inv-loop μ-loop
-add-pos c = omega (arith, c .before .before .before .before .before .before .before .before .before .before .before .before .pre .0, c .before .before .before .before .before .before .before .before .before .before .before .before .pre .1, c .before .before .before .before .before .before .before .before .before .loop .inv .place, c .before .before .before .before .before .before .before .before .before .loop .inv .far, c .before .before .before .before .before .before .before .before .loop-test .taken)
+add-pos c =
+    let at-loop-test = c .before .before .before .before .before .before .before .before in
+    let at-loop = at-loop-test .before in
+    let start = at-loop .before .before .before in
+    omega (arith, start .pre .0, start .pre .1, at-loop .loop .inv .place, at-loop .loop .inv .far, at-loop-test .loop-test .taken)
 
 loop-less : tie.Need-loop-less Inv-loop μ-loop
-loop-less c = omega (arith, c .before .before .before .before .before .before .before .before .before .before .before .before .pre .0, c .before .before .before .before .before .before .before .before .before .before .before .before .pre .1, c .before .before .before .before .before .before .before .before .before .loop .inv .place, c .before .before .before .before .before .before .before .before .before .loop .inv .far, c .before .before .before .before .before .before .before .before .loop-test .taken)
+loop-less c =
+    let at-loop-test = c .before .before .before .before .before .before .before .before in
+    let at-loop = at-loop-test .before in
+    let start = at-loop .before .before .before in
+    omega (arith, start .pre .0, start .pre .1, at-loop .loop .inv .place, at-loop .loop .inv .far, at-loop-test .loop-test .taken)
 
 loop-again : tie.Need-loop-again Inv-loop μ-loop
-loop-again c = pairs-one _ _ _ _ _ _ _ _ _ (λ i. omega (arith, c .before .before .before .before .before .before .before .before .before .before .before .shared-slice-known .given i)) (c .before .before .before .before .before .before .before .before .before .before .before .before .pre .0) (c .before .before .before .before .before .before .before .before .before .loop .inv) (c .before .before .before .before .before .before .before .before .loop-test .taken) (c .before .before .copy .kept .1 .1 .1 .0 ∙ c .before .before .before .before .before .before .put .kept .0) (c .before .before .before .before .before .before .put .ensures) (c .before .before .copy .ensures)
+loop-again c =
+    let at-put = c .before .before .before .before .before .before in
+    let at-loop-test = at-put .before .before in
+    let at-loop = at-loop-test .before in
+    let at-shared-slice-known = at-loop .before .before in
+    let start = at-shared-slice-known .before in
+    pairs-one _ _ _ _ _ _ _ _ _ (λ i. omega (arith, at-shared-slice-known .shared-slice-known .given i)) (start .pre .0)
+    (at-loop .loop .inv) (at-loop-test .loop-test .taken) (c .before .before .copy .kept .1 .1 .1 .0 ∙ at-put .put .kept .0)
+    (at-put .put .ensures) (c .before .before .copy .ensures)
 
 same-length : tie.Need-same-length Inv-loop μ-loop
 same-length c = c .before .loop .inv .room

@@ -8,10 +8,16 @@ list-comments-requires : tie.Need-list-comments-requires
 list-comments-requires c κs = comments-there (c .before .before .before .args .b .now) _ _ (c .before .before .before .pre)
 
 list-tree-requires : tie.Need-list-tree-requires
-list-tree-requires c κs = tree-there (c .before .before .before .before .before .before .before .args .b .now) _ _ _ _ _ (c .before .before .before .before .before .before .before .pre) (c .before .before .before .list-comments .ensures)
+list-tree-requires c κs =
+    let at-list-comments = c .before .before .before in
+    let start = at-list-comments .before .before .before .before in
+    tree-there (start .args .b .now) _ _ _ _ _ (start .pre) (at-list-comments .list-comments .ensures)
 
 returns : tie.Need-returns
-returns c = image-puts (c .before .before .before .before .before .before .before .before .before .before .args .b .now) _ _ _ _ _ _ _ (c .before .before .before .before .before .before .before .before .before .before .pre) (c .before .before .before .before .before .before .list-comments .ensures) (c .before .before .list-tree .ensures)
+returns c =
+    let at-list-comments = c .before .before .before .before .before .before in
+    let start = at-list-comments .before .before .before .before in
+    image-puts (start .args .b .now) _ _ _ _ _ _ _ (start .pre) (at-list-comments .list-comments .ensures) (c .before .before .list-tree .ensures)
 
 pub list-image-spec : {M : Type 1} → statement M
 list-image-spec =

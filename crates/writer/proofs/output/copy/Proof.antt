@@ -25,13 +25,20 @@ shared-slice-read-put : tie.Need-shared-slice-read-put Inv-loop μ-loop
 shared-slice-read-put c = omega (arith, c .before .before .before .before .before .before .pre .1 .0, c .before .before .loop-test .taken)
 
 add-at : tie.Need-add-at Inv-loop μ-loop
-add-at c = omega (arith, c .before .before .before .before .before .before .before .before .before .pre .1 .0, c .before .before .before .before .before .loop-test .taken)
+add-at c =
+    let at-loop-test = c .before .before .before .before .before in
+    let start = at-loop-test .before .before .before .before in
+    omega (arith, start .pre .1 .0, at-loop-test .loop-test .taken)
 
 loop-less : tie.Need-loop-less Inv-loop μ-loop
 loop-less c = omega (arith, c .before .before .before .before .before .loop-test .taken)
 
 loop-again : tie.Need-loop-again Inv-loop μ-loop
-loop-again c = copying-one _ _ _ _ _ _ _ _ (c .before .before .before .before .before .before .before .before .before .pre .1 .0) (c .before .before .before .before .before .loop-test .taken) (c .before .before .before .before .before .before .loop .inv) (c .before .before .put .ensures)
+loop-again c =
+    let at-loop-test = c .before .before .before .before .before in
+    let at-loop = at-loop-test .before in
+    let start = at-loop .before .before .before in
+    copying-one _ _ _ _ _ _ _ _ (start .pre .1 .0) (at-loop-test .loop-test .taken) (at-loop .loop .inv) (c .before .before .put .ensures)
 
 same-length : tie.Need-same-length Inv-loop μ-loop
 same-length c = c .before .loop .inv .room

@@ -4,7 +4,11 @@ use Rattle.writer.proofs.output.put16.Statement.{statement}
 use Rattle.writer.proofs.output.put16.Tie as tie
 
 returns : tie.Need-returns
-returns c = two-put (c .before .before .before .before .before .before .before .before .before .args .out .now) (c .before .before .before .before .before .before .put .last .0) (c .before .before .put2 .last .0) (c .before .before .before .before .before .before .before .before .before .args .pos) (c .before .before .before .before .before .before .before .before .before .args .n) (c .before .before .before .before .before .before .put .ensures) (c .before .before .put2 .ensures)
+returns c =
+    let at-put = c .before .before .before .before .before .before in
+    let start = at-put .before .before .before in
+    two-put (start .args .out .now) (at-put .put .last .0) (c .before .before .put2 .last .0)
+    (start .args .pos) (start .args .n) (at-put .put .ensures) (c .before .before .put2 .ensures)
 
 pub put16-spec : {M : Type 1} → statement M
 put16-spec =

@@ -4,7 +4,13 @@ use Rattle.writer.proofs.output.put32.Statement.{statement}
 use Rattle.writer.proofs.output.put32.Tie as tie
 
 returns : tie.Need-returns
-returns c = four-put (c .before .before .before .before .before .before .before .before .before .before .before .before .before .before .before .before .before .args .out .now) (c .before .before .before .before .before .before .before .before .before .before .before .before .before .before .put .last .0) (c .before .before .before .before .before .before .before .before .before .before .put2 .last .0) (c .before .before .before .before .before .before .put3 .last .0) (c .before .before .put4 .last .0) (c .before .before .before .before .before .before .before .before .before .before .before .before .before .before .before .before .before .args .pos) (c .before .before .before .before .before .before .before .before .before .before .before .before .before .before .before .before .before .args .n) (c .before .before .before .before .before .before .before .before .before .before .before .before .before .before .put .ensures) (c .before .before .before .before .before .before .before .before .before .before .put2 .ensures) (c .before .before .before .before .before .before .put3 .ensures) (c .before .before .put4 .ensures)
+returns c =
+    let at-put3 = c .before .before .before .before .before .before in
+    let at-put2 = at-put3 .before .before .before .before in
+    let at-put = at-put2 .before .before .before .before in
+    let start = at-put .before .before .before in
+    four-put (start .args .out .now) (at-put .put .last .0) (at-put2 .put2 .last .0) (at-put3 .put3 .last .0) (c .before .before .put4 .last .0)
+    (start .args .pos) (start .args .n) (at-put .put .ensures) (at-put2 .put2 .ensures) (at-put3 .put3 .ensures) (c .before .before .put4 .ensures)
 
 pub put32-spec : {M : Type 1} → statement M
 put32-spec =

@@ -20,7 +20,10 @@ num32-requires-2 : tie.Need-num32-requires-2
 num32-requires-2 c κs = omega (arith, stood _ _ _ _ (sym (c .before .before .stands .ensures) ∙ not-false _ (c .before .if1 .left)) .0)
 
 returns-2 : tie.Need-returns-2
-returns-2 c = ap₂ ltb (c .before .num32 .ensures .same) (c .num322 .ensures .same) ∙ pair-order _ _ (sym (c .before .before .before .stands .ensures) ∙ not-false _ (c .before .before .if1 .left))
+returns-2 c =
+    let at-stands = c .before .before .before in
+    ap₂ ltb (c .before .num32 .ensures .same) (c .num322 .ensures .same)
+    ∙ pair-order _ _ (sym (at-stands .stands .ensures) ∙ not-false _ (c .before .before .if1 .left))
 
 pub pair-fits-spec : {M : Type 1} → statement M
 pair-fits-spec =

@@ -16,13 +16,26 @@ shared-slice-read-wide : tie.Need-shared-slice-read-wide
 shared-slice-read-wide c = omega (arith, stood _ _ _ _ (sym (c .before .before .stands .ensures) ∙ not-false _ (c .before .if1 .left)) .0)
 
 returns-2 : tie.Need-returns-2
-returns-2 c = sym (ap (putBy _ _ _) (byte-high _ _ _ _ (c .before .wide .ensures .0) (sym (c .before .before .before .before .stands .ensures) ∙ not-false _ (c .before .before .before .if1 .left)) (c .if2 .taken)))
+returns-2 c =
+    let at-if1 = c .before .before .before in
+    let at-stands = at-if1 .before in
+    sym
+    (ap (putBy _ _ _) (byte-high _ _ _ _ (c .before .wide .ensures .0) (sym (at-stands .stands .ensures) ∙ not-false _ (at-if1 .if1 .left)) (c .if2 .taken)))
 
 shared-slice-read-put : tie.Need-shared-slice-read-put
-shared-slice-read-put c = omega (arith, stood _ _ _ _ (sym (c .before .before .before .before .before .before .stands .ensures) ∙ not-false _ (c .before .before .before .before .before .if1 .left)) .0)
+shared-slice-read-put c =
+    let at-if1 = c .before .before .before .before .before in
+    let at-stands = at-if1 .before in
+    omega (arith, stood _ _ _ _ (sym (at-stands .stands .ensures) ∙ not-false _ (at-if1 .if1 .left)) .0)
 
 returns-3 : tie.Need-returns-3
-returns-3 c = is-held _ _ _ _ _ _ _ (byte-held _ _ _ _ _ _ _ (c .before .before .before .before .before .before .wide .ensures .0) (sym (c .before .before .before .before .before .before .before .before .before .stands .ensures) ∙ not-false _ (c .before .before .before .before .before .before .before .before .if1 .left)) (c .before .before .before .before .before .if2 .left) (c .before .before .put .ensures))
+returns-3 c =
+    let at-if2 = c .before .before .before .before .before in
+    let at-wide = at-if2 .before in
+    let at-if1 = at-wide .before .before in
+    let at-stands = at-if1 .before in
+    is-held _ _ _ _ _ _ _ (byte-held _ _ _ _ _ _ _ (at-wide .wide .ensures .0)
+    (sym (at-stands .stands .ensures) ∙ not-false _ (at-if1 .if1 .left)) (at-if2 .if2 .left) (c .before .before .put .ensures))
 
 pub put-byte-spec : {M : Type 1} → statement M
 put-byte-spec =

@@ -13,22 +13,85 @@ use Rattle.writer.proofs.whole.put_image.Statement.{statement}
 use Rattle.writer.proofs.whole.put_image.Tie as tie
 
 sub-put32 : tie.Need-sub-put32
-sub-put32 c = let k = parts (c .before .before .before .before .before .before .before .args .l .now) _ _ (c .before .before .before .before .before .before .before .pre .is) in omega (arith, k .size)
+sub-put32 c =
+    let start = c .before .before .before .before .before .before .before in
+    let k = parts (start .args .l .now) _ _ (start .pre .is) in
+    omega (arith, k .size)
 
 put16-requires : tie.Need-put16-requires
-put16-requires c κs = let k = parts (c .before .before .before .before .before .before .before .before .before .before .before .args .l .now) _ _ (c .before .before .before .before .before .before .before .before .before .before .before .pre .is) in (omega arith, omega (arith, k .count, k .few))
+put16-requires c κs =
+    let start = c .before .before .before .before .before .before .before .before .before .before .before in
+    let k = parts (start .args .l .now) _ _ (start .pre .is) in
+    (omega arith, omega (arith, k .count, k .few))
 
 sub-put-record : tie.Need-sub-put-record
-sub-put-record c = let k = parts (c .before .before .before .before .before .before .before .before .before .before .before .before .before .before .before .before .before .before .args .l .now) _ _ (c .before .before .before .before .before .before .before .before .before .before .before .before .before .before .before .before .before .before .pre .is) in omega (arith, k .size, k .count, c .before .before .before .before .before .before .before .before .before .before .before .before .before .before .before .before .before .before .pre .fits, c .before .before .put-comments .kept .1 .0, c .before .before .before .before .before .before .put16 .kept .0, c .before .before .before .before .before .before .before .before .before .before .put32 .kept .0, c .before .before .before .before .before .before .before .before .before .before .before .before .before .before .put .kept .0)
+sub-put-record c =
+    let at-put16 = c .before .before .before .before .before .before in
+    let at-put32 = at-put16 .before .before .before .before in
+    let at-put = at-put32 .before .before .before .before in
+    let start = at-put .before .before .before .before in
+    let k = parts (start .args .l .now) _ _ (start .pre .is) in
+    omega (
+      arith,
+      k .size,
+      k .count,
+      start .pre .fits,
+      c .before .before .put-comments .kept .1 .0,
+      at-put16 .put16 .kept .0,
+      at-put32 .put32 .kept .0,
+      at-put .put .kept .0,
+    )
 
 part-put-record-start : tie.Need-part-put-record-start
-part-put-record-start c = let k = parts (c .before .before .before .before .before .before .before .before .before .before .before .before .before .before .before .before .before .before .args .l .now) _ _ (c .before .before .before .before .before .before .before .before .before .before .before .before .before .before .before .before .before .before .pre .is) in omega (arith, k .size, k .count, c .before .before .before .before .before .before .before .before .before .before .before .before .before .before .before .before .before .before .pre .fits, c .before .before .put-comments .kept .1 .0, c .before .before .before .before .before .before .put16 .kept .0, c .before .before .before .before .before .before .before .before .before .before .put32 .kept .0, c .before .before .before .before .before .before .before .before .before .before .before .before .before .before .put .kept .0)
+part-put-record-start c =
+    let at-put16 = c .before .before .before .before .before .before in
+    let at-put32 = at-put16 .before .before .before .before in
+    let at-put = at-put32 .before .before .before .before in
+    let start = at-put .before .before .before .before in
+    let k = parts (start .args .l .now) _ _ (start .pre .is) in
+    omega (
+      arith,
+      k .size,
+      k .count,
+      start .pre .fits,
+      c .before .before .put-comments .kept .1 .0,
+      at-put16 .put16 .kept .0,
+      at-put32 .put32 .kept .0,
+      at-put .put .kept .0,
+    )
 
 put-record-requires : tie.Need-put-record-requires
-put-record-requires c κs = let k = parts (c .before .before .before .before .before .before .before .before .before .before .before .before .before .before .before .before .before .before .before .args .l .now) _ _ (c .before .before .before .before .before .before .before .before .before .before .before .before .before .before .before .before .before .before .before .pre .is) in record { inside = k .inside; below = omega arith }
+put-record-requires c κs =
+    let start =
+    c .before .before .before .before .before .before .before .before .before .before .before .before .before .before .before .before .before .before .before
+    in
+    let k = parts (start .args .l .now) _ _ (start .pre .is) in
+    record { inside = k .inside; below = omega arith }
 
 returns : tie.Need-returns
-returns c = let k = parts (c .before .before .before .before .before .before .before .before .before .before .before .before .before .before .before .before .before .before .before .before .before .before .args .l .now) _ _ (c .before .before .before .before .before .before .before .before .before .before .before .before .before .before .before .before .before .before .before .before .before .before .pre .is) in whole-put (c .before .before .before .before .before .before .before .before .before .before .before .before .before .before .before .before .before .before .before .before .before .before .args .l .now) _ _ k _ _ _ _ (c .before .before .before .before .before .before .put-comments .last .1 .0) _ (c .before .before .before .before .before .before .before .before .before .before .before .before .before .before .before .before .before .before .before .before .before .before .pre .small) (c .before .before .before .before .before .before .before .before .before .before .before .before .before .before .before .before .before .before .put .ensures) (c .before .before .before .before .before .before .before .before .before .before .before .before .before .before .put32 .ensures) (c .before .before .before .before .before .before .before .before .before .before .put16 .ensures) (put-got pairBytes 7 _ (commentsFrom (c .before .before .before .before .before .before .before .before .before .before .before .before .before .before .before .before .before .before .before .before .before .before .args .l .now) MAX-COMMENTS 0) (c .before .before .before .before .before .before .put-comments .result) _ (k .comments) _ (c .before .before .before .before .before .before .put-comments .ensures) (k .pairs) (omega (arith, k .size, pairs-size (k .comments), c .before .before .before .before .before .before .before .before .before .before .before .before .before .before .before .before .before .before .before .before .before .before .pre .small))) (lent-part (7 + 8 * (c .before .before .before .before .before .before .before .before .before .before .before .before .before .before .before .before .before .before .before .before .before .before .args .at / 9)) (c .before .before .before .before .before .before .put-comments .last .1 .0) (c .before .before .put-record .last .1 .1 .1 .1 .0) (written (k .tree)) (omega (arith, k .size, k .count, c .before .before .before .before .before .before .before .before .before .before .before .before .before .before .before .before .before .before .before .before .before .before .pre .fits, c .before .before .before .before .before .before .put-comments .kept .1 .0, c .before .before .before .before .before .before .before .before .before .before .put16 .kept .0, c .before .before .before .before .before .before .before .before .before .before .before .before .before .before .put32 .kept .0, c .before .before .before .before .before .before .before .before .before .before .before .before .before .before .before .before .before .before .put .kept .0)) (put-got written 0 _ (recordFrom (c .before .before .before .before .before .before .before .before .before .before .before .before .before .before .before .before .before .before .before .before .before .before .args .l .now) MAX-RECORDS-DEEP TREE (c .before .before .before .before .before .before .before .before .before .before .before .before .before .before .before .before .before .before .before .before .before .before .args .at)) (c .before .before .put-record .result) _ (k .tree) _ (c .before .before .put-record .ensures) (k .reads) (omega (arith, k .size, c .before .before .before .before .before .before .before .before .before .before .before .before .before .before .before .before .before .before .before .before .before .before .pre .small))))
+returns c =
+    let at-put-comments = c .before .before .before .before .before .before in
+    let at-put16 = at-put-comments .before .before .before .before in
+    let at-put32 = at-put16 .before .before .before .before in
+    let at-put = at-put32 .before .before .before .before in
+    let start = at-put .before .before .before .before in
+    let k = parts (start .args .l .now) _ _ (start .pre .is) in
+    whole-put (start .args .l .now) _ _ k _ _ _ _ (at-put-comments .put-comments .last .1 .0) _ (start .pre .small) (at-put .put .ensures)
+    (at-put32 .put32 .ensures) (at-put16 .put16 .ensures) (put-got pairBytes 7 _ (commentsFrom (start .args .l .now) MAX-COMMENTS 0)
+    (at-put-comments .put-comments .result) _ (k .comments) _ (at-put-comments .put-comments .ensures) (k .pairs)
+    (omega (arith, k .size, pairs-size (k .comments), start .pre .small)))
+    (lent-part (7 + 8 * (start .args .at / 9)) (at-put-comments .put-comments .last .1 .0) (c .before .before .put-record .last .1 .1 .1 .1 .0)
+    (written (k .tree)) (omega (
+      arith,
+      k .size,
+      k .count,
+      start .pre .fits,
+      at-put-comments .put-comments .kept .1 .0,
+      at-put16 .put16 .kept .0,
+      at-put32 .put32 .kept .0,
+      at-put .put .kept .0,
+    )) (put-got written 0 _ (recordFrom (start .args .l .now) MAX-RECORDS-DEEP TREE (start .args .at)) (c .before .before .put-record .result) _
+    (k .tree) _ (c .before .before .put-record .ensures) (k .reads) (omega (arith, k .size, start .pre .small))))
 
 pub put-image-spec : {M : Type 1} → statement M
 put-image-spec =

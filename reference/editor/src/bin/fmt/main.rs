@@ -75,8 +75,7 @@ fn run() -> u8 {
 
 fn format_all(order: &Order, report: &mut Report<'_>) {
     // One for all: its buffers are kept.
-    let mut formatter = Formatter::new();
-    formatter.set_options(order.options);
+    let mut formatter = Formatter::new().with_options(order.options.clone());
     for path in &order.paths {
         match read(path) {
             Ok(target) => format(&mut formatter, &target, order, report),

@@ -1,2 +1,0 @@
-pub mod Counts
-pub mod Sections

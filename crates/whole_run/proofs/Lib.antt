@@ -1,0 +1,16 @@
+pub mod Local
+pub mod Past
+pub mod Marks
+pub mod Right
+pub mod RenderParts
+pub mod LayoutParts
+pub mod Whole
+pub mod Limits
+pub mod Demands
+pub mod Foot
+pub mod Edges
+pub mod FileTable
+pub mod File
+pub mod FileLimits
+pub mod Text
+pub mod Reference

@@ -1,0 +1,9 @@
+pub mod Parts
+pub mod Built
+pub mod Demands
+pub mod Foot
+pub mod Edges
+pub mod File
+pub mod FileLimits
+pub mod Text
+pub mod Reference
