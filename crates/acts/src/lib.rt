@@ -1,4 +1,6 @@
 // Steps of layout: what they write to the store of rows, and how the cursor moves.
+#![tactic(auto)]
+
 mod kinds;
 pub mod leaves;
 pub mod parts;

@@ -1,1 +1,2 @@
 // Theory only: the syntax tree of src/ast.rs.
+#![tactic(auto)]

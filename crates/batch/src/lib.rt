@@ -1,4 +1,6 @@
 // Request 7: a night's saves in one call.
+#![tactic(auto)]
+
 mod counting;
 mod frames;
 mod writing;

@@ -1,5 +1,7 @@
 // The functions that other languages call: numbers and slices in, numbers out. Their names are symbols, and end in the number of their shape:
 // tools/raise-shape raises it when a parameter or an array changes, so that nothing older is linked.
+#![tactic(auto)]
+
 mod count;
 mod generator;
 mod numbers;

@@ -1,4 +1,6 @@
 // The files of standard input, one after another: two lengths of four bytes, of source and image; the source; the image.
+#![tactic(auto)]
+
 ghost use Rattle.std.specs.Prelude.{◌≡◌, ◌≤◌, ◌<◌, min, length};
 ghost use Rattle.feed.specs.Input.{LENGTHS as Input-as-LENGTHS, source_length, image_length, Arrives, came_of, ReadsFile};
 

@@ -1,4 +1,6 @@
 // Request 2: the figures of one file, counted with those before it.
+#![tactic(auto)]
+
 mod occurrences;
 
 ghost use Rattle.std.specs.Prelude.{◌≡◌, length};

@@ -1,4 +1,6 @@
 // Module 8: the whole run of one file, and of a frame that the program reads.
+#![tactic(auto)]
+
 pub mod reply;
 
 ghost use Rattle.std.specs.Prelude.{◌≡◌, ◌*◌, replicate};

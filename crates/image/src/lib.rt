@@ -1,4 +1,6 @@
 // Module 2: the reader of tree images. It accepts a source and an image, or refuses them with a number and a place.
+#![tactic(auto)]
+
 pub mod bytes;
 mod comments;
 pub mod grammar;

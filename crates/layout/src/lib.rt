@@ -1,6 +1,8 @@
 // The layout functions: `State` of fmt.rs from `separated` on. Here are those of expressions, blocks and statements. They call each other,
 // and the record's length falls at each call. Some names are short because the check joins the names of all of them to one
 // (docs/PROOF-NOTES.md).
+#![tactic(auto)]
+
 mod blocks;
 mod chains;
 pub mod declarations;

@@ -1,4 +1,6 @@
 // Layout calls: state, arguments, answer, and the call.
+#![tactic(auto)]
+
 mod answer;
 mod closing;
 mod fits;

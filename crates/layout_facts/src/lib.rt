@@ -1,1 +1,2 @@
 // Facts about the layout rules: no code.
+#![tactic(auto)]

@@ -1,3 +1,5 @@
 // The marks of rows.
+#![tactic(auto)]
+
 pub mod count;
 pub mod keep;

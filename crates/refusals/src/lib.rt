@@ -1,1 +1,2 @@
 // What a refusal is: definitions alone.
+#![tactic(auto)]

@@ -1,4 +1,6 @@
 // Rendering calls: state, arguments, answer, and the call.
+#![tactic(auto)]
+
 mod dry_run;
 mod fits;
 mod refusal;

@@ -1,4 +1,6 @@
 // Rendering of rows.
+#![tactic(auto)]
+
 mod close;
 mod columns;
 pub mod frames;

@@ -1,4 +1,6 @@
 // The rules of rendering, and the machine that follows them with a list of open rows.
+#![tactic(auto)]
+
 use rows::units::Columns;
 
 // `indent`, `next_indent` and `column` of `Renderer`: what is carried from one call to the next.

@@ -1,5 +1,7 @@
 // Runs stored answers against the port (reference/ANSWERS.md): the original's to lists of calls, and those to lists of steps. Each group is a
 // file of data/.
+#![tactic(auto)]
+
 mod calls;
 mod cases;
 mod groups;

@@ -1,5 +1,7 @@
 // Runs stored answers against the port (reference/ANSWERS.md): the original's to frames, and those to batches of files. Each group is a file of
 // data/.
+#![tactic(auto)]
+
 mod batch_calls;
 mod batches;
 mod buffers;

@@ -1,4 +1,6 @@
 // Runs stored answers of Rust's own text functions against crate `text` (reference/ANSWERS.md, "Text").
+#![tactic(auto)]
+
 mod questions;
 mod run;
 mod samples;

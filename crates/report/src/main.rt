@@ -1,4 +1,6 @@
 // Reads files from standard input, and writes a table of what their layout gives: a line for each, then totals (docs/REPORT.md).
+#![tactic(auto)]
+
 mod progress;
 
 ghost use Rattle.std.specs.Prelude.{◌≡◌, ◌&&◌, ◌≤◌, length};

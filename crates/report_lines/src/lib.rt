@@ -1,4 +1,6 @@
 // The lines of the report, put at the front of an output that has room for them.
+#![tactic(auto)]
+
 mod cells;
 
 ghost use Rattle.std.specs.Prelude.{length, ◌+◌, ◌≤◌, ◌++◌};

@@ -1,4 +1,6 @@
 // Formats the file of one frame: reads the frame, and writes what it is answered with.
+#![tactic(auto)]
+
 ghost use Rattle.std.specs.Prelude.{◌≡◌, length};
 
 use file::reply::reply;

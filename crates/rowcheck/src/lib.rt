@@ -1,4 +1,6 @@
 // Refusal 11: the check of rows before they are rendered.
+#![tactic(auto)]
+
 ghost use Rattle.std.specs.Prelude.{◌≡◌, ◌&&◌, ◌||◌, ◌+◌, ◌*◌, ◌-◌, ◌≤◌, ◌<◌, length, eqb};
 ghost use Rattle.rows.specs.Places.{NUMBER, SECOND_NUMBER, SECOND, AFTER, WIDTH, PLACES};
 ghost use Rattle.rows.specs.Limits.{MAX_ROWS};

@@ -1,4 +1,6 @@
 // The document as rows.
+#![tactic(auto)]
+
 pub mod kinds;
 pub mod limits;
 pub mod origins;

@@ -1,4 +1,6 @@
 // Request 2, the numbers: figures of files, their sums, refusal 14, and wrapped over given as a reduced fraction.
+#![tactic(auto)]
+
 pub mod lowest;
 pub mod sums;
 

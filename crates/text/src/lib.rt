@@ -1,4 +1,6 @@
 // Module 1: well-formed UTF-8, White_Space, trimming and newline counts.
+#![tactic(auto)]
+
 pub mod newlines;
 pub mod space;
 pub mod utf8;

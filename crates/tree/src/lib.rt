@@ -1,1 +1,2 @@
 // Theory only: the syntax tree that the records of an image are.
+#![tactic(auto)]

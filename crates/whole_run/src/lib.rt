@@ -1,1 +1,2 @@
 // Theory only: whole runs by the rules, and what is proved of them.
+#![tactic(auto)]

@@ -1,4 +1,6 @@
 // The writer of images from a list of steps, and the steps of an image.
+#![tactic(auto)]
+
 mod list;
 mod output;
 mod pairs;
