@@ -43,7 +43,7 @@ mutual
   -- `Vec<Meta<TypeExpr>>`
   pub data Types : Type 0 where
     no_types : Types
-    _∷ᵗ_ : TypeExpr → Types → Types
+    ◌∷ᵗ◌ : TypeExpr → Types → Types
 
   -- `Vec<Meta<Param>>` and `Vec<Meta<RecordFieldType>>`: names with their types
   pub data Fields : Type 0 where
@@ -62,7 +62,7 @@ mutual
 
   pub data Imports : Type 0 where
     no_imports : Imports
-    _∷ⁱ_ : Import → Imports → Imports
+    ◌∷ⁱ◌ : Import → Imports → Imports
 
 pub data Pattern : Type 0 where
   underscore : Pattern
@@ -145,7 +145,7 @@ mutual
     import_stmt : Import → StmtForm
     does : Expr → StmtForm
 
-infixr 40 _∷ᵗ_ _∷ⁱ_ _∷ᵉ_ _∷ˢ_
+infixr 40 ◌∷ᵗ◌ ◌∷ⁱ◌ _∷ᵉ_ _∷ˢ_
 -- `Vec<Meta<Variant>>`
 pub data Variants : Type 0 where
   no_variants : Variants

@@ -1,5 +1,5 @@
 -- The kinds of rows: "kind (0 to 11, `Node`'s order)".
-use Rattle.std.specs.Prelude.{ℕ, List, [], ◌∷◌, get_or}
+use Rattle.std.specs.Prelude.{ℕ, [], ◌∷◌, get_or}
 
 abbrev pub GROUP : ℕ
 GROUP = 0
