@@ -101,7 +101,7 @@ mutual
   -- `Vec<Meta<Expr>>`
   pub data Exprs : Type 0 where
     no_exprs : Exprs
-    _∷ᵉ_ : Expr → Exprs → Exprs
+    ◌∷ᵉ◌ : Expr → Exprs → Exprs
 
   pub data MaybeExpr : Type 0 where
     no_expr : MaybeExpr
@@ -134,7 +134,7 @@ mutual
   -- `Vec<Meta<Stmt>>`
   pub data Stmts : Type 0 where
     no_stmts : Stmts
-    _∷ˢ_ : Stmt → Stmts → Stmts
+    ◌∷ˢ◌ : Stmt → Stmts → Stmts
 
   -- `Meta<Stmt>`
   pub data Stmt : Type 0 where
@@ -145,7 +145,7 @@ mutual
     import_stmt : Import → StmtForm
     does : Expr → StmtForm
 
-infixr 40 ◌∷ᵗ◌ ◌∷ⁱ◌ _∷ᵉ_ _∷ˢ_
+infixr 40 ◌∷ᵗ◌ ◌∷ⁱ◌ ◌∷ᵉ◌ ◌∷ˢ◌
 -- `Vec<Meta<Variant>>`
 pub data Variants : Type 0 where
   no_variants : Variants
