@@ -1,10 +1,8 @@
 -- Refusals 1 and 2 by their tests; else the answer is the image's.
 -- Assumes nothing.
 use mathlib.Core.Path.{sym, ◌∙◌, ap}
-use mathlib.Core.Bool.{false}
 use Prim.Native.Nat.{ℕ}
 use borrow.Author.Tests.{not-true, not-false}
-use borrow.Author.Rules.{rules}
 use Rattle.refusals.specs.Answers.{refused}
 use Rattle.text.specs.Utf8.{refusal_of}
 use Rattle.image.specs.Read.{read_all}

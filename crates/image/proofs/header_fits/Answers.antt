@@ -1,7 +1,6 @@
 -- Each return is the definition under the tests that led to it.
 -- Assumes nothing.
 use borrow.Author.Tests.{le-leb, lt-leb, eq-eqb, ne_eqb}
-use borrow.Author.Rules.{rules}
 use Rattle.image.specs.Read.{header}
 use Rattle.image.proofs.header_fits.Goals as goal
 

@@ -3,7 +3,6 @@
 use mathlib.Core.Path.{sym, ◌∙◌, ap}
 use native.Mathlib.Omega.{arith}
 use borrow.Author.Tests.{not-true, not-false}
-use borrow.Author.Rules.{rules}
 use Rattle.image.specs.Read.{read_image, outcome}
 use Rattle.image.proofs.Whole.{image_bad, image_next}
 use Rattle.image.proofs.CommentList.{listed}

@@ -1,7 +1,6 @@
 -- What the record's reading answers, and whether bytes are left, decides the answer.
 -- Assumes nothing.
 use mathlib.Core.Path.{sym, ◌∙◌, ap}
-use borrow.Author.Rules.{rules}
 use Rattle.refusals.specs.Answers.{accepted}
 use Rattle.image.proofs.Whole.{tree_bad, tree_spare, tree_whole}
 use Rattle.image.proofs.read_tree.Goals as goal

@@ -1,7 +1,6 @@
 -- A byte is below 256, so no product or sum wraps, and the result is the definition written out.
 -- Assumes nothing.
 use native.Mathlib.Omega.{arith}
-use borrow.Author.Rules.{rules}
 use Rattle.image.specs.Bytes.{be32}
 use Rattle.image.proofs.bytes.num32.Goals as goal
 

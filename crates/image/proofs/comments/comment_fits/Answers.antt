@@ -1,7 +1,6 @@
 -- Each return is the definition under the tests that led to it.
 -- Assumes nothing.
 use borrow.Author.Tests.{lt-ltb, le-ltb, le-leb, lt-leb}
-use borrow.Author.Rules.{rules}
 use Rattle.image.specs.Read.{comment_fits}
 use Rattle.image.proofs.comments.comment_fits.Goals as goal
 

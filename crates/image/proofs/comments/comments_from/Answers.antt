@@ -1,10 +1,8 @@
-use mathlib.Core.Path.{◌≡◌, refl, sym, ◌∙◌, ap}
-use Prim.Native.Nat.{◌+◌, ◌*◌, ◌≤◌}
+use mathlib.Core.Path.{refl, sym, ◌∙◌, ap}
 use native.Mathlib.Omega.{arith}
-use lib.ListN.{length}
 use borrow.Author.Tests.{not-true, not-false}
 use borrow.Author.Rules.{rules}
-use Rattle.image.specs.Read.{comments_from, step_of}
+use Rattle.image.specs.Read.{step_of}
 use Rattle.image.proofs.CommentList.{from_on, from_off, from_end}
 use Rattle.image.proofs.comments.comments_from.Goals as goal
 
@@ -32,13 +30,12 @@ pub loop-left-smaller : goal.loop-left-smaller
 loop-left-smaller c = omega arith
 
 pub loop-left-preserved : goal.loop-left-preserved
-loop-left-preserved c =
-    (
-      omega arith,
-      c.loop-left.invariant.1
-          ∙ from_on _ _ _ _ _ _ c.loop-left-test.true (sym c.comment_fits.ensures ∙ not-false _ c.if-not-comment_fits.false-raw)
-          ∙ rw c.least_after-least.ensures,
-    )
+loop-left-preserved c = (
+  omega arith,
+  c.loop-left.invariant.1
+      ∙ from_on _ _ _ _ _ _ c.loop-left-test.true (sym c.comment_fits.ensures ∙ not-false _ c.if-not-comment_fits.false-raw)
+      ∙ rw c.least_after-least.ensures,
+)
 
 pub returns : goal.returns
 returns c = sym (ap step_of (c.loop-left.invariant.1 ∙ from_end _ _ _ _ _ _ (omega arith)))

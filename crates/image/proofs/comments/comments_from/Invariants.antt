@@ -1,13 +1,9 @@
 -- The loop keeps that the whole list is read as the comments that are left are, and that these stand in the image.
 -- Assumes nothing.
-use mathlib.Core.Path.{◌≡◌, refl, sym, ◌∙◌, ap}
+use mathlib.Core.Path.{◌≡◌}
 use Prim.Native.Nat.{◌+◌, ◌*◌, ◌≤◌}
-use native.Mathlib.Omega.{arith}
 use lib.ListN.{length}
-use borrow.Author.Tests.{not-true, not-false}
-use borrow.Author.Rules.{rules}
-use Rattle.image.specs.Read.{comments_from, step_of}
-use Rattle.image.proofs.CommentList.{from_on, from_off, from_end}
+use Rattle.image.specs.Read.{comments_from}
 use Rattle.image.proofs.comments.comments_from.Given as goal
 
 abbrev pub invariant-loop-left : goal.invariant-loop-left

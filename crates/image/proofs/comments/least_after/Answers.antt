@@ -1,4 +1,3 @@
-use borrow.Author.Rules.{rules}
 use Rattle.image.proofs.comments.least_after.Goals as goal
 
 pub returns-then-ordered : goal.returns-then-ordered

@@ -1,7 +1,6 @@
 -- Each return is the definition under the tests that led to it.
 -- Assumes nothing.
 use borrow.Author.Tests.{le-leb, lt-leb}
-use borrow.Author.Rules.{rules}
 use Rattle.image.specs.Read.{comments}
 use Rattle.image.proofs.comments.read_comments.Goals as goal
 

@@ -1,6 +1,5 @@
 use mathlib.Core.Path.{sym, ◌∙◌}
 use borrow.Author.Tests.{eq-eqb, ne_eqb}
-use borrow.Author.Rules.{rules}
 use Rattle.image.specs.Grammar.{first_child}
 use Rattle.image.proofs.grammar.first_child.Goals as goal
 

@@ -2,7 +2,6 @@
 -- Assumes nothing.
 use mathlib.Core.Path.{sym, ap, ◌∙◌}
 use Rattle.text.specs.Utf8.{refusal_of}
-use borrow.Author.Rules.{rules}
 use Rattle.image.proofs.Texts.{checked_well, checked_bad}
 use Rattle.image.proofs.grammar.is_text.Goals as goal
 

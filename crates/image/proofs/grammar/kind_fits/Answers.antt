@@ -1,5 +1,4 @@
 use borrow.Author.Tests.{le-leb, lt-leb, eq-eqb, ne_eqb}
-use borrow.Author.Rules.{rules}
 use Rattle.image.specs.Grammar.{kind_fits_of}
 use Rattle.image.proofs.grammar.kind_fits.Goals as goal
 

@@ -1,7 +1,6 @@
 -- Each arm has the row of its kind, by computation; a kind without an arm has no rule.
 -- Assumes nothing.
 use mathlib.Core.Path.{ap, sym}
-use Prim.Native.Nat.{ℕ}
 use native.Mathlib.Omega.{arith}
 use lib.Dec.{ltb}
 use borrow.Author.Tests.{ltb-false}

@@ -1,5 +1,4 @@
 use borrow.Author.Tests.{eq-eqb, ne_eqb}
-use borrow.Author.Rules.{rules}
 use Rattle.image.specs.Grammar.{row_under_of}
 use Rattle.image.proofs.grammar.row_under.Goals as goal
 

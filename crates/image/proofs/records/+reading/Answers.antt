@@ -1,11 +1,10 @@
 use mathlib.Core.Path.{refl, sym, ap, ◌∙◌}
-use Prim.Native.Nat.{ℕ, suc, ◌+◌, ◌-◌, ◌*◌, ◌<◌, ◌≤◌}
 use native.Mathlib.Omega.{arith}
 use lib.ListN.{length}
 use borrow.Author.Rules.{rules}
-use Rattle.image.specs.Read.{child_at, children_at, step_of}
+use Rattle.image.specs.Read.{step_of}
 use Rattle.image.proofs.Shapes.{opened_order, skips_within}
-use Rattle.image.proofs.Reading.{Going, go_on, go_bad, spare, missing, ended, child_within, open_wrong, open_record, record_steps}
+use Rattle.image.proofs.Reading.{go_on, go_bad, spare, missing, ended, child_within, open_wrong, open_record, record_steps}
 use Rattle.image.proofs.records.+reading.Goals as goal
 
 pub read_child-overflow_add-result : goal.read_child-overflow_add-result

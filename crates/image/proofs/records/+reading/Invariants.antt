@@ -1,14 +1,10 @@
 -- The levels left fall at each record, and three functions take turns within a level, so that the measure is three times the levels and a
 -- place among the three. The loop over the children keeps that the whole reading ends as the reading from here on does.
 -- Assumes nothing.
-use mathlib.Core.Path.{refl, sym, ap, ◌∙◌}
-use Prim.Native.Nat.{ℕ, suc, ◌+◌, ◌-◌, ◌*◌, ◌<◌, ◌≤◌}
-use native.Mathlib.Omega.{arith}
+use Prim.Native.Nat.{suc, ◌+◌, ◌-◌, ◌*◌, ◌≤◌}
 use lib.ListN.{length}
-use borrow.Author.Rules.{rules}
 use Rattle.image.specs.Read.{child_at, children_at, step_of}
-use Rattle.image.proofs.Shapes.{opened_order, skips_within}
-use Rattle.image.proofs.Reading.{Going, go_on, go_bad, spare, missing, ended, child_within, open_wrong, open_record, record_steps}
+use Rattle.image.proofs.Reading.{Going}
 use Rattle.image.proofs.records.+reading.Given as goal
 
 abbrev pub decreases-read_child : goal.decreases-read_child

@@ -3,7 +3,6 @@
 use mathlib.Core.Path.{sym, ◌∙◌}
 use native.Mathlib.Omega.{arith}
 use borrow.Author.Tests.{eq-eqb, ne_eqb, not-true, not-false}
-use borrow.Author.Rules.{rules}
 use Rattle.image.specs.Read.{opens}
 use Rattle.image.proofs.Reading.{is_record}
 use Rattle.image.proofs.Shapes.{shaped}

@@ -3,7 +3,6 @@
 use mathlib.Core.Path.{sym, ap, ◌∙◌}
 use native.Mathlib.Omega.{arith}
 use borrow.Author.Tests.{eq-eqb, ne_eqb, not-true, not-false}
-use borrow.Author.Rules.{rules}
 use Rattle.image.specs.Kinds.{TEXT}
 use Rattle.image.specs.Read.{opens, step_of}
 use Rattle.image.proofs.Reading.{record_bad, text_read}

@@ -3,7 +3,6 @@
 use mathlib.Core.Path.{sym, ◌∙◌}
 use native.Mathlib.Omega.{arith}
 use borrow.Author.Tests.{le-leb, lt-leb}
-use borrow.Author.Rules.{rules}
 use Rattle.laws.proofs.Booleans.{and_false}
 use Rattle.image.specs.Read.{shape, stop_at}
 use Rattle.image.proofs.records.shape_fits.Goals as goal

@@ -4,7 +4,6 @@ use mathlib.Core.Path.{sym}
 use Prim.Native.Nat.{◌+◌}
 use native.Mathlib.Omega.{arith}
 use borrow.Author.Tests.{le-leb, lt-leb}
-use borrow.Author.Rules.{rules}
 use Rattle.laws.proofs.Booleans.{and_false}
 use Rattle.image.specs.Grammar.{kind_fits_of, payload_fits}
 use Rattle.image.specs.Read.{shape, stop_at}
