@@ -12,7 +12,7 @@ plain-row-requires c κs = room_leaf empty_line refl c.before.before.requires
 
 returns : tie.Need-returns
 unfolding size rows_of
-returns c = laid_leaf empty_line refl refl c.before.before.plain-Row.ensures
+returns c = laid_leaf empty_line refl refl c.before.before.plain-row.ensures
 
 pub empty-line-spec : {M : Type 1} → statement M
 empty-line-spec = tie.close (tie.spec plain-row-requires (λ c. search rules) returns)

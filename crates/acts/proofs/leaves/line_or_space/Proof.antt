@@ -12,7 +12,7 @@ plain-row-requires c κs = room_leaf line_or_space refl c.before.before.requires
 
 returns : tie.Need-returns
 unfolding size rows_of
-returns c = laid_leaf line_or_space refl refl c.before.before.plain-Row.ensures
+returns c = laid_leaf line_or_space refl refl c.before.before.plain-row.ensures
 
 pub line-or-space-spec : {M : Type 1} → statement M
 line-or-space-spec = tie.close (tie.spec plain-row-requires (λ c. search rules) returns)

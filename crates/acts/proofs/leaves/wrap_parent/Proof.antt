@@ -12,7 +12,7 @@ plain-row-requires c κs = room_leaf wrap_parent refl c.before.before.requires
 
 returns : tie.Need-returns
 unfolding size rows_of
-returns c = laid_leaf wrap_parent refl refl c.before.before.plain-Row.ensures
+returns c = laid_leaf wrap_parent refl refl c.before.before.plain-row.ensures
 
 pub wrap-parent-spec : {M : Type 1} → statement M
 wrap-parent-spec = tie.close (tie.spec plain-row-requires (λ c. search rules) returns)

@@ -10,10 +10,10 @@ returns : tie.Need-returns
 returns c =
     let start = c.before.before.before.before.before.before in
     record {
-      stored = c.before.before.plain-Row.ensures.stored;
+      stored = c.before.before.plain-row.ensures.stored;
       moved =
           ap₂ (λ (n m : ℕ). cursor n m start.args.c.pos start.args.c.placed)
-          (ap (λ d. d.row) c.before.before.plain-Row.ensures.moved) (omega arith);
+          (ap (λ d. d.row) c.before.before.plain-row.ensures.moved) (omega arith);
     }
 
 pub open-call-spec : {M : Type 1} → statement M

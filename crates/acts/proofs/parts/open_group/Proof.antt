@@ -10,8 +10,8 @@ returns c =
     let at-plain-row = c.before.before.before in
     let start = at-plain-row.before.before.before in
     record {
-      stored = at-plain-row.plain-Row.ensures.stored;
-      moved = ap (λ d. cursor d.row (start.args.c.number + 1) start.args.c.pos start.args.c.placed) at-plain-row.plain-Row.ensures.moved;
+      stored = at-plain-row.plain-row.ensures.stored;
+      moved = ap (λ d. cursor d.row (start.args.c.number + 1) start.args.c.pos start.args.c.placed) at-plain-row.plain-row.ensures.moved;
     }
 
 pub open-group-spec : {M : Type 1} → statement M

@@ -10,9 +10,9 @@ returns : tie.Need-returns
 returns c =
     let start = c.before.before.before.before.before in
     record {
-      stored = c.before.before.plain-Row.ensures.stored;
+      stored = c.before.before.plain-row.ensures.stored;
       moved =
-          c.before.before.plain-Row.ensures.moved
+          c.before.before.plain-row.ensures.moved
           ∙ ap (λ (n : ℕ). cursor (start.args.c.row + 1) n start.args.c.pos start.args.c.placed) (sym (add-zero start.args.c.number));
     }
 

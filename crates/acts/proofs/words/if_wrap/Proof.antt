@@ -10,14 +10,14 @@ word-requires : tie.Need-word-requires
 word-requires c κs =
     let at-plain-row = c.before.before.before in
     let start = at-plain-row.before.before.before in
-    room_if_wrap_first start.args.number _ _ start.requires at-plain-row.plain-Row.ensures
+    room_if_wrap_first start.args.number _ _ start.requires at-plain-row.plain-row.ensures
 
 word-requires-2 : tie.Need-word-requires-2
 word-requires-2 c κs =
     let at-word = c.before.before.before in
     let at-plain-row = at-word.before.before.before.before in
     let start = at-plain-row.before.before.before in
-    room_if_wrap_second start.args.number _ _ start.requires at-plain-row.plain-Row.ensures at-word.word.ensures
+    room_if_wrap_second start.args.number _ _ start.requires at-plain-row.plain-row.ensures at-word.word.ensures
 
 returns : tie.Need-returns
 returns c =
@@ -25,7 +25,7 @@ returns c =
     let at-word2 = at-set-second.before.before.before.before in
     let at-word = at-word2.before.before.before.before in
     let at-plain-row = at-word.before.before.before.before in
-    laid_if_wrap at-plain-row.plain-Row.ensures at-word.word.ensures at-word2.word2.ensures
+    laid_if_wrap at-plain-row.plain-row.ensures at-word.word.ensures at-word2.word2.ensures
     at-set-second.set_second.ensures c.before.before.close.ensures
 
 pub if-wrap-spec : {M : Type 1} → statement M
