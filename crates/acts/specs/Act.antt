@@ -1,8 +1,8 @@
 -- `State` of fmt.rs: what a step of layout does, and the methods that push nodes.
-use Rattle.std.specs.Prelude.{ℕ, ◌+◌, ◌-◌, Bool, true, false, cond, List}
+use Rattle.std.specs.Prelude.{ℕ, ◌+◌, ◌-◌, Bool, true, false, List}
 use Prim.Native.String.{String}
 use Rattle.ast.specs.Syntax.{Span}
-use Rattle.rows.specs.Node.{Text, Node, Nodes, group, indent, indent_next, str, ascii, call, none, ◌then◌, join}
+use Rattle.rows.specs.Node.{Text, Node, Nodes, group, indent, indent_next, ascii, call, none, ◌then◌, join}
 use Rattle.rows.specs.Words.{word}
 
 -- What `State` only reads: the source, the image with its texts, the comments in the image's order, and what a text of a row measures, by the

@@ -12,7 +12,7 @@ ghost use Rattle.acts.specs.Laid.{cursor};
 
 // The position in the source, how many comments are placed, the next row, and the next group number. In this order what rarely changes is
 // copied at once.
-#[derive(Drop)]
+#[derive(Clone, Copy)]
 pub struct Cursor {
     pub pos: u32,
     pub placed: u32,

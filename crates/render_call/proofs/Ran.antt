@@ -5,7 +5,7 @@ use mathlib.Core.Bool.{true}
 use mathlib.Core.List.{List, [], ◌++◌}
 use Prim.Native.Nat.{ℕ, ◌+◌, ◌-◌, ◌≤◌}
 use native.Mathlib.Omega.{arith}
-use native.Mathlib.Nat.{zero_max}
+use native.Mathlib.Nat.{zero-max}
 use lib.ListN.{length, take, drop, replicate, length-append, length-replicate}
 use Rattle.rows.specs.View.{view_of, nodes_at}
 use Rattle.renderer_rules.specs.Renderer.{Renderer, fresh_renderer, render_nodes}
@@ -61,7 +61,7 @@ module _ (source image : List ℕ) (state : RenderState) (args : RenderArgs) (st
   ran past = ap drawn_by (past_same past)
 
   pub widest_same : (past : List ℕ) → (rendered (marks_in_use ++ past)).widest ≡ widest_due source image state args store marks
-  widest_same past = ap (λ (r : Renderer). r.widest) (past_same past) ∙ zero_max (rendered marks_in_use).widest
+  widest_same past = ap (λ (r : Renderer). r.widest) (past_same past) ∙ zero-max (rendered marks_in_use).widest
 
   -- what the run leaves of the marks is as many as it took up, so with the buffer's own behind them the buffer is as the call leaves it
   pub marks_onto : gives.marks ++ drop (length marks_in_use) marks ≡ write_front gives.marks marks

@@ -9,7 +9,7 @@ use mathlib.Core.List.{List}
 use lib.ListN.{length, set}
 use lib.Seq.{get_or-set_same, get_or-set_other}
 use Rattle.rows.specs.Kinds.{GROUP, INDENT, INDENT_NEXT, IF_WRAP, CALL}
-use Rattle.rows.specs.Node.{group, wrapped}
+use Rattle.rows.specs.Node.{wrapped}
 use Rattle.rows.specs.View.{View, nodes_at, first_of, node_at}
 use Rattle.rows.specs.Nesting.{RangeIn, Split, TwoParts}
 use Rattle.rows.proofs.Decode.{nodes_some, nodes_none, node_group, node_indent, node_next, node_if, node_call}

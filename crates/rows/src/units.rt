@@ -2,11 +2,11 @@
 ghost use Rattle.std.specs.Prelude.{◌≡◌};
 
 // A width in columns.
-#[derive(Drop)]
+#[derive(Clone, Copy)]
 pub struct Columns(pub usize);
 
 // A length in bytes.
-#[derive(Drop)]
+#[derive(Clone, Copy)]
 pub struct Bytes(pub usize);
 
 // What an `Ascii` text measures: its bytes.

@@ -1,11 +1,11 @@
 -- The totals are the sums over the files counted, which are the first 4,096 that document 01 does not refuse; sums are the same in any order.
 -- Assumes nothing.
-use mathlib.Core.Path.{◌≡◌, refl, sym, ap, subst, ◌∙◌}
+use mathlib.Core.Path.{◌≡◌, refl, sym, ap, ◌∙◌}
 use mathlib.Core.Bool.{Bool}
 use mathlib.Core.Option.{Option, none, some}
 use mathlib.Core.List.{List, [], ◌∷◌, map}
 use Prim.Native.Nat.{ℕ, zero, suc, ◌+◌, ◌*◌, ◌≤◌, ◌<◌, max}
-use native.Mathlib.Nat.{add_assoc, add_left_comm, zero-add, zero_max, add-zero, max-zero}
+use native.Mathlib.Nat.{add_assoc, add_left_comm, zero-add, zero-max, add-zero, max-zero}
 use native.Mathlib.Omega.{arith}
 use borrow.Author.Tests.{le-leb}
 use lib.ListN.{length, take, length-map}
@@ -46,7 +46,7 @@ total_more f t fs =
     rw (files, together_assoc t.all f (sum fs))
 
 total_fresh : (fs : List Figures) → Total fresh_tallies fs ≡ record { files = length fs; all = sum fs }
-total_fresh fs = simp (zero-add, zero_max)
+total_fresh fs = simp (zero-add, zero-max)
 
 -- ---- tallies that small files have made
 -- each sum is at most the share of the bound that the files counted may have

@@ -6,7 +6,7 @@ pub mod sums;
 
 // What one file gives: "text bytes, newlines, greatest value `column` takes, group numbers given, groups wrapped (marks at 1), comments
 // placed, comments left".
-#[derive(Drop)]
+#[derive(Clone, Copy)]
 pub struct Figures {
     pub bytes: usize,
     pub newlines: usize,
@@ -18,14 +18,14 @@ pub struct Figures {
 }
 
 // What the files counted so far give: how many there are, and their figures together.
-#[derive(Drop)]
+#[derive(Clone, Copy)]
 pub struct Tallies {
     pub files: usize,
     pub all: Figures,
 }
 
 // Wrapped over given.
-#[derive(Drop)]
+#[derive(Clone, Copy)]
 pub struct Fraction {
     pub over: usize,
     pub under: usize,

@@ -5,7 +5,7 @@ ghost use Rattle.text.specs.Newlines.{newline_places, counted, is_range, count_n
 use crate::utf8::is_boundary;
 
 // How many newlines a range has, and the place of the last of them, or the range's end if it has none.
-#[derive(Drop)]
+#[derive(Clone, Copy)]
 pub struct Newlines {
     pub count: usize,
     pub place: usize,

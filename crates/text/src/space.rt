@@ -4,7 +4,7 @@ ghost use Rattle.text.specs.Space.{is_white, trim_end, is_passed, something};
 
 use crate::utf8::{Decoded, char_at, char_before};
 
-#[derive(Drop)]
+#[derive(Clone, Copy)]
 pub enum Found {
     At(usize),
     Nowhere,

@@ -2,14 +2,14 @@
 ghost use Rattle.std.specs.Prelude.{◌≡◌, ◌+◌, ◌≤◌, ◌<◌, length, get_or};
 ghost use Rattle.text.specs.Utf8.{row_of, lead_of, continues, sequence, highs, plain, stride, ill_formed, refusal_of, boundary, scalar, char_at, ends, ending, char_before};
 
-#[derive(Drop)]
+#[derive(Clone, Copy)]
 pub enum Checked {
     WellFormed,
     // where the first bad sequence starts
     Bad(usize),
 }
 
-#[derive(Drop)]
+#[derive(Clone, Copy)]
 pub enum Decoded {
     // a code point, and how many bytes it has in the text
     Char(u32, usize),
@@ -17,7 +17,7 @@ pub enum Decoded {
 }
 
 // What a first byte asks for: the second byte's lowest and highest value, and the number of bytes, 0 where it starts no sequence.
-#[derive(Drop)]
+#[derive(Clone, Copy)]
 pub struct Lead(pub u8, pub u8, pub usize);
 
 // The byte at a place, 0 past the end.

@@ -1,0 +1,16 @@
+use mathlib.Core.Path.{refl}
+use Rattle.rows.specs.Node.{ascii}
+use Rattle.rows.specs.Rows.{size, rows_of}
+use Rattle.acts.proofs.Laws.{room_leaf, laid_leaf}
+use Rattle.acts.specs.Laid.{text}
+use native.Mathlib.Omega.{arith}
+use Rattle.acts.proofs.leaves.ascii.Goals as goal
+
+pub text_row-requires : goal.text_row-requires
+unfolding size
+text_row-requires c = record { row_lt_top = room_leaf (ascii (text 0 c.args.start c.args.size.0)) refl c.requires.room; size_le_top = c.requires.size_le_top; width_le_top = omega arith }
+
+pub returns : goal.returns
+unfolding size rows_of
+returns c =
+    laid_leaf (ascii (text 0 c.args.start c.args.size.0)) refl refl c.text_row.ensures
