@@ -187,7 +187,7 @@ list_tree-list_trees-last-requires t c =
         first_behind c.args.b.now _
             (tree_head c.args.b.now _ _ c.requires (λ z. c.if-n-eq0.false (c.num32-n.ensures.same ∙ z))).0,
       ),
-      row_there c.args.b.now _ _ _ _ _ c.copy.new.1.1.1.0 c.list_payload-inner.new.1.1.0 c.requires
+      row_there c.args.b.now _ _ _ _ _ c.copy.new.out c.list_payload-inner.new.out c.requires
           (λ z. c.if-n-eq0.false (c.num32-n.ensures.same ∙ z)) c.num32-n.ensures.same
           (first_is c.args.b.now _ _ _ _ c.wide.ensures.0 c.num32-n.ensures.same c.first_child-first.ensures)
           c.list_payload-inner.ensures,
@@ -197,8 +197,8 @@ pub list_tree-overflow_add-result-2 : goal.list_tree-overflow_add-result-2
 list_tree-overflow_add-result-2 t c =
     omega (
       arith,
-      row_last c.args.b.now _ _ _ _ _ _ (row_there c.args.b.now _ _ _ _ _ c.copy.new.1.1.1.0
-          c.list_payload-inner.new.1.1.0 c.requires (λ z. c.if-n-eq0.false (c.num32-n.ensures.same ∙ z))
+      row_last c.args.b.now _ _ _ _ _ _ (row_there c.args.b.now _ _ _ _ _ c.copy.new.out
+          c.list_payload-inner.new.out c.requires (λ z. c.if-n-eq0.false (c.num32-n.ensures.same ∙ z))
           c.num32-n.ensures.same
           (first_is c.args.b.now _ _ _ _ c.wide.ensures.0 c.num32-n.ensures.same c.first_child-first.ensures)
           c.list_payload-inner.ensures)
@@ -265,7 +265,7 @@ list_trees-loop-at-smaller t c =
 pub list_trees-loop-at-preserved : goal.list_trees-loop-at-preserved
 list_trees-loop-at-preserved t c =
     rows_one c.args.b.now _ _ _ _ _ _ _ _ _ _ c.requires c.loop-at.invariant c.loop-at-test.true
-    c.list_tree-pos.auto.1.1.0 (omega (arith, c.num32.ensures.same)) c.list_tree-pos.ensures
+    c.list_tree-pos.auto.out (omega (arith, c.num32.ensures.same)) c.list_tree-pos.ensures
 
 pub list_trees-returns : goal.list_trees-returns
 list_trees-returns t c = rows_end c.args.b.now _ _ _ _ _ _ _ c.loop-at.invariant c.loop-at-test.false

@@ -45,7 +45,7 @@ loop-i-smaller c =
 pub loop-i-preserved : goal.loop-i-preserved
 loop-i-preserved c =
     pairs_one _ _ _ _ _ _ _ _ _ (λ i. omega (arith, c.shared_slice_known-1.given i)) c.requires.0
-    c.loop-i.invariant c.loop-i-test.true (c.copy.auto.1.1.1.0 ∙ c.put.auto.0)
+    c.loop-i.invariant c.loop-i-test.true (c.copy.auto.out ∙ c.put.auto.out)
     c.put.ensures c.copy.ensures
 
 pub returns : goal.returns

@@ -103,7 +103,7 @@ returns-then-has_byte c =
     c.put-then-has_byte.ensures c.put-then-has_byte-2.ensures
 
 pub returns : goal.returns
-returns-then-kind-eq-TEXT c =
+returns c =
     no_payload c.args.b.now _ (λ i. omega (arith, c.shared_slice_known-2-1.given i))
     c.requires.whole _ _ (λ k. c.if-kind-eq-TEXT.false (c.wide-kind.ensures.0 ∙ k))
     (ap has_byte (sym c.wide-kind.ensures.0) ∙ sym c.has_byte.ensures ∙ c.if-has_byte.false)

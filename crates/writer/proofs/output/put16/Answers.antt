@@ -4,5 +4,5 @@ use Rattle.writer.proofs.output.put16.Goals as goal
 
 pub returns : goal.returns
 returns c =
-    two_put c.args.out.now c.put.new.0 c.put-2.new.0
+    two_put c.args.out.now c.put.new.out c.put-2.new.out
     c.args.pos c.args.n c.put.ensures c.put-2.ensures

@@ -19,6 +19,6 @@ pub num32-requires-2 : goal.num32-requires-2
 num32-requires-2 c = omega (arith, (stood _ _ _ _ (sym c.stands.ensures ∙ not-false _ c.if-not-stands.false-raw)).0)
 
 pub returns : goal.returns
-returns-then-not-stands c =
+returns c =
     ap₂ ltb c.num32.ensures.same c.num32-2.ensures.same
     ∙ pair_order _ _ (sym c.stands.ensures ∙ not-false _ c.if-not-stands.false-raw)

@@ -64,6 +64,6 @@ loop-start-smaller c =
 
 pub loop-start-preserved : goal.loop-start-preserved
 loop-start-preserved c =
-    lists_on c.loop-start.invariant c.copy.new.1.1.1.0 (λ i. omega (arith, c.shared_slice_known-1.given i))
-    c.copy.auto.1.1.1.0 c.if-left-eq0.false (sym c.stands.ensures ∙ not-false _ c.if-not-stands.false-raw)
+    lists_on c.loop-start.invariant c.copy.new.out (λ i. omega (arith, c.shared_slice_known-1.given i))
+    c.copy.auto.out c.if-left-eq0.false (sym c.stands.ensures ∙ not-false _ c.if-not-stands.false-raw)
     (sym c.pair_fits.ensures ∙ not-false _ c.if-not-pair_fits.false-raw) c.copy.ensures

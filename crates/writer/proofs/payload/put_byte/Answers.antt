@@ -24,6 +24,6 @@ bounds-l-at-2 c =
     omega (arith, (stood _ _ _ _ (sym c.stands.ensures ∙ not-false _ c.if-not-stands.false-raw)).0)
 
 pub returns : goal.returns
-returns-then-not-stands c =
+returns c =
     is_held _ _ _ _ _ _ _ (byte_held _ _ _ _ _ _ _ c.wide.ensures.0
     (sym c.stands.ensures ∙ not-false _ c.if-not-stands.false-raw) c.if-top-wide.false c.put.ensures)

@@ -14,4 +14,4 @@ returns-then-has_byte c =
     ∙ sym (ap (put_by _ _ _) (payload_byte _ _ _ _ c.if-kind-eq-TEXT.false (sym c.has_byte.ensures ∙ c.if-has_byte.true)))
 
 pub returns : goal.returns
-returns-then-kind-eq-TEXT c = none_held _ _ _ _ _ _ c.if-kind-eq-TEXT.false (sym c.has_byte.ensures ∙ c.if-has_byte.false)
+returns c = none_held _ _ _ _ _ _ c.if-kind-eq-TEXT.false (sym c.has_byte.ensures ∙ c.if-has_byte.false)

@@ -73,7 +73,7 @@ overflow_add-result-2 c =
     omega (arith, (stood _ _ _ _ (sym c.stands.ensures ∙ not-false _ c.if-not-stands.false-raw)).0, c.if-l-at.false, c.requires.below)
 
 pub returns : goal.returns
-returns-then-not-stands c =
+returns c =
     is_held _ _ _ _ _ _ _ (text_held _ _ _ _ (λ i. omega (arith, c.shared_slice_known-1.given i)) _ _ _ c.num32-n.ensures.same
     (is_standing _ _ _ _
     (omega (arith, (stood _ _ _ _ (sym c.stands.ensures ∙ not-false _ c.if-not-stands.false-raw)).0, c.num32-n.ensures.same, c.if-l-at.false))

@@ -81,12 +81,12 @@ put_child-put_record-requires t c =
 
 pub put_child-returns-in-Fault : goal.put_child-returns-in-Fault
 put_child-returns-in-Fault t c =
-    ap (λ (r : Reached). put_of r c.put_record.new.1.1.1.1.0) (sym c.in-Fault.is) ∙ c.put_record.ensures
+    ap (λ (r : Reached). put_of r c.put_record.new.out) (sym c.in-Fault.is) ∙ c.put_record.ensures
     ∙ sym (open_held _ _ _ _ _ _ (sym c.stands-3.ensures ∙ not-false _ c.if-not-stands.false-raw) c.if-row-eq0.false)
 
 pub put_child-returns-in-Next : goal.put_child-returns-in-Next
 put_child-returns-in-Next t c =
-    ap (λ (r : Reached). put_of r c.put_record.new.1.1.1.1.0) (sym c.in-Next.is) ∙ c.put_record.ensures
+    ap (λ (r : Reached). put_of r c.put_record.new.out) (sym c.in-Next.is) ∙ c.put_record.ensures
     ∙ sym (open_held _ _ _ _ _ _ (sym c.stands-3.ensures ∙ not-false _ c.if-not-stands.false-raw) c.if-row-eq0.false)
 
 pub put_children-loop-end-init : goal.put_children-loop-end-init
@@ -99,20 +99,20 @@ put_children-put_child-requires t c = (omega (arith, c.decreases), c.loop-end.in
 pub put_children-returns-in-Closed : goal.put_children-returns-in-Closed
 put_children-returns-in-Closed t c =
     goes_closed c.args.l.now c.args.left _ _ _ _ _ _ c.loop-end.invariant c.in-Closed.end
-    c.put_child.new.1.1.1.1.0
-    (ap (λ (r : Child). child_of r c.put_child.new.1.1.1.1.0) (sym c.in-Closed.is) ∙ c.put_child.ensures)
+    c.put_child.new.out
+    (ap (λ (r : Child). child_of r c.put_child.new.out) (sym c.in-Closed.is) ∙ c.put_child.ensures)
 
 pub put_children-returns-in-Wrong : goal.put_children-returns-in-Wrong
 put_children-returns-in-Wrong t c =
     goes_wrong c.args.l.now c.args.left _ _ _ _ _ _ c.loop-end.invariant c.in-Wrong.n c.in-Wrong.q
-    (ap (λ (r : Child). child_of r c.put_child.new.1.1.1.1.0) (sym c.in-Wrong.is) ∙ c.put_child.ensures)
+    (ap (λ (r : Child). child_of r c.put_child.new.out) (sym c.in-Wrong.is) ∙ c.put_child.ensures)
 
 pub put_children-loop-end-smaller : goal.put_children-loop-end-smaller
 put_children-loop-end-smaller t c =
     let w =
     goes_on c.args.l.now c.args.left _ _ _ _ _ _ c.loop-end.invariant c.in-Laid.next
-    c.in-Laid.behind c.put_child.new.1.1.1.1.0 c.put_child.auto.1.1.1.1.0
-    (ap (λ (r : Child). child_of r c.put_child.new.1.1.1.1.0) (sym c.in-Laid.is)
+    c.in-Laid.behind c.put_child.new.out c.put_child.auto.out
+    (ap (λ (r : Child). child_of r c.put_child.new.out) (sym c.in-Laid.is)
     ∙ c.put_child.ensures)
     in
     omega (arith, w.0, w.1.0)
@@ -120,8 +120,8 @@ put_children-loop-end-smaller t c =
 pub put_children-loop-end-preserved : goal.put_children-loop-end-preserved
 put_children-loop-end-preserved t c =
     rw c.after_row-row.ensures (goes_on c.args.l.now c.args.left _ _ _ _ _ _ c.loop-end.invariant c.in-Laid.next
-    c.in-Laid.behind c.put_child.new.1.1.1.1.0 c.put_child.auto.1.1.1.1.0
-    (ap (λ (r : Child). child_of r c.put_child.new.1.1.1.1.0) (sym c.in-Laid.is)
+    c.in-Laid.behind c.put_child.new.out c.put_child.auto.out
+    (ap (λ (r : Child). child_of r c.put_child.new.out) (sym c.in-Laid.is)
     ∙ c.put_child.ensures)).1.1
 
 pub put_record-returns-then-left-eq0 : goal.put_record-returns-then-left-eq0
@@ -184,10 +184,10 @@ put_record-overflow_sub-left t c =
 pub put_record-put_children-requires : goal.put_record-put_children-requires
 put_record-put_children-requires t c =
     let k =
-    was_held (λ (x : List ℕ). x) (c.args.pos + 13) c.copy.new.1.1.1.0
+    was_held (λ (x : List ℕ). x) (c.args.pos + 13) c.copy.new.out
     (payload_from c.args.l.now c.args.p c.wide-kind.result (c.args.at + 10)) c.in-Next.first
-    c.in-Next.inner c.put_payload.new.1.1.1.1.0 (ap
-    (λ (r : Reached). put_of r c.put_payload.new.1.1.1.1.0) (sym c.in-Next.is)
+    c.in-Next.inner c.put_payload.new.out (ap
+    (λ (r : Reached). put_of r c.put_payload.new.out) (sym c.in-Next.is)
     ∙ c.put_payload.ensures)
     in (
       omega (arith, c.decreases, c.if-left-eq0.false),
@@ -199,18 +199,18 @@ put_record-put_children-requires t c =
 pub put_record-overflow_sub-stop : goal.put_record-overflow_sub-stop
 put_record-overflow_sub-stop t c =
     let k =
-    was_held (λ (x : List ℕ). x) (c.args.pos + 13) c.copy.new.1.1.1.0
+    was_held (λ (x : List ℕ). x) (c.args.pos + 13) c.copy.new.out
     (payload_from c.args.l.now c.args.p c.wide-kind.result (c.args.at + 10)) c.in-Next.first
-    c.in-Next.inner c.put_payload.new.1.1.1.1.0 (ap
-    (λ (r : Reached). put_of r c.put_payload.new.1.1.1.1.0) (sym c.in-Next.is)
+    c.in-Next.inner c.put_payload.new.out (ap
+    (λ (r : Reached). put_of r c.put_payload.new.out) (sym c.in-Next.is)
     ∙ c.put_payload.ensures)
     in
     let m =
-    was_held writtens c.in-Next.inner c.put_payload.new.1.1.1.1.0
+    was_held writtens c.in-Next.inner c.put_payload.new.out
     (children_from (record_from c.args.l.now (c.args.left - 1)) c.args.l.now (suc (length c.args.l.now))
     c.row_under.result c.in-Next.first)
-    c.in-Next-put_children.end c.in-Next-put_children.stop c.put_children.new.1.1.1.1.0
-    (ap (λ (r : Reached). put_of r c.put_children.new.1.1.1.1.0) (sym c.in-Next-put_children.is)
+    c.in-Next-put_children.end c.in-Next-put_children.stop c.put_children.new.out
+    (ap (λ (r : Reached). put_of r c.put_children.new.out) (sym c.in-Next-put_children.is)
     ∙ c.put_children.ensures)
     in
     omega (arith, k.place, m.place)
@@ -218,79 +218,73 @@ put_record-overflow_sub-stop t c =
 pub put_record-overflow_sub-stop-in-Next-put_children : goal.put_record-overflow_sub-stop-in-Next-put_children
 put_record-overflow_sub-stop-in-Next-put_children t c =
     let k =
-    was_held (λ (x : List ℕ). x) (c.args.pos + 13) c.copy.new.1.1.1.0
+    was_held (λ (x : List ℕ). x) (c.args.pos + 13) c.copy.new.out
     (payload_from c.args.l.now c.args.p c.wide-kind.result (c.args.at + 10)) c.in-Next.first
-    c.in-Next.inner c.put_payload.new.1.1.1.1.0 (ap
-    (λ (r : Reached). put_of r c.put_payload.new.1.1.1.1.0) (sym c.in-Next.is)
+    c.in-Next.inner c.put_payload.new.out (ap
+    (λ (r : Reached). put_of r c.put_payload.new.out) (sym c.in-Next.is)
     ∙ c.put_payload.ensures)
     in
     let m =
-    was_held writtens c.in-Next.inner c.put_payload.new.1.1.1.1.0
+    was_held writtens c.in-Next.inner c.put_payload.new.out
     (children_from (record_from c.args.l.now (c.args.left - 1)) c.args.l.now (suc (length c.args.l.now))
     c.row_under.result c.in-Next.first)
-    c.in-Next-put_children.end c.in-Next-put_children.stop c.put_children.new.1.1.1.1.0
-    (ap (λ (r : Reached). put_of r c.put_children.new.1.1.1.1.0) (sym c.in-Next-put_children.is)
+    c.in-Next-put_children.end c.in-Next-put_children.stop c.put_children.new.out
+    (ap (λ (r : Reached). put_of r c.put_children.new.out) (sym c.in-Next-put_children.is)
     ∙ c.put_children.ensures)
     in
     omega (arith, k.place, m.place)
 
 pub put_record-put32-requires : goal.put_record-put32-requires
 put_record-put32-requires t c =
-    let at-if2 =
-    c.before.before.before.before.before.before.before.before.before.before.before.before.before.before.before.before.before.before.before.before.before.before
-    in
-    let at-opens = at-if2.before in
-    let start = at-opens.before.before.before.before in
     omega (
       arith,
-      (stood _ _ _ _ (was_opened _ _ _ (sym at-opens.opens.ensures ∙ not-false _ at-if2.if2.left)).0).0,
-      start.pre.1.below,
-      start.good.0.1,
+      (stood _ _ _ _ (was_opened _ _ _ (sym c.opens.ensures ∙ not-false _ c.if-not-opens.false-raw)).0).0,
+      c.requires.below,
     )
 
 pub put_record-returns-in-Fault : goal.put_record-returns-in-Fault
 put_record-returns-in-Fault t c =
     sym (ap (put_by written _ _) (record_payload c.args.l.now c.args.left c.args.p c.args.at c.wide-kind.result
     c.if-left-eq0.false c.wide-kind.ensures.0 (was_opened _ _ _ (sym c.opens.ensures ∙ not-false _ c.if-not-opens.false-raw)).1 _ _
-    (was_fault (λ (x : List ℕ). x) (c.args.pos + 13) c.copy.new.1.1.1.0
+    (was_fault (λ (x : List ℕ). x) (c.args.pos + 13) c.copy.new.out
     (payload_from c.args.l.now c.args.p c.wide-kind.result (c.args.at + 10)) c.in-Fault.n
     c.in-Fault.q
-    (ap (λ (r : Reached). put_of r c.put_payload.new.1.1.1.1.0) (sym c.in-Fault.is) ∙ c.put_payload.ensures))))
+    (ap (λ (r : Reached). put_of r c.put_payload.new.out) (sym c.in-Fault.is) ∙ c.put_payload.ensures))))
 
 pub put_record-returns-in-Fault-put_children : goal.put_record-returns-in-Fault-put_children
 put_record-returns-in-Fault-put_children t c =
     let k =
-    was_held (λ (x : List ℕ). x) (c.args.pos + 13) c.copy.new.1.1.1.0
+    was_held (λ (x : List ℕ). x) (c.args.pos + 13) c.copy.new.out
     (payload_from c.args.l.now c.args.p c.wide-kind.result (c.args.at + 10)) c.in-Next.first
-    c.in-Next.inner c.put_payload.new.1.1.1.1.0 (ap
-    (λ (r : Reached). put_of r c.put_payload.new.1.1.1.1.0) (sym c.in-Next.is)
+    c.in-Next.inner c.put_payload.new.out (ap
+    (λ (r : Reached). put_of r c.put_payload.new.out) (sym c.in-Next.is)
     ∙ c.put_payload.ensures)
     in
     sym (ap (put_by written _ _) (record_children c.args.l.now c.args.left c.args.p c.args.at
     c.wide-kind.result c.if-left-eq0.false c.wide-kind.ensures.0
     (was_opened _ _ _ (sym c.opens.ensures ∙ not-false _ c.if-not-opens.false-raw)).1 k.what c.in-Next.first
     c.row_under.result _ _ k.reads c.row_under.ensures (was_fault writtens c.in-Next.inner
-    c.put_payload.new.1.1.1.1.0 (children_from (record_from c.args.l.now (c.args.left - 1))
+    c.put_payload.new.out (children_from (record_from c.args.l.now (c.args.left - 1))
     c.args.l.now (suc (length c.args.l.now)) c.row_under.result c.in-Next.first)
     c.in-Fault-put_children.n c.in-Fault-put_children.q (ap
-    (λ (r : Reached). put_of r c.put_children.new.1.1.1.1.0) (sym c.in-Fault-put_children.is)
+    (λ (r : Reached). put_of r c.put_children.new.out) (sym c.in-Fault-put_children.is)
     ∙ c.put_children.ensures))))
 
 pub put_record-returns-in-Next-put_children : goal.put_record-returns-in-Next-put_children
 put_record-returns-in-Next-put_children t c =
     let k =
-    was_held (λ (x : List ℕ). x) (c.args.pos + 13) c.copy.new.1.1.1.0
+    was_held (λ (x : List ℕ). x) (c.args.pos + 13) c.copy.new.out
     (payload_from c.args.l.now c.args.p c.wide-kind.result (c.args.at + 10)) c.in-Next.first
-    c.in-Next.inner c.put_payload.new.1.1.1.1.0 (ap
-    (λ (r : Reached). put_of r c.put_payload.new.1.1.1.1.0) (sym c.in-Next.is)
+    c.in-Next.inner c.put_payload.new.out (ap
+    (λ (r : Reached). put_of r c.put_payload.new.out) (sym c.in-Next.is)
     ∙ c.put_payload.ensures)
     in
     let m =
-    was_held writtens c.in-Next.inner c.put_payload.new.1.1.1.1.0
+    was_held writtens c.in-Next.inner c.put_payload.new.out
     (children_from (record_from c.args.l.now (c.args.left - 1)) c.args.l.now (suc (length c.args.l.now))
     c.row_under.result c.in-Next.first)
-    c.in-Next-put_children.end c.in-Next-put_children.stop c.put_children.new.1.1.1.1.0
-    (ap (λ (r : Reached). put_of r c.put_children.new.1.1.1.1.0) (sym c.in-Next-put_children.is)
+    c.in-Next-put_children.end c.in-Next-put_children.stop c.put_children.new.out
+    (ap (λ (r : Reached). put_of r c.put_children.new.out) (sym c.in-Next-put_children.is)
     ∙ c.put_children.ensures)
     in
     is_held written _ _ _ _ _ _ (record_held c.args.l.now c.args.left c.args.p c.args.at c.wide-kind.result

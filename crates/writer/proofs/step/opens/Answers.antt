@@ -29,7 +29,7 @@ num32-requires-2 c =
     omega (arith, (stood _ _ _ _ (sym c.stands.ensures ∙ not-false _ c.if-not-stands.false-raw)).0)
 
 pub returns : goal.returns
-returns-then-not-stands c =
+returns c =
     ap₂ leb c.num32.ensures.same c.num32-2.ensures.same
     ∙ opened_span _ _ _ (sym c.stands.ensures ∙ not-false _ c.if-not-stands.false-raw)
     (ap (kind_fits_of c.args.p) (sym c.wide.ensures.0) ∙ sym c.kind_fits.ensures ∙ not-false _ c.if-not-kind_fits.false-raw)

@@ -9,4 +9,4 @@ pub returns-then-l-at : goal.returns-then-l-at
 returns-then-l-at c = sym (not_short _ _ _ _ (omega (arith, c.if-l-at.true)))
 
 pub returns : goal.returns
-returns-then-l-at c = stands_there _ _ _ _ _ (omega (arith, c.if-l-at.false)) c.wide.ensures.0
+returns c = stands_there _ _ _ _ _ (omega (arith, c.if-l-at.false)) c.wide.ensures.0

@@ -43,7 +43,7 @@ overflow_add-result c =
     c.in-Next-put_record.is
     in
     let s = tree_size c.args.l.now _ b.what _ b.reads in
-    omega (arith, k.ends, k.within, pairs_size a.what, a.place, b.place, s.0, s.1.0, s.1.1, c.well-formed.0.1)
+    omega (arith, k.ends, k.within, pairs_size a.what, a.place, b.place, s.0, s.1.0, s.1.1)
 
 pub overflow_add-result-in-Next-put_record : goal.overflow_add-result-in-Next-put_record
 overflow_add-result-in-Next-put_record c =
@@ -56,7 +56,7 @@ overflow_add-result-in-Next-put_record c =
     c.in-Next-put_record.is
     in
     let s = tree_size c.args.l.now _ b.what _ b.reads in
-    omega (arith, k.ends, k.within, pairs_size a.what, a.place, b.place, s.0, s.1.0, s.1.1, c.well-formed.0.1)
+    omega (arith, k.ends, k.within, pairs_size a.what, a.place, b.place, s.0, s.1.0, s.1.1)
 
 pub returns-in-Fault : goal.returns-in-Fault
 returns-in-Fault c =

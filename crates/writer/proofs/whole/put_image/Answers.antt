@@ -29,36 +29,47 @@ slice_bounds-put_record-count c =
       k.size,
       k.count,
       c.requires.fits,
-      c.put_comments.auto.1.0,
-      c.put16.auto.0,
-      c.put32.auto.0,
-      c.put.auto.0,
+      c.put_comments.auto.out,
+      c.put16.auto.out,
+      c.put32.auto.out,
+      c.put.auto.out,
+    )
+
+pub slice_bounds-put_record-start : goal.slice_bounds-put_record-start
+slice_bounds-put_record-start c =
+    let k = parts c.args.l.now _ _ c.requires.is in
+    omega (
+      arith,
+      k.size,
+      k.count,
+      c.requires.fits,
+      c.put_comments.auto.out,
+      c.put16.auto.out,
+      c.put32.auto.out,
+      c.put.auto.out,
     )
 
 pub put_record-requires : goal.put_record-requires
 put_record-requires c =
-    let start =
-    c.before.before.before.before.before.before.before.before.before.before.before.before.before.before.before.before.before.before.before
-    in
-    let k = parts start.args.l.now _ _ start.pre.is in
+    let k = parts c.args.l.now _ _ c.requires.is in
     record { inside = k.inside; below = omega arith }
 
 pub returns : goal.returns
 returns c =
     let k = parts c.args.l.now _ _ c.requires.is in
-    whole_put c.args.l.now _ _ k _ _ _ _ c.put_comments.new.1.0 _ c.requires.small c.put.ensures
+    whole_put c.args.l.now _ _ k _ _ _ _ c.put_comments.new.out _ c.requires.small c.put.ensures
     c.put32.ensures c.put16.ensures (put_got pair_bytes 7 _ (comments_from c.args.l.now MAX_COMMENTS 0)
     c.put_comments.result _ k.comments _ c.put_comments.ensures k.pairs
     (omega (arith, k.size, pairs_size k.comments, c.requires.small)))
-    (lent_part (7 + 8 * (c.args.at / 9)) c.put_comments.new.1.0 c.put_record.new.1.1.1.1.0
+    (lent_part (7 + 8 * (c.args.at / 9)) c.put_comments.new.out c.put_record.new.out
     (written k.tree) (omega (
       arith,
       k.size,
       k.count,
       c.requires.fits,
-      c.put_comments.auto.1.0,
-      c.put16.auto.0,
-      c.put32.auto.0,
-      c.put.auto.0,
+      c.put_comments.auto.out,
+      c.put16.auto.out,
+      c.put32.auto.out,
+      c.put.auto.out,
     )) (put_got written 0 _ (record_from c.args.l.now MAX_RECORDS_DEEP TREE c.args.at) c.put_record.result _
     k.tree _ c.put_record.ensures k.reads (omega (arith, k.size, c.requires.small))))
