@@ -2,7 +2,6 @@
 use mathlib.Core.Path.{sym, ap, ◌∙◌}
 use Rattle.image.specs.Read.{checked_answer}
 use Rattle.writer.proofs.Listed.{image_there, lists_refused, lists_long, lists_whole}
-use borrow.Author.Rules.{rules}
 use Rattle.writer.proofs.steps_of.Goals as goal
 
 pub list_image-bytes-requires : goal.list_image-bytes-requires

@@ -2,7 +2,6 @@
 use mathlib.Core.Path.{sym, ◌∙◌}
 use borrow.Author.Tests.{lt-ltb, le-ltb}
 use Rattle.writer.proofs.Imaged.{answers_wrong, answers_long, answers_whole}
-use borrow.Author.Rules.{rules}
 use Rattle.writer.proofs.write_image.Goals as goal
 
 pub returns-then-bytes : goal.returns-then-bytes

@@ -1,10 +1,7 @@
 use mathlib.Core.Path.{sym, ◌∙◌}
-use Prim.Native.Nat.{◌+◌, ◌-◌, ◌*◌, ℕ, ◌<◌}
 use native.Mathlib.Omega.{arith}
-use lib.ListN.{length}
-use borrow.Author.Rules.{rules}
 use Rattle.writer.proofs.Standing.{first_behind, puts_absent, puts_record}
-use Rattle.writer.proofs.Listed.{Rows, rows_none, rows_one, rows_end, row_tree, tree_within, tree_head, first_is, row_there, row_last, row_at}
+use Rattle.writer.proofs.Listed.{rows_none, rows_one, rows_end, row_tree, tree_within, tree_head, first_is, row_there, row_last, row_at}
 use Rattle.writer.proofs.list.+listing.Goals as goal
 
 pub list_tree-num32-n-requires : goal.list_tree-num32-n-requires
@@ -86,28 +83,27 @@ list_tree-overflow_add-pos t c =
     )
 
 pub list_tree-copy-requires : goal.list_tree-copy-requires
-list_tree-copy-requires t c =
-    (
-      omega arith,
-      (
-        omega (
-          arith,
-          (tree_head c.args.b.now _ _ c.requires (λ z. c.if-n-eq0.false (c.num32-n.ensures.same ∙ z))).0.long,
-          (tree_head c.args.b.now _ _ c.requires (λ z. c.if-n-eq0.false (c.num32-n.ensures.same ∙ z))).0.inside,
-          c.requires.below,
-          c.requires.short,
-          c.num32-n.ensures.same,
-        ),
-        omega (
-          arith,
-          (tree_head c.args.b.now _ _ c.requires (λ z. c.if-n-eq0.false (c.num32-n.ensures.same ∙ z))).0.long,
-          (tree_head c.args.b.now _ _ c.requires (λ z. c.if-n-eq0.false (c.num32-n.ensures.same ∙ z))).0.inside,
-          c.requires.below,
-          c.requires.short,
-          c.num32-n.ensures.same,
-        ),
-      ),
-    )
+list_tree-copy-requires t c = (
+  omega arith,
+  (
+    omega (
+      arith,
+      (tree_head c.args.b.now _ _ c.requires (λ z. c.if-n-eq0.false (c.num32-n.ensures.same ∙ z))).0.long,
+      (tree_head c.args.b.now _ _ c.requires (λ z. c.if-n-eq0.false (c.num32-n.ensures.same ∙ z))).0.inside,
+      c.requires.below,
+      c.requires.short,
+      c.num32-n.ensures.same,
+    ),
+    omega (
+      arith,
+      (tree_head c.args.b.now _ _ c.requires (λ z. c.if-n-eq0.false (c.num32-n.ensures.same ∙ z))).0.long,
+      (tree_head c.args.b.now _ _ c.requires (λ z. c.if-n-eq0.false (c.num32-n.ensures.same ∙ z))).0.inside,
+      c.requires.below,
+      c.requires.short,
+      c.num32-n.ensures.same,
+    ),
+  ),
+)
 
 pub list_tree-overflow_add-pos-2 : goal.list_tree-overflow_add-pos-2
 list_tree-overflow_add-pos-2 t c =
@@ -173,25 +169,24 @@ list_tree-first_child-first-requires t c =
     )
 
 pub list_tree-list_trees-last-requires : goal.list_tree-list_trees-last-requires
-list_tree-list_trees-last-requires t c =
-    (
-      omega (
-        arith,
-        c.decreases,
-        (tree_head c.args.b.now _ _ c.requires (λ z. c.if-n-eq0.false (c.num32-n.ensures.same ∙ z))).0.long,
-        (tree_head c.args.b.now _ _ c.requires (λ z. c.if-n-eq0.false (c.num32-n.ensures.same ∙ z))).0.inside,
-        c.requires.below,
-        c.requires.short,
-        c.num32-n.ensures.same,
-        first_is c.args.b.now _ _ _ _ c.wide.ensures.0 c.num32-n.ensures.same c.first_child-first.ensures,
-        first_behind c.args.b.now _
-            (tree_head c.args.b.now _ _ c.requires (λ z. c.if-n-eq0.false (c.num32-n.ensures.same ∙ z))).0,
-      ),
-      row_there c.args.b.now _ _ _ _ _ c.copy.new.out c.list_payload-inner.new.out c.requires
-          (λ z. c.if-n-eq0.false (c.num32-n.ensures.same ∙ z)) c.num32-n.ensures.same
-          (first_is c.args.b.now _ _ _ _ c.wide.ensures.0 c.num32-n.ensures.same c.first_child-first.ensures)
-          c.list_payload-inner.ensures,
-    )
+list_tree-list_trees-last-requires t c = (
+  omega (
+    arith,
+    c.decreases,
+    (tree_head c.args.b.now _ _ c.requires (λ z. c.if-n-eq0.false (c.num32-n.ensures.same ∙ z))).0.long,
+    (tree_head c.args.b.now _ _ c.requires (λ z. c.if-n-eq0.false (c.num32-n.ensures.same ∙ z))).0.inside,
+    c.requires.below,
+    c.requires.short,
+    c.num32-n.ensures.same,
+    first_is c.args.b.now _ _ _ _ c.wide.ensures.0 c.num32-n.ensures.same c.first_child-first.ensures,
+    first_behind c.args.b.now _
+        (tree_head c.args.b.now _ _ c.requires (λ z. c.if-n-eq0.false (c.num32-n.ensures.same ∙ z))).0,
+  ),
+  row_there c.args.b.now _ _ _ _ _ c.copy.new.out c.list_payload-inner.new.out c.requires
+      (λ z. c.if-n-eq0.false (c.num32-n.ensures.same ∙ z)) c.num32-n.ensures.same
+      (first_is c.args.b.now _ _ _ _ c.wide.ensures.0 c.num32-n.ensures.same c.first_child-first.ensures)
+      c.list_payload-inner.ensures,
+)
 
 pub list_tree-overflow_add-result-2 : goal.list_tree-overflow_add-result-2
 list_tree-overflow_add-result-2 t c =
@@ -223,11 +218,10 @@ pub list_trees-loop-at-init : goal.list_trees-loop-at-init
 list_trees-loop-at-init t c = rows_none _ _ _ _ _ c.requires
 
 pub list_trees-list_tree-pos-requires : goal.list_trees-list_tree-pos-requires
-list_trees-list_tree-pos-requires t c =
-    (
-      omega (arith, c.decreases, c.loop-at.invariant.from),
-      row_tree c.args.b.now _ _ _ _ _ _ _ c.requires c.loop-at.invariant c.loop-at-test.true,
-    )
+list_trees-list_tree-pos-requires t c = (
+  omega (arith, c.decreases, c.loop-at.invariant.from),
+  row_tree c.args.b.now _ _ _ _ _ _ _ c.requires c.loop-at.invariant c.loop-at-test.true,
+)
 
 pub list_trees-num32-requires : goal.list_trees-num32-requires
 list_trees-num32-requires t c =

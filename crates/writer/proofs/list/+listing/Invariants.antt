@@ -1,12 +1,8 @@
 -- A child begins behind its parent, so that the bytes behind it are fewer; the two functions take turns at one place.
 -- Assumes nothing.
-use mathlib.Core.Path.{sym, ◌∙◌}
-use Prim.Native.Nat.{◌+◌, ◌-◌, ◌*◌, ℕ, ◌<◌}
-use native.Mathlib.Omega.{arith}
+use Prim.Native.Nat.{◌+◌, ◌-◌, ◌*◌}
 use lib.ListN.{length}
-use borrow.Author.Rules.{rules}
-use Rattle.writer.proofs.Standing.{first_behind, puts_absent, puts_record}
-use Rattle.writer.proofs.Listed.{Rows, rows_none, rows_one, rows_end, row_tree, tree_within, tree_head, first_is, row_there, row_last, row_at}
+use Rattle.writer.proofs.Listed.{Rows}
 use Rattle.writer.proofs.list.+listing.Given as goal
 
 abbrev pub decreases-list_tree : goal.decreases-list_tree

@@ -1,8 +1,6 @@
 use mathlib.Core.Path.{◌∙◌}
-use Prim.Native.Nat.{◌-◌}
 use native.Mathlib.Omega.{arith}
-use borrow.Author.Rules.{rules}
-use Rattle.writer.proofs.Listed.{Pairs, pairs_none, pairs_one, pairs_end}
+use Rattle.writer.proofs.Listed.{pairs_none, pairs_one, pairs_end}
 use Rattle.writer.proofs.list.list_comments.Goals as goal
 
 pub loop-i-init : goal.loop-i-init
@@ -17,14 +15,13 @@ overflow_add-pos c =
     omega (arith, c.requires.0, c.requires.1, c.loop-i.invariant.place, c.loop-i.invariant.far, c.loop-i-test.true)
 
 pub copy-requires : goal.copy-requires
-copy-requires c =
-    (
-      omega arith,
-      (
-        omega (arith, c.requires.0, c.requires.1, c.loop-i.invariant.place, c.loop-i.invariant.far, c.loop-i-test.true),
-        omega (arith, c.requires.0, c.requires.1, c.loop-i.invariant.place, c.loop-i.invariant.far, c.loop-i-test.true),
-      ),
-    )
+copy-requires c = (
+  omega arith,
+  (
+    omega (arith, c.requires.0, c.requires.1, c.loop-i.invariant.place, c.loop-i.invariant.far, c.loop-i-test.true),
+    omega (arith, c.requires.0, c.requires.1, c.loop-i.invariant.place, c.loop-i.invariant.far, c.loop-i-test.true),
+  ),
+)
 
 pub overflow_add-i : goal.overflow_add-i
 overflow_add-i c =

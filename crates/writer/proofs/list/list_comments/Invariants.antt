@@ -1,9 +1,6 @@
 -- The comments up to i are put, and the rest is ahead.
-use mathlib.Core.Path.{◌∙◌}
 use Prim.Native.Nat.{◌-◌}
-use native.Mathlib.Omega.{arith}
-use borrow.Author.Rules.{rules}
-use Rattle.writer.proofs.Listed.{Pairs, pairs_none, pairs_one, pairs_end}
+use Rattle.writer.proofs.Listed.{Pairs}
 use Rattle.writer.proofs.list.list_comments.Given as goal
 
 abbrev pub invariant-loop-i : goal.invariant-loop-i

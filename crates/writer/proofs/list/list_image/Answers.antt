@@ -1,6 +1,5 @@
 -- The comments, then the tree.
 use Rattle.writer.proofs.Listed.{comments_there, tree_there, image_puts}
-use borrow.Author.Rules.{rules}
 use Rattle.writer.proofs.list.list_image.Goals as goal
 
 pub list_comments-pos-requires : goal.list_comments-pos-requires

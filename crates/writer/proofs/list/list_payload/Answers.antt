@@ -4,32 +4,30 @@ use Prim.Native.Nat.{ℕ, ◌+◌}
 use native.Mathlib.Omega.{arith}
 use Rattle.image.specs.Grammar.{has_byte}
 use Rattle.writer.proofs.Standing.{text_payload, byte_payload, no_payload, payload_byte_inside}
-use borrow.Author.Rules.{rules}
 use Rattle.writer.proofs.list.list_payload.Goals as goal
 
 pub copy-requires : goal.copy-requires
-copy-requires c =
-    (
-      omega arith,
-      (
-        omega (
-          arith,
-          c.num32.ensures.same,
-          c.requires.whole.width (sym c.wide-kind.ensures.0 ∙ c.if-kind-eq-TEXT.true),
-          c.requires.whole.inside,
-          c.requires.short,
-          c.requires.below,
-        ),
-        omega (
-          arith,
-          c.num32.ensures.same,
-          c.requires.whole.width (sym c.wide-kind.ensures.0 ∙ c.if-kind-eq-TEXT.true),
-          c.requires.whole.inside,
-          c.requires.short,
-          c.requires.below,
-        ),
-      ),
-    )
+copy-requires c = (
+  omega arith,
+  (
+    omega (
+      arith,
+      c.num32.ensures.same,
+      c.requires.whole.width (sym c.wide-kind.ensures.0 ∙ c.if-kind-eq-TEXT.true),
+      c.requires.whole.inside,
+      c.requires.short,
+      c.requires.below,
+    ),
+    omega (
+      arith,
+      c.num32.ensures.same,
+      c.requires.whole.width (sym c.wide-kind.ensures.0 ∙ c.if-kind-eq-TEXT.true),
+      c.requires.whole.inside,
+      c.requires.short,
+      c.requires.below,
+    ),
+  ),
+)
 
 pub overflow_sub-stop : goal.overflow_sub-stop
 overflow_sub-stop c =
@@ -43,35 +41,34 @@ overflow_sub-stop c =
     )
 
 pub copy-requires-then-kind-eq-TEXT : goal.copy-requires-then-kind-eq-TEXT
-copy-requires-then-kind-eq-TEXT c =
-    (
-      omega (
-        arith,
-        c.num32.ensures.same,
-        c.requires.whole.width (sym c.wide-kind.ensures.0 ∙ c.if-kind-eq-TEXT.true),
-        c.requires.whole.inside,
-        c.requires.short,
-        c.requires.below,
-      ),
-      (
-        omega (
-          arith,
-          c.num32.ensures.same,
-          c.requires.whole.width (sym c.wide-kind.ensures.0 ∙ c.if-kind-eq-TEXT.true),
-          c.requires.whole.inside,
-          c.requires.short,
-          c.requires.below,
-        ),
-        omega (
-          arith,
-          c.num32.ensures.same,
-          c.requires.whole.width (sym c.wide-kind.ensures.0 ∙ c.if-kind-eq-TEXT.true),
-          c.requires.whole.inside,
-          c.requires.short,
-          c.requires.below,
-        ),
-      ),
-    )
+copy-requires-then-kind-eq-TEXT c = (
+  omega (
+    arith,
+    c.num32.ensures.same,
+    c.requires.whole.width (sym c.wide-kind.ensures.0 ∙ c.if-kind-eq-TEXT.true),
+    c.requires.whole.inside,
+    c.requires.short,
+    c.requires.below,
+  ),
+  (
+    omega (
+      arith,
+      c.num32.ensures.same,
+      c.requires.whole.width (sym c.wide-kind.ensures.0 ∙ c.if-kind-eq-TEXT.true),
+      c.requires.whole.inside,
+      c.requires.short,
+      c.requires.below,
+    ),
+    omega (
+      arith,
+      c.num32.ensures.same,
+      c.requires.whole.width (sym c.wide-kind.ensures.0 ∙ c.if-kind-eq-TEXT.true),
+      c.requires.whole.inside,
+      c.requires.short,
+      c.requires.below,
+    ),
+  ),
+)
 
 pub overflow_sub-result : goal.overflow_sub-result
 overflow_sub-result c =

@@ -1,7 +1,5 @@
-use Prim.Native.Nat.{◌-◌}
 use native.Mathlib.Omega.{arith}
-use borrow.Author.Rules.{rules}
-use Rattle.writer.proofs.Stores.{Copying, copying_none, copying_one, copying_all}
+use Rattle.writer.proofs.Stores.{copying_none, copying_one, copying_all}
 use Rattle.writer.proofs.output.copy.Goals as goal
 
 pub loop-at-init : goal.loop-at-init

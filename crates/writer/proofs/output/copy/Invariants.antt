@@ -1,8 +1,6 @@
 -- What is put is the part up to `at`, and the rest is ahead.
 use Prim.Native.Nat.{◌-◌}
-use native.Mathlib.Omega.{arith}
-use borrow.Author.Rules.{rules}
-use Rattle.writer.proofs.Stores.{Copying, copying_none, copying_one, copying_all}
+use Rattle.writer.proofs.Stores.{Copying}
 use Rattle.writer.proofs.output.copy.Given as goal
 
 abbrev pub invariant-loop-at : goal.invariant-loop-at

@@ -1,7 +1,6 @@
 -- Past the end `set` changes nothing.
 use mathlib.Core.Path.{sym}
 use lib.Seq.{set_out}
-use borrow.Author.Rules.{rules}
 use Rattle.writer.proofs.output.put.Goals as goal
 
 pub returns-else-pos-out : goal.returns-else-pos-out

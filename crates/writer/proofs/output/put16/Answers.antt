@@ -1,5 +1,4 @@
 use Rattle.writer.proofs.Stores.{two_put}
-use borrow.Author.Rules.{rules}
 use Rattle.writer.proofs.output.put16.Goals as goal
 
 pub returns : goal.returns

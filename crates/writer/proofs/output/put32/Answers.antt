@@ -1,5 +1,4 @@
 use Rattle.writer.proofs.Stores.{four_put}
-use borrow.Author.Rules.{rules}
 use Rattle.writer.proofs.output.put32.Goals as goal
 
 pub returns : goal.returns

@@ -6,7 +6,6 @@ use borrow.Author.Tests.{not-true, not-false}
 use Rattle.writer.specs.Steps.{taken}
 use Rattle.writer.proofs.Seen.{stood}
 use Rattle.writer.proofs.Commented.{pair_not, pair_order}
-use borrow.Author.Rules.{rules}
 use Rattle.writer.proofs.pairs.pair_fits.Goals as goal
 
 pub returns-then-not-stands : goal.returns-then-not-stands

@@ -1,13 +1,7 @@
 use mathlib.Core.Path.{refl, sym, ◌∙◌}
-use Prim.Native.Nat.{◌-◌}
 use native.Mathlib.Omega.{arith}
-use lib.ListN.{length}
 use borrow.Author.Tests.{not-true, not-false}
-use Rattle.image.specs.Limits.{MAX_COMMENTS}
-use Rattle.steps.specs.Steps.{pair_bytes}
-use Rattle.steps.specs.Writer.{comments_from}
-use Rattle.writer.specs.Put.{put_by}
-use Rattle.writer.proofs.Commented.{Listing, lists_on, lists_end, lists_wrong, pair_fits, from_many, from_wrong}
+use Rattle.writer.proofs.Commented.{lists_on, lists_end, lists_wrong, pair_fits, from_many, from_wrong}
 use Rattle.writer.proofs.pairs.put_comments.Goals as goal
 
 pub loop-start-init : goal.loop-start-init
@@ -38,14 +32,13 @@ pub overflow_add-at-in-loop-start : goal.overflow_add-at-in-loop-start
 overflow_add-at-in-loop-start c = omega (arith, pair_fits _ _ (sym c.pair_fits.ensures ∙ not-false _ c.if-not-pair_fits.false-raw))
 
 pub copy-requires : goal.copy-requires
-copy-requires c =
-    (
-      omega arith,
-      (
-        pair_fits _ _ (sym c.pair_fits.ensures ∙ not-false _ c.if-not-pair_fits.false-raw),
-        omega (arith, pair_fits _ _ (sym c.pair_fits.ensures ∙ not-false _ c.if-not-pair_fits.false-raw), c.loop-start.invariant.low),
-      ),
-    )
+copy-requires c = (
+  omega arith,
+  (
+    pair_fits _ _ (sym c.pair_fits.ensures ∙ not-false _ c.if-not-pair_fits.false-raw),
+    omega (arith, pair_fits _ _ (sym c.pair_fits.ensures ∙ not-false _ c.if-not-pair_fits.false-raw), c.loop-start.invariant.low),
+  ),
+)
 
 pub overflow_sub-left : goal.overflow_sub-left
 overflow_sub-left c = omega (arith, c.if-left-eq0.false)

@@ -1,14 +1,11 @@
 -- The whole run ends as the run from here on does.
-use mathlib.Core.Path.{refl, sym, ◌∙◌}
 use Prim.Native.Nat.{◌-◌}
-use native.Mathlib.Omega.{arith}
 use lib.ListN.{length}
-use borrow.Author.Tests.{not-true, not-false}
 use Rattle.image.specs.Limits.{MAX_COMMENTS}
 use Rattle.steps.specs.Steps.{pair_bytes}
 use Rattle.steps.specs.Writer.{comments_from}
 use Rattle.writer.specs.Put.{put_by}
-use Rattle.writer.proofs.Commented.{Listing, lists_on, lists_end, lists_wrong, pair_fits, from_many, from_wrong}
+use Rattle.writer.proofs.Commented.{Listing}
 use Rattle.writer.proofs.pairs.put_comments.Given as goal
 
 abbrev pub invariant-loop-start : goal.invariant-loop-start

@@ -5,7 +5,6 @@ use borrow.Author.Tests.{not-true, not-false}
 use Rattle.writer.specs.Put.{put_by}
 use Rattle.writer.proofs.Seen.{stood, byte_not}
 use Rattle.writer.proofs.Runs.{is_held, byte_held, byte_high}
-use borrow.Author.Rules.{rules}
 use Rattle.writer.proofs.payload.put_byte.Goals as goal
 
 pub returns-then-not-stands : goal.returns-then-not-stands

@@ -2,7 +2,6 @@
 use mathlib.Core.Path.{sym, ap, ◌∙◌}
 use Rattle.writer.specs.Put.{put_by}
 use Rattle.writer.proofs.Runs.{payload_text, payload_byte, none_held}
-use borrow.Author.Rules.{rules}
 use Rattle.writer.proofs.payload.put_payload.Goals as goal
 
 pub returns-then-kind-eq-TEXT : goal.returns-then-kind-eq-TEXT

@@ -5,7 +5,6 @@ use borrow.Author.Tests.{not-true, not-false}
 use Rattle.writer.specs.Put.{put_by}
 use Rattle.writer.proofs.Seen.{stood, is_standing, not_short, text_not, text_short}
 use Rattle.writer.proofs.Runs.{is_held, text_held, text_ill}
-use borrow.Author.Rules.{rules}
 use Rattle.writer.proofs.payload.put_text.Goals as goal
 
 pub returns-then-not-stands : goal.returns-then-not-stands
@@ -41,28 +40,26 @@ returns-then-not-is_text c =
     (sym c.is_text.ensures ∙ not-true _ c.if-not-is_text.true-raw)))
 
 pub copy-requires : goal.copy-requires
-copy-requires c =
-    (
-      omega arith,
-      (
-        omega (arith, (stood _ _ _ _ (sym c.stands.ensures ∙ not-false _ c.if-not-stands.false-raw)).0),
-        omega (arith, (stood _ _ _ _ (sym c.stands.ensures ∙ not-false _ c.if-not-stands.false-raw)).0, c.requires.below),
-      ),
-    )
+copy-requires c = (
+  omega arith,
+  (
+    omega (arith, (stood _ _ _ _ (sym c.stands.ensures ∙ not-false _ c.if-not-stands.false-raw)).0),
+    omega (arith, (stood _ _ _ _ (sym c.stands.ensures ∙ not-false _ c.if-not-stands.false-raw)).0, c.requires.below),
+  ),
+)
 
 pub overflow_add-pos : goal.overflow_add-pos
 overflow_add-pos c =
     omega (arith, (stood _ _ _ _ (sym c.stands.ensures ∙ not-false _ c.if-not-stands.false-raw)).0, c.requires.below)
 
 pub copy-requires-2 : goal.copy-requires-2
-copy-requires-2 c =
-    (
-      omega arith,
-      (
-        omega (arith, (stood _ _ _ _ (sym c.stands.ensures ∙ not-false _ c.if-not-stands.false-raw)).0, c.if-l-at.false),
-        omega (arith, (stood _ _ _ _ (sym c.stands.ensures ∙ not-false _ c.if-not-stands.false-raw)).0, c.if-l-at.false, c.requires.below),
-      ),
-    )
+copy-requires-2 c = (
+  omega arith,
+  (
+    omega (arith, (stood _ _ _ _ (sym c.stands.ensures ∙ not-false _ c.if-not-stands.false-raw)).0, c.if-l-at.false),
+    omega (arith, (stood _ _ _ _ (sym c.stands.ensures ∙ not-false _ c.if-not-stands.false-raw)).0, c.if-l-at.false, c.requires.below),
+  ),
+)
 
 pub overflow_add-result : goal.overflow_add-result
 overflow_add-result c =

@@ -1,9 +1,8 @@
 use mathlib.Core.Path.{refl, sym, ap, ◌∙◌}
 use mathlib.Core.List.{List}
-use Prim.Native.Nat.{suc, ◌+◌, ◌-◌, ◌*◌, ℕ, ◌<◌}
+use Prim.Native.Nat.{suc, ◌+◌, ◌-◌, ℕ}
 use native.Mathlib.Omega.{arith}
 use lib.ListN.{length}
-use borrow.Author.Rules.{rules}
 use borrow.Author.Tests.{not-true, not-false}
 use Rattle.image.specs.Write.{written, writtens}
 use Rattle.steps.specs.Writer.{payload_from, record_from, children_from}
@@ -13,7 +12,7 @@ use Rattle.writer.specs.declared.records.Child.{Child}
 use Rattle.writer.proofs.Seen.{stood, was_opened, not_opened, child_unclosed, child_due, child_spare, child_not}
 use Rattle.writer.proofs.Runs.{was_held, is_held, was_fault, close_held, absent_held, open_held, record_payload, record_children, record_held, record_deep, record_not}
 use Rattle.writer.proofs.Bounds.{optional_place, record_due, children_due}
-use Rattle.writer.proofs.Loops.{Going, goes_on, goes_closed, goes_wrong}
+use Rattle.writer.proofs.Loops.{goes_on, goes_closed, goes_wrong}
 use Rattle.writer.proofs.records.+putting.Goals as goal
 
 pub put_child-stands-requires : goal.put_child-stands-requires
@@ -153,14 +152,13 @@ put_record-overflow_add-pos t c =
     omega (arith, (stood _ _ _ _ (was_opened _ _ _ (sym c.opens.ensures ∙ not-false _ c.if-not-opens.false-raw)).0).0, c.requires.below)
 
 pub put_record-copy-requires : goal.put_record-copy-requires
-put_record-copy-requires t c =
-    (
-      omega arith,
-      (
-        (stood _ _ _ _ (was_opened _ _ _ (sym c.opens.ensures ∙ not-false _ c.if-not-opens.false-raw)).0).0,
-        omega (arith, (stood _ _ _ _ (was_opened _ _ _ (sym c.opens.ensures ∙ not-false _ c.if-not-opens.false-raw)).0).0, c.requires.below),
-      ),
-    )
+put_record-copy-requires t c = (
+  omega arith,
+  (
+    (stood _ _ _ _ (was_opened _ _ _ (sym c.opens.ensures ∙ not-false _ c.if-not-opens.false-raw)).0).0,
+    omega (arith, (stood _ _ _ _ (was_opened _ _ _ (sym c.opens.ensures ∙ not-false _ c.if-not-opens.false-raw)).0).0, c.requires.below),
+  ),
+)
 
 pub put_record-overflow_add-at-4 : goal.put_record-overflow_add-at-4
 put_record-overflow_add-at-4 t c =

@@ -1,22 +1,12 @@
 -- The levels left fall at each record, and three functions take turns within a level, so that the measure is three times the levels and a
 -- place among the three. The loop over the children keeps that the whole run ends as the run from here on does.
 -- Assumes nothing.
-use mathlib.Core.Path.{refl, sym, ap, ◌∙◌}
-use mathlib.Core.List.{List}
-use Prim.Native.Nat.{suc, ◌+◌, ◌-◌, ◌*◌, ℕ, ◌<◌}
-use native.Mathlib.Omega.{arith}
+use Prim.Native.Nat.{suc, ◌+◌, ◌-◌, ◌*◌}
 use lib.ListN.{length}
-use borrow.Author.Rules.{rules}
-use borrow.Author.Tests.{not-true, not-false}
-use Rattle.image.specs.Write.{written, writtens}
-use Rattle.steps.specs.Writer.{payload_from, record_from, children_from}
-use Rattle.writer.specs.Put.{put_of, put_by, child_of, child_by}
-use Rattle.writer.specs.declared.output.Reached.{Reached}
-use Rattle.writer.specs.declared.records.Child.{Child}
-use Rattle.writer.proofs.Seen.{stood, was_opened, not_opened, child_unclosed, child_due, child_spare, child_not}
-use Rattle.writer.proofs.Runs.{was_held, is_held, was_fault, close_held, absent_held, open_held, record_payload, record_children, record_held, record_deep, record_not}
-use Rattle.writer.proofs.Bounds.{optional_place, record_due, children_due}
-use Rattle.writer.proofs.Loops.{Going, goes_on, goes_closed, goes_wrong}
+use Rattle.image.specs.Write.{writtens}
+use Rattle.steps.specs.Writer.{record_from, children_from}
+use Rattle.writer.specs.Put.{put_by}
+use Rattle.writer.proofs.Loops.{Going}
 use Rattle.writer.proofs.records.+putting.Given as goal
 
 abbrev pub decreases-put_child : goal.decreases-put_child

@@ -6,7 +6,6 @@ use borrow.Author.Tests.{not-true, not-false}
 use Rattle.writer.specs.Steps.{taken}
 use Rattle.image.specs.Grammar.{kind_fits_of}
 use Rattle.writer.proofs.Seen.{stood, opened_not, opened_kind, opened_span}
-use borrow.Author.Rules.{rules}
 use Rattle.writer.proofs.step.opens.Goals as goal
 
 pub returns-then-not-stands : goal.returns-then-not-stands

@@ -2,7 +2,6 @@
 use mathlib.Core.Path.{sym}
 use native.Mathlib.Omega.{arith}
 use Rattle.writer.proofs.Seen.{not_short, stands_there}
-use borrow.Author.Rules.{rules}
 use Rattle.writer.proofs.step.stands.Goals as goal
 
 pub returns-then-l-at : goal.returns-then-l-at

@@ -10,7 +10,6 @@ use Rattle.steps.proofs.Sizes.{pairs_size}
 use Rattle.writer.specs.Wrote.{measured}
 use Rattle.writer.proofs.Commented.{comments_got}
 use Rattle.writer.proofs.Imaged.{read_next, read_fault, tree_size, contents_pairs, contents_tree, contents_spare, is_measured}
-use borrow.Author.Rules.{rules}
 use Rattle.writer.proofs.whole.measure.Goals as goal
 
 pub put_record-requires : goal.put_record-requires

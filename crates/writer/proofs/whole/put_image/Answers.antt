@@ -8,7 +8,6 @@ use Rattle.steps.specs.Steps.{pair_bytes}
 use Rattle.steps.specs.Writer.{comments_from, record_from}
 use Rattle.steps.proofs.Sizes.{pairs_size}
 use Rattle.writer.proofs.Imaged.{parts, put_got, lent_part, whole_put}
-use borrow.Author.Rules.{rules}
 use Rattle.writer.proofs.whole.put_image.Goals as goal
 
 pub overflow_sub-bytes : goal.overflow_sub-bytes
