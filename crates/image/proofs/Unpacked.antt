@@ -1,13 +1,13 @@
 -- What places and rows mean: the digits of a sum, one by one.
 -- Assumes nothing.
-use mathlib.Core.Path.{◌≡◌, refl, sym, ap, ap₂, ◌∙◌}
+use mathlib.Core.Path.{◌≡◌, refl, ap, ap₂, ◌∙◌}
 use mathlib.Core.Bool.{Bool, true, false, cond, ◌&&◌}
 use Prim.Native.Nat.{ℕ, ◌+◌, ◌*◌, ◌-◌, ◌/◌, ◌%◌, ◌≤◌, ◌<◌}
 use native.Mathlib.Omega.{arith}
 use lib.Dec.{leb, eqb}
 use borrow.Author.Tests.{eq-eqb, ne_eqb}
 use Rattle.image.specs.Kinds.{LIST}
-use Rattle.image.specs.Grammar.{up_to, list, may, many, is_list, is_optional, is_many, bare, element, ◌⊳◌, place, after, kind_fits_of, row_under_of, row_of}
+use Rattle.image.specs.Grammar.{list, many, is_list, is_many, element, ◌⊳◌, kind_fits_of, row_under_of, row_of}
 use Rattle.image.specs.Unpacked.{Unpacked}
 
 -- ---- marks

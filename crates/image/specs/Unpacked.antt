@@ -2,7 +2,7 @@
 -- `may` and `many` of kinds below 128, so that the bounds hold. proofs/Unpacked.antt proves it.
 use Rattle.std.specs.Prelude.{◌≡◌, true, false, ◌&&◌, ℕ, ◌+◌, ◌≤◌, ◌<◌, leb, eqb}
 use Rattle.image.specs.Kinds.{LIST, OPERATOR}
-use Rattle.image.specs.Grammar.{up_to, list, assign, may, many, is_assign, is_optional, is_many, bare, element, none, ◌⊳◌, place, after, kind_fits_of, row_under_of}
+use Rattle.image.specs.Grammar.{up_to, list, assign, may, many, is_assign, is_optional, bare, ◌⊳◌, place, after, kind_fits_of, row_under_of}
 
 pub record Unpacked : Type 0 where
   -- a kind by itself: that kind alone stands there

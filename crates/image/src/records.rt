@@ -128,7 +128,7 @@ fn read_text(s: &[u8], b: &[u8], v: usize, left: u32, at: usize, end: usize) -> 
 }
 
 // Reads a child at place p: nothing or a record.
-#[cycle(read_child_read_children_read_record)]
+#[cycle(reading)]
 fn read_child(s: &[u8], b: &[u8], v: usize, left: u32, p: usize, at: usize, end: usize) -> Step
     requires { (at ≤ end) × (end ≤ length b.now) }
     ensures { result ≡ step_of (child_at s.now b.now v left p at end) }
@@ -144,7 +144,7 @@ fn read_child(s: &[u8], b: &[u8], v: usize, left: u32, p: usize, at: usize, end:
 }
 
 // Reads a record with all that is in it.
-#[cycle(read_child_read_children_read_record)]
+#[cycle(reading)]
 pub(crate) fn read_record(
     s: &[u8],
     b: &[u8],
@@ -164,7 +164,7 @@ pub(crate) fn read_record(
 }
 
 // Reads the children of a record, from `first` to `stop`, at the places of a row.
-#[cycle(read_child_read_children_read_record)]
+#[cycle(reading)]
 fn read_children(
     s: &[u8],
     b: &[u8],
