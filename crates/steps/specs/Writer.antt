@@ -14,7 +14,7 @@ use Rattle.image.specs.Read.{Read, got, bad, bind, read_refusal}
 use Rattle.image.specs.Write.{Plain, Plains, without, plainly, done, ◌next◌}
 use Rattle.ast.specs.Syntax.{Span}
 use Rattle.tree.specs.CommentList.{span}
-use Rattle.steps.specs.Steps.{Step, comment_step, open_step, text_step, payload_step, absent_step, close_step, bytes2, Contents, body_of, image_of}
+use Rattle.steps.specs.Steps.{Step, comment_step, open_step, text_step, payload_step, absent_step, close_step, bytes2, Contents, image_of}
 use Rattle.steps.specs.Steps.{COMMENT_STEP, OPEN_STEP, TEXT_STEP, PAYLOAD_STEP, ABSENT_STEP, CLOSE_STEP}
 
 -- ---- a step

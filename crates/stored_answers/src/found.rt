@@ -7,7 +7,7 @@ use crate::compare::same_bytes;
 use crate::numbers::{byte, eight, long, past};
 
 // What differs.
-#[derive(Drop)]
+#[derive(Clone, Copy)]
 pub enum Found {
     Same,
     // the refusal number

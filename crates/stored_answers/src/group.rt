@@ -1,8 +1,10 @@
 // The answers of a group, read from its file.
 ghost use Rattle.std.specs.Prelude.{◌≡◌, length};
-ghost use Rattle.io.specs.Counts.{IsPrefixLen};
+ghost use Rattle.input.specs.Counts.{IsPrefixLen};
 
-use libc::STDOUT_FILENO;
+use input::read_full;
+use std::fs;
+use std::rt::Files;
 
 // Room for the answers of a group.
 pub fn room() -> [u8; 2097152]
@@ -11,16 +13,24 @@ pub fn room() -> [u8; 2097152]
     [0; 2097152]
 }
 
-// Reads a group's file; how many bytes it has, and 0 where it is missing or has no room.
-pub fn read(name: &[u8], room: &mut [u8]) -> usize
+// Reads a file; how many bytes came, and 0 where it can't be opened.
+fn read_file(rt: &impl Files, name: &str, room: &mut [u8]) -> usize
     ensures { IsPrefixLen result room.new }
 {
-    let fd = os::open_read(name);
-    let n = io::read_full(fd, room);
-    libc::close(fd);
+    match fs::open(rt, name) {
+        Ok(mut file) => read_full(&mut file, room),
+        Err(_) => 0,
+    }
+}
+
+// Reads a group's file; how many bytes it has, and 0 where it is missing or has no room.
+pub fn read(rt: &(impl Files + Print), name: &str, room: &mut [u8]) -> usize
+    ensures { IsPrefixLen result room.new }
+{
+    let n = read_file(rt, name, room);
     if n < room.len() {
         return n;
     }
-    io::write_all(STDOUT_FILENO, b"the answers have no room\n");
+    let _ = rt.write_all(b"the answers have no room\n");
     0
 }

@@ -5,7 +5,6 @@ ghost use Rattle.stored_answers.specs.Found.{differs, total, all_same};
 
 use crate::found::{Found, is_same};
 use crate::numbers::past;
-use libc::STDOUT_FILENO;
 
 // How many cases there are, how many differ, and whether the answers end before the last case does.
 #[derive(Drop)]
@@ -15,77 +14,82 @@ pub struct Compared {
     pub cut: bool,
 }
 
-fn write(text: &[u8]) {
-    io::write_all(STDOUT_FILENO, text);
+// What can't be written is passed over.
+fn write(rt: &impl Print, text: &[u8]) {
+    let _ = rt.write_all(text);
 }
 
-fn write_found(f: Found) {
+fn write_number(rt: &impl Print, n: usize) {
+    let _ = rt.print(n);
+}
+
+fn write_found(rt: &impl Print, f: Found) {
     match f {
-        Found::Same => write(b"nothing"),
-        Found::Number => write(b"refusal number"),
-        Found::Place => write(b"place"),
-        Found::State => write(b"state"),
-        Found::Count => write(b"count"),
-        Found::Rows => write(b"rows"),
-        Found::Marks => write(b"marks"),
-        Found::Layout => write(b"layout state"),
-        Found::Rendering => write(b"rendering state"),
-        Found::Text => write(b"text"),
-        Found::Reply => write(b"what the program writes"),
-        Found::Room => write(b"room of the replay"),
+        Found::Same => write(rt, b"nothing"),
+        Found::Number => write(rt, b"refusal number"),
+        Found::Place => write(rt, b"place"),
+        Found::State => write(rt, b"state"),
+        Found::Count => write(rt, b"count"),
+        Found::Rows => write(rt, b"rows"),
+        Found::Marks => write(rt, b"marks"),
+        Found::Layout => write(rt, b"layout state"),
+        Found::Rendering => write(rt, b"rendering state"),
+        Found::Text => write(rt, b"text"),
+        Found::Reply => write(rt, b"what the program writes"),
+        Found::Room => write(rt, b"room of the replay"),
     }
 }
 
 // A line for a case that differs.
-fn show(case: usize, f: Found) {
-    write(b"case ");
-    io::print_decimal(STDOUT_FILENO, case as u64);
-    write(b" differs: ");
-    write_found(f);
-    write(b"\n");
+fn show(rt: &impl Print, case: usize, f: Found) {
+    write(rt, b"case ");
+    write_number(rt, case);
+    write(rt, b" differs: ");
+    write_found(rt, f);
+    write(rt, b"\n");
 }
 
 // Shows a case if it differs, and how many that are, 0 or 1.
-pub fn told(case: usize, f: Found) -> usize
+pub fn told(rt: &impl Print, case: usize, f: Found) -> usize
     ensures { (result ≡ differs f) × (result ≤ 1) }
 {
     if is_same(f) {
         return 0;
     }
-    show(case, f);
+    show(rt, case, f);
     1
 }
 
 // A line with a number.
-fn show_number(what: &[u8], n: usize) {
-    write(what);
-    write(b": ");
-    io::print_decimal(STDOUT_FILENO, n as u64);
-    write(b"\n");
+fn show_number(rt: &impl Print, what: &[u8], n: usize) {
+    write(rt, what);
+    write(rt, b": ");
+    write_number(rt, n);
+    write(rt, b"\n");
 }
 
-fn show_count(what: &[u8], number: usize, n: usize) {
+fn show_count(rt: &impl Print, what: &[u8], number: usize, n: usize) {
     if n == 0 {
         return;
     }
-    write(what);
+    write(rt, what);
     if number == 0 {
-        show_number(b" accepted", n);
+        show_number(rt, b" accepted", n);
         return;
     }
-    write(b" refused with ");
-    io::print_decimal(STDOUT_FILENO, number as u64);
-    show_number(b"", n);
+    write(rt, b" refused with ");
+    write_number(rt, number);
+    show_number(rt, b"", n);
 }
 
 // A line for each answer that was given, `accepted` or the number; how many answers that are in all.
-pub fn show_counts(what: &[u8], counts: &[usize]) -> usize
+pub fn show_counts(rt: &impl Print, what: &[u8], counts: &[usize]) -> usize
     ensures { result ≡ total counts.now }
 {
     let mut n: usize = 0;
     let mut i: usize = 0;
     while i < counts.len() {
-        show_count(what, i, counts[i]);
+        show_count(rt, what, i, counts[i]);
         n = past(n, counts[i]);
         i += 1;
     }
@@ -93,13 +97,13 @@ pub fn show_counts(what: &[u8], counts: &[usize]) -> usize
 }
 
 // How many cases there are and how many differ, and whether the answers end too early; whether all is well.
-pub fn show_end(what: &[u8], c: Compared) -> bool
+pub fn show_end(rt: &impl Print, what: &[u8], c: Compared) -> bool
     ensures { result ≡ all_same c }
 {
-    show_number(what, c.cases);
-    show_number(b"differ", c.differ);
+    show_number(rt, what, c.cases);
+    show_number(rt, b"differ", c.differ);
     if c.cut {
-        write(b"the answers are cut off\n");
+        write(rt, b"the answers are cut off\n");
         return false;
     }
     c.differ == 0

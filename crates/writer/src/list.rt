@@ -42,7 +42,7 @@ fn list_payload(b: &[u8], at: usize, out: &mut [u8], pos: usize) -> usize
 }
 
 // Puts the steps of the child at `at`, which is absent or a record.
-#[cycle(list_tree_list_trees)]
+#[cycle(listing)]
 fn list_tree(b: &[u8], at: usize, out: &mut [u8], pos: usize) -> usize
     requires { TreeThere b.now at pos }
     ensures { PutsTree b.now at pos out.old result out.new }
@@ -63,7 +63,7 @@ fn list_tree(b: &[u8], at: usize, out: &mut [u8], pos: usize) -> usize
 }
 
 // Puts the steps of the children from `first` to `stop`.
-#[cycle(list_tree_list_trees)]
+#[cycle(listing)]
 fn list_trees(b: &[u8], first: usize, stop: usize, out: &mut [u8], start: usize) -> usize
     requires { RowThere b.now first stop start }
     ensures { PutsRow b.now first stop start out.old result out.new }

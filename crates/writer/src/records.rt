@@ -31,7 +31,7 @@ pub enum Child {
 }
 
 // Puts the child at the row's first place.
-#[cycle(put_child_put_children_put_record)]
+#[cycle(putting)]
 fn put_child(l: &[u8], left: u32, row: usize, at: usize, out: &mut [u8], pos: usize) -> Child
     requires { AtChildren l.now row at pos }
     ensures { child_of result out.new ≡ child_by pos out.old (child_from (record_from l.now left) l.now row at) }
@@ -62,7 +62,7 @@ fn put_child(l: &[u8], left: u32, row: usize, at: usize, out: &mut [u8], pos: us
 }
 
 // Puts the children of a record, at the places of a row, up to the step that closes it.
-#[cycle(put_child_put_children_put_record)]
+#[cycle(putting)]
 fn put_children(
     l: &[u8],
     left: u32,
@@ -95,7 +95,7 @@ fn put_children(
 }
 
 // Puts the record that the step at `at` opens, at place p, and its length where it is closed; `left` levels of records are left.
-#[cycle(put_child_put_children_put_record)]
+#[cycle(putting)]
 pub(crate) fn put_record(
     l: &[u8],
     left: u32,

@@ -1,0 +1,18 @@
+-- A child begins behind its parent, so that the bytes behind it are fewer; the two functions take turns at one place.
+-- Assumes nothing.
+use Prim.Native.Nat.{◌+◌, ◌-◌, ◌*◌}
+use lib.ListN.{length}
+use Rattle.writer.proofs.Listed.{Rows}
+use Rattle.writer.proofs.list.+listing.Given as goal
+
+abbrev pub decreases-list_tree : goal.decreases-list_tree
+decreases-list_tree l = 2 * (length l.b.now - l.at)
+
+abbrev pub decreases-list_trees : goal.decreases-list_trees
+decreases-list_trees l = 2 * (length l.b.now - l.first) + 1
+
+abbrev pub invariant-list_trees-loop-at : goal.invariant-list_trees-loop-at
+invariant-list_trees-loop-at l = Rows l.b l.first l.stop l.start l.initial.out l.at l.pos l.out
+
+abbrev pub decreases-list_trees-loop-at : goal.decreases-list_trees-loop-at
+decreases-list_trees-loop-at l = l.stop - l.at

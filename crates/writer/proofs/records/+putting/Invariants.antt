@@ -1,0 +1,26 @@
+-- The levels left fall at each record, and three functions take turns within a level, so that the measure is three times the levels and a
+-- place among the three. The loop over the children keeps that the whole run ends as the run from here on does.
+-- Assumes nothing.
+use Prim.Native.Nat.{suc, ◌+◌, ◌-◌, ◌*◌}
+use lib.ListN.{length}
+use Rattle.image.specs.Write.{writtens}
+use Rattle.steps.specs.Writer.{record_from, children_from}
+use Rattle.writer.specs.Put.{put_by}
+use Rattle.writer.proofs.Loops.{Going}
+use Rattle.writer.proofs.records.+putting.Given as goal
+
+abbrev pub decreases-put_child : goal.decreases-put_child
+decreases-put_child l = 3 * l.left + 1
+
+abbrev pub decreases-put_children : goal.decreases-put_children
+decreases-put_children l = 3 * l.left + 2
+
+abbrev pub decreases-put_record : goal.decreases-put_record
+decreases-put_record l = 3 * l.left
+
+abbrev pub invariant-put_children-loop-end : goal.invariant-put_children-loop-end
+invariant-put_children-loop-end l =
+    Going (record_from l.l l.left) l.l (put_by writtens l.start l.initial.out (children_from (record_from l.l l.left) l.l (suc (length l.l)) l.places l.first)) (length l.initial.out) l.row l.at l.pos l.out
+
+abbrev pub decreases-put_children-loop-end : goal.decreases-put_children-loop-end
+decreases-put_children-loop-end l = length l.l - l.at
