@@ -14,10 +14,10 @@ use Rattle.text.specs.declared.space.Found.{Found}
 use Rattle.text.specs.declared.space.Found.TheVariants.{At, Nowhere}
 use Rattle.text.proofs.Counts.{range_inside}
 use Rattle.ast.specs.Syntax.{Span}
-use Rattle.rows.specs.Node.{comment, line, empty_line}
+use Rattle.rows.specs.Node.{line, empty_line}
 use Rattle.acts.specs.Act.{St, Out, Act, next, ◌⨟◌, skip, push, move_to, pop, step_alone}
 use Rattle.acts.proofs.Keeps.{Keeps, KeepsAt, keeps_at, keeps_of, keeps_skip, keeps_push, keeps_move_to, keeps_then, keeps_after, keeps_cond, keeps_answers}
-use Rattle.comments.specs.Comments.{nth, front, push_comment, newlines, ignore_newlines, pop_comment, waits}
+use Rattle.comments.specs.Comments.{nth, push_comment, newlines, ignore_newlines, pop_comment, waits}
 use Rattle.comments.specs.Comments.{pop_comments, after_comments, pop_whitespace, pop_trailing_comment}
 use Rattle.tree.specs.CommentList.{comments_of}
 use Rattle.comments.specs.Listed.{given, Listed}

@@ -17,14 +17,14 @@ use Rattle.text.specs.declared.space.Found.TheVariants.{At, Nowhere}
 use Rattle.ast.specs.Syntax.{Span}
 use Rattle.text.specs.declared.newlines.Newlines.{Newlines}
 use Rattle.rows.specs.Node.{line, empty_line}
-use Rattle.acts.specs.Act.{Given, St, Out, Act, Asking, next, ◌⨟◌, ◌⨟!◌, skip, push, move_to, pop, step_alone}
+use Rattle.acts.specs.Act.{Given, St, Act, Asking, next, ◌⨟◌, ◌⨟!◌, skip, push, move_to, pop, step_alone}
 use Rattle.acts.specs.declared.Cursor.{Cursor}
 use Rattle.comments.specs.declared.Gap.{Gap}
 use Rattle.acts.specs.Laid.{cursor, st, Room, Laid, LaidAsking}
-use Rattle.acts.proofs.Laws.{room_same, room_first, room_past, room_else, laid_same, laid_then, laid_skip, laid_move_to, laid_pop}
+use Rattle.acts.proofs.Laws.{room_same, room_first, room_past, laid_same, laid_then, laid_skip, laid_move_to, laid_pop}
 use Rattle.acts.proofs.Laws.{asking_same, laid_answering, laid_turning, laid_answers}
 use Rattle.comments.specs.Listed.{given}
-use Rattle.comments.specs.Comments.{nth, break_line, gap_of, uncounted, front, push_comment, newlines, ignore_newlines, pop_comment, waits}
+use Rattle.comments.specs.Comments.{nth, break_line, gap_of, uncounted, push_comment, newlines, ignore_newlines, pop_comment, waits}
 use Rattle.comments.specs.Comments.{pop_comments, after_comments, pop_whitespace, pop_trailing_comment}
 
 module _ (g : Given) where

@@ -57,7 +57,7 @@ fn is_single(b: &[u8], at: usize) -> bool
     past(b, at + HEAD) == to
 }
 
-#[cycle(import_group_import_path_separated)]
+#[cycle(import)]
 pub(crate) fn import_path(store: &mut [u32], c: Cursor, s: &[u8], b: &[u8], at: usize) -> Cursor
     requires { Has ImportAt import_path s.now b.now at c }
     ensures { LaidAs ImportAt import_path s.now b.now at store.old c store.new result }
@@ -69,7 +69,7 @@ pub(crate) fn import_path(store: &mut [u32], c: Cursor, s: &[u8], b: &[u8], at: 
 }
 
 // The group of an import, where there is one: one item loses its braces.
-#[cycle(import_group_import_path_separated)]
+#[cycle(import)]
 fn import_group(store: &mut [u32], c: Cursor, s: &[u8], b: &[u8], at: usize) -> Cursor
     requires { Has ImportGroupAt import_group s.now b.now at c }
     ensures { LaidAs ImportGroupAt import_group s.now b.now at store.old c store.new result }
@@ -84,7 +84,7 @@ fn import_group(store: &mut [u32], c: Cursor, s: &[u8], b: &[u8], at: usize) -> 
 }
 
 // `separated` over imports: the list at `at`, whose span ends at `to`.
-#[cycle(import_group_import_path_separated)]
+#[cycle(import)]
 fn separated(
     store: &mut [u32],
     c: Cursor,

@@ -1,6 +1,5 @@
 // The layout functions: `State` of fmt.rs from `separated` on. Here are those of expressions, blocks and statements. They call each other,
-// and the record's length falls at each call. Some names are short because the check joins the names of all of them to one
-// (docs/PROOF-NOTES.md).
+// and the record's length falls at each call.
 #![tactic(auto)]
 
 mod blocks;
@@ -53,7 +52,7 @@ use comments::pop_trailing_comment;
 use image::kinds;
 
 // `separated` over expressions, fields of records or arms: the list at `at`, whose span ends at `to`.
-#[cycle(access_after_arm_bind_binop_block_call_cond_each_elem_entry_expr_expr_with_precedence_form_fstr_function_args_if_else_last_match_expr_maybe_par_part_parts_record_ret_separated_stmt_stmts_tail)]
+#[cycle(expr)]
 fn separated(
     store: &mut [u32],
     c: Cursor,
@@ -85,7 +84,7 @@ fn separated(
 }
 
 // An element by its kind: the closures given to `separated`.
-#[cycle(access_after_arm_bind_binop_block_call_cond_each_elem_entry_expr_expr_with_precedence_form_fstr_function_args_if_else_last_match_expr_maybe_par_part_parts_record_ret_separated_stmt_stmts_tail)]
+#[cycle(expr)]
 fn elem(store: &mut [u32], c: Cursor, s: &[u8], b: &[u8], at: usize, k: ExprElement) -> Cursor
     requires { Has (ExprElem k) elem_rule s.now b.now at c }
     ensures { LaidAs (ExprElem k) elem_rule s.now b.now at store.old c store.new result }
@@ -103,7 +102,7 @@ fn elem(store: &mut [u32], c: Cursor, s: &[u8], b: &[u8], at: usize, k: ExprElem
     }
 }
 
-#[cycle(access_after_arm_bind_binop_block_call_cond_each_elem_entry_expr_expr_with_precedence_form_fstr_function_args_if_else_last_match_expr_maybe_par_part_parts_record_ret_separated_stmt_stmts_tail)]
+#[cycle(expr)]
 pub(crate) fn expr(store: &mut [u32], c: Cursor, s: &[u8], b: &[u8], at: usize) -> Cursor
     requires { Has ExprAt expr_rule s.now b.now at c }
     ensures { LaidAs ExprAt expr_rule s.now b.now at store.old c store.new result }
@@ -112,7 +111,7 @@ pub(crate) fn expr(store: &mut [u32], c: Cursor, s: &[u8], b: &[u8], at: usize) 
 }
 
 // Each expression ends with `pop_trailing_comment`.
-#[cycle(access_after_arm_bind_binop_block_call_cond_each_elem_entry_expr_expr_with_precedence_form_fstr_function_args_if_else_last_match_expr_maybe_par_part_parts_record_ret_separated_stmt_stmts_tail)]
+#[cycle(expr)]
 fn expr_with_precedence(
     store: &mut [u32],
     c: Cursor,
@@ -129,7 +128,7 @@ fn expr_with_precedence(
 }
 
 // `expr_with_precedence`, its `match`: an expression by its form.
-#[cycle(access_after_arm_bind_binop_block_call_cond_each_elem_entry_expr_expr_with_precedence_form_fstr_function_args_if_else_last_match_expr_maybe_par_part_parts_record_ret_separated_stmt_stmts_tail)]
+#[cycle(expr)]
 fn form(store: &mut [u32], c: Cursor, s: &[u8], b: &[u8], at: usize, outer: usize) -> Cursor
     requires { Has ExprAt (form_with outer) s.now b.now at c }
     ensures { LaidAs ExprAt (form_with outer) s.now b.now at store.old c store.new result }
@@ -173,7 +172,7 @@ fn form(store: &mut [u32], c: Cursor, s: &[u8], b: &[u8], at: usize, outer: usiz
 }
 
 // A word, and then the expression at `at`.
-#[cycle(access_after_arm_bind_binop_block_call_cond_each_elem_entry_expr_expr_with_precedence_form_fstr_function_args_if_else_last_match_expr_maybe_par_part_parts_record_ret_separated_stmt_stmts_tail)]
+#[cycle(expr)]
 fn after(
     store: &mut [u32],
     c: Cursor,
@@ -191,7 +190,7 @@ fn after(
 }
 
 // The same, where the expression is there: the value of a `return`, the guard of an arm.
-#[cycle(access_after_arm_bind_binop_block_call_cond_each_elem_entry_expr_expr_with_precedence_form_fstr_function_args_if_else_last_match_expr_maybe_par_part_parts_record_ret_separated_stmt_stmts_tail)]
+#[cycle(expr)]
 fn maybe(store: &mut [u32], c: Cursor, s: &[u8], b: &[u8], at: usize, k: usize) -> Cursor
     requires { Has MaybeExprAt (maybe_after k) s.now b.now at c }
     ensures { LaidAs MaybeExprAt (maybe_after k) s.now b.now at store.old c store.new result }
@@ -203,7 +202,7 @@ fn maybe(store: &mut [u32], c: Cursor, s: &[u8], b: &[u8], at: usize, k: usize) 
 }
 
 // `expr_with_precedence`: the condition of `if`, `while` and `for`, after its word, and the block after it.
-#[cycle(access_after_arm_bind_binop_block_call_cond_each_elem_entry_expr_expr_with_precedence_form_fstr_function_args_if_else_last_match_expr_maybe_par_part_parts_record_ret_separated_stmt_stmts_tail)]
+#[cycle(expr)]
 fn cond(store: &mut [u32], c: Cursor, s: &[u8], b: &[u8], at: usize, k: usize) -> Cursor
     requires { Has ClauseAt (clause_rule k) s.now b.now at c }
     ensures { LaidAs ClauseAt (clause_rule k) s.now b.now at store.old c store.new result }
@@ -219,7 +218,7 @@ fn cond(store: &mut [u32], c: Cursor, s: &[u8], b: &[u8], at: usize, k: usize) -
 }
 
 // `expr_with_precedence`, the arm of `Return`: `return`, `accept` and `reject`.
-#[cycle(access_after_arm_bind_binop_block_call_cond_each_elem_entry_expr_expr_with_precedence_form_fstr_function_args_if_else_last_match_expr_maybe_par_part_parts_record_ret_separated_stmt_stmts_tail)]
+#[cycle(expr)]
 fn ret(store: &mut [u32], c: Cursor, s: &[u8], b: &[u8], at: usize) -> Cursor
     requires { Has (Of (two return')) (form_rule (two return') 0) s.now b.now at c }
     ensures { LaidAs (Of (two return')) (form_rule (two return') 0) s.now b.now at store.old c store.new result }
@@ -230,7 +229,7 @@ fn ret(store: &mut [u32], c: Cursor, s: &[u8], b: &[u8], at: usize) -> Cursor
 }
 
 // `r#match`
-#[cycle(access_after_arm_bind_binop_block_call_cond_each_elem_entry_expr_expr_with_precedence_form_fstr_function_args_if_else_last_match_expr_maybe_par_part_parts_record_ret_separated_stmt_stmts_tail)]
+#[cycle(expr)]
 fn match_expr(store: &mut [u32], c: Cursor, s: &[u8], b: &[u8], at: usize) -> Cursor
     requires { Has (Of (three match')) (form_rule (three match') 0) s.now b.now at c }
     ensures { LaidAs (Of (three match')) (form_rule (three match') 0) s.now b.now at store.old c store.new result }
@@ -249,7 +248,7 @@ fn match_expr(store: &mut [u32], c: Cursor, s: &[u8], b: &[u8], at: usize) -> Cu
 }
 
 // The closure of `r#match`: an arm.
-#[cycle(access_after_arm_bind_binop_block_call_cond_each_elem_entry_expr_expr_with_precedence_form_fstr_function_args_if_else_last_match_expr_maybe_par_part_parts_record_ret_separated_stmt_stmts_tail)]
+#[cycle(expr)]
 fn arm(store: &mut [u32], c: Cursor, s: &[u8], b: &[u8], at: usize) -> Cursor
     requires { Has ArmAt arm_rule s.now b.now at c }
     ensures { LaidAs ArmAt arm_rule s.now b.now at store.old c store.new result }
@@ -264,7 +263,7 @@ fn arm(store: &mut [u32], c: Cursor, s: &[u8], b: &[u8], at: usize) -> Cursor
 }
 
 // `expr_with_precedence`, the arm of `FunctionCall`, whose precedence is `Chain`. The numbers of its `Call` row are taken before its parts.
-#[cycle(access_after_arm_bind_binop_block_call_cond_each_elem_entry_expr_expr_with_precedence_form_fstr_function_args_if_else_last_match_expr_maybe_par_part_parts_record_ret_separated_stmt_stmts_tail)]
+#[cycle(expr)]
 fn call(store: &mut [u32], c: Cursor, s: &[u8], b: &[u8], at: usize, outer: usize) -> Cursor
     requires { Has (Of (three function_call)) (form_rule (three function_call) outer) s.now b.now at c }
     ensures { LaidAs (Of (three function_call)) (form_rule (three function_call) outer) s.now b.now at store.old c store.new result }
@@ -282,7 +281,7 @@ fn call(store: &mut [u32], c: Cursor, s: &[u8], b: &[u8], at: usize, outer: usiz
     function_args(store, d, s, b, p)
 }
 
-#[cycle(access_after_arm_bind_binop_block_call_cond_each_elem_entry_expr_expr_with_precedence_form_fstr_function_args_if_else_last_match_expr_maybe_par_part_parts_record_ret_separated_stmt_stmts_tail)]
+#[cycle(expr)]
 fn function_args(store: &mut [u32], c: Cursor, s: &[u8], b: &[u8], at: usize) -> Cursor
     requires { Has (ListWith LIST ExprsAt) args_rule s.now b.now at c }
     ensures { LaidAs (ListWith LIST ExprsAt) args_rule s.now b.now at store.old c store.new result }
@@ -291,7 +290,7 @@ fn function_args(store: &mut [u32], c: Cursor, s: &[u8], b: &[u8], at: usize) ->
 }
 
 // `access`, and the arm of `Access`, whose precedence is `Chain`.
-#[cycle(access_after_arm_bind_binop_block_call_cond_each_elem_entry_expr_expr_with_precedence_form_fstr_function_args_if_else_last_match_expr_maybe_par_part_parts_record_ret_separated_stmt_stmts_tail)]
+#[cycle(expr)]
 fn access(store: &mut [u32], c: Cursor, s: &[u8], b: &[u8], at: usize, outer: usize) -> Cursor
     requires { Has (Of (two access)) (form_rule (two access) outer) s.now b.now at c }
     ensures { LaidAs (Of (two access)) (form_rule (two access) outer) s.now b.now at store.old c store.new result }
@@ -310,7 +309,7 @@ fn access(store: &mut [u32], c: Cursor, s: &[u8], b: &[u8], at: usize, outer: us
     field_name(store, d, s, b, p)
 }
 
-#[cycle(access_after_arm_bind_binop_block_call_cond_each_elem_entry_expr_expr_with_precedence_form_fstr_function_args_if_else_last_match_expr_maybe_par_part_parts_record_ret_separated_stmt_stmts_tail)]
+#[cycle(expr)]
 fn record(store: &mut [u32], c: Cursor, s: &[u8], b: &[u8], at: usize) -> Cursor
     requires { Has (ListWith RECORD_FIELDS EntriesAt) entries_rule s.now b.now at c }
     ensures { LaidAs (ListWith RECORD_FIELDS EntriesAt) entries_rule s.now b.now at store.old c store.new result }
@@ -325,7 +324,7 @@ fn record(store: &mut [u32], c: Cursor, s: &[u8], b: &[u8], at: usize) -> Cursor
 }
 
 // The closure of `record`: a name and its value.
-#[cycle(access_after_arm_bind_binop_block_call_cond_each_elem_entry_expr_expr_with_precedence_form_fstr_function_args_if_else_last_match_expr_maybe_par_part_parts_record_ret_separated_stmt_stmts_tail)]
+#[cycle(expr)]
 fn entry(store: &mut [u32], c: Cursor, s: &[u8], b: &[u8], at: usize) -> Cursor
     requires { Has EntryAt entry_rule s.now b.now at c }
     ensures { LaidAs EntryAt entry_rule s.now b.now at store.old c store.new result }
@@ -337,7 +336,7 @@ fn entry(store: &mut [u32], c: Cursor, s: &[u8], b: &[u8], at: usize) -> Cursor
 }
 
 // `binop`: the chain of operators at `at`.
-#[cycle(access_after_arm_bind_binop_block_call_cond_each_elem_entry_expr_expr_with_precedence_form_fstr_function_args_if_else_last_match_expr_maybe_par_part_parts_record_ret_separated_stmt_stmts_tail)]
+#[cycle(expr)]
 fn binop(store: &mut [u32], c: Cursor, s: &[u8], b: &[u8], at: usize) -> Cursor
     requires { Has (Of (four bin_op)) (form_rule (four bin_op) 0) s.now b.now at c }
     ensures { LaidAs (Of (four bin_op)) (form_rule (four bin_op) 0) s.now b.now at store.old c store.new result }
@@ -356,7 +355,7 @@ fn binop(store: &mut [u32], c: Cursor, s: &[u8], b: &[u8], at: usize) -> Cursor
 }
 
 // `binop`, its second loop: the operators from the one above `left` up to the one at `at`, each with its right operand.
-#[cycle(access_after_arm_bind_binop_block_call_cond_each_elem_entry_expr_expr_with_precedence_form_fstr_function_args_if_else_last_match_expr_maybe_par_part_parts_record_ret_separated_stmt_stmts_tail)]
+#[cycle(expr)]
 fn tail(
     store: &mut [u32],
     c: Cursor,
@@ -383,7 +382,7 @@ fn tail(
 }
 
 // `expr_with_precedence`, the arm of `IfElse`.
-#[cycle(access_after_arm_bind_binop_block_call_cond_each_elem_entry_expr_expr_with_precedence_form_fstr_function_args_if_else_last_match_expr_maybe_par_part_parts_record_ret_separated_stmt_stmts_tail)]
+#[cycle(expr)]
 fn if_else(store: &mut [u32], c: Cursor, s: &[u8], b: &[u8], at: usize) -> Cursor
     requires { Has (Of (three if_else)) (form_rule (three if_else) 0) s.now b.now at c }
     ensures { LaidAs (Of (three if_else)) (form_rule (three if_else) 0) s.now b.now at store.old c store.new result }
@@ -398,7 +397,7 @@ fn if_else(store: &mut [u32], c: Cursor, s: &[u8], b: &[u8], at: usize) -> Curso
 }
 
 // `expr_with_precedence`, the arm of `For`.
-#[cycle(access_after_arm_bind_binop_block_call_cond_each_elem_entry_expr_expr_with_precedence_form_fstr_function_args_if_else_last_match_expr_maybe_par_part_parts_record_ret_separated_stmt_stmts_tail)]
+#[cycle(expr)]
 fn each(store: &mut [u32], c: Cursor, s: &[u8], b: &[u8], at: usize) -> Cursor
     requires { Has (Of (three for)) (form_rule (three for) 0) s.now b.now at c }
     ensures { LaidAs (Of (three for)) (form_rule (three for) 0) s.now b.now at store.old c store.new result }
@@ -410,7 +409,7 @@ fn each(store: &mut [u32], c: Cursor, s: &[u8], b: &[u8], at: usize) -> Cursor
 }
 
 // `expr_with_precedence`, the arm of `FString`.
-#[cycle(access_after_arm_bind_binop_block_call_cond_each_elem_entry_expr_expr_with_precedence_form_fstr_function_args_if_else_last_match_expr_maybe_par_part_parts_record_ret_separated_stmt_stmts_tail)]
+#[cycle(expr)]
 fn fstr(store: &mut [u32], c: Cursor, s: &[u8], b: &[u8], at: usize) -> Cursor
     requires { Has (Of f_string) (form_rule f_string 0) s.now b.now at c }
     ensures { LaidAs (Of f_string) (form_rule f_string 0) s.now b.now at store.old c store.new result }
@@ -422,7 +421,7 @@ fn fstr(store: &mut [u32], c: Cursor, s: &[u8], b: &[u8], at: usize) -> Cursor
 }
 
 // The arm of `FString`, its loop: the parts, from `from` up to `to`.
-#[cycle(access_after_arm_bind_binop_block_call_cond_each_elem_entry_expr_expr_with_precedence_form_fstr_function_args_if_else_last_match_expr_maybe_par_part_parts_record_ret_separated_stmt_stmts_tail)]
+#[cycle(expr)]
 fn parts(store: &mut [u32], c: Cursor, s: &[u8], b: &[u8], from: usize, to: usize) -> Cursor
     requires { HasAll PartsAt parts_rule s.now b.now from to c }
     ensures { LaidAll PartsAt parts_rule s.now b.now from to store.old c store.new result }
@@ -437,7 +436,7 @@ fn parts(store: &mut [u32], c: Cursor, s: &[u8], b: &[u8], from: usize, to: usiz
 }
 
 // The arm of `FString`: a part, text, or an expression in braces.
-#[cycle(access_after_arm_bind_binop_block_call_cond_each_elem_entry_expr_expr_with_precedence_form_fstr_function_args_if_else_last_match_expr_maybe_par_part_parts_record_ret_separated_stmt_stmts_tail)]
+#[cycle(expr)]
 fn part(store: &mut [u32], c: Cursor, s: &[u8], b: &[u8], at: usize) -> Cursor
     requires { Has PartAt part_rule s.now b.now at c }
     ensures { LaidAs PartAt part_rule s.now b.now at store.old c store.new result }
@@ -451,7 +450,7 @@ fn part(store: &mut [u32], c: Cursor, s: &[u8], b: &[u8], at: usize) -> Cursor
 }
 
 // `expr_with_precedence`, the arm of `Parentheses`.
-#[cycle(access_after_arm_bind_binop_block_call_cond_each_elem_entry_expr_expr_with_precedence_form_fstr_function_args_if_else_last_match_expr_maybe_par_part_parts_record_ret_separated_stmt_stmts_tail)]
+#[cycle(expr)]
 fn par(store: &mut [u32], c: Cursor, s: &[u8], b: &[u8], at: usize) -> Cursor
     requires { Has (Of parentheses) (form_rule parentheses 0) s.now b.now at c }
     ensures { LaidAs (Of parentheses) (form_rule parentheses 0) s.now b.now at store.old c store.new result }
@@ -462,7 +461,7 @@ fn par(store: &mut [u32], c: Cursor, s: &[u8], b: &[u8], at: usize) -> Cursor
     word(store, f, PAREN_CLOSE)
 }
 
-#[cycle(access_after_arm_bind_binop_block_call_cond_each_elem_entry_expr_expr_with_precedence_form_fstr_function_args_if_else_last_match_expr_maybe_par_part_parts_record_ret_separated_stmt_stmts_tail)]
+#[cycle(expr)]
 fn block(store: &mut [u32], c: Cursor, s: &[u8], b: &[u8], at: usize) -> Cursor
     requires { Has BlockAt block_rule s.now b.now at c }
     ensures { LaidAs BlockAt block_rule s.now b.now at store.old c store.new result }
@@ -484,7 +483,7 @@ fn block(store: &mut [u32], c: Cursor, s: &[u8], b: &[u8], at: usize) -> Cursor
 }
 
 // `block`, its loop: the statements from `from` up to `to`.
-#[cycle(access_after_arm_bind_binop_block_call_cond_each_elem_entry_expr_expr_with_precedence_form_fstr_function_args_if_else_last_match_expr_maybe_par_part_parts_record_ret_separated_stmt_stmts_tail)]
+#[cycle(expr)]
 fn stmts(store: &mut [u32], c: Cursor, s: &[u8], b: &[u8], from: usize, to: usize) -> Cursor
     requires { HasAll StmtsAt (stmts_from true) s.now b.now from to c }
     ensures { LaidAll StmtsAt (stmts_from true) s.now b.now from to store.old c store.new result }
@@ -503,7 +502,7 @@ fn stmts(store: &mut [u32], c: Cursor, s: &[u8], b: &[u8], from: usize, to: usiz
 }
 
 // `block`: the last expression of a block, where it is there.
-#[cycle(access_after_arm_bind_binop_block_call_cond_each_elem_entry_expr_expr_with_precedence_form_fstr_function_args_if_else_last_match_expr_maybe_par_part_parts_record_ret_separated_stmt_stmts_tail)]
+#[cycle(expr)]
 fn last(store: &mut [u32], c: Cursor, s: &[u8], b: &[u8], at: usize, first: bool) -> Cursor
     requires { Has MaybeExprAt (last_from first) s.now b.now at c }
     ensures { LaidAs MaybeExprAt (last_from first) s.now b.now at store.old c store.new result }
@@ -516,7 +515,7 @@ fn last(store: &mut [u32], c: Cursor, s: &[u8], b: &[u8], at: usize, first: bool
     pop_trailing_comment(store, e, s, b)
 }
 
-#[cycle(access_after_arm_bind_binop_block_call_cond_each_elem_entry_expr_expr_with_precedence_form_fstr_function_args_if_else_last_match_expr_maybe_par_part_parts_record_ret_separated_stmt_stmts_tail)]
+#[cycle(expr)]
 fn stmt(store: &mut [u32], c: Cursor, s: &[u8], b: &[u8], at: usize) -> Cursor
     requires { Has StmtAt stmt_rule s.now b.now at c }
     ensures { LaidAs StmtAt stmt_rule s.now b.now at store.old c store.new result }
@@ -539,7 +538,7 @@ fn stmt(store: &mut [u32], c: Cursor, s: &[u8], b: &[u8], at: usize) -> Cursor
 }
 
 // `stmt`, the arm of `Let`.
-#[cycle(access_after_arm_bind_binop_block_call_cond_each_elem_entry_expr_expr_with_precedence_form_fstr_function_args_if_else_last_match_expr_maybe_par_part_parts_record_ret_separated_stmt_stmts_tail)]
+#[cycle(expr)]
 fn bind(store: &mut [u32], c: Cursor, s: &[u8], b: &[u8], at: usize) -> Cursor
     requires { Has LetAt let_rule s.now b.now at c }
     ensures { LaidAs LetAt let_rule s.now b.now at store.old c store.new result }

@@ -17,7 +17,7 @@ use acts::words::{BRACE_CLOSE, BRACE_OPEN, COLON, NOT, QUESTION, UNIT, word};
 use image::kinds;
 
 // `separated` over types or fields: the list at `at`, whose span ends at `to`.
-#[cycle(elem_field_record_type_separated_type_expr_type_path)]
+#[cycle(type_expr)]
 pub(crate) fn separated(
     store: &mut [u32],
     c: Cursor,
@@ -49,7 +49,7 @@ pub(crate) fn separated(
 }
 
 // An element by its kind: the closures given to `separated`.
-#[cycle(elem_field_record_type_separated_type_expr_type_path)]
+#[cycle(type_expr)]
 fn elem(store: &mut [u32], c: Cursor, s: &[u8], b: &[u8], at: usize, k: TypeElement) -> Cursor
     requires { Has (TypeElem k) elem_rule s.now b.now at c }
     ensures { LaidAs (TypeElem k) elem_rule s.now b.now at store.old c store.new result }
@@ -60,7 +60,7 @@ fn elem(store: &mut [u32], c: Cursor, s: &[u8], b: &[u8], at: usize, k: TypeElem
     }
 }
 
-#[cycle(elem_field_record_type_separated_type_expr_type_path)]
+#[cycle(type_expr)]
 pub(crate) fn type_expr(store: &mut [u32], c: Cursor, s: &[u8], b: &[u8], at: usize) -> Cursor
     requires { Has TypeAt type_expr s.now b.now at c }
     ensures { LaidAs TypeAt type_expr s.now b.now at store.old c store.new result }
@@ -78,7 +78,7 @@ pub(crate) fn type_expr(store: &mut [u32], c: Cursor, s: &[u8], b: &[u8], at: us
 }
 
 // `type_expr`, the arm of `Path`: the path, and its arguments where it has some.
-#[cycle(elem_field_record_type_separated_type_expr_type_path)]
+#[cycle(type_expr)]
 fn type_path(store: &mut [u32], c: Cursor, s: &[u8], b: &[u8], at: usize) -> Cursor
     requires { Has (OfType (two type_path)) (type_rule (two type_path)) s.now b.now at c }
     ensures { LaidAs (OfType (two type_path)) (type_rule (two type_path)) s.now b.now at store.old c store.new result }
@@ -91,7 +91,7 @@ fn type_path(store: &mut [u32], c: Cursor, s: &[u8], b: &[u8], at: usize) -> Cur
     separated(store, d, s, b, p, end(b, p), BRACKETS, TypeElement::Type)
 }
 
-#[cycle(elem_field_record_type_separated_type_expr_type_path)]
+#[cycle(type_expr)]
 pub(crate) fn record_type(
     store: &mut [u32],
     c: Cursor,
@@ -113,7 +113,7 @@ pub(crate) fn record_type(
 }
 
 // The closure of `params` and `record_type`: a name and its type.
-#[cycle(elem_field_record_type_separated_type_expr_type_path)]
+#[cycle(type_expr)]
 fn field(store: &mut [u32], c: Cursor, s: &[u8], b: &[u8], at: usize) -> Cursor
     requires { Has FieldAt field_rule s.now b.now at c }
     ensures { LaidAs FieldAt field_rule s.now b.now at store.old c store.new result }
