@@ -3,7 +3,6 @@ pub mod Writes
 pub mod Followed
 pub mod Framed
 pub mod Leaves
-pub mod Loan
 pub mod Opening
 pub mod Outcome
 pub mod Packed

@@ -10,8 +10,6 @@ use lib.ListN.{length, get_or, set, take, drop, replicate, length-set, length-ta
 use lib.Seq.{drop-cons, get_or-take, get_or-drop, take-take}
 use lib.Dec.{ltb}
 use borrow.Author.Tests.{lt-ltb, le-ltb}
-use Rattle.rows.specs.Ascii.{bytes}
-use Rattle.rows.specs.Words.{joined}
 use Rattle.rows.specs.Texts.{origin_text}
 use Rattle.rows.specs.Limits.{CELL_LIMIT}
 use Rattle.renderer_rules.specs.Page.{text_bytes, text_of}

@@ -9,7 +9,7 @@ use rows::store::{place, text_size};
 use rows::units::Bytes;
 
 // Where it comes from, its start there and its length.
-#[derive(Drop)]
+#[derive(Clone, Copy)]
 pub struct RowText {
     pub origin: usize,
     pub start: usize,

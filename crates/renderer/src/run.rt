@@ -15,7 +15,7 @@ pub struct Run {
 }
 
 // `max` of fmt.rs, in columns; how many bytes of the output may be written: with 0 nothing is, and the bytes are counted; the row to stop before.
-#[derive(Drop)]
+#[derive(Clone, Copy)]
 pub struct Bounds {
     pub max: Columns,
     pub limit: Bytes,

@@ -12,7 +12,7 @@ use renderer_rules::Pen;
 use rows::units::{Bytes, Columns};
 
 // A text that is being written: the pen, how many bytes are written, and the greatest value that `column` was set to.
-#[derive(Drop)]
+#[derive(Clone, Copy)]
 pub struct Writing {
     pub pen: Pen,
     pub at: Bytes,

@@ -9,7 +9,7 @@ mod strings;
 
 ghost use Rattle.std.specs.Prelude.{◌≡◌, length};
 
-use libc::{STDIN_FILENO, STDOUT_FILENO};
+use input::read_full;
 use run::Run;
 use samples::samples;
 use spaces::spaces;
@@ -24,33 +24,33 @@ fn room() -> [u8; 1048576]
 }
 
 // How many answers of a section were compared and how many differ.
-fn show(d: &[u8], section: &[u8], run: Run) {
+fn show(rt: &impl Print, d: &[u8], section: &[u8], run: Run) {
     let c = Compared {
         cases: run.cases,
         differ: run.differ,
         cut: d.len() < run.at,
     };
-    show_end(section, c);
+    show_end(rt, section, c);
 }
 
-fn replay(d: &[u8]) {
-    let one = strings(d);
-    show(d, b"strings of one and two bytes", one);
-    let two = spaces(d, one.at);
-    show(d, b"white space of code points", two);
-    let three = samples(d, two.at);
-    show(d, b"answers about samples", three);
+fn replay(rt: &impl Print, d: &[u8]) {
+    let one = strings(rt, d);
+    show(rt, d, b"strings of one and two bytes", one);
+    let two = spaces(rt, d, one.at);
+    show(rt, d, b"white space of code points", two);
+    let three = samples(rt, d, two.at);
+    show(rt, d, b"answers about samples", three);
     if three.at < d.len() {
-        io::write_all(STDOUT_FILENO, b"bytes are left over\n");
+        let _ = rt.write_all(b"bytes are left over\n");
     }
 }
 
-fn main() {
+fn main(rt: HostRuntime) {
     let mut input = room();
-    let n = io::read_full(STDIN_FILENO, &mut input);
+    let n = read_full(&mut rt.stdin(), &mut input);
     if n == 1048576 {
-        io::write_all(STDOUT_FILENO, b"the answers have no room\n");
+        let _ = rt.write_all(b"the answers have no room\n");
         return;
     }
-    replay(&input[..n]);
+    replay(&rt, &input[..n]);
 }

@@ -6,7 +6,7 @@ use text::space::{Found, find_something, trim_end};
 use text::utf8::{Decoded, char_at, char_before};
 
 // Each is asked at every place a, those about a range at every two places a and b. Places run from 0 to the length and one more.
-#[derive(Drop)]
+#[derive(Clone, Copy)]
 pub(crate) enum Question {
     // how many newlines there are from a to b
     Newlines,
@@ -79,40 +79,40 @@ fn is_of_ranges(q: Question) -> bool {
 }
 
 // One answer against the next that is stored.
-fn ask(d: &[u8], run: Run, s: &[u8], q: Question, a: usize, b: usize) -> Run {
+fn ask(rt: &impl Print, d: &[u8], run: Run, s: &[u8], q: Question, a: usize, b: usize) -> Run {
     let here = answer(s, q, a, b);
     if is_of_characters(q) {
-        return after(run, 4, long(d, run.at) == here);
+        return after(rt, run, 4, long(d, run.at) == here);
     }
-    after(run, 1, byte(d, run.at) == here)
+    after(rt, run, 1, byte(d, run.at) == here)
 }
 
 // A question about the ranges that start at a.
-fn ask_ranges(d: &[u8], run: Run, s: &[u8], q: Question, a: usize) -> Run {
+fn ask_ranges(rt: &impl Print, d: &[u8], run: Run, s: &[u8], q: Question, a: usize) -> Run {
     let places = past(s.len(), 2);
     let mut now = run;
     let mut b: usize = 0;
     while b < places {
-        now = ask(d, now, s, q, a, b);
+        now = ask(rt, d, now, s, q, a, b);
         b += 1;
     }
     now
 }
 
-fn ask_at(d: &[u8], run: Run, s: &[u8], q: Question, a: usize) -> Run {
+fn ask_at(rt: &impl Print, d: &[u8], run: Run, s: &[u8], q: Question, a: usize) -> Run {
     if is_of_ranges(q) {
-        return ask_ranges(d, run, s, q, a);
+        return ask_ranges(rt, d, run, s, q, a);
     }
-    ask(d, run, s, q, a, a)
+    ask(rt, d, run, s, q, a, a)
 }
 
 // A question at every place.
-pub(crate) fn ask_all(d: &[u8], run: Run, s: &[u8], q: Question) -> Run {
+pub(crate) fn ask_all(rt: &impl Print, d: &[u8], run: Run, s: &[u8], q: Question) -> Run {
     let places = past(s.len(), 2);
     let mut now = run;
     let mut a: usize = 0;
     while a < places {
-        now = ask_at(d, now, s, q, a);
+        now = ask_at(rt, d, now, s, q, a);
         a += 1;
     }
     now

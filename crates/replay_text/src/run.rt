@@ -4,7 +4,7 @@ use stored_answers::numbers::past;
 use stored_answers::report::told;
 
 // Where the next answer is stored, how many were compared, and how many of them differ.
-#[derive(Drop)]
+#[derive(Clone, Copy)]
 pub(crate) struct Run {
     pub at: usize,
     pub cases: usize,
@@ -21,12 +21,12 @@ pub(crate) fn begin(at: usize) -> Run {
 }
 
 // After one more, of so many bytes; it is shown if it differs.
-pub(crate) fn after(run: Run, bytes: usize, same: bool) -> Run {
+pub(crate) fn after(rt: &impl Print, run: Run, bytes: usize, same: bool) -> Run {
     let case = past(run.cases, 1);
     Run {
         at: past(run.at, bytes),
         cases: case,
-        differ: past(run.differ, told(case, unless(same, Found::Text))),
+        differ: past(run.differ, told(rt, case, unless(same, Found::Text))),
     }
 }
 

@@ -25,14 +25,14 @@ fn is_listed(d: &[u8], at: usize, ranges: usize, c: usize) -> bool {
 }
 
 // From `at` on: the number of ranges, and the ranges. Each code point is a case; the next section starts behind the ranges.
-pub(crate) fn spaces(d: &[u8], at: usize) -> Run {
+pub(crate) fn spaces(rt: &impl Print, d: &[u8], at: usize) -> Run {
     let ranges = short(d, at);
     let first = past(at, 2);
     let mut run = begin(past(first, ranges * RANGE));
     let mut c: u32 = 0;
     while c < CODE_POINTS {
         let listed = is_listed(d, first, ranges, c as usize);
-        run = after(run, 0, listed == is_whitespace(c));
+        run = after(rt, run, 0, listed == is_whitespace(c));
         c += 1;
     }
     run

@@ -29,11 +29,11 @@ fn string_check(i: usize) -> usize {
     check_answer(&two)
 }
 
-pub(crate) fn strings(d: &[u8]) -> Run {
+pub(crate) fn strings(rt: &impl Print, d: &[u8]) -> Run {
     let mut run = begin(0);
     let mut i: usize = 0;
     while i < STRINGS {
-        run = after(run, 1, byte(d, run.at) == string_check(i));
+        run = after(rt, run, 1, byte(d, run.at) == string_check(i));
         i += 1;
     }
     run

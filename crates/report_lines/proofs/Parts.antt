@@ -5,10 +5,9 @@ use mathlib.Core.List.{List, [], ◌∷◌, ◌++◌, append_assoc, append-nil}
 use Prim.Native.Nat.{ℕ, zero, suc, ◌+◌, ◌-◌, ◌≤◌}
 use native.Mathlib.Nat.{zero-add}
 use native.Mathlib.Omega.{arith}
-use lib.ListN.{length, replicate, take, drop, length-append, length-replicate, length-take, length-drop, drop_of_length-le}
+use lib.ListN.{length, replicate, take, drop, length-append, length-replicate, length-drop, drop_of_length-le}
 use lib.Seq.{sets, sets-eq, take_at, take_all, drop-drop}
 use Rattle.laws.proofs.Stores.{sets_append}
-use Rattle.cut_rule.specs.Run.{write_front}
 use Rattle.tallies.specs.declared.Figures.{Figures}
 use Rattle.lines.specs.Lines.{decimal}
 use Rattle.report_lines.specs.Put.{Puts, CELL_ROOM, FIGURES_ROOM}
