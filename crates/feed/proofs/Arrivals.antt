@@ -1,15 +1,14 @@
 -- Bytes that were asked for and came, or didn't.
 -- Assumes nothing.
 use mathlib.Core.Path.{◌≡◌, refl, sym, ap, ◌∙◌}
-use mathlib.Core.Bool.{Bool, true, false, cond}
+use mathlib.Core.Bool.{Bool, true, false}
 use mathlib.Core.List.{List}
 use Prim.Native.Nat.{ℕ, ◌+◌, ◌-◌, ◌≤◌, ◌<◌}
 use native.Mathlib.Omega.{arith}
 use borrow.Author.Tests.{ltb-true, ltb-false, lt-ltb, le-ltb, eq-eqb, ne_eqb}
-use lib.Dec.{eqb, ltb}
+use lib.Dec.{ltb}
 use Rattle.feed.specs.Input.{LENGTHS, frame_size, Arrives, came_of, ReadsFile}
 use Rattle.feed.specs.declared.Arrived.{Arrived}
-use Rattle.feed.specs.declared.Came.{Came}
 use Rattle.feed.specs.declared.Came.TheVariants.{Nothing, Cut, Whole}
 use Rattle.feed.specs.declared.Read.{Read}
 

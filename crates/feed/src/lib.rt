@@ -1,4 +1,4 @@
-// The files of standard input, one after another: two lengths of four bytes, of source and image; the source; the image.
+// The files of an input, one after another: two lengths of four bytes, of source and image; the source; the image.
 #![tactic(auto)]
 
 ghost use Rattle.std.specs.Prelude.{◌≡◌, ◌≤◌, ◌<◌, min, length};
@@ -6,7 +6,8 @@ ghost use Rattle.feed.specs.Input.{LENGTHS as Input-as-LENGTHS, source_length, i
 
 use image::bytes::num32;
 use image::limits::{MAX_BODY, MAX_SOURCE};
-use libc::STDIN_FILENO;
+use input::read_full;
+use std::io;
 
 // What is kept of a source and of an image: one byte more than document 01 lets pass. A source over 65,536 bytes is refused by 1, and an
 // image over 1,048,581 by 3 if 1 and 2 don't refuse its source, whatever stands in them. So the front is enough, and the rest is passed over
@@ -60,11 +61,11 @@ fn least(a: usize, b: usize) -> usize
 }
 
 // Reads bytes to the front of a buffer.
-fn read_front(b: &mut [u8], n: usize) -> Arrived
+fn read_front<R: io::Read>(input: &mut R, b: &mut [u8], n: usize) -> Arrived
     requires { n ≤ length b.old }
     ensures { Arrives n result }
 {
-    let bytes = io::read_full(STDIN_FILENO, &mut b[..n]);
+    let bytes = read_full(input, &mut b[..n]);
     Arrived {
         bytes: bytes,
         ended: bytes < n,
@@ -72,14 +73,14 @@ fn read_front(b: &mut [u8], n: usize) -> Arrived
 }
 
 // Reads bytes that are not kept.
-fn pass_over(n: usize) -> Arrived
+fn pass_over<R: io::Read>(input: &mut R, n: usize) -> Arrived
     ensures { Arrives n result }
 {
-    let mut piece = io::large_buffer();
+    let mut piece = [0u8; PIECE];
     let mut left = n;
     while 0 < left {
         let some = least(left, PIECE);
-        let came = read_front(&mut piece, some);
+        let came = read_front(input, &mut piece, some);
         left -= came.bytes;
         if came.ended {
             let passed = n - left;
@@ -96,16 +97,16 @@ fn pass_over(n: usize) -> Arrived
 }
 
 // Reads a part of a file: keeps as much as there is room for, and passes over the rest.
-fn read_part(room: &mut [u8], n: usize) -> Arrived
+fn read_part<R: io::Read>(input: &mut R, room: &mut [u8], n: usize) -> Arrived
     ensures { Arrives n result }
 {
     let kept = least(n, room.len());
-    let front = read_front(room, kept);
+    let front = read_front(input, room, kept);
     if front.ended {
         return front;
     }
     let behind = n - kept;
-    let rest = pass_over(behind);
+    let rest = pass_over(input, behind);
     let bytes = kept + rest.bytes;
     Arrived {
         bytes: bytes,
@@ -131,14 +132,19 @@ fn without_lengths(bytes: usize) -> Read
 }
 
 // Reads the next file into buffers, as much of it as they keep.
-pub fn read_file(lengths: &mut [u8; LENGTHS], source: &mut [u8], image: &mut [u8]) -> Read
+pub fn read_file<R: io::Read>(
+    input: &mut R,
+    lengths: &mut [u8; LENGTHS],
+    source: &mut [u8],
+    image: &mut [u8],
+) -> Read
     ensures { ReadsFile lengths.new result }
 {
-    let head = read_front(lengths, LENGTHS);
+    let head = read_front(input, lengths, LENGTHS);
     if head.ended {
         return without_lengths(head.bytes);
     }
-    let s = read_part(source, num32(lengths, SOURCE_LENGTH));
+    let s = read_part(input, source, num32(lengths, SOURCE_LENGTH));
     let before = LENGTHS + s.bytes;
     if s.ended {
         return Read {
@@ -146,7 +152,7 @@ pub fn read_file(lengths: &mut [u8; LENGTHS], source: &mut [u8], image: &mut [u8
             bytes: before,
         };
     }
-    let i = read_part(image, num32(lengths, IMAGE_LENGTH));
+    let i = read_part(input, image, num32(lengths, IMAGE_LENGTH));
     let bytes = before + i.bytes;
     if i.ended {
         return Read {

@@ -4,7 +4,7 @@
 ghost use Rattle.std.specs.Prelude.{◌≡◌, length};
 
 use file::reply::reply;
-use libc::{STDERR_FILENO, STDIN_FILENO, STDOUT_FILENO};
+use input::read_full;
 
 // Room for a frame, and one byte more, to see that a frame is over.
 fn room() -> [u8; 32769]
@@ -20,17 +20,17 @@ fn output() -> [u8; 65536]
 }
 
 // Writes what a frame is answered with, and answers whether all of it was written.
-fn answer(frame: &[u8]) -> bool {
+fn answer(rt: &impl Print, frame: &[u8]) -> bool {
     let mut out = output();
     let n = reply(frame, &mut out);
-    io::write_all(STDOUT_FILENO, &out[..n])
+    rt.write_all(&out[..n]).is_ok()
 }
 
 // There is no status to tell a failure by: it is said on standard error.
-fn main() {
+fn main(rt: HostRuntime) {
     let mut input = room();
-    let n = io::read_full(STDIN_FILENO, &mut input);
-    if !answer(&input[..n]) {
-        io::write_all(STDERR_FILENO, b"rotofmt: the text can't be written\n");
+    let n = read_full(&mut rt.stdin(), &mut input);
+    if !answer(&rt, &input[..n]) {
+        let _ = rt.eprintln("rotofmt: the text can't be written");
     }
 }
