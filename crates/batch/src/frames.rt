@@ -14,7 +14,7 @@ pub(crate) const HEAD: usize = 8;
 
 const LENGTH: usize = 4;
 
-#[derive(Drop)]
+#[derive(Clone, Copy)]
 pub(crate) enum Frames {
     // how many there are
     Whole(usize),

@@ -13,7 +13,7 @@ use crate::frames::{Frames, count_frames};
 use crate::writing::{CELLS, write_saves};
 use file::FileChoice;
 
-#[derive(Drop)]
+#[derive(Clone, Copy)]
 pub enum Batch {
     // how many files there are, and the bytes of their texts
     Done { files: usize, bytes: usize },

@@ -12,7 +12,7 @@ use file::{FileChoice, Formatted, format_file};
 pub(crate) const CELLS: usize = 3;
 
 // The refusal's number or 0, its place or 0, the bytes of the text.
-#[derive(Drop)]
+#[derive(Clone, Copy)]
 pub(crate) struct Row {
     number: u8,
     place: usize,

@@ -26,7 +26,7 @@ const NEWLINE: u8 = 0x0A;
 // The mark of a group that wraps.
 const WRAPPED: u8 = 1;
 
-#[derive(Drop)]
+#[derive(Clone, Copy)]
 pub enum Counted {
     // the file's figures, the new tallies, and wrapped over given of all
     File(Figures, Tallies, Fraction),

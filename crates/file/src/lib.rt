@@ -37,13 +37,13 @@ pub const MARKS: usize = 1800;
 pub const REFERENCE_WIDTH: usize = 80;
 
 // What a caller chooses: the width, and whether the comments that wait at the end are kept.
-#[derive(Drop)]
+#[derive(Clone, Copy)]
 pub struct FileChoice {
     pub width: Columns,
     pub mode: usize,
 }
 
-#[derive(Drop)]
+#[derive(Clone, Copy)]
 pub enum Formatted {
     // the bytes written, the comments left, the rows and the group numbers
     Text {
@@ -57,7 +57,7 @@ pub enum Formatted {
 }
 
 // A file's run in rows and marks that are lent, with the greatest value that `column` was set to.
-#[derive(Drop)]
+#[derive(Clone, Copy)]
 pub enum FileRun {
     Text {
         bytes: Bytes,

@@ -18,7 +18,7 @@ use records::{Step, read_record};
 use text::utf8::Checked;
 
 // A source and an image that are accepted: how many comments there are, and where the tree stands.
-#[derive(Drop)]
+#[derive(Clone, Copy)]
 pub struct Document {
     pub comments: usize,
     pub tree: usize,

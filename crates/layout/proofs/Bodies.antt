@@ -3,7 +3,6 @@
 use mathlib.Core.Path.{◌≡◌, refl, sym, ap, subst, ◌∙◌}
 use mathlib.Core.Bool.{Bool, true, false, not, ◌&&◌, ◌||◌}
 use mathlib.Core.List.{List}
-use mathlib.Core.Option.{Option}
 use Prim.Native.Nat.{ℕ, ◌+◌, ◌*◌, ◌≤◌, ◌<◌}
 use native.Mathlib.Omega.{arith}
 use lib.ListN.{length, set}
@@ -11,11 +10,11 @@ use lib.Dec.{eqb, leb}
 use borrow.Author.Tests.{eq-eqb, ne_eqb}
 use Rattle.image.specs.Bytes.{be32}
 use Rattle.image.specs.Read.{stop_at, kind_at}
-use Rattle.ast.specs.Syntax.{Span, Ident, TypeExpr, Import, Expr, expr, MaybeExpr, no_expr, some_expr, Block, braces, Stmts, no_stmts, ◌∷ˢ◌, Stmt, stmt, StmtForm}
+use Rattle.ast.specs.Syntax.{Span, Import, Expr, expr, MaybeExpr, no_expr, some_expr, Block, braces, Stmts, no_stmts, ◌∷ˢ◌, Stmt, stmt}
 use Rattle.ast.specs.Syntax.{let', import_stmt, does, Parts, no_parts, string, value, Form, return', literal, block, match', function_call, access, path, record'}
 use Rattle.ast.specs.Syntax.{typed_record, list, not', assign, compound_assign, bin_op, negate, if_else, while, for, question_mark, f_string, parentheses}
 use Rattle.tree.specs.FormKinds.{form_kind}
-use Rattle.tree.specs.At.{Head, Record, Done, Before, Ends, ImportAt, ExprAt, MaybeExprAt, BlockAt, StmtsAt, StmtAt, PartsAt}
+use Rattle.tree.specs.At.{Ends, ImportAt, ExprAt, MaybeExprAt, BlockAt, StmtsAt, StmtAt, PartsAt}
 use Rattle.rows.specs.Node.{line}
 use Rattle.acts.specs.Act.{Act, ◌⨟◌, push, says, grouped, indented, when, Given}
 use Rattle.acts.specs.Laid.{Room, Opened}
@@ -23,12 +22,12 @@ use Rattle.acts.specs.declared.Cursor.{Cursor}
 use Rattle.acts.proofs.Laws.{Lays, lays_then, lays_skip, room_first, room_next}
 use Rattle.acts.proofs.Nested.{lays_group, lays_indent}
 use Rattle.comments.specs.Listed.{given}
-use Rattle.layout.specs.Layout.{import_path, is_braced, none_of, is_empty, gap, stmts_rule, stmt_rule, stmt_form}
+use Rattle.layout.specs.Layout.{import_path, is_braced, none_of, is_empty, gap, stmts_rule, stmt_rule}
 use Rattle.layout.specs.Layout.{before_stmt, after_stmt, block_start, block_rule, parts_rule, placeholder}
-use Rattle.layout.specs.Promises.{Has, HasAll, InImage, Whole, Readable}
+use Rattle.layout.specs.Promises.{Has, HasAll, Whole, Readable}
 use Rattle.layout.specs.Forms.{expr_with, stmts_from, last_from, LetAt, let_rule, SpanAt, content_rule, Part, text, PartAt, part_rule}
 use Rattle.layout.specs.Forms as forms
-use Rattle.layout.proofs.Places.{head_whole, expr_whole, stmt_whole, maybe_expr_lem}
+use Rattle.layout.proofs.Places.{head_whole, expr_whole, stmt_whole}
 use Rattle.layout.proofs.ExprForms.{kind_of}
 use Rattle.layout.proofs.Lays.{LaysAll, LaysAs}
 

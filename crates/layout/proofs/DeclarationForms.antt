@@ -1,6 +1,6 @@
 -- Laws of declarations: their forms by the kind byte, their optional parts, and declarations one after the other.
 -- Assumes nothing.
-use mathlib.Core.Path.{◌≡◌, refl, sym, ap, subst, ◌∙◌}
+use mathlib.Core.Path.{◌≡◌, refl, sym, subst, ◌∙◌}
 use mathlib.Core.Bool.{Bool, true, false}
 use mathlib.Core.List.{List, [], ◌∷◌}
 use mathlib.Core.Option.{Option, none, some}
@@ -12,9 +12,9 @@ use Rattle.text.specs.Space.{trim_end}
 use Rattle.image.specs.Bytes.{be16, be32}
 use Rattle.image.specs.Read.{stop_at, kind_at}
 use Rattle.ast.specs.Syntax.{Ident, Idents, TypeExpr, Import, import, Declaration, filter_map, const, record_decl, enum_decl, function, test, import_decl}
-use Rattle.tree.specs.At.{Done, Before, IdentAt, IdentsAt, ListAt, Maybe, TypeAt, ImportAt, DeclarationAt, DeclarationsAt}
+use Rattle.tree.specs.At.{IdentAt, IdentsAt, ListAt, Maybe, TypeAt, ImportAt, DeclarationAt, DeclarationsAt}
 use Rattle.rows.specs.Node.{str, empty_line}
-use Rattle.acts.specs.Act.{Given, Act, ◌⨟◌, push, says}
+use Rattle.acts.specs.Act.{Act, ◌⨟◌, push, says}
 use Rattle.acts.specs.Laid.{text, Room}
 use Rattle.acts.specs.declared.Cursor.{Cursor}
 use Rattle.acts.proofs.Laws.{Lays, lays_then, lays_skip, room_first, room_next}

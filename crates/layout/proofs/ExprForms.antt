@@ -3,21 +3,20 @@
 use mathlib.Core.Path.{◌≡◌, refl, sym, ap, subst, ◌∙◌}
 use mathlib.Core.Bool.{Bool, true, false, not}
 use mathlib.Core.List.{List}
-use Prim.Native.Nat.{ℕ, ◌+◌, ◌≤◌, ◌<◌}
+use Prim.Native.Nat.{ℕ, ◌+◌, ◌≤◌}
 use native.Mathlib.Omega.{arith}
 use lib.Dec.{eqb}
-use Rattle.image.specs.Bytes.{be32}
-use Rattle.image.specs.Read.{stop_at, kind_at}
+use Rattle.image.specs.Read.{kind_at}
 use Rattle.ast.specs.Syntax.{Span, Expr, expr, Form, return', literal, block, match', function_call, access, path, record', typed_record}
 use Rattle.ast.specs.Syntax.{list, not', assign, compound_assign, bin_op, negate, if_else, while, for, question_mark, f_string, parentheses}
 use Rattle.tree.specs.FormKinds.{form_kind}
-use Rattle.tree.specs.At.{Head, ExprAt}
-use Rattle.acts.specs.Act.{Given, Act, ◌⨟◌, when}
+use Rattle.tree.specs.At.{ExprAt}
+use Rattle.acts.specs.Act.{Act, ◌⨟◌, when}
 use Rattle.acts.specs.Laid.{Room}
 use Rattle.acts.specs.declared.Cursor.{Cursor}
 use Rattle.comments.specs.Comments.{pop_trailing_comment}
 use Rattle.comments.specs.Listed.{given}
-use Rattle.layout.specs.Layout.{expr_with_precedence, is_block, is_braced}
+use Rattle.layout.specs.Layout.{expr_with_precedence, is_block}
 use Rattle.layout.specs.Promises.{Has}
 use Rattle.layout.specs.Forms.{two, three, four, Of, form_rule, form_with, expr_with}
 use Rattle.acts.proofs.Laws.{Lays, lays_then}

@@ -2,24 +2,23 @@
 -- Assumes nothing.
 use mathlib.Core.Path.{◌≡◌, refl, sym, subst, ◌∙◌}
 use mathlib.Core.Bool.{Bool, true, false, not, ◌&&◌}
-use mathlib.Core.List.{List, [], ◌∷◌}
+use mathlib.Core.List.{List, []}
 use mathlib.Core.Option.{Option, none, some}
-use Prim.Native.Nat.{ℕ, ◌+◌, ◌≤◌, ◌<◌}
+use Prim.Native.Nat.{ℕ, ◌+◌}
 use native.Mathlib.Omega.{arith}
-use lib.ListN.{length}
 use lib.Dec.{eqb}
 use borrow.Author.Tests.{eq-eqb, ne_eqb, eqb-true, eqb-false}
 use Rattle.laws.proofs.Booleans.{true_false, false_true}
 use Rattle.image.specs.Bytes.{be32}
 use Rattle.image.specs.Read.{stop_at}
 use Rattle.ast.specs.Syntax.{Span, Path, Import, import, ImportGroup, no_group, group, Imports, no_imports, ◌∷ⁱ◌}
-use Rattle.tree.specs.At.{Head, Absent, Ends, PathAt, Maybe, ImportAt, ImportGroupAt, ImportsAt}
+use Rattle.tree.specs.At.{Ends, PathAt, Maybe, ImportAt, ImportGroupAt, ImportsAt}
 use Rattle.acts.specs.Act.{Given, Act, ◌⨟◌, when, says}
 use Rattle.acts.specs.Laid.{Room}
 use Rattle.acts.specs.declared.Cursor.{Cursor}
 use Rattle.acts.proofs.Laws.{Lays, lays_then, lays_skip}
 use Rattle.comments.specs.Listed.{given}
-use Rattle.layout.specs.Layout.{path_rule, is_some, is_group, import_first, import_path, import_group, import_items, import_elems, separated}
+use Rattle.layout.specs.Layout.{path_rule, is_some, is_group, import_first, import_path, import_group, import_elems, separated}
 use Rattle.layout.specs.Promises.{Has, InImage, Whole}
 use Rattle.layout.specs.Forms.{MaybePathAt}
 use Rattle.layout.proofs.Places.{within, head_whole, import_whole}

@@ -1,15 +1,15 @@
 -- Laws of identifiers one after the other, and of an identifier's text.
 -- Assumes nothing.
-use mathlib.Core.Path.{◌≡◌, refl, sym, ap, subst, ◌∙◌}
+use mathlib.Core.Path.{◌≡◌, sym, subst, ◌∙◌}
 use mathlib.Core.Bool.{Bool}
 use mathlib.Core.List.{List, [], ◌∷◌}
 use Prim.Native.Nat.{ℕ, ◌+◌, ◌-◌, ◌≤◌, ◌<◌}
 use native.Mathlib.Omega.{arith}
 use lib.ListN.{length}
-use Rattle.image.specs.Bytes.{be16, be32}
+use Rattle.image.specs.Bytes.{be16}
 use Rattle.image.specs.Read.{stop_at}
 use Rattle.ast.specs.Syntax.{Ident}
-use Rattle.tree.specs.At.{Done, Before, IdentAt, IdentsAt}
+use Rattle.tree.specs.At.{IdentAt, IdentsAt}
 use Rattle.rows.specs.Node.{str}
 use Rattle.acts.specs.Act.{Act, push, ◌⨟◌}
 use Rattle.acts.specs.Laid.{text, Room}

@@ -1,14 +1,13 @@
 -- Laws of types one after the other: the last of them.
 -- Assumes nothing.
-use mathlib.Core.Path.{◌≡◌, refl, sym, ap, subst, ◌∙◌}
+use mathlib.Core.Path.{◌≡◌}
 use mathlib.Core.List.{List}
 use Prim.Native.Nat.{ℕ, ◌+◌, ◌≤◌, ◌<◌}
 use native.Mathlib.Omega.{arith}
-use lib.ListN.{length}
 use Rattle.image.specs.Bytes.{be32}
 use Rattle.image.specs.Read.{stop_at}
 use Rattle.ast.specs.Syntax.{TypeExpr, type, Types, no_types, ◌∷ᵗ◌}
-use Rattle.tree.specs.At.{Done, Before, TypeAt, TypesAt}
+use Rattle.tree.specs.At.{TypeAt, TypesAt}
 use Rattle.layout.specs.Layout.{last_span}
 use Rattle.layout.specs.Promises.{Whole}
 use Rattle.layout.specs.Forms.{SomeTypesAt, LastEnd}

@@ -14,7 +14,7 @@ use Rattle.acts.proofs.Laws.{Lays}
 use Rattle.comments.specs.Listed.{given}
 use Rattle.layout.specs.declared.forms.ListForm.{ListForm}
 use Rattle.layout.specs.Layout.{Elem, leftmost}
-use Rattle.layout.specs.Promises.{Readable, Has, LaidAs, HasAll, LaidAll}
+use Rattle.layout.specs.Promises.{Readable, Has, LaidAs, LaidAll}
 use Rattle.layout.specs.Elems.{ListOf, list_rule, LaidList, LaidEmpty}
 use Rattle.layout.specs.Chains.{Above, grown, Filled, LaidTail}
 

@@ -3,7 +3,7 @@
 -- Assumes nothing.
 use mathlib.Core.Path.{◌≡◌, refl, sym, ap, subst, ◌∙◌}
 use mathlib.Core.List.{List}
-use mathlib.Core.Bool.{Bool, true, false}
+use mathlib.Core.Bool.{Bool, false}
 use Prim.Native.Nat.{ℕ, ◌+◌, ◌-◌, ◌*◌, ◌≤◌, ◌<◌}
 use native.Mathlib.Omega.{arith}
 use borrow.Author.Tests.{eq-eqb, ne_eqb}
@@ -12,9 +12,9 @@ use lib.ListN.{get_or, length, set}
 use lib.Seq.{get_or-set_same, get_or-set_other}
 use Rattle.image.specs.Bytes.{be32}
 use Rattle.image.specs.Read.{stop_at, kind_at}
-use Rattle.ast.specs.Syntax.{Span, Expr, expr, Form, return', literal, block, match', function_call, access, path, record', typed_record}
+use Rattle.ast.specs.Syntax.{Span, Expr, expr, return', literal, block, match', function_call, access, path, record', typed_record}
 use Rattle.ast.specs.Syntax.{list, not', assign, compound_assign, bin_op, negate, if_else, while, for, question_mark, f_string, parentheses}
-use Rattle.tree.specs.At.{Head, ByteAt, ExprAt, left_depth}
+use Rattle.tree.specs.At.{ExprAt, left_depth}
 use Rattle.rows.specs.Node.{line_or_space}
 use Rattle.acts.specs.Act.{Given, Act, push, grouped, indented, ◌⨟◌}
 use Rattle.acts.specs.Laid.{Room, Opened}
@@ -23,8 +23,8 @@ use Rattle.acts.proofs.Laws.{Lays, lays_then, room_first, room_next}
 use Rattle.acts.proofs.Nested.{lays_group, lays_indent}
 use Rattle.comments.specs.Listed.{given}
 use Rattle.layout.specs.Layout.{Operands, leftmost, popped, binop, binop_precedence, expr_with_precedence, expr_form, operands, operator}
-use Rattle.layout.specs.Promises.{InImage, Whole, Readable, Has}
-use Rattle.layout.specs.Forms.{four, Of, expr_with, form_with, form_rule, OperatorAt, operator_rule}
+use Rattle.layout.specs.Promises.{InImage, Readable, Has}
+use Rattle.layout.specs.Forms.{four, Of, expr_with, form_rule, OperatorAt, operator_rule}
 use Rattle.layout.specs.Chains.{Above, top, up, grown, Starts}
 use Rattle.layout.proofs.Places.{within, expr_whole}
 use Rattle.layout.proofs.ExprForms.{expr_is}

@@ -1,17 +1,17 @@
 -- Parts that may be absent: the length of the record says whether they are there.
 -- Assumes nothing.
-use mathlib.Core.Path.{◌≡◌, refl, sym, ap, subst, ◌∙◌}
-use mathlib.Core.Bool.{Bool, true, false}
+use mathlib.Core.Path.{◌≡◌, sym, subst, ◌∙◌}
+use mathlib.Core.Bool.{Bool}
 use mathlib.Core.List.{List}
 use mathlib.Core.Option.{Option, none, some}
-use Prim.Native.Nat.{ℕ, ◌+◌, ◌≤◌, ◌<◌}
+use Prim.Native.Nat.{ℕ, ◌+◌}
 use native.Mathlib.Omega.{arith}
 use Rattle.image.specs.Bytes.{be32}
 use Rattle.image.specs.Read.{stop_at, kind_at}
-use Rattle.ast.specs.Syntax.{Idents, TypeExpr, Expr, expr, Pattern, underscore, enum_variant, MaybeExpr}
-use Rattle.ast.specs.Syntax.{no_expr, some_expr, Block, MaybeBlock, no_block, some_block, Ident}
-use Rattle.tree.specs.At.{Head, Ends, IdentAt, ListAt, Maybe, TypeAt, PatternAt, ExprAt, MaybeExprAt, BlockAt, MaybeBlockAt}
-use Rattle.acts.specs.Act.{Act, ◌⨟◌, says}
+use Rattle.ast.specs.Syntax.{Idents, TypeExpr, expr, Pattern, underscore, enum_variant, MaybeExpr}
+use Rattle.ast.specs.Syntax.{no_expr, some_expr, MaybeBlock, no_block, some_block, Ident}
+use Rattle.tree.specs.At.{Ends, IdentAt, Maybe, TypeAt, PatternAt, ExprAt, MaybeExprAt, BlockAt, MaybeBlockAt}
+use Rattle.acts.specs.Act.{◌⨟◌, says}
 use Rattle.acts.specs.Laid.{Room}
 use Rattle.acts.specs.declared.Cursor.{Cursor}
 use Rattle.acts.proofs.Laws.{Lays, lays_then, lays_skip, room_first, room_next}
@@ -19,8 +19,8 @@ use Rattle.comments.specs.Comments.{pop_trailing_comment}
 use Rattle.comments.specs.Listed.{given}
 use Rattle.layout.specs.Layout.{ident, type_expr, ident_elems, let_type, maybe_expr, otherwise, last_rule, before_stmt, block_rule, pattern}
 use Rattle.layout.specs.Promises.{Has, Whole, InImage}
-use Rattle.layout.specs.Elems.{IdentElem, ListOf, HasList}
-use Rattle.layout.specs.Forms.{expr_with, after_word, maybe_after, last_from, MaybeTypeAt, MaybeListAt}
+use Rattle.layout.specs.Elems.{IdentElem, HasList}
+use Rattle.layout.specs.Forms.{expr_with, after_word, maybe_after, last_from, MaybeTypeAt}
 use Rattle.layout.proofs.Places.{head_whole, type_whole, expr_whole, block_whole, maybe_list}
 use Rattle.layout.proofs.Runs.{list_of, ident_elems_lem, parens}
 use Rattle.layout.proofs.Lays.{LaysAs, LaysList}

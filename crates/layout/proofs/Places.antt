@@ -1,16 +1,14 @@
 -- Every part of the syntax tree stands at a record within the image, or at the absence of one.
 -- Assumes nothing.
-use mathlib.Core.Path.{◌≡◌, refl, sym, ap, subst, ◌∙◌}
+use mathlib.Core.Path.{◌≡◌, sym, ◌∙◌}
 use mathlib.Core.Bool.{Bool, true, false}
-use mathlib.Core.List.{List, [], ◌∷◌}
+use mathlib.Core.List.{List}
 use mathlib.Core.Option.{Option, none, some}
-use Prim.Native.Nat.{ℕ, ◌+◌, ◌≤◌, ◌<◌}
+use Prim.Native.Nat.{ℕ, ◌+◌}
 use native.Mathlib.Omega.{arith}
-use lib.ListN.{length}
 use lib.Dec.{eqb}
 use borrow.Author.Tests.{eqb-true, eqb-false}
 use Rattle.image.specs.Bytes.{be32}
-use Rattle.image.specs.Read.{stop_at}
 use Rattle.ast.specs.Syntax.{Span, Ident, Path, TypeExpr, type, TypeArgs, no_args, args, Import, import, ImportGroup, no_group, group, Idents, Expr, expr}
 use Rattle.ast.specs.Syntax.{Block, braces, Stmt, stmt, Pattern, underscore, enum_variant, MaybeExpr, no_expr, some_expr, MaybeBlock, no_block, some_block}
 use Rattle.tree.specs.At.{Head, Absent, IdentAt, PathAt, Maybe, TypeAt, TypeArgsAt, ImportAt, ImportGroupAt}

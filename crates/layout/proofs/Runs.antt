@@ -8,9 +8,9 @@ use native.Mathlib.Omega.{arith}
 use lib.ListN.{length, get_or, set}
 use Rattle.image.specs.Bytes.{be32}
 use Rattle.image.specs.Read.{stop_at}
-use Rattle.ast.specs.Syntax.{Span, Ident, TypeExpr, type, Types, no_types, ◌∷ᵗ◌, Fields, no_fields, field, Import, import, Imports, no_imports}
-use Rattle.ast.specs.Syntax.{◌∷ⁱ◌, Variants, no_variants, variant, Expr, expr, Exprs, no_exprs, ◌∷ᵉ◌, Entries, no_entries, entry, Arms, no_arms, arm}
-use Rattle.tree.specs.At.{Head, Done, Before, IdentsAt, TypeAt, TypesAt, FieldsAt, ImportAt, ImportsAt, VariantsAt, ExprAt, ExprsAt, EntriesAt, ArmsAt}
+use Rattle.ast.specs.Syntax.{Span, Ident, type, Types, no_types, ◌∷ᵗ◌, Fields, no_fields, field, import, Imports, no_imports}
+use Rattle.ast.specs.Syntax.{◌∷ⁱ◌, Variants, no_variants, variant, expr, Exprs, no_exprs, ◌∷ᵉ◌, Entries, no_entries, entry, Arms, no_arms, arm}
+use Rattle.tree.specs.At.{Head, IdentsAt, TypeAt, TypesAt, FieldsAt, ImportAt, ImportsAt, VariantsAt, ExprAt, ExprsAt, EntriesAt, ArmsAt}
 use Rattle.rows.specs.Words.{table}
 use Rattle.acts.specs.Act.{Given, Act, ◌⨟◌, says, grouped, indented}
 use Rattle.acts.specs.Laid.{Room, Laid}
@@ -27,9 +27,8 @@ use Rattle.layout.specs.declared.forms.ExprElement.TheVariants as exprs
 use Rattle.layout.specs.Layout.{Elem, elements, separated, inside, before_elem, ident_elems, type_elems, field_elems}
 use Rattle.layout.specs.Layout.{import_elems, variant_elems, expr_elems, grouped_elems, entry_elems, arm_elems, edge, ends}
 use Rattle.layout.specs.Promises.{Has, HasAll, Whole, Readable}
-use Rattle.layout.specs.Elems.{Is, elem_rule, IdentElem, ImportElem, VariantElem, TypeElem, ExprElem, ElemAt, ElemsAt, mark, elements_rule, ListOf}
+use Rattle.layout.specs.Elems.{Is, elem_rule, IdentElem, ImportElem, VariantElem, TypeElem, ExprElem, ElemsAt, mark, elements_rule, ListOf}
 use Rattle.layout.specs.Elems.{starts, list_rule, HasList, HasEmpty, Begins, Begun, HasElems, LaidElems}
-use Rattle.layout.proofs.Places.{head_whole}
 use Rattle.layout.proofs.Lays.{LaysAll, LaysAs, LaysList, LaysEmpty}
 
 -- the first of the elements that are left, and those after it

@@ -1,27 +1,26 @@
 -- From the kind byte of a type's record to the form of the type.
 -- Assumes nothing.
-use mathlib.Core.Path.{◌≡◌, refl, sym, ap, subst, ◌∙◌}
+use mathlib.Core.Path.{◌≡◌, refl, sym, subst, ◌∙◌}
 use mathlib.Core.Bool.{Bool, true, false}
 use mathlib.Core.List.{List}
-use Prim.Native.Nat.{ℕ, ◌+◌, ◌≤◌, ◌<◌}
+use Prim.Native.Nat.{ℕ, ◌+◌, ◌≤◌}
 use native.Mathlib.Omega.{arith}
 use lib.ListN.{length}
 use lib.Dec.{eqb}
 use Rattle.image.specs.Bytes.{be32}
 use Rattle.image.specs.Read.{stop_at, kind_at}
-use Rattle.ast.specs.Syntax.{Span, Path, TypeExpr, type, TypeForm, option, type_path, never, unit}
-use Rattle.ast.specs.Syntax.{record_type, TypeArgs, no_args, args, Types, no_types, ◌∷ᵗ◌, Fields}
+use Rattle.ast.specs.Syntax.{Span, TypeExpr, type, TypeForm, option, type_path, never, unit}
+use Rattle.ast.specs.Syntax.{record_type, TypeArgs, no_args, args, Types, no_types, ◌∷ᵗ◌}
 use Rattle.tree.specs.At.{Head, TypeAt, TypeArgsAt, TypesAt}
-use Rattle.acts.specs.Act.{Given, Act}
 use Rattle.acts.specs.Laid.{Room}
 use Rattle.acts.specs.declared.Cursor.{Cursor}
 use Rattle.acts.proofs.Laws.{Lays, lays_skip}
 use Rattle.comments.specs.Listed.{given}
 use Rattle.layout.proofs.Places.{head_whole, type_whole}
 use Rattle.layout.proofs.Runs.{list_of, type_elems_lem, parens, brackets}
-use Rattle.layout.specs.Layout.{type_expr, type_form, type_args, type_elems, variant_types, last_span}
+use Rattle.layout.specs.Layout.{type_expr, type_args, type_elems, variant_types, last_span}
 use Rattle.layout.specs.Promises.{Has, Whole, Readable}
-use Rattle.layout.specs.Elems.{TypeElem, ElemsAt, ListOf, HasList}
+use Rattle.layout.specs.Elems.{TypeElem, HasList}
 use Rattle.layout.specs.declared.forms.TypeElement.TheVariants as types
 use Rattle.layout.specs.Forms.{OfType, type_rule, two, SomeTypesAt, LastEnd}
 use Rattle.layout.proofs.Lays.{LaysAs, LaysList}

@@ -1,6 +1,6 @@
 -- The contracts of `binop`'s code: a chain of operators of one precedence, from its top down to the leftmost operand.
-use Rattle.std.specs.Prelude.{◌≡◌, List, ℕ, ◌+◌, ◌*◌, ◌≤◌, ◌<◌, get_or, length}
-use Rattle.ast.specs.Syntax.{Span, Expr, expr, Form, bin_op}
+use Rattle.std.specs.Prelude.{◌≡◌, List, ℕ, ◌+◌, ◌*◌, ◌≤◌, ◌<◌, get_or}
+use Rattle.ast.specs.Syntax.{Span, Expr, expr, bin_op}
 use Rattle.tree.specs.At.{ExprAt}
 use Rattle.acts.specs.Act.{Act}
 use Rattle.acts.specs.Laid.{Room, Laid}

@@ -5,7 +5,7 @@ use Rattle.image.specs.Bytes.{be32}
 use Rattle.image.specs.Kinds.{LIST, NAME_AND_TYPE, VARIANT, FIELD, ARM}
 use Rattle.image.specs.Read.{stop_at}
 use Rattle.ast.specs.Syntax.{Span, Ident, Idents, TypeExpr, Types, Fields, Pattern, MaybeExpr, Expr, Exprs, Entries}
-use Rattle.tree.specs.At.{Head, Record, first_at, second_at, third_at, Ends, Done, Before, IdentAt, TypeAt, TypesAt, FieldsAt, ImportAt, PatternAt, MaybeExprAt, ExprAt, ExprsAt, EntriesAt}
+use Rattle.tree.specs.At.{Head, Record, first_at, second_at, third_at, Ends, Done, Before, IdentAt, TypeAt, TypesAt, ImportAt, PatternAt, MaybeExprAt, ExprAt}
 use Rattle.rows.specs.Kinds.{GROUP, INDENT}
 use Rattle.rows.specs.Words.{table}
 use Rattle.acts.specs.Act.{Given, Act, ◌⨟◌, grouped, indented}

@@ -16,7 +16,7 @@ use Rattle.ast.specs.Syntax.{SyntaxTree}
 use Rattle.tree.specs.FormKinds.{form_kind}
 use Rattle.rows.specs.Node.{Text, str, ascii, line, empty_line, line_or_space, wrap_parent, if_wrap}
 use Rattle.rows.specs.Words.{word}
-use Rattle.acts.specs.Act.{Given, St, Out, Act, Asking, ◌⨟◌, ◌⨟?◌, skip, when, push, step_alone, grouped, indented, indented_next, called, says, content}
+use Rattle.acts.specs.Act.{Given, Act, ◌⨟◌, ◌⨟?◌, skip, when, push, step_alone, grouped, indented, indented_next, called, says, content}
 use Rattle.comments.specs.Comments.{whitespace, pop_whitespace, pop_trailing_comment}
 use Rattle.layout.specs.declared.forms.WrapStyle.{WrapStyle}
 use Rattle.layout.specs.declared.forms.WrapStyle.TheVariants.{Tight, Spaced, Wrap}

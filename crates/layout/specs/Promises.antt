@@ -1,9 +1,7 @@
 -- The contracts of the layout functions: a part of the syntax tree is at an offset of the image, and its rule is laid.
-use Rattle.std.specs.Prelude.{ℕ, ◌+◌, ◌≤◌, ◌≡◌, Bool, cond, List, length, get_or}
+use Rattle.std.specs.Prelude.{ℕ, ◌≤◌, List, length}
 use Rattle.image.specs.Bytes.{be32}
 use Rattle.image.specs.Read.{stop_at}
-use Rattle.ast.specs.Syntax.{Span}
-use Rattle.rows.specs.Words.{table}
 use Rattle.acts.specs.Act.{Given, Act}
 use Rattle.acts.specs.Laid.{Room, Laid}
 use Rattle.acts.specs.declared.Cursor.{Cursor}

@@ -10,7 +10,7 @@ pub const UNIT_PRECEDENCE: usize = 9;
 
 // `separated(start, end, separator, .., style, f)`: the places of the fixed words around the list, whether commas separate its elements,
 // and its style. For `f` there is a function in each module with such lists.
-#[derive(Drop)]
+#[derive(Clone, Copy)]
 pub struct ListForm {
     pub left: usize,
     pub right: usize,
@@ -19,14 +19,14 @@ pub struct ListForm {
 }
 
 // The elements of a list of types, which stand for the closures of the Rust.
-#[derive(Drop)]
+#[derive(Clone, Copy)]
 pub enum TypeElement {
     Type,
     Field,
 }
 
 // The elements of a list of expressions.
-#[derive(Drop)]
+#[derive(Clone, Copy)]
 pub enum ExprElement {
     Expr,
     Grouped,
@@ -38,7 +38,7 @@ pub enum ExprElement {
 pub const GROUPED: ExprElement = ExprElement::Grouped;
 
 // `WrapStyle`
-#[derive(Drop)]
+#[derive(Clone, Copy)]
 pub enum WrapStyle {
     Tight,
     Spaced,

@@ -19,7 +19,7 @@ use image::{Answer, Document, check};
 use rows::places::PLACES;
 
 // Begun, closed, next declaration, next row, next number, comments placed, position, mode.
-#[derive(Drop)]
+#[derive(Clone, Copy)]
 pub struct LayoutState {
     pub begun: bool,
     pub closed: bool,
@@ -32,14 +32,14 @@ pub struct LayoutState {
 }
 
 // The declaration to stop before, whether to close, and the mode (modes.rt).
-#[derive(Drop)]
+#[derive(Clone, Copy)]
 pub struct LayoutArgs {
     pub stop: usize,
     pub close: bool,
     pub mode: usize,
 }
 
-#[derive(Drop)]
+#[derive(Clone, Copy)]
 pub enum Laying {
     // the new state, and the comments left
     Laid(LayoutState, usize),

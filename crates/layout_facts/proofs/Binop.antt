@@ -10,7 +10,7 @@ use lib.Dec.{eqb}
 use Rattle.ast.specs.Syntax.{Span, Expr, expr, Form, return', literal, block, match', function_call, access, path, record', typed_record, list, not'}
 use Rattle.ast.specs.Syntax.{assign, compound_assign, bin_op, negate, if_else, while, for, question_mark, f_string, parentheses}
 use Rattle.rows.specs.Node.{Nodes, none, ◌then◌, join, line_or_space}
-use Rattle.acts.specs.Act.{Given, St, Out, Act, next, ◌⨟◌, skip, push, grouped, indented}
+use Rattle.acts.specs.Act.{Given, St, Out, Act, ◌⨟◌, skip, push, grouped, indented}
 use Rattle.acts.proofs.Laws.{then_assoc}
 use Rattle.layout.specs.Layout.{Operands, binop_precedence, operator, leftmost, binop, popped, operands, operands_form, expr_with_precedence, expr_form, expr_rule}
 use Rattle.layout_facts.specs.Binop.{Pushed, pushed, Descent, descent, descend, descend_form, pop_ops, binop_of_rust, BinopAsRust}

@@ -2,12 +2,11 @@
 -- Assumes nothing.
 use Prim.Native.Nat.{ℕ, ◌+◌, ◌*◌, ◌-◌, ◌≤◌}
 use mathlib.Core.Path.{refl}
-use mathlib.Core.Bool.{Bool, true, false, not, ◌&&◌}
+use mathlib.Core.Bool.{Bool, true, false, not}
 use mathlib.Core.List.{List, [], ◌∷◌}
 use mathlib.Core.Option.{Option, none as nothing, some}
 use native.Mathlib.Omega.{arith}
 use lib.ListN.{length}
-use Rattle.image.specs.Bytes.{be32}
 use Rattle.text.proofs.Trims.{trim_before}
 use Rattle.ast.specs.Syntax.{Span, Ident, Idents, no_types, ◌∷ᵗ◌, Fields, Variants, no_variants, variant, Declaration, filter_map, const, record_decl}
 use Rattle.ast.specs.Syntax.{enum_decl, function, test, import_decl, SyntaxTree}

@@ -1,7 +1,7 @@
 -- The comment rules are sound: a comment takes three rows at most, its own, one for the newlines before it and, the last before a position,
 -- one for those after it.
 -- Assumes nothing.
-use Prim.Native.Nat.{ℕ, zero, suc, ◌+◌, ◌-◌, ◌*◌, ◌≤◌, ◌<◌, min}
+use Prim.Native.Nat.{ℕ, zero, suc, ◌-◌, ◌*◌, ◌≤◌, ◌<◌, min}
 use mathlib.Core.Path.{◌≡◌, refl}
 use mathlib.Core.Bool.{Bool, true, false, cond, ◌&&◌}
 use mathlib.Core.List.{List, [], ◌∷◌}
@@ -16,7 +16,7 @@ use Rattle.text.specs.Space.{something}
 use Rattle.text.specs.declared.space.Found.{Found}
 use Rattle.text.specs.declared.space.Found.TheVariants.{At, Nowhere}
 use Rattle.ast.specs.Syntax.{Span}
-use Rattle.rows.specs.Node.{line, empty_line, none, join}
+use Rattle.rows.specs.Node.{line, empty_line, join}
 use Rattle.rows.specs.Rows.{sizes}
 use Rattle.acts.specs.Act.{Given, St, Out, Act, next, ◌⨟◌, ◌⨟!◌, skip, push, move_to, pop, step_alone}
 use Rattle.comments.specs.Comments.{nth, front, push_comment, newlines, ignore_newlines, pop_comment, waits}

@@ -9,7 +9,6 @@ use mathlib.Core.Option.{none as nothing}
 use native.Mathlib.Omega.{arith}
 use lib.ListN.{length}
 use Rattle.text.proofs.Counts.{range_inside}
-use Rattle.image.specs.Bytes.{be32}
 use Rattle.image.proofs.Accepted.{Root}
 use Rattle.ast.specs.Syntax.{Declaration, SyntaxTree}
 use Rattle.tree.specs.At.{past, DeclarationsAt}

@@ -15,7 +15,7 @@ use Rattle.text.specs.Space.{something}
 use Rattle.text.specs.declared.space.Found.{Found}
 use Rattle.text.specs.declared.space.Found.TheVariants.{At, Nowhere}
 use Rattle.ast.specs.Syntax.{Span}
-use Rattle.rows.specs.Node.{Text, Node, Nodes, group, indent, indent_next, comment, line, empty_line, none, ◌then◌, join}
+use Rattle.rows.specs.Node.{Text, Node, Nodes, group, indent, indent_next, comment, none, ◌then◌, join}
 use Rattle.acts.specs.Act.{Given, St, Out, Act, Asking, next, ◌⨟◌, ◌⨟?◌, ◌⨟!◌, skip, when, push, move_to, pop, step_alone, grouped}
 use Rattle.acts.specs.Act.{indented, indented_next, called}
 use Rattle.comments.specs.Comments.{nth, break_line, front, push_comment, newlines, ignore_newlines, pop_comment, waits}

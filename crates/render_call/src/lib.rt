@@ -18,7 +18,7 @@ use crate::run::render_accepted;
 use rows::units::{Bytes, Columns};
 
 // `indent`, `next_indent`, `column`, marks in use, next row, width (0: none yet).
-#[derive(Drop)]
+#[derive(Clone, Copy)]
 pub struct RenderState {
     pub indent: usize,
     pub next_indent: usize,
@@ -29,13 +29,13 @@ pub struct RenderState {
 }
 
 // The row to stop before, and the width.
-#[derive(Drop)]
+#[derive(Clone, Copy)]
 pub struct RenderArgs {
     pub stop: usize,
     pub width: Columns,
 }
 
-#[derive(Drop)]
+#[derive(Clone, Copy)]
 pub enum Rendering {
     // the new state, and the bytes written
     Written(RenderState, Bytes),
@@ -44,7 +44,7 @@ pub enum Rendering {
 }
 
 // A rendering, with the greatest value that `column` was set to.
-#[derive(Drop)]
+#[derive(Clone, Copy)]
 pub enum Drawing {
     // the new state, the bytes written, the greatest value
     Drawn(RenderState, Bytes, Columns),

@@ -7,7 +7,7 @@ use crate::{RenderArgs, RenderState};
 use image::{header_fits, source_fits};
 use rowcheck::{Found, check_rows};
 
-#[derive(Drop)]
+#[derive(Clone, Copy)]
 pub(crate) enum Verdict {
     Accepted,
     // the number and the place

@@ -1,0 +1,65 @@
+use Rattle.acts.proofs.Laws.{lays, room_first, room_next, lays_then}
+use Rattle.layout.specs.Layout as rules
+use Rattle.tree.specs.At.{DeclarationAt}
+use Rattle.layout.proofs.Places.{within, head_whole, ident_whole}
+use Rattle.layout.proofs.Lays.{lays_as, laid_as}
+use Rattle.layout.proofs.declarations.filter_map.Goals as goal
+
+pub second-p-requires : goal.second-p-requires
+unfolding DeclarationAt
+second-p-requires c = within (ident_whole c.requires.held.1)
+
+pub third-q-requires : goal.third-q-requires
+unfolding DeclarationAt
+third-q-requires c = record { in_image = within (ident_whole c.requires.held.1); in_image_2 = within (head_whole c.requires.held.2) }
+
+pub declares-d-requires : goal.declares-d-requires
+unfolding DeclarationAt rules.declaration
+declares-d-requires c =
+    record { accepted = c.requires.accepted; tree = c.requires.tree.0; held = c.requires.held.1; room = room_first _ c.requires.room }
+
+pub params-e-requires : goal.params-e-requires
+unfolding DeclarationAt rules.declaration
+params-e-requires c =
+    rw c.second-p.ensures (record {
+      accepted = c.requires.accepted;
+      tree = (c.requires.tree.1, c.requires.tree.2);
+      held = (c.requires.held.2, c.requires.held.3);
+      room =
+          room_first _
+          (room_next c.requires.room ((lays_as c.requires.accepted c.declares-d.ensures).of c.requires.tree.0 c.requires.held.1));
+    })
+
+pub word-f-requires : goal.word-f-requires
+unfolding DeclarationAt rules.declaration
+word-f-requires c =
+    room_first _ (room_next
+    (room_next c.requires.room ((lays_as c.requires.accepted c.declares-d.ensures).of c.requires.tree.0 c.requires.held.1))
+    ((rw c.second-p.ensures at (lays_as c.requires.accepted c.params-e.ensures)).of (c.requires.tree.1, c.requires.tree.2)
+    (c.requires.held.2, c.requires.held.3)))
+
+pub block-requires : goal.block-requires
+unfolding DeclarationAt rules.declaration
+block-requires c =
+    rw c.third-q.ensures (record {
+      accepted = c.requires.accepted;
+      tree = c.requires.tree.3;
+      held = c.requires.held.4;
+      room =
+          room_next (room_next
+          (room_next c.requires.room ((lays_as c.requires.accepted c.declares-d.ensures).of c.requires.tree.0 c.requires.held.1))
+          ((rw c.second-p.ensures at (lays_as c.requires.accepted c.params-e.ensures)).of
+          (c.requires.tree.1, c.requires.tree.2) (c.requires.held.2, c.requires.held.3)))
+          (lays c.word-f.ensures);
+    })
+
+pub returns : goal.returns
+unfolding DeclarationAt rules.declaration
+returns c =
+    laid_as (record {
+      of =
+          λ x a. lays_then ((lays_as c.requires.accepted c.declares-d.ensures).of x.0 a.1) (lays_then
+          ((rw c.second-p.ensures at (lays_as c.requires.accepted c.params-e.ensures)).of (x.1, x.2) (a.2, a.3))
+          (lays_then (lays c.word-f.ensures)
+          ((lays_as c.requires.accepted c.block.ensures).of x.3 (rw c.third-q.ensures a.4))));
+    })

@@ -1,0 +1,80 @@
+use Prim.Native.Nat.{◌+◌}
+use mathlib.Core.Path.{◌≡◌, refl, sym, subst}
+use native.Mathlib.Omega.{arith}
+use Rattle.text.specs.Space.{trim_end}
+use Rattle.text.proofs.Trims.{trim_before, trim_after}
+use Rattle.image.specs.Read.{stop_at}
+use Rattle.acts.specs.Act.{Act}
+use Rattle.acts.specs.Laid.{Room}
+use Rattle.acts.proofs.Laws.{lays, room_first, room_next}
+use Rattle.layout.proofs.Places.{absent, present, maybe_ident}
+use Rattle.layout.proofs.DeclarationForms.{has_ident, shebang_same, no_shebang, some_shebang}
+use Rattle.layout.proofs.Lays.{laid_as}
+use Rattle.layout.proofs.declarations.shebang.Goals as goal
+
+pub is_absent-requires : goal.is_absent-requires
+is_absent-requires c = maybe_ident _ _ _ c.requires.tree c.requires.held
+
+pub returns-then-is_absent : goal.returns-then-is_absent
+returns-then-is_absent c = laid_as (no_shebang (absent c.is_absent.ensures c.if-is_absent.true))
+
+pub overflow_add-from : goal.overflow_add-from
+overflow_add-from c =
+    let h = has_ident (present c.is_absent.ensures c.if-is_absent.false) c.requires in
+    omega (arith, c.requires.accepted.small, h.held.head.fits, h.held.starts, h.held.ends)
+
+pub overflow_add-at : goal.overflow_add-at
+overflow_add-at c =
+    let h = has_ident (present c.is_absent.ensures c.if-is_absent.false) c.requires in
+    omega (arith, c.requires.accepted.small, h.held.head.fits, h.held.starts, h.held.ends)
+
+pub num16-requires : goal.num16-requires
+num16-requires c =
+    let h = has_ident (present c.is_absent.ensures c.if-is_absent.false) c.requires in
+    omega (arith, h.held.head.fits, h.held.starts, h.held.ends)
+
+pub past-requires : goal.past-requires
+past-requires c =
+    let h = has_ident (present c.is_absent.ensures c.if-is_absent.false) c.requires in
+    record { fits = h.held.head.fits }
+
+pub overflow_sub-size : goal.overflow_sub-size
+overflow_sub-size c =
+    let h = has_ident (present c.is_absent.ensures c.if-is_absent.false) c.requires in
+    let t =
+    trim_after c.args.b.now (c.args.at + 15) (stop_at c.args.b.now c.args.at) (omega (arith, h.held.starts, h.held.ends))
+    in
+    let e : c.trim_end.result ≡ trim_end c.args.b.now (c.args.at + 15) (stop_at c.args.b.now c.args.at) =
+    rw (← c.past.ensures) c.trim_end.ensures
+    in
+    omega (arith, t, e)
+
+pub overflow_cast-from : goal.overflow_cast-from
+overflow_cast-from c =
+    let h = has_ident (present c.is_absent.ensures c.if-is_absent.false) c.requires in
+    omega (arith, c.requires.accepted.small, h.held.head.fits, h.held.starts, h.held.ends)
+
+pub str-d-requires : goal.str-d-requires
+str-d-requires c =
+    let h = has_ident (present c.is_absent.ensures c.if-is_absent.false) c.requires in
+    let u = trim_before c.args.b.now (c.args.at + 15) (stop_at c.args.b.now c.args.at) in
+    let e : c.trim_end.result ≡ trim_end c.args.b.now (c.args.at + 15) (stop_at c.args.b.now c.args.at) =
+    rw (← c.past.ensures) c.trim_end.ensures
+    in record {
+      room = room_first _ (subst (λ (z : Act). Room z c.args.c)
+          (sym (shebang_same h.held c.num16.ensures.same refl (rw (c.trim_end.ensures, c.past.ensures)))) h.room);
+      size_le_top = omega (arith, c.requires.accepted.small, h.held.head.fits, u, e);
+      width_le_top = omega (arith, c.num16.ensures.same, c.num16.ensures.small);
+    }
+
+pub empty_line-requires : goal.empty_line-requires
+empty_line-requires c =
+    let h = has_ident (present c.is_absent.ensures c.if-is_absent.false) c.requires in
+    room_next (subst (λ (z : Act). Room z c.args.c)
+    (sym (shebang_same h.held c.num16.ensures.same refl (rw (c.trim_end.ensures, c.past.ensures)))) h.room)
+    (lays c.str-d.ensures)
+
+pub returns : goal.returns
+returns c =
+    laid_as (some_shebang (present c.is_absent.ensures c.if-is_absent.false) c.num16.ensures.same refl
+    (rw (c.trim_end.ensures, c.past.ensures)) (lays c.str-d.ensures) (lays c.empty_line.ensures))

@@ -1,0 +1,71 @@
+use mathlib.Core.Path.{◌≡◌, sym, ◌∙◌}
+use Prim.Native.Nat.{◌+◌}
+use native.Mathlib.Omega.{arith}
+use Rattle.image.specs.Bytes.{be32}
+use Rattle.image.specs.Read.{stop_at}
+use Rattle.acts.proofs.Laws.{lays}
+use Rattle.layout.proofs.Lays.{lays_as, laid_as, lays_list}
+use Rattle.layout.proofs.Places.{absent, present, within, ident_whole, pattern_whole}
+use Rattle.layout.proofs.Optionals.{fields_list, pattern_parts, any_room, any_pattern, bare_pattern, full_pattern, fields_whole}
+use Rattle.layout.proofs.idents.pattern.Goals as goal
+
+pub kind-requires : goal.kind-requires
+kind-requires c = pattern_whole _ _ _ c.requires.tree c.requires.held
+
+pub word-requires : goal.word-requires
+word-requires c = any_room (sym c.kind.ensures ∙ c.if-kind-eq-UNDERSCORE.true) c.requires
+
+pub returns-then-kind-eq-UNDERSCORE : goal.returns-then-kind-eq-UNDERSCORE
+returns-then-kind-eq-UNDERSCORE c =
+    laid_as (any_pattern (sym c.kind.ensures ∙ c.if-kind-eq-UNDERSCORE.true) (lays c.word.ensures))
+
+pub second-p-requires : goal.second-p-requires
+second-p-requires c =
+    let w = pattern_parts (λ e. c.if-kind-eq-UNDERSCORE.false (c.kind.ensures ∙ e)) c.requires in
+    within (ident_whole w.name.held)
+
+pub overflow_add-at : goal.overflow_add-at
+overflow_add-at c =
+    let w = pattern_parts (λ e. c.if-kind-eq-UNDERSCORE.false (c.kind.ensures ∙ e)) c.requires in
+    omega (arith, c.requires.accepted.small, w.whole.long, w.whole.fits)
+
+pub ident-d-requires : goal.ident-d-requires
+ident-d-requires c =
+    (pattern_parts (λ e. c.if-kind-eq-UNDERSCORE.false (c.kind.ensures ∙ e)) c.requires).name
+
+pub is_absent-requires : goal.is_absent-requires
+is_absent-requires c =
+    let w = pattern_parts (λ e. c.if-kind-eq-UNDERSCORE.false (c.kind.ensures ∙ e)) c.requires in
+    rw c.second-p.ensures w.fields
+
+pub returns-then-is_absent : goal.returns-then-is_absent
+returns-then-is_absent c =
+    laid_as
+    (let e : be32 c.args.b.now (stop_at c.args.b.now (c.args.at + 13)) ≡ 0 =
+    absent (rw c.second-p.ensures at c.is_absent.ensures) c.if-is_absent.true
+    in
+    bare_pattern (λ e. c.if-kind-eq-UNDERSCORE.false (c.kind.ensures ∙ e)) e (lays_as c.requires.accepted c.ident-d.ensures))
+
+pub end-requires : goal.end-requires
+end-requires c =
+    let f : be32 c.args.b.now (stop_at c.args.b.now (c.args.at + 13)) ≡ 0 → ⊥ =
+    present (rw c.second-p.ensures at c.is_absent.ensures) c.if-is_absent.false
+    in
+    rw c.second-p.ensures (fields_whole (λ e. c.if-kind-eq-UNDERSCORE.false (c.kind.ensures ∙ e)) f c.requires)
+
+pub separated-requires : goal.separated-requires
+separated-requires c =
+    let f : be32 c.args.b.now (stop_at c.args.b.now (c.args.at + 13)) ≡ 0 → ⊥ =
+    present (rw c.second-p.ensures at c.is_absent.ensures) c.if-is_absent.false
+    in
+    rw (c.end.ensures, c.second-p.ensures)
+    (fields_list (λ e. c.if-kind-eq-UNDERSCORE.false (c.kind.ensures ∙ e)) f (lays_as c.requires.accepted c.ident-d.ensures) c.requires)
+
+pub returns : goal.returns
+returns c =
+    laid_as
+    (let f : be32 c.args.b.now (stop_at c.args.b.now (c.args.at + 13)) ≡ 0 → ⊥ =
+    present (rw c.second-p.ensures at c.is_absent.ensures) c.if-is_absent.false
+    in
+    full_pattern (λ e. c.if-kind-eq-UNDERSCORE.false (c.kind.ensures ∙ e)) f (lays_as c.requires.accepted c.ident-d.ensures)
+    (rw (c.end.ensures, c.second-p.ensures) at (lays_list c.requires.accepted c.separated.ensures)))
