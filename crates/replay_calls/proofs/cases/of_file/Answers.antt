@@ -1,6 +1,5 @@
 use lib.ListN.{length-take}
 use native.Mathlib.Omega.{arith}
-use borrow.Author.Rules.{rules}
 use Rattle.replay_calls.proofs.cases.of_file.Goals as goal
 
 pub slice_bounds-rows-end-2 : goal.slice_bounds-rows-end-2

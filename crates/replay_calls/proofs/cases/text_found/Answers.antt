@@ -1,5 +1,4 @@
 use lib.ListN.{length-take}
-use borrow.Author.Rules.{rules}
 use native.Mathlib.Omega.{arith}
 use Rattle.replay_calls.proofs.cases.text_found.Goals as goal
 

@@ -1,6 +1,5 @@
 use lib.ListN.{length-take}
 use native.Mathlib.Omega.{arith}
-use borrow.Author.Rules.{rules}
 use Rattle.replay_calls.proofs.step_lists.no_room_found.Goals as goal
 
 pub slice_bounds-write_image-length : goal.slice_bounds-write_image-length
