@@ -3,7 +3,6 @@
 use mathlib.Core.Path.{◌≡◌, refl, sym, ap, ◌∙◌}
 use mathlib.Core.Option.{Option, none, some}
 use mathlib.Core.List.{List, [], ◌∷◌, map}
-use Prim.Native.Nat.{ℕ}
 use Rattle.refusals.specs.Refusals.{Refusal, unless}
 use Rattle.refusals.specs.Answers.{answer_by}
 use Rattle.cut_rule.specs.Callers.{after_all, AllKept}

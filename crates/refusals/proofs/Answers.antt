@@ -5,11 +5,11 @@ use mathlib.Core.Option.{Option, none, some}
 use mathlib.Core.List.{List, [], ◌∷◌, ◌++◌}
 use Prim.Native.Nat.{ℕ, suc, ◌+◌, ◌≤◌}
 use native.Mathlib.Omega.{arith}
-use lib.ListN.{length, get_or, drop}
+use lib.ListN.{length, drop}
 use lib.Seq.{sets, sets-eq}
 use Rattle.laws.proofs.Options.{never}
 use Rattle.refusals.specs.Refusals.{Refusal}
-use Rattle.refusals.specs.Answers.{Answer, refused, accepted, answer_by, refusal_of, numbers_of}
+use Rattle.refusals.specs.Answers.{refused, accepted, answer_by, refusal_of, numbers_of}
 
 -- ---- as a value
 -- an answer by a table has the table's refusal

@@ -16,10 +16,8 @@ use Rattle.cut_rule.specs.Limits.{REFERENCE_WIDTH}
 use Rattle.cut_rule.specs.Rules.{RenderArgs}
 use Rattle.cut_rule.specs.States.{RenderChoice, RenderState}
 use Rattle.cut_rule.specs.Tests.{render_tests, width_tests}
-use Rattle.cut_rule.specs.Parts.{width_line}
 use Rattle.whole_run.specs.Parts.{render_image}
-use Rattle.whole_run.specs.Reference.{at_reference, FileAsBefore, call_drawn, call_refusal, CallAsBefore, ReferenceHolds}
-use Rattle.whole_run.specs.Built.{reference_choice, render_choice}
+use Rattle.whole_run.specs.Reference.{at_reference, FileAsBefore, call_drawn, CallAsBefore, ReferenceHolds}
 
 -- 15 never refuses 80 where none or 80 is carried
 pub never_15 : (carried : ℕ) → (carried ≡ 0) ⊎ (carried ≡ REFERENCE_WIDTH) → refuse_if (any (width_tests REFERENCE_WIDTH carried)) 15 0 ≡ none

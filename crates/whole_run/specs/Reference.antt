@@ -15,7 +15,6 @@ use Rattle.marks.specs.Marks.{marks_needed}
 use Rattle.renderer_rules.specs.Renderer.{render_nodes}
 use Rattle.renderer_rules.specs.Page.{page_of}
 use Rattle.renderer_rules.specs.Check.{wrong_place}
-use Rattle.renderer_rules.specs.declared.Pen.{Pen}
 use Rattle.refusals.specs.Refusals.{Refusal, unless, first, refuse_if, refuse_at, any}
 use Rattle.refusals.specs.Answers.{Answer, answer_by}
 use Rattle.cut_rule.specs.Limits.{REFERENCE_WIDTH}

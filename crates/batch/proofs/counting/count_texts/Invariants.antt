@@ -1,0 +1,12 @@
+-- With the bytes so far, the texts from here on are all.
+use Prim.Native.Nat.{◌-◌}
+use lib.ListN.{length}
+use Rattle.file.specs.Whole.{to_choice}
+use Rattle.batch.proofs.Texts.{Adding}
+use Rattle.batch.proofs.counting.count_texts.Given as goal
+
+abbrev pub invariant-loop-at : goal.invariant-loop-at
+invariant-loop-at l = Adding (to_choice l.choice) l.frames l.at l.bytes
+
+abbrev pub decreases-loop-at : goal.decreases-loop-at
+decreases-loop-at l = length l.frames - l.at

@@ -1,0 +1,12 @@
+-- Writing what is left from here on gives the whole table and all texts.
+use Prim.Native.Nat.{◌-◌}
+use lib.ListN.{length}
+use Rattle.file.specs.Whole.{to_choice}
+use Rattle.batch.proofs.Texts.{Putting}
+use Rattle.batch.proofs.writing.write_saves.Given as goal
+
+abbrev pub invariant-loop-at : goal.invariant-loop-at
+invariant-loop-at l = Putting (to_choice l.choice) l.frames l.initial.table l.initial.out l.table l.out l.at l.cell l.text
+
+abbrev pub decreases-loop-at : goal.decreases-loop-at
+decreases-loop-at l = length l.frames - l.at
