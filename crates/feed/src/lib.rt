@@ -30,7 +30,7 @@ const IMAGE_LENGTH: usize = 4;
 const PIECE: usize = 65536;
 
 // What came of a file: no byte; some, up to the input's end; all of it.
-#[derive(Drop)]
+#[derive(Clone, Copy)]
 pub enum Came {
     Nothing,
     Cut,
@@ -38,14 +38,14 @@ pub enum Came {
 }
 
 // How many of the bytes asked for came, and whether the input ended before the last of them.
-#[derive(Drop)]
+#[derive(Clone, Copy)]
 struct Arrived {
     bytes: usize,
     ended: bool,
 }
 
 // What came of the next file, and how many bytes of it.
-#[derive(Drop)]
+#[derive(Clone, Copy)]
 pub struct Read {
     pub came: Came,
     pub bytes: usize,

@@ -12,7 +12,7 @@ pub(crate) const ANSWERS: usize = 16;
 
 // How many calls there are, where the next one is stored, the states that the calls so far left, the bytes that they wrote, and the first
 // difference.
-#[derive(Drop)]
+#[derive(Clone, Copy)]
 pub(crate) struct Run {
     pub calls: usize,
     pub at: usize,

@@ -7,7 +7,7 @@ use stored_answers::numbers::{end, forward, long, past, short, start};
 use stored_answers::report::{Compared, told};
 
 // Where a case ends, and its first difference.
-#[derive(Drop)]
+#[derive(Clone, Copy)]
 struct Case {
     next: usize,
     found: Found,
@@ -180,6 +180,7 @@ fn replay_case(
 
 // All cases; each that differs is shown.
 pub(crate) fn replay_cases(
+    rt: &impl Print,
     d: &[u8],
     store: &mut [u32],
     marks: &mut [u8],
@@ -193,7 +194,7 @@ pub(crate) fn replay_cases(
         let c = replay_case(d, at, store, marks, text, counts);
         let found = c.found;
         cases += 1;
-        differ += told(cases, found);
+        differ += told(rt, cases, found);
         at = forward(at, c.next);
     }
     Compared {

@@ -27,23 +27,23 @@ fn text_room() -> [u8; 1114112]
 }
 
 // How often each answer was given, by layout and by rendering calls.
-fn show_answers(counts: &[usize]) {
+fn show_answers(rt: &impl Print, counts: &[usize]) {
     if counts.len() < ANSWERS {
         return;
     }
-    show_counts(b"layout calls", &counts[..ANSWERS]);
-    show_counts(b"rendering calls", &counts[ANSWERS..]);
+    show_counts(rt, b"layout calls", &counts[..ANSWERS]);
+    show_counts(rt, b"rendering calls", &counts[ANSWERS..]);
 }
 
 // Lists of calls.
-pub(crate) fn calls(d: &[u8]) {
+pub(crate) fn calls(rt: &impl Print, d: &[u8]) {
     let mut store = store_room();
     let mut marks = marks_room();
     let mut text = text_room();
     let mut counts = [0usize; 32];
-    let c = replay_cases(d, &mut store, &mut marks, &mut text, &mut counts);
-    show_answers(&counts);
-    show_end(b"lists", c);
+    let c = replay_cases(rt, d, &mut store, &mut marks, &mut text, &mut counts);
+    show_answers(rt, &counts);
+    show_end(rt, b"lists", c);
 }
 
 // Blanks, as long as a source may be: the spans and comments of every stored list fit them.
@@ -52,12 +52,12 @@ fn blanks() -> [u8; 65536] {
 }
 
 // Lists of steps.
-pub(crate) fn steps(d: &[u8]) {
+pub(crate) fn steps(rt: &impl Print, d: &[u8]) {
     let source = blanks();
     let mut image = [0u8; 4096];
     let mut steps = [0u8; 4096];
     let mut counts = [0usize; 18];
-    let c = replay_lists(d, &source, &mut image, &mut steps, &mut counts);
-    show_counts(b"lists of steps", &counts);
-    show_end(b"lists of steps", c);
+    let c = replay_lists(rt, d, &source, &mut image, &mut steps, &mut counts);
+    show_counts(rt, b"lists of steps", &counts);
+    show_end(rt, b"lists of steps", c);
 }

@@ -8,20 +8,21 @@ mod groups;
 mod states;
 mod step_lists;
 
+use std::rt::Files;
 use stored_answers::group::{read, room};
 
-fn replay_calls(room: &mut [u8]) {
-    let n = read(b"calls", room);
-    groups::calls(&room[..n]);
+fn replay_calls(rt: &(impl Files + Print), room: &mut [u8]) {
+    let n = read(rt, "calls", room);
+    groups::calls(rt, &room[..n]);
 }
 
-fn replay_steps(room: &mut [u8]) {
-    let n = read(b"steps", room);
-    groups::steps(&room[..n]);
+fn replay_steps(rt: &(impl Files + Print), room: &mut [u8]) {
+    let n = read(rt, "steps", room);
+    groups::steps(rt, &room[..n]);
 }
 
-fn main() {
+fn main(rt: HostRuntime) {
     let mut input = room();
-    replay_calls(&mut input);
-    replay_steps(&mut input);
+    replay_calls(&rt, &mut input);
+    replay_steps(&rt, &mut input);
 }

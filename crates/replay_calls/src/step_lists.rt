@@ -10,7 +10,7 @@ const PLACE: usize = 2;
 const REFUSED: usize = 6;
 
 // Where a list's answer ends, and the first difference.
-#[derive(Drop)]
+#[derive(Clone, Copy)]
 struct Replayed {
     next: usize,
     found: Found,
@@ -132,6 +132,7 @@ fn replay_list(
 
 // All lists; each that differs is shown.
 pub(crate) fn replay_lists(
+    rt: &impl Print,
     d: &[u8],
     source: &[u8],
     image: &mut [u8],
@@ -145,7 +146,7 @@ pub(crate) fn replay_lists(
         let l = replay_list(d, at, source, image, steps, counts);
         let found = l.found;
         cases += 1;
-        differ += told(cases, found);
+        differ += told(rt, cases, found);
         at = forward(at, l.next);
     }
     Compared {

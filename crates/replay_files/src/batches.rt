@@ -13,7 +13,7 @@ const MODE: usize = 8;
 const ANSWER: usize = 16;
 
 // Where a batch's answer ends, and the first difference.
-#[derive(Drop)]
+#[derive(Clone, Copy)]
 struct Replayed {
     next: usize,
     found: Found,
@@ -35,7 +35,12 @@ fn replay_batch(d: &[u8], at: usize, files: &mut [usize], batches: &mut [usize])
 }
 
 // All batches; each that differs is shown.
-pub(crate) fn replay_batches(d: &[u8], files: &mut [usize], batches: &mut [usize]) -> Compared {
+pub(crate) fn replay_batches(
+    rt: &impl Print,
+    d: &[u8],
+    files: &mut [usize],
+    batches: &mut [usize],
+) -> Compared {
     let mut at: usize = 0;
     let mut cases: usize = 0;
     let mut differ: usize = 0;
@@ -43,7 +48,7 @@ pub(crate) fn replay_batches(d: &[u8], files: &mut [usize], batches: &mut [usize
         let b = replay_batch(d, at, files, batches);
         let found = b.found;
         cases += 1;
-        differ += told(cases, found);
+        differ += told(rt, cases, found);
         at = forward(at, b.next);
     }
     Compared {

@@ -16,7 +16,7 @@ const ROW: usize = 12;
 // Bytes of the length that stands before the texts.
 const LENGTH: usize = 4;
 
-#[derive(Drop)]
+#[derive(Clone, Copy)]
 pub(crate) struct Due {
     // the refusal's number, or 0
     number: usize,

@@ -8,7 +8,7 @@ use stored_answers::numbers::{end, forward, long, start};
 use stored_answers::report::{Compared, told};
 
 // Where a frame's answer ends, and the first difference.
-#[derive(Drop)]
+#[derive(Clone, Copy)]
 struct Frame {
     next: usize,
     found: Found,
@@ -81,6 +81,7 @@ fn replay_frame(
 
 // All frames; each that differs is shown.
 pub(crate) fn replay_frames(
+    rt: &impl Print,
     d: &[u8],
     store: &mut [u32],
     marks: &mut [u8],
@@ -94,7 +95,7 @@ pub(crate) fn replay_frames(
         let f = replay_frame(d, at, store, marks, out, counts);
         let found = f.found;
         cases += 1;
-        differ += told(cases, found);
+        differ += told(rt, cases, found);
         at = forward(at, f.next);
     }
     Compared {

@@ -24,22 +24,22 @@ fn program_output() -> [u8; 65536]
     [0; 65536]
 }
 
-pub(crate) fn frames(d: &[u8]) {
+pub(crate) fn frames(rt: &impl Print, d: &[u8]) {
     let mut store = program_rows();
     let mut marks = program_marks();
     let mut out = program_output();
     let mut counts = [0usize; 14];
-    let c = replay_frames(d, &mut store, &mut marks, &mut out, &mut counts);
-    show_counts(b"frames", &counts);
-    show_end(b"frames", c);
+    let c = replay_frames(rt, d, &mut store, &mut marks, &mut out, &mut counts);
+    show_counts(rt, b"frames", &counts);
+    show_end(rt, b"frames", c);
 }
 
 // Batches of files.
-pub(crate) fn batches(d: &[u8]) {
+pub(crate) fn batches(rt: &impl Print, d: &[u8]) {
     let mut files = [0usize; 16];
     let mut batches = [0usize; 20];
-    let c = replay_batches(d, &mut files, &mut batches);
-    show_counts(b"files", &files);
-    show_counts(b"batches", &batches);
-    show_end(b"batches", c);
+    let c = replay_batches(rt, d, &mut files, &mut batches);
+    show_counts(rt, b"files", &files);
+    show_counts(rt, b"batches", &batches);
+    show_end(rt, b"batches", c);
 }

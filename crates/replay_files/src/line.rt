@@ -1,4 +1,5 @@
 // The line that refuses a frame, by the kit's own decimal numbers.
+use itoa::Buffer;
 use stored_answers::found::{Found, first, unless};
 use stored_answers::numbers::past;
 
@@ -22,12 +23,12 @@ fn has(b: &[u8], at: usize, text: &[u8]) -> bool {
 
 // Where a number ends that stands behind a text at a place; past every end where it doesn't.
 fn number_found(b: &[u8], at: usize, before: &[u8], n: usize) -> usize {
-    let mut digits = [0u8; 20];
-    let k = io::decimal(n as u64, &mut digits);
+    let mut buffer = Buffer::new();
+    let digits = buffer.format(n).as_bytes();
     let from = past(at, before.len());
     if has(b, at, before) {
-        if has(b, from, &digits[..k]) {
-            return past(from, k);
+        if has(b, from, digits) {
+            return past(from, digits.len());
         }
     }
     18446744073709551615

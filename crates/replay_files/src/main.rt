@@ -15,20 +15,21 @@ mod pieces;
 mod stored;
 mod whole;
 
+use std::rt::Files;
 use stored_answers::group::{read, room};
 
-fn replay_frames(room: &mut [u8]) {
-    let n = read(b"frames", room);
-    groups::frames(&room[..n]);
+fn replay_frames(rt: &(impl Files + Print), room: &mut [u8]) {
+    let n = read(rt, "frames", room);
+    groups::frames(rt, &room[..n]);
 }
 
-fn replay_batches(room: &mut [u8]) {
-    let n = read(b"batches", room);
-    groups::batches(&room[..n]);
+fn replay_batches(rt: &(impl Files + Print), room: &mut [u8]) {
+    let n = read(rt, "batches", room);
+    groups::batches(rt, &room[..n]);
 }
 
-fn main() {
+fn main(rt: HostRuntime) {
     let mut input = room();
-    replay_frames(&mut input);
-    replay_batches(&mut input);
+    replay_frames(&rt, &mut input);
+    replay_batches(&rt, &mut input);
 }

@@ -9,7 +9,7 @@ use stored_answers::found::{Found, first, refusal_found, unless};
 use stored_answers::numbers::{byte, long, past};
 
 // The state that the last call answered, the comments left, and the first difference.
-#[derive(Drop)]
+#[derive(Clone, Copy)]
 struct Laid {
     state: LayoutState,
     left: usize,

@@ -24,7 +24,7 @@ pub(crate) const STOPS: usize = 31;
 pub(crate) const STOP: usize = 16;
 
 // What a run gave: how many rows, group numbers, comments left and bytes of text.
-#[derive(Drop)]
+#[derive(Clone, Copy)]
 pub(crate) struct Output {
     pub rows: usize,
     pub numbers: usize,
