@@ -53,7 +53,7 @@ module _ (s b : List ℕ) where
   render_held w args out (rendering.Written t n) store2 marks2 out2 p = rw (sym p.answer, p.store_left_of, p.marks_left_of, p.output_left_of)
   render_held w args out (rendering.Refused n q) store2 marks2 out2 p =
       ap (with_text (held s b (after_made w (rendered args out (rendering.Refused n q) store2 marks2 out2)))) (sym (append-nil w.text))
-      ∙ rw (sym p.answer, p.store_left_of, p.marks_left_of, p.output_left_of)
+      ∙ rw (sym p.answer, p.store_left_of, p.marks_left_of)
 
   one_held : (w : Caller) (m : Made) → Promised s b w m → held s b (after_made w m) ≡ call (rules_of s b) (held s b w) (call_made s b m)
   one_held w (laid args r store2) p = layout_held w args r store2 p ∙ entries_are_calls (rules_of s b) (held s b w) [] (layout_call (layout.to_args args))

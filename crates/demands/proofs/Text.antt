@@ -1,12 +1,10 @@
 -- What the entries write is the text of the rules, which is the comments and the program.
 -- Assumes nothing.
-use mathlib.Core.Path.{◌≡◌, refl, sym, ap, ap₂, subst, subst₂, ◌∙◌}
-use mathlib.Core.Bool.{true}
+use mathlib.Core.Path.{◌≡◌, refl, sym, ap, subst, subst₂, ◌∙◌}
 use mathlib.Core.Option.{Option, none as noRefusal, some}
 use mathlib.Core.List.{List, [], ◌∷◌, ◌++◌, map}
-use Prim.Native.Nat.{ℕ, suc, ◌*◌, ◌+◌, ◌-◌, ◌≤◌}
+use Prim.Native.Nat.{ℕ, ◌*◌, ◌-◌}
 use native.Mathlib.Omega.{arith}
-use native.Mathlib.Nat.{sub-zero}
 use lib.ListN.{length, take, length-append}
 use Rattle.refusals.specs.Refusals.{Refusal, unless}
 use Rattle.refusals.specs.Answers.{Answer, refused, accepted, answer_by}
@@ -23,13 +21,13 @@ use Rattle.whole_run.proofs.FileTable.{laid_passed, before_marks_lem}
 use Rattle.whole_run.proofs.File.{new_mode_leaves_none}
 use Rattle.whole_run.proofs.Text.{kept_comments_held, text_is_the_program, new_mode_places_all, output_is_the_program, calls_keep_the_text}
 use Rattle.file.specs.Whole.{source_of, image_of}
-use Rattle.file.specs.Reply.{reply, reply_by, program_refusal}
+use Rattle.file.specs.Reply.{reply, reply_by}
 use Rattle.batch.specs.Batch.{Save, all_saves, saves_by, row_of, text_by, rendered, single, table_of, texts_of, table_due}
 use Rattle.batch.specs.Batch.{texts_due, batch_refusal, BatchResult, batch_result, batch_answer, table_left, texts_left}
 use Rattle.demands.specs.Demand3.{call_made}
 use Rattle.demands.specs.Linked.{call_linked}
 use Rattle.demands.specs.Text.{FileIsTheProgram, FileHolds, NewModeFileHoldsAll, LinkedFileIsTheProgram, ReplyIsTheProgram}
-use Rattle.demands.specs.Text.{CallsAreTheProgram, LinkedCallsAreTheProgram, CallsHold, ClosedCallsHoldAll, SaveKept}
+use Rattle.demands.specs.Text.{CallsAreTheProgram, LinkedCallsAreTheProgram, CallsHold, ClosedCallsHoldAll}
 use Rattle.demands.specs.Text.{EachKept, no_file, refused_one, text_of_one, BatchIsThePrograms, LinkedBatchIsThePrograms}
 use Rattle.demands.proofs.Demand3.{made_run}
 use Rattle.demands.proofs.Linked.{linked_run, linked_file, linked_batch}

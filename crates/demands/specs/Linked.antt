@@ -1,14 +1,12 @@
 -- The functions that other languages link, `rrufthim_check`, `rrufthim_layout`, `rrufthim_render`, `rrufthim_format`, `rrufthim_count`, `rrufthim_write`, `rrufthim_steps` and
 -- `rrufthim_batch`. Their answers and states are arrays of so many numbers. What the numbers of an answer tell is an answer of the function in Rattle, and that function's
 -- promise holds of it (`LinkedPromises`). So the three demands and the sentences of requests 4, 5 and 7 hold of what is linked. proofs/Linked.antt proves it.
-use Rattle.std.specs.Prelude.{◌≡◌, true, cond, List, [], ◌∷◌, ◌++◌, map, ℕ, ◌-◌, eqb, length, get_or, take, drop, replicate}
+use Rattle.std.specs.Prelude.{◌≡◌, true, cond, List, [], ◌∷◌, ◌++◌, map, ℕ, eqb, length, get_or, take, drop, replicate}
 use Rattle.std.proofs.Math.Option.{Option, none, some}
 use Rattle.refusals.specs.Refusals.{Refusal, is_one_of}
 use Rattle.image.specs.Read.{read_all, reader_numbers, Checks, read_refusal}
 use Rattle.image.specs.declared.Answer.{Answer as Checked}
 use Rattle.image.specs.declared.Answer.TheVariants as checked
-use Rattle.rows.specs.Rows.{sizes}
-use Rattle.tree.specs.CommentList.{comments_of}
 use Rattle.comments.specs.Listed.{given}
 use Rattle.layout.specs.Layout.{fmt_parsed}
 use Rattle.layout.specs.Closing.{fresh, up_to, whole_rule}

@@ -23,8 +23,7 @@ fn put_wrote(out: &mut [u64; 2], answer: Wrote)
 }
 
 // Writes the image of a list of steps to the start of the output. `out` gets the refusal's number and place, or 0 and the image's bytes.
-#[unsafe(no_mangle)]
-pub extern "C" fn rrufthim_write_s1(steps: &[u8], output: &mut [u8], out: &mut [u64; 2])
+pub fn rrufthim_write_s1(steps: &[u8], output: &mut [u8], out: &mut [u64; 2])
     ensures { WritesImage steps.now output.old out.old output.new out.new }
 {
     let answer = write_image(steps, output);
@@ -32,13 +31,7 @@ pub extern "C" fn rrufthim_write_s1(steps: &[u8], output: &mut [u8], out: &mut [
 }
 
 // Writes the steps of an image to the start of the output. `out` gets the refusal's number and place, or 0 and the bytes of the steps.
-#[unsafe(no_mangle)]
-pub extern "C" fn rrufthim_steps_s1(
-    source: &[u8],
-    image: &[u8],
-    output: &mut [u8],
-    out: &mut [u64; 2],
-)
+pub fn rrufthim_steps_s1(source: &[u8], image: &[u8], output: &mut [u8], out: &mut [u64; 2])
     ensures { ListsSteps source.now image.now output.old out.old output.new out.new }
 {
     let answer = steps_of(source, image, output);

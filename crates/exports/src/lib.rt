@@ -3,9 +3,9 @@
 #![tactic(auto)]
 
 mod count;
-mod generator;
+pub mod generator;
 mod numbers;
-mod saves;
+pub mod saves;
 
 ghost use Rattle.std.specs.Prelude.{◌≡◌};
 ghost use Rattle.std.proofs.lemmas.List.Edits.{sets};
@@ -28,8 +28,7 @@ use text::newlines::count_newlines;
 
 // Whether a source and an image are accepted. `out` gets the refusal's number and place, or 0, the number of comments, the tree's offset and
 // the number of declarations.
-#[unsafe(no_mangle)]
-pub extern "C" fn rrufthim_check_s1(source: &[u8], image: &[u8], out: &mut [u64; 4])
+pub fn rrufthim_check_s1(source: &[u8], image: &[u8], out: &mut [u64; 4])
     ensures { ChecksFile source.now image.now out.old out.new }
 {
     match image::check(source, image) {
@@ -49,8 +48,7 @@ pub extern "C" fn rrufthim_check_s1(source: &[u8], image: &[u8], out: &mut [u64;
 // A layout call. The state: begun, closed, next declaration, next row, next number, comments placed, position, mode. The arguments: the
 // declaration to stop before, whether to close, and the mode. `out` gets the refusal's number and place, or 0, the comments left and the new
 // state.
-#[unsafe(no_mangle)]
-pub extern "C" fn rrufthim_layout_s1(
+pub fn rrufthim_layout_s1(
     source: &[u8],
     image: &[u8],
     store: &mut [u32],
@@ -73,8 +71,7 @@ pub extern "C" fn rrufthim_layout_s1(
 
 // A rendering call. The state: indent, next indent, column, marks in use, next row, width. The arguments: the row to stop before, and the
 // width. `out` gets the refusal's number and place, or 0, the bytes written and the new state.
-#[unsafe(no_mangle)]
-pub extern "C" fn rrufthim_render_s1(
+pub fn rrufthim_render_s1(
     source: &[u8],
     image: &[u8],
     store: &mut [u32],
@@ -99,8 +96,7 @@ pub extern "C" fn rrufthim_render_s1(
 
 // The run of one file: all is laid out and rendered, in rows and marks of its own. The choice: the width and the mode. `out` gets the refusal's
 // number and place, or 0, the bytes written, the comments left, the rows and the group numbers.
-#[unsafe(no_mangle)]
-pub extern "C" fn rrufthim_format_s1(
+pub fn rrufthim_format_s1(
     source: &[u8],
     image: &[u8],
     choice: &[u64; 2],
@@ -125,8 +121,7 @@ pub extern "C" fn rrufthim_format_s1(
 
 // The newlines of a range of the source, UTF-8 or not. `out` gets how many there are and the place of the last, or the range's end if there is
 // none; none is counted where the range is outside the source, reversed or off a boundary.
-#[unsafe(no_mangle)]
-pub extern "C" fn rrufthim_newlines_s1(source: &[u8], start: u64, end: u64, out: &mut [u64; 2])
+pub fn rrufthim_newlines_s1(source: &[u8], start: u64, end: u64, out: &mut [u64; 2])
     ensures { out.new ≡ sets out.old 0 (told_newlines (count_newlines source.now start end)) }
 {
     let found = count_newlines(source, start as usize, end as usize);
@@ -137,13 +132,7 @@ pub extern "C" fn rrufthim_newlines_s1(source: &[u8], start: u64, end: u64, out:
 // Counts a file with those before it: its figures, the new tallies, and wrapped over given. The tallies: how many files, then bytes, newlines,
 // column, given, wrapped, placed, left. `out` gets the refusal's number and place, or 0, the seven figures, the eight tallies, and the
 // fraction's two numbers.
-#[unsafe(no_mangle)]
-pub extern "C" fn rrufthim_count_s1(
-    source: &[u8],
-    image: &[u8],
-    tallies: &[u64; 8],
-    out: &mut [u64; 18],
-)
+pub fn rrufthim_count_s1(source: &[u8], image: &[u8], tallies: &[u64; 8], out: &mut [u64; 18])
     ensures { CountsFile source.now image.now tallies.now out.old out.new }
 {
     match count_file(source, image, tallies_from(tallies)) {

@@ -6,8 +6,7 @@ use batch::{Batch, format_batch};
 
 // Formats the files of a buffer of frames: the table gets three numbers a file, the output the texts in a row. The choice: the width and the
 // mode. `out` gets the refusal's number and place, or 0, the number of files and the bytes of their texts.
-#[unsafe(no_mangle)]
-pub extern "C" fn rrufthim_batch_s1(
+pub fn rrufthim_batch_s1(
     frames: &[u8],
     choice: &[u64; 2],
     table: &mut [u32],

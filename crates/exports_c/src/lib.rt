@@ -1,0 +1,112 @@
+// The functions of `exports` under the C calling convention: each calls the one of its name and promises the same. What the arguments are stands
+// there. The archive that is built of this crate is what other languages link.
+#![tactic(auto)]
+
+ghost use Rattle.std.specs.Prelude.{◌≡◌};
+ghost use Rattle.std.proofs.lemmas.List.Edits.{sets};
+ghost use Rattle.text.specs.Newlines.{count_newlines};
+ghost use Rattle.exports.specs.Numbers.{told_newlines};
+ghost use Rattle.exports.specs.Calls.{ChecksFile, CountsFile, Lays, Renders, FormatsFile};
+ghost use Rattle.exports.specs.Generator.{WritesImage, ListsSteps};
+ghost use Rattle.exports.specs.Saves.{FormatsBatch};
+
+#[unsafe(no_mangle)]
+pub extern "C" fn rrufthim_check_s1(source: &[u8], image: &[u8], out: &mut [u64; 4])
+    ensures { ChecksFile source.now image.now out.old out.new }
+{
+    exports::rrufthim_check_s1(source, image, out);
+}
+
+#[unsafe(no_mangle)]
+pub extern "C" fn rrufthim_layout_s1(
+    source: &[u8],
+    image: &[u8],
+    store: &mut [u32],
+    state: &[u64; 8],
+    args: &[u64; 3],
+    out: &mut [u64; 10],
+)
+    ensures { Lays source.now image.now store.old state.now args.now out.old store.new out.new }
+{
+    exports::rrufthim_layout_s1(source, image, store, state, args, out);
+}
+
+#[unsafe(no_mangle)]
+pub extern "C" fn rrufthim_render_s1(
+    source: &[u8],
+    image: &[u8],
+    store: &mut [u32],
+    marks: &mut [u8],
+    output: &mut [u8],
+    state: &[u64; 6],
+    args: &[u64; 2],
+    out: &mut [u64; 8],
+)
+    ensures { Renders source.now image.now store.old marks.old output.old state.now args.now out.old store.new marks.new output.new out.new }
+{
+    exports::rrufthim_render_s1(source, image, store, marks, output, state, args, out);
+}
+
+#[unsafe(no_mangle)]
+pub extern "C" fn rrufthim_format_s1(
+    source: &[u8],
+    image: &[u8],
+    choice: &[u64; 2],
+    output: &mut [u8],
+    out: &mut [u64; 5],
+)
+    ensures { FormatsFile source.now image.now choice.now output.old out.old output.new out.new }
+{
+    exports::rrufthim_format_s1(source, image, choice, output, out);
+}
+
+#[unsafe(no_mangle)]
+pub extern "C" fn rrufthim_newlines_s1(source: &[u8], start: u64, end: u64, out: &mut [u64; 2])
+    ensures { out.new ≡ sets out.old 0 (told_newlines (count_newlines source.now start end)) }
+{
+    exports::rrufthim_newlines_s1(source, start, end, out);
+}
+
+#[unsafe(no_mangle)]
+pub extern "C" fn rrufthim_count_s1(
+    source: &[u8],
+    image: &[u8],
+    tallies: &[u64; 8],
+    out: &mut [u64; 18],
+)
+    ensures { CountsFile source.now image.now tallies.now out.old out.new }
+{
+    exports::rrufthim_count_s1(source, image, tallies, out);
+}
+
+#[unsafe(no_mangle)]
+pub extern "C" fn rrufthim_write_s1(steps: &[u8], output: &mut [u8], out: &mut [u64; 2])
+    ensures { WritesImage steps.now output.old out.old output.new out.new }
+{
+    exports::generator::rrufthim_write_s1(steps, output, out);
+}
+
+#[unsafe(no_mangle)]
+pub extern "C" fn rrufthim_steps_s1(
+    source: &[u8],
+    image: &[u8],
+    output: &mut [u8],
+    out: &mut [u64; 2],
+)
+    ensures { ListsSteps source.now image.now output.old out.old output.new out.new }
+{
+    exports::generator::rrufthim_steps_s1(source, image, output, out);
+}
+
+#[unsafe(no_mangle)]
+pub extern "C" fn rrufthim_batch_s1(
+    frames: &[u8],
+    choice: &[u64; 2],
+    table: &mut [u32],
+    output: &mut [u8],
+    out: &mut [u64; 3],
+)
+    ensures { FormatsBatch frames.now choice.now table.old output.old out.old table.new output.new out.new }
+{
+    exports::saves::rrufthim_batch_s1(frames, choice, table, output, out);
+}
