@@ -12,12 +12,12 @@ use std::rt::Files;
 use stored_answers::group::{read, room};
 
 fn replay_calls(rt: &(impl Files + Print), room: &mut [u8]) {
-    let n = read(rt, "calls", room);
+    let n = read(rt, b"calls", room);
     groups::calls(rt, &room[..n]);
 }
 
 fn replay_steps(rt: &(impl Files + Print), room: &mut [u8]) {
-    let n = read(rt, "steps", room);
+    let n = read(rt, b"steps", room);
     groups::steps(rt, &room[..n]);
 }
 

@@ -19,12 +19,12 @@ use std::rt::Files;
 use stored_answers::group::{read, room};
 
 fn replay_frames(rt: &(impl Files + Print), room: &mut [u8]) {
-    let n = read(rt, "frames", room);
+    let n = read(rt, b"frames", room);
     groups::frames(rt, &room[..n]);
 }
 
 fn replay_batches(rt: &(impl Files + Print), room: &mut [u8]) {
-    let n = read(rt, "batches", room);
+    let n = read(rt, b"batches", room);
     groups::batches(rt, &room[..n]);
 }
 

@@ -17,7 +17,7 @@ use std::io::Read;
 const FILES: usize = 18446744073709551615;
 
 // What is held after the last file, what came of it, and whether its line was written.
-#[derive(Drop)]
+#[derive(Clone, Copy)]
 struct Ended {
     progress: Progress,
     came: Came,
@@ -75,12 +75,7 @@ fn goes_on(came: Came, written: bool) -> bool
 }
 
 // Takes the files one after another, and writes their lines, until the input ends or a line can't be written.
-fn take_files<R: Read>(
-    rt: &impl Print,
-    input: &mut R,
-    source: &mut [u8],
-    image: &mut [u8],
-) -> Ended
+fn take_files<R: Read>(rt: &impl Print, input: &mut R, source: &mut [u8], image: &mut [u8]) -> Ended
     ensures { Fed result }
 {
     let mut lengths = [0u8; LENGTHS];

@@ -8,7 +8,7 @@ use report_lines::{LINE_ROOM, ends_inside_line, file_line, refused_file_line};
 use tallies::{Figures, Tallies};
 
 // The files read so far, how many of them were refused, and the tallies over the others.
-#[derive(Drop)]
+#[derive(Clone, Copy)]
 pub(crate) struct Progress {
     pub(crate) files: usize,
     pub(crate) refused: usize,
@@ -16,7 +16,7 @@ pub(crate) struct Progress {
 }
 
 // What is held after a turn, and how many bytes its line has.
-#[derive(Drop)]
+#[derive(Clone, Copy)]
 pub(crate) struct Turn {
     pub(crate) progress: Progress,
     pub(crate) bytes: usize,

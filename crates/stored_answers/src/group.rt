@@ -3,8 +3,8 @@ ghost use Rattle.std.specs.Prelude.{◌≡◌, length};
 ghost use Rattle.input.specs.Counts.{IsPrefixLen};
 
 use input::read_full;
-use std::fs;
 use std::rt::Files;
+use std::{fs, str};
 
 // Room for the answers of a group.
 pub fn room() -> [u8; 2097152]
@@ -23,11 +23,21 @@ fn read_file(rt: &impl Files, name: &str, room: &mut [u8]) -> usize
     }
 }
 
-// Reads a group's file; how many bytes it has, and 0 where it is missing or has no room.
-pub fn read(rt: &(impl Files + Print), name: &str, room: &mut [u8]) -> usize
+// The same of a name in bytes: one that is no text names no file that can be opened.
+fn read_named(rt: &impl Files, name: &[u8], room: &mut [u8]) -> usize
     ensures { IsPrefixLen result room.new }
 {
-    let n = read_file(rt, name, room);
+    match str::from_utf8(name) {
+        Ok(name) => read_file(rt, name, room),
+        Err(_) => 0,
+    }
+}
+
+// Reads a group's file; how many bytes it has, and 0 where it is missing or has no room.
+pub fn read(rt: &(impl Files + Print), name: &[u8], room: &mut [u8]) -> usize
+    ensures { IsPrefixLen result room.new }
+{
+    let n = read_named(rt, name, room);
     if n < room.len() {
         return n;
     }

@@ -1,7 +1,6 @@
 use Prim.Native.Nat.{◌-◌, ◌≤◌}
 use lib.ListN.{length}
 use mathlib.Core.Path.{◌≡◌}
-use borrow.Author.Rules.{rules}
 use Rattle.replay_files.proofs.batches.replay_batches.Given as goal
 
 abbrev pub invariant-loop-at : goal.invariant-loop-at

@@ -1,6 +1,5 @@
 use lib.ListN.{length-take}
 use native.Mathlib.Omega.{arith}
-use borrow.Author.Rules.{rules}
 use Rattle.replay_files.proofs.buffers.table_found.Goals as goal
 
 pub slice_bounds-same_numbers-end : goal.slice_bounds-same_numbers-end

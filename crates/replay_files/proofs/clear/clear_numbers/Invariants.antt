@@ -1,7 +1,5 @@
-use native.Mathlib.Omega.{arith}
 use Prim.Native.Nat.{◌≤◌, ◌-◌}
-use lib.ListN.{length, length-set}
-use borrow.Author.Rules.{rules}
+use lib.ListN.{length}
 use mathlib.Core.Path.{◌≡◌}
 use Rattle.replay_files.proofs.clear.clear_numbers.Given as goal
 

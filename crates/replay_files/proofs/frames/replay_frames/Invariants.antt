@@ -2,7 +2,6 @@
 use mathlib.Core.Path.{◌≡◌}
 use Prim.Native.Nat.{◌-◌, ◌≤◌}
 use lib.ListN.{length}
-use borrow.Author.Rules.{rules}
 use Rattle.replay_files.proofs.frames.replay_frames.Given as goal
 
 abbrev pub invariant-loop-at : goal.invariant-loop-at

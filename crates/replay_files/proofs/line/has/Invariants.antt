@@ -1,5 +1,4 @@
 -- No more bytes of the text are read than stand from the place on.
-use borrow.Author.Rules.{rules}
 use Prim.Native.Nat.{◌-◌, ◌≤◌}
 use lib.ListN.{length}
 use Rattle.replay_files.proofs.line.has.Given as goal

@@ -1,7 +1,6 @@
 use mathlib.Core.Path.{◌≡◌}
 use Prim.Native.Nat.{◌-◌}
 use lib.ListN.{length}
-use borrow.Author.Rules.{rules}
 use Rattle.replay_files.proofs.pieces.to_stops.Given as goal
 
 abbrev pub invariant-loop-stop : goal.invariant-loop-stop

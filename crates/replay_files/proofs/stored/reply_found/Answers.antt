@@ -1,7 +1,6 @@
 -- No more than the output has.
 use native.Mathlib.Omega.{arith}
 use lib.ListN.{length-take}
-use borrow.Author.Rules.{rules}
 use Rattle.replay_files.proofs.stored.reply_found.Goals as goal
 
 pub slice_bounds-written_found-end : goal.slice_bounds-written_found-end
