@@ -10,7 +10,7 @@ use std::{
 /// Names the archive or its folder, if it isn't in the repository's target
 /// folder.
 const VARIABLE: &str = "RRUFTHIM_ARCHIVE";
-/// What `rt staticlib exports` calls it.
+/// What `tools/build exports` calls it.
 const BUILT: &str = "libexports.a";
 /// What the linker is told: a name that no other library has.
 const LINKED: &str = "librrufthim.a";
@@ -25,8 +25,8 @@ fn main() {
     let folder = PathBuf::from(env::var_os("OUT_DIR").expect("by cargo"));
     if let Err(fault) = take(&archive, &folder.join(LINKED)) {
         println!(
-            "cargo::error=the static library {} {fault}: build it by `rt \
-             staticlib exports` in the repository's top folder, or set \
+            "cargo::error=the static library {} {fault}: build it by \
+             `tools/build exports` in the repository's top folder, or set \
              {VARIABLE} to the path of {BUILT}",
             archive.display()
         );

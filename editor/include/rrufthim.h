@@ -1,6 +1,6 @@
 /*
  * The proved formatter for Roto scripts, as C calls it. The functions are those of librrufthim.a: target/staticlib/libexports.a, which
- * `rt staticlib exports` writes (x86-64 Linux), under a name that no other library has. docs/01-scope.md has the rules: the tree image,
+ * `tools/build exports` writes (x86-64 Linux), under a name that no other library has. docs/01-scope.md has the rules: the tree image,
  * rows, marks, states and refusals; docs/02-change-requests.md those of tallies, widths, modes, steps and batches.
  *
  * Buffers. A pointer to bytes, rows or a table goes with the number of its elements; state, args, choice, tallies and out have a fixed

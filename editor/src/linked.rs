@@ -1,4 +1,4 @@
-//! The functions of the static library, as crates/exports has them: slices,
+//! The functions of the static library, as crates/exports_c has them: slices,
 //! arrays and numbers in, numbers in `out`. All that is unsafe in this crate
 //! is here, and all that turns the library's numbers into sizes and back.
 //! include/rrufthim.h says the same to C.
@@ -35,7 +35,7 @@ pub fn numbers<const N: usize>(sizes: [usize; N]) -> [u64; N] {
 }
 
 /// Declares functions of the library as safe ones, by their names without
-/// `rrufthim_` and the number, and by their parameters in crates/exports: a
+/// `rrufthim_` and the number, and by their parameters in crates/exports_c: a
 /// slice is handed over as a pointer and a length, an array as a pointer.
 macro_rules! linked {
     ($($(#[$about:meta])* fn $name:ident($($parameters:tt)*);)*) => {
@@ -86,7 +86,7 @@ macro_rules! linked {
                 concat!("rrufthim_", stringify!($name), "_s", shape!())]
             fn linked($(_: $kind),*);
         }
-        // Safety: the parameters are those of crates/exports
+        // Safety: the parameters are those of crates/exports_c
         // (tests/header.rs). Each pointer to a slice goes with the slice's
         // length. The function is proved to stay within slices and arrays,
         // and keeps nothing.

@@ -1,4 +1,4 @@
-//! The header for C and src/linked.rs declare what crates/exports has: the
+//! The header for C and src/linked.rs declare what crates/exports_c has: the
 //! same symbols, parameters in the same order, kinds and sizes.
 
 #[allow(dead_code)]
@@ -25,7 +25,7 @@ fn all_say_the_same() {
 }
 
 /// Whichever of the three has another number is found out, and so is one of
-/// crates/exports' functions.
+/// crates/exports_c's functions.
 #[test]
 fn another_number_is_found() {
     let (text, next) = (exports(), SHAPE + 1);
@@ -43,11 +43,12 @@ fn another_number_is_found() {
     let changed = LINKED.replacen(&from, &to, 1);
     assert!(changed != LINKED, "{from}");
     assert_ne!(linked(&changed), exported_now);
-    let (from, to) = (format!("_s{SHAPE}("), format!("_s{next}("));
-    for (at, _) in text.match_indices(&from) {
-        let (before, behind) = text.split_at(at);
-        let changed = before.to_owned() + &behind.replacen(&from, &to, 1);
-        assert_ne!(exported(&changed), exported_now);
+    for (name, _) in &exported_now {
+        let plain = name.strip_suffix(&format!("_s{SHAPE}")).expect("it");
+        let other = format!("fn {plain}_s{next}(");
+        let changed = text.replacen(&format!("fn {name}("), &other, 1);
+        assert!(changed != text, "{name}");
+        assert_ne!(exported(&changed), exported_now, "{name}");
     }
 }
 

@@ -66,7 +66,7 @@ fn longer_arrays_ask_for_another_number() {
         let (places, behind) = behind.split_once(']').expect("its end");
         let places: usize = places.parse().expect("a length");
         let changed = format!("{before}{}]{behind}", places + 1);
-        // Functions that aren't exported have arrays too.
+        // A function that isn't exported may have arrays too.
         if listed(&changed) != listed(&text) {
             asks(&changed, &before[at.saturating_sub(60)..]);
             tried += 1;

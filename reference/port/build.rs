@@ -1,4 +1,4 @@
-//! Links the port's static library, which `rt staticlib exports` writes.
+//! Links the port's static library, which `tools/build exports` writes.
 
 use std::{env, path::PathBuf};
 

@@ -1,4 +1,4 @@
-//! The exported functions as crates/exports, src/linked.rs and the header
+//! The exported functions as crates/exports_c, src/linked.rs and the header
 //! declare them: symbols and parameters, read from the text.
 
 use std::{fs, path::Path};
@@ -13,10 +13,10 @@ const EXPORT: &str = "pub extern \"C\" fn ";
 /// an array as a pointer.
 pub type Function = (String, Vec<String>);
 
-/// All files of crates/exports/src.
+/// All files of crates/exports_c/src.
 pub fn exports() -> String {
     let here = Path::new(env!("CARGO_MANIFEST_DIR"));
-    let folder = here.join("../crates/exports/src");
+    let folder = here.join("../crates/exports_c/src");
     let inner = fs::read_dir(folder).expect("a folder");
     let paths = inner.map(|one| one.expect("a name").path());
     let texts = paths.map(|path| fs::read_to_string(path).expect("a file"));
@@ -59,7 +59,7 @@ pub fn linked(text: &str) -> Vec<Function> {
     found
 }
 
-/// The functions of crates/exports as they are written there.
+/// The functions of crates/exports_c as they are written there.
 pub fn signatures(text: &str) -> Vec<Function> {
     functions(text, EXPORT, |one| vec![one.to_owned()])
 }

@@ -1,6 +1,6 @@
 //! The table of files that the program `report` writes.
 
-/// By the program itself, which `rt check report` builds.
+/// By the program itself, which `tools/build report` builds.
 #[cfg(not(feature = "stand-in"))]
 pub fn report(input: &[u8]) -> Result<Vec<u8>, String> {
     let program =
