@@ -123,7 +123,7 @@ fn unreadable<R: Read>(input: &mut R) -> bool {
     input.read(&mut one).is_err()
 }
 
-// There is no status to tell a failure by: it is said on standard error.
+// A failure is said on standard error; the status is 0 all the same.
 fn main(rt: HostRuntime) {
     let mut input = rt.stdin();
     if !report(&rt, &mut input) {

@@ -26,7 +26,7 @@ fn answer(rt: &impl Print, frame: &[u8]) -> bool {
     rt.write_all(&out[..n]).is_ok()
 }
 
-// There is no status to tell a failure by: it is said on standard error.
+// A failure is said on standard error; the status is 0 all the same.
 fn main(rt: HostRuntime) {
     let mut input = room();
     let n = read_full(&mut rt.stdin(), &mut input);
