@@ -40,9 +40,9 @@ module _ (R : Rules) where
       record { passes = a.passes; bytes = (cc) }
 
   -- a caller whose calls are, one by one, calls of the run, makes the run
-  pub all_held : {W M : Type 0} (after : W → M → W) (Keeps : W → M → Type 0) (held : W → Carried R) (asCall : M → Call R)
-      → ((w : W) (m : M) → Keeps w m → held (after w m) ≡ call R (held w) (asCall m))
-      → (w : W) (ms : List M) → AllKept after Keeps w ms → held (after_all after w ms) ≡ run R (held w) (map asCall ms)
-  all_held after Keeps held asCall one w [] p = refl
-  all_held after Keeps held asCall one w (m ∷ ms) p =
-      all_held after Keeps held asCall one (after w m) ms p.1 ∙ ap (λ (v : Carried R). run R v (map asCall ms)) (one w m p.0)
+  pub all_held : {W M : Type 0} (after : W → M → W) (Keeps : W → M → Type 0) (held : W → Carried R) (as_call : M → Call R)
+      → ((w : W) (m : M) → Keeps w m → held (after w m) ≡ call R (held w) (as_call m))
+      → (w : W) (ms : List M) → AllKept after Keeps w ms → held (after_all after w ms) ≡ run R (held w) (map as_call ms)
+  all_held after Keeps held as_call one w [] p = refl
+  all_held after Keeps held as_call one w (m ∷ ms) p =
+      all_held after Keeps held as_call one (after w m) ms p.1 ∙ ap (λ (v : Carried R). run R v (map as_call ms)) (one w m p.0)

@@ -1,7 +1,7 @@
 -- What the entries write is the text of the rules, which is the comments and the program.
 -- Assumes nothing.
 use mathlib.Core.Path.{◌≡◌, refl, sym, ap, subst, subst₂, ◌∙◌}
-use mathlib.Core.Option.{Option, none as noRefusal, some}
+use mathlib.Core.Option.{Option, none as no_refusal, some}
 use mathlib.Core.List.{List, [], ◌∷◌, ◌++◌, map}
 use Prim.Native.Nat.{ℕ, ◌*◌, ◌-◌}
 use native.Mathlib.Omega.{arith}
@@ -81,7 +81,7 @@ pub closed_calls_hold_all : ClosedCallsHoldAll
 closed_calls_hold_all s b w k e closed new = kept_comments_held s b _ _ _ (k.all e closed new)
 
 -- ---- a batch
-accepted_read : (s b : List ℕ) (c : FileChoice) (room : ℕ) → file_refusal s b c room ≡ noRefusal → read_refusal (read_all s b) ≡ noRefusal
+accepted_read : (s b : List ℕ) (c : FileChoice) (room : ℕ) → file_refusal s b c room ≡ no_refusal → read_refusal (read_all s b) ≡ no_refusal
 accepted_read s b c room e = (laid_passed s b c file_rows (before_marks_lem s b c file_rows file_marks room e)).read
 
 module _ (c : FileChoice) where
@@ -104,7 +104,7 @@ module _ (c : FileChoice) where
       go : (o : Option Refusal) → file_refusal s b c (length text) ≡ o
           → EachKept c (x ∷ xs) (row_of (answered o) ++ table) (text_by (answered o) text ++ texts)
       go (some r) e = refused_one r (ap answered e) k
-      go noRefusal e =
+      go no_refusal e =
           text_of_one text
           (record {
             placed = (built s b c).placed;

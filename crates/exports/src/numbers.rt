@@ -1,7 +1,7 @@
 // Numbers in and out of the arrays that the exported functions are lent.
 ghost use Rattle.std.specs.Prelude.{◌≡◌, [], ◌∷◌};
 ghost use Rattle.std.proofs.lemmas.List.Edits.{sets};
-ghost use Rattle.exports.specs.Numbers.{flag as flagOf, bit as bit_of, layout_state, layout_args, render_state, render_args, file_choice};
+ghost use Rattle.exports.specs.Numbers.{flag as flag_of, bit as bit_of, layout_state, layout_args, render_state, render_args, file_choice};
 
 use file::FileChoice;
 use layout_call::{LayoutArgs, LayoutState};
@@ -10,7 +10,7 @@ use rows::units::{Bytes, Columns};
 
 // A flag is yes for every number but 0.
 fn flag(x: u64) -> bool
-    ensures { result ≡ flagOf x }
+    ensures { result ≡ flag_of x }
 {
     x != 0
 }

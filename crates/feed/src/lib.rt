@@ -2,7 +2,7 @@
 #![tactic(auto)]
 
 ghost use Rattle.std.specs.Prelude.{◌≡◌, ◌≤◌, ◌<◌, min, length};
-ghost use Rattle.feed.specs.Input.{LENGTHS as Input-as-LENGTHS, source_length, image_length, Arrives, came_of, ReadsFile};
+ghost use Rattle.feed.specs.Input.{LENGTHS as INPUT_LENGTHS, source_length, image_length, Arrives, came_of, ReadsFile};
 
 use image::bytes::num32;
 use image::limits::{MAX_BODY, MAX_SOURCE};
@@ -116,8 +116,8 @@ fn read_part<R: io::Read>(input: &mut R, room: &mut [u8], n: usize) -> Arrived
 
 // What came of a file whose lengths didn't come whole.
 fn without_lengths(bytes: usize) -> Read
-    requires { bytes < Input-as-LENGTHS }
-    ensures { (result.bytes ≡ bytes) × (result.came ≡ came_of Input-as-LENGTHS bytes) }
+    requires { bytes < INPUT_LENGTHS }
+    ensures { (result.bytes ≡ bytes) × (result.came ≡ came_of INPUT_LENGTHS bytes) }
 {
     if bytes == 0 {
         return Read {

@@ -9,8 +9,8 @@ ghost use Rattle.rows.specs.Places.{PLACES};
 ghost use Rattle.cut_rule.specs.States.{layout_fresh, render_fresh};
 ghost use Rattle.whole_run.specs.Demands.{closing_at};
 ghost use Rattle.whole_run.specs.File.{file_rows, file_marks};
-ghost use Rattle.layout_call.specs.Calls.{to_state as laidState, to_args as laidArgs};
-ghost use Rattle.render_call.specs.Calls.{to_state as renderedState};
+ghost use Rattle.layout_call.specs.Calls.{to_state as laid_state, to_args as laid_args};
+ghost use Rattle.render_call.specs.Calls.{to_state as rendered_state};
 ghost use Rattle.file.specs.Whole.{to_choice, formatted_of, RunsFile, Formats, FormatsFrame};
 
 use image::bytes::num32;
@@ -93,7 +93,7 @@ fn formatted_of(r: FileRun) -> Formatted
 
 // Nothing is laid out yet.
 fn layout_fresh() -> LayoutState
-    ensures { laidState result ≡ layout_fresh }
+    ensures { laid_state result ≡ layout_fresh }
 {
     LayoutState {
         begun: false,
@@ -109,7 +109,7 @@ fn layout_fresh() -> LayoutState
 
 // A call that lays the declarations up to a stop, and closes.
 fn closing_at(mode: usize, stop: usize) -> LayoutArgs
-    ensures { laidArgs result ≡ closing_at (record { mode = mode }) stop }
+    ensures { laid_args result ≡ closing_at (record { mode = mode }) stop }
 {
     LayoutArgs {
         stop: stop,
@@ -120,7 +120,7 @@ fn closing_at(mode: usize, stop: usize) -> LayoutArgs
 
 // Nothing is rendered yet.
 fn render_fresh() -> RenderState
-    ensures { renderedState result ≡ render_fresh }
+    ensures { rendered_state result ≡ render_fresh }
 {
     RenderState {
         indent: 0,

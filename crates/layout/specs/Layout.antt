@@ -264,16 +264,16 @@ module _ (g : Given) where
   -- ---- `path`
   -- an identifier after the first, and all of them
   unfoldable pub path_next : Bool → Ident → Act
-  path_next allowLineBreaks i = when allowLineBreaks (push line) ⨟ gap i.span.end false false false ⨟ says "." ⨟ ident i
+  path_next allow_line_breaks i = when allow_line_breaks (push line) ⨟ gap i.span.end false false false ⨟ says "." ⨟ ident i
 
   unfoldable pub path_more : Bool → List Ident → Act
-  path_more allowLineBreaks [] = skip
-  path_more allowLineBreaks (i ∷ is) = path_next allowLineBreaks i ⨟ path_more allowLineBreaks is
+  path_more allow_line_breaks [] = skip
+  path_more allow_line_breaks (i ∷ is) = path_next allow_line_breaks i ⨟ path_more allow_line_breaks is
 
   unfoldable pub path_rule : Path → Bool → Bool → Act
-  path_rule p true allowLineBreaks =
-      grouped (λ id. ident p.first ⨟ indented (path_more allowLineBreaks p.more)) ⨟ pop_trailing_comment g
-  path_rule p false allowLineBreaks = ident p.first ⨟ path_more allowLineBreaks p.more ⨟ pop_trailing_comment g
+  path_rule p true allow_line_breaks =
+      grouped (λ id. ident p.first ⨟ indented (path_more allow_line_breaks p.more)) ⨟ pop_trailing_comment g
+  path_rule p false allow_line_breaks = ident p.first ⨟ path_more allow_line_breaks p.more ⨟ pop_trailing_comment g
 
   -- identifiers as elements: `type_params`, and the fields of a pattern
   abbrev pub ident_elems : List Ident → List Elem

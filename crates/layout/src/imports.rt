@@ -30,8 +30,8 @@ fn import_first(store: &mut [u32], c: Cursor, s: &[u8], b: &[u8], at: usize) -> 
 
 // The dot between the path at `from` and the group at `at`, where both are there.
 fn import_dot(store: &mut [u32], c: Cursor, b: &[u8], from: usize, at: usize) -> Cursor
-    requires in_image { InImage b.now from }
-    requires in_image_2 { InImage b.now at }
+    requires path_in_image { InImage b.now from }
+    requires group_in_image { InImage b.now at }
     requires room { Room (when (not (eqb (be32 b.now from) 0) && not (eqb (be32 b.now at) 0)) (says ".")) c }
     ensures { Laid (when (not (eqb (be32 b.now from) 0) && not (eqb (be32 b.now at) 0)) (says ".")) store.old c store.new result }
 {

@@ -27,8 +27,8 @@ pub fn second(b: &[u8], at: usize) -> usize
 
 // Where the third child of the record at `at` starts.
 pub(crate) fn third(b: &[u8], at: usize) -> usize
-    requires in_image { InImage b.now (at + 13) }
-    requires in_image_2 { InImage b.now (stop_at b.now (at + 13)) }
+    requires second_in_image { InImage b.now (at + 13) }
+    requires third_in_image { InImage b.now (stop_at b.now (at + 13)) }
     ensures { result ≡ stop_at b.now (stop_at b.now (at + 13)) }
 {
     past(b, second(b, at))

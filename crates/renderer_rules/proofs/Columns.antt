@@ -5,7 +5,7 @@ use native.Mathlib.Omega.{arith}
 use mathlib.Core.Bool.{Bool, true, false, cond, not, ◌&&◌}
 use mathlib.Core.List.{List, [], ◌∷◌}
 use lib.Dec.{ltb}
-use Rattle.rows.specs.Node.{Node, Nodes, group, indent, indent_next, wrap_parent, comment as commentNode, str}
+use Rattle.rows.specs.Node.{Node, Nodes, group, indent, indent_next, wrap_parent, comment as comment_node, str}
 use Rattle.rows.specs.Node.{ascii, line, empty_line, line_or_space, if_wrap, call, none, ◌then◌, wrapped}
 use Rattle.renderer_rules.specs.declared.Pen.{Pen}
 use Rattle.renderer_rules.specs.Renderer.{Page, Renderer, with_next_indent, on_pen, push_str, at_column, new_line, margin}
@@ -91,7 +91,7 @@ module _ (pg : Page) where
     measure (indent ns) = 4 + measures ns
     measure (indent_next ns) = 4 + measures ns
     measure wrap_parent = 0
-    measure (commentNode t) = 0
+    measure (comment_node t) = 0
     measure (str w t) = w
     measure (ascii t) = pg.columns t
     measure line = 0
@@ -114,7 +114,7 @@ module _ (pg : Page) where
     node_under (indent_next ns) w c s p =
         under_more (c + (4 + measures ns)) (omega arith) (next_out_under w (c + 4 + measures ns) _ (nodes_under ns w (c + 4) _ (next_in_under w c s p)))
     node_under wrap_parent w c s p = under_more (c + 0) (omega arith) p
-    node_under (commentNode t) w c s p = under_more (c + 0) (omega arith) (comment_under (pg.bytes t) c s p)
+    node_under (comment_node t) w c s p = under_more (c + 0) (omega arith) (comment_under (pg.bytes t) c s p)
     node_under (str k t) w c s p = text_under (pg.bytes t) k c s p
     node_under (ascii t) w c s p = text_under (pg.bytes t) (pg.columns t) c s p
     node_under line w c s p = under_more (c + 0) (omega arith) (under_either w (line_under c s p) p)

@@ -8,7 +8,7 @@ use mathlib.Core.List.{List, [], ◌∷◌, ◌++◌}
 use lib.ListN.{replicate}
 use lib.Dec.{ltb}
 use borrow.Author.Tests.{ltb-true, ltb-false}
-use Rattle.rows.specs.Node.{Node, Nodes, group, indent, indent_next, wrap_parent, comment as commentNode, str}
+use Rattle.rows.specs.Node.{Node, Nodes, group, indent, indent_next, wrap_parent, comment as comment_node, str}
 use Rattle.rows.specs.Node.{ascii, line, empty_line, line_or_space, if_wrap, call, none, ◌then◌, wrapped}
 use Rattle.renderer_rules.specs.declared.Pen.{Pen}
 use Rattle.renderer_rules.specs.Renderer.{Page, Renderer, with_next_indent, on_pen, push_str, at_column, new_line, margin, comment, text, insert, indent_more}
@@ -86,7 +86,7 @@ mutual
   render_kept (indent ns) pg w s = in_kept w s (render_nodes pg ns w (on_pen (indent_more w) s)) (renders_kept ns pg w (on_pen (indent_more w) s))
   render_kept (indent_next ns) pg w s = next_kept w s (render_nodes pg ns w (on_pen (next_indent_more w) s)) (renders_kept ns pg w (on_pen (next_indent_more w) s))
   render_kept wrap_parent pg w s = still s
-  render_kept (commentNode t) pg w s = comment_kept (pg.bytes t) s
+  render_kept (comment_node t) pg w s = comment_kept (pg.bytes t) s
   render_kept (str k t) pg w s = text_kept (pg.bytes t) k s
   render_kept (ascii t) pg w s = text_kept (pg.bytes t) (pg.columns t) s
   render_kept line pg w s = cond_kept w s (new_line s) s (line_kept s) (still s)

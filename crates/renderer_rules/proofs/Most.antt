@@ -10,7 +10,7 @@ use lib.Dec.{ltb}
 use borrow.Author.Tests.{ltb-true, ltb-false}
 use Rattle.rows.specs.Kinds.{CALL}
 use Rattle.rows.specs.Places.{KIND}
-use Rattle.rows.specs.Node.{Text, Node, Nodes, group, indent, indent_next, wrap_parent, comment as commentNode}
+use Rattle.rows.specs.Node.{Text, Node, Nodes, group, indent, indent_next, wrap_parent, comment as comment_node}
 use Rattle.rows.specs.Node.{str, ascii, line, empty_line, line_or_space, if_wrap, call, none, ◌then◌, wrapped}
 use Rattle.rows.specs.Rows.{size, sizes}
 use Rattle.rows.specs.View.{View, cell, view_of, first_of, nodes_at, node_at}
@@ -33,7 +33,7 @@ unfoldable mutual
   cost (indent ns) m = 4 + costs ns (suc m)
   cost (indent_next ns) m = 4 + costs ns (suc m)
   cost wrap_parent m = 0
-  cost (commentNode t) m = t.size + (2 + 4 * m)
+  cost (comment_node t) m = t.size + (2 + 4 * m)
   cost (str w t) m = t.size
   cost (ascii t) m = t.size
   cost line m = 2 + 4 * m
@@ -55,7 +55,7 @@ mutual
   cost_in (indent ns) m = let h = costs_in ns (suc m) in omega arith
   cost_in (indent_next ns) m = let h = costs_in ns (suc m) in omega arith
   cost_in wrap_parent m = omega arith
-  cost_in (commentNode t) m = omega arith
+  cost_in (comment_node t) m = omega arith
   cost_in (str w t) m = omega arith
   cost_in (ascii t) m = omega arith
   cost_in line m = omega arith
@@ -252,7 +252,7 @@ module _ (pg : Page) (said : (t : Text) → length (pg.bytes t) ≤ t.size) wher
         (adds_then (adds_then (next_in_adds w s) (renders_adds ns w (suc m) (on_pen (next_indent_more w) s) (next_sum w m s h)))
         (next_out_adds w (render_nodes pg ns w (on_pen (next_indent_more w) s))))
     render_adds wrap_parent w m s h = adds_none s
-    render_adds (commentNode t) w m s h = let g = said t in adds_more (t.size + (2 + 4 * m)) (omega arith) (comment_adds (pg.bytes t) m s h)
+    render_adds (comment_node t) w m s h = let g = said t in adds_more (t.size + (2 + 4 * m)) (omega arith) (comment_adds (pg.bytes t) m s h)
     render_adds (str k t) w m s h = adds_more t.size (said t) (text_adds (pg.bytes t) k s)
     render_adds (ascii t) w m s h = adds_more t.size (said t) (text_adds (pg.bytes t) (pg.columns t) s)
     render_adds line w m s h =
@@ -342,7 +342,7 @@ module _ (s : List ℕ) where
   leaves_size i (suc zero) e p q = absurd (omega arith)
   leaves_size i (suc (suc zero)) e p q = absurd (omega arith)
   leaves_size i (suc (suc (suc zero))) e p q = leaf_size i wrap_parent refl (node_parent v i e)
-  leaves_size i (suc (suc (suc (suc zero)))) e p q = leaf_size i (commentNode (v.text i)) refl (node_comment v i e)
+  leaves_size i (suc (suc (suc (suc zero)))) e p q = leaf_size i (comment_node (v.text i)) refl (node_comment v i e)
   leaves_size i (suc (suc (suc (suc (suc zero))))) e p q = leaf_size i (str (v.width i) (v.text i)) refl (node_str v i e)
   leaves_size i (suc (suc (suc (suc (suc (suc zero)))))) e p q = leaf_size i (ascii (v.text i)) refl (node_ascii v i e)
   leaves_size i (suc (suc (suc (suc (suc (suc (suc zero))))))) e p q = leaf_size i line refl (node_line v i e)

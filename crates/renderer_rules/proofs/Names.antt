@@ -9,7 +9,7 @@ use lib.ListN.{length, get_or, length-set}
 use lib.Seq.{get_or-set_other}
 use lib.Dec.{ltb, eqb}
 use borrow.Author.Tests.{eqb-false}
-use Rattle.rows.specs.Node.{Node, Nodes, group, indent, indent_next, wrap_parent, comment as commentNode, str}
+use Rattle.rows.specs.Node.{Node, Nodes, group, indent, indent_next, wrap_parent, comment as comment_node, str}
 use Rattle.rows.specs.Node.{ascii, line, empty_line, line_or_space, if_wrap, call, none, ◌then◌, wrapped}
 use Rattle.renderer_rules.specs.Renderer.{Page, Renderer, on_pen, push_str, at_column, new_line, margin, comment, text, insert, indent_more, next_indent_more}
 use Rattle.renderer_rules.specs.Renderer.{group_wraps, trailing_call, callee_wraps, render_node, render_nodes}
@@ -21,7 +21,7 @@ unfoldable mutual
   names x (indent ns) = names_in x ns
   names x (indent_next ns) = names_in x ns
   names x wrap_parent = false
-  names x (commentNode t) = false
+  names x (comment_node t) = false
   names x (str w t) = false
   names x (ascii t) = false
   names x line = false
@@ -94,7 +94,7 @@ mutual
   render_same x (indent_next ns) p w s e =
       after (same_marks x s (on_pen (next_indent_more w) s) refl) (after (renders_same x ns p w (on_pen (next_indent_more w) s) e) (same_marks x _ _ refl))
   render_same x wrap_parent p w s e = same_marks x s s refl
-  render_same x (commentNode t) p w s e = same_marks x s _ (comment_marks (p.bytes t) s)
+  render_same x (comment_node t) p w s e = same_marks x s _ (comment_marks (p.bytes t) s)
   render_same x (str k t) p w s e = same_marks x s _ (text_marks (p.bytes t) k s)
   render_same x (ascii t) p w s e = same_marks x s _ (text_marks (p.bytes t) (p.columns t) s)
   render_same x line p w s e = cond_same w x s (new_line s) s (same_marks x s _ (line_marks s)) (same_marks x s s refl)

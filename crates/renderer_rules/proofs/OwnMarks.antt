@@ -11,7 +11,7 @@ use lib.ListN.{length, get_or, set, length-set, get_or-eq_default}
 use lib.Seq.{get_or-set_same, get_or-set_other}
 use lib.Dec.{ltb, eqb}
 use borrow.Author.Tests.{eqb-true, eqb-false}
-use Rattle.rows.specs.Node.{Text, Node, Nodes, group, indent, indent_next, wrap_parent, comment as commentNode, str, ascii}
+use Rattle.rows.specs.Node.{Text, Node, Nodes, group, indent, indent_next, wrap_parent, comment as comment_node, str, ascii}
 use Rattle.rows.specs.Node.{line, empty_line, line_or_space, if_wrap, call, none, ◌then◌, wrapped, width, widths, must_wraps}
 use Rattle.renderer_rules.specs.declared.Pen.{Pen}
 use Rattle.renderer_rules.specs.Renderer.{Page, Renderer, with_marks, on_pen, push_str, at_column, new_line, margin, comment, text}
@@ -116,7 +116,7 @@ module _ (q : ℕ → Bool) where
       width_same (indent ns) i = widths_same ns i
       width_same (indent_next ns) i = widths_same ns i
       width_same wrap_parent i = refl
-      width_same (commentNode t) i = refl
+      width_same (comment_node t) i = refl
       width_same (str w t) i = refl
       width_same (ascii t) i = refl
       width_same line i = refl
@@ -198,7 +198,7 @@ module _ (q : ℕ → Bool) where
       render_alike (indent_next ns) w s t i a =
           keeps_pen (next_indent_less w) _ _ (renders_alike ns w _ _ i (keeps_pen (next_indent_more w) s t a))
       render_alike wrap_parent w s t i a = a
-      render_alike (commentNode x) w s t i a = keeps (comment (p.bytes x)) (comment_marked (p.bytes x)) s t a
+      render_alike (comment_node x) w s t i a = keeps (comment (p.bytes x)) (comment_marked (p.bytes x)) s t a
       render_alike (str k x) w s t i a = keeps (text (p.bytes x) k) (text_marked (p.bytes x) k) s t a
       render_alike (ascii x) w s t i a = keeps (text (p.bytes x) (p.columns x)) (text_marked (p.bytes x) (p.columns x)) s t a
       render_alike line w s t i a = cond_alike w (new_line s) s (new_line t) t (keeps new_line line_marked s t a) a

@@ -1,7 +1,7 @@
 -- `Renderer` of fmt.rs: `render_node`, `new_line`, `comment` and `text`.
 use Rattle.std.specs.Prelude.{ℕ, ◌+◌, ◌*◌, ◌-◌, max, Bool, true, false, cond, not, ◌&&◌, ◌||◌, List, [], ◌∷◌, ◌++◌, set, replicate, ltb}
 use Rattle.renderer_rules.specs.declared.Pen.{Pen}
-use Rattle.rows.specs.Node.{Text, Node, Nodes, group, indent, indent_next, wrap_parent, comment as commentNode, str, ascii, line, empty_line, line_or_space, if_wrap, call, none, ◌then◌, wrapped, widths, must_wraps}
+use Rattle.rows.specs.Node.{Text, Node, Nodes, group, indent, indent_next, wrap_parent, comment as comment_node, str, ascii, line, empty_line, line_or_space, if_wrap, call, none, ◌then◌, wrapped, widths, must_wraps}
 
 -- What a rendering goes by: `max`, what an `Ascii` text measures, and the bytes of a text.
 pub record Page : Type 0 where
@@ -130,7 +130,7 @@ module _ (p : Page) where
     render_node (indent ns) w r = on_pen (indent_less w) (render_nodes ns w (on_pen (indent_more w) r))
     render_node (indent_next ns) w r = on_pen (next_indent_less w) (render_nodes ns w (on_pen (next_indent_more w) r))
     render_node wrap_parent w r = r
-    render_node (commentNode t) w r = comment (p.bytes t) r
+    render_node (comment_node t) w r = comment (p.bytes t) r
     render_node (str k t) w r = text (p.bytes t) k r
     render_node (ascii t) w r = text (p.bytes t) (p.columns t) r
     render_node line w r = cond w (new_line r) r

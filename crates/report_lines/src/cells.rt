@@ -1,7 +1,7 @@
 // Cells of ten columns.
 ghost use Rattle.std.specs.Prelude.{◌≡◌, ◌∷◌, ◌+◌, ◌-◌, ◌≤◌, length};
 ghost use Rattle.lines.specs.Lines.{decimal};
-ghost use Rattle.report_lines.specs.Table.{BLANK, COLUMNS as Table-as-COLUMNS, cell, cells, in_order};
+ghost use Rattle.report_lines.specs.Table.{BLANK, COLUMNS as TABLE_COLUMNS, cell, cells, in_order};
 ghost use Rattle.report_lines.specs.Put.{Puts, CELL_ROOM, FIGURES_ROOM};
 
 use lines::{DIGITS, put_decimal, put_text};
@@ -11,7 +11,7 @@ const COLUMNS: usize = 10;
 
 // How many blanks are before a text of a size.
 fn blanks_before(size: usize) -> usize
-    ensures { result ≡ Table-as-COLUMNS - size }
+    ensures { result ≡ TABLE_COLUMNS - size }
 {
     if size < COLUMNS {
         return COLUMNS - size;

@@ -1,6 +1,6 @@
 // The first difference from stored answers.
 ghost use Rattle.std.specs.Prelude.{◌≡◌, eqb, length, get_or};
-ghost use Rattle.stored_answers.specs.Numbers.{onward, long as Numbers·long, eight as Numbers·eight, has_bytes};
+ghost use Rattle.stored_answers.specs.Numbers.{onward, long as long_number, eight as eight_number, has_bytes};
 ghost use Rattle.stored_answers.specs.Found.{is_same, first_of, or_same, refusal_found, bytes_found};
 
 use crate::compare::same_bytes;

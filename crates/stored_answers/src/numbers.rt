@@ -1,6 +1,6 @@
 // Places in the answers, and big-endian numbers there.
 ghost use Rattle.std.specs.Prelude.{◌≡◌, ◌≤◌, ◌<◌, length, get_or};
-ghost use Rattle.stored_answers.specs.Numbers.{onward, forward_from, start_of, end_of, short as Numbers·short, long as Numbers·long, eight as Numbers·eight};
+ghost use Rattle.stored_answers.specs.Numbers.{onward, forward_from, start_of, end_of, short as short_number, long as long_number, eight as eight_number};
 
 const LAST: usize = 18446744073709551615;
 
@@ -31,21 +31,21 @@ pub fn byte(d: &[u8], at: usize) -> usize
 
 // Two bytes.
 pub fn short(d: &[u8], at: usize) -> usize
-    ensures { (result ≡ Numbers·short d.now at) × (result < 65536) }
+    ensures { (result ≡ short_number d.now at) × (result < 65536) }
 {
     byte(d, at) * 256 + byte(d, past(at, 1))
 }
 
 // Four bytes.
 pub fn long(d: &[u8], at: usize) -> usize
-    ensures { (result ≡ Numbers·long d.now at) × (result < 4294967296) }
+    ensures { (result ≡ long_number d.now at) × (result < 4294967296) }
 {
     short(d, at) * 65536 + short(d, past(at, 2))
 }
 
 // Eight bytes.
 pub fn eight(d: &[u8], at: usize) -> usize
-    ensures { result ≡ Numbers·eight d.now at }
+    ensures { result ≡ eight_number d.now at }
 {
     long(d, at) * 4294967296 + long(d, past(at, 4))
 }

@@ -6,7 +6,7 @@ use mathlib.Core.List.{[], ◌++◌, append-nil, append_assoc}
 use native.Mathlib.Omega.{arith}
 use borrow.Author.Tests.{lt-ltb, le-ltb}
 use Rattle.text.specs.Newlines.{is_range}
-use Rattle.image.specs.Read.{header, comment_fits, comments_from, comments as commentList, shape, opens, children_at, skips, record_at, tree_at, read_tree}
+use Rattle.image.specs.Read.{header, comment_fits, comments_from, comments as comment_list, shape, opens, children_at, skips, record_at, tree_at, read_tree}
 use Rattle.image.specs.Read.{read_image, source_fits, read_all}
 use Rattle.image.specs.Bytes.{be16, be32}
 use Rattle.image.specs.Grammar.{row_of, row_under_of, kind_fits_of, payload_fits, first_child}
@@ -35,7 +35,7 @@ use Rattle.marks.specs.Marks.{marks_needed}
 use Rattle.whole_run.specs.Edges.{newline, EdgesHold, WidthsHold, EmptyLineHolds}
 
 pub edges_hold : EdgesHold
-unfolding header comment_fits comments_from commentList shape opens children_at skips record_at tree_at read_tree read_image source_fits read_all be16 be32 row_of
+unfolding header comment_fits comments_from comment_list shape opens children_at skips record_at tree_at read_tree read_image source_fits read_all be16 be32 row_of
     row_under_of kind_fits_of payload_fits first_child written within row_in followed sequence runs prefix well_formed boundary is_range views syntax_tree bytes
     must_wrap must_wraps width widths size sizes rows_of rows view_of node_of decode nodes_at comments_of pairs_at push_str at_column new_line margin comment text
     virtual_column insert indent_more indent_less next_indent_more next_indent_less wraps group_wraps trailing_call callee_wraps render_node render_nodes origin_text

@@ -315,8 +315,8 @@ unfolding fmt_parsed
 old_mode_is_fmt_parsed s b c e = ap (λ (m : ℕ). whole_rule (given s b) (tree s b) (keeps_waiting m) fresh) e
 
 pub new_mode_leaves_none : NewModeLeavesNone
-new_mode_leaves_none s b c inRows inMarks room r new e =
-    let a = accepted_by (refusal_in s b c inRows inMarks room) r (file_result s b c) (sym e) in
-    let p = laid_passed s b c inRows (before_marks_lem s b c inRows inMarks room a.passes) in
+new_mode_leaves_none s b c in_rows in_marks room r new e =
+    let a = accepted_by (refusal_in s b c in_rows in_marks room) r (file_result s b c) (sym e) in
+    let p = laid_passed s b c in_rows (before_marks_lem s b c in_rows in_marks room a.passes) in
     let all = closing_places_all s b [] (layout_args s b c) layout_fresh p.read (layout_passes s b c p.moded []) refl new in
     ap (λ (x : FileResult). x.left) a.is ∙ sym ((fmt_parsed_lem (read_all s b) s b).closed_in (layout_choice c)).left_due_of ∙ all.left

@@ -8,7 +8,7 @@ use Prim.Native.Nat.{ℕ, ◌+◌, ◌*◌, ◌<◌, max}
 use lib.Dec.{ltb, eqb}
 use lib.ListN.{length, replicate, length-set, get_or-append}
 use lib.Seq.{set-append_left}
-use Rattle.rows.specs.Node.{Text, Node, Nodes, group, indent, indent_next, wrap_parent, comment as commentNode, str, ascii}
+use Rattle.rows.specs.Node.{Text, Node, Nodes, group, indent, indent_next, wrap_parent, comment as comment_node, str, ascii}
 use Rattle.rows.specs.Node.{line, empty_line, line_or_space, if_wrap, call, none, ◌then◌, wrapped, width, widths, must_wraps}
 use Rattle.renderer_rules.specs.Renderer.{Page, Renderer, with_buf, with_marks, with_widest, on_pen, push_str, at_column}
 use Rattle.renderer_rules.specs.Renderer.{new_line, margin, comment, text, virtual_column, insert, indent_more, indent_less}
@@ -23,7 +23,7 @@ abbrev mutual
   Under b (indent ns) = Unders b ns
   Under b (indent_next ns) = Unders b ns
   Under b wrap_parent = Unit {0}
-  Under b (commentNode t) = Unit {0}
+  Under b (comment_node t) = Unit {0}
   Under b (str w t) = Unit {0}
   Under b (ascii t) = Unit {0}
   Under b line = Unit {0}
@@ -70,7 +70,7 @@ module _ (p : Page) where
     render_length (indent ns) w r = renders_length ns w (on_pen (indent_more w) r)
     render_length (indent_next ns) w r = renders_length ns w (on_pen (next_indent_more w) r)
     render_length wrap_parent w r = refl
-    render_length (commentNode t) w r = comment_length (p.bytes t) r
+    render_length (comment_node t) w r = comment_length (p.bytes t) r
     render_length (str k t) w r = text_length (p.bytes t) k r
     render_length (ascii t) w r = text_length (p.bytes t) (p.columns t) r
     render_length line w r = cond_length w (new_line r) r (marks_in r) refl refl
@@ -98,7 +98,7 @@ module _ (columns : Text → ℕ) (m past : List ℕ) where
     width_past (indent ns) u = widths_past ns u
     width_past (indent_next ns) u = widths_past ns u
     width_past wrap_parent u = refl
-    width_past (commentNode t) u = refl
+    width_past (comment_node t) u = refl
     width_past (str w t) u = refl
     width_past (ascii t) u = refl
     width_past line u = refl
@@ -233,7 +233,7 @@ module _ (ahead past : List ℕ) (before : ℕ) where
       render_ext (indent ns) w r u = ap (on_pen (indent_less w)) (renders_ext ns w (on_pen (indent_more w) r) u)
       render_ext (indent_next ns) w r u = ap (on_pen (next_indent_less w)) (renders_ext ns w (on_pen (next_indent_more w) r) u)
       render_ext wrap_parent w r u = refl
-      render_ext (commentNode t) w r u = comment_ext (p.bytes t) r
+      render_ext (comment_node t) w r u = comment_ext (p.bytes t) r
       render_ext (str k t) w r u = text_ext (p.bytes t) k r
       render_ext (ascii t) w r u = text_ext (p.bytes t) (p.columns t) r
       render_ext line w r u = ap (λ (x : Renderer). cond w x (ext r)) (new_line_ext r) ∙ cond_ext w (new_line r) r

@@ -12,7 +12,7 @@ use lib.Seq.{take_all, take-length, take-append_seam}
 use Rattle.image.specs.Read.{read_all, read_refusal}
 use Rattle.ast.specs.Syntax.{Declaration}
 use Rattle.rows.specs.Places.{PLACES}
-use Rattle.rows.specs.Node.{Text, Nodes, none as noNodes, join}
+use Rattle.rows.specs.Node.{Text, Nodes, none as no_nodes, join}
 use Rattle.rows.specs.Rows.{sizes, rows}
 use Rattle.rows.specs.View.{view_of, nodes_at}
 use Rattle.rows.specs.Nesting.{Nests, over}
@@ -151,7 +151,7 @@ module _ (s b : List ℕ) where
   due_nodes : (o : Option (LayoutArgs LayoutChoice))
       → LaidFits (parts_of s b) (layout_parts (read_all s b) s b) (render_parts s b (read_all s b)) o → LaidNodes (layout_due (rules_of s b) o)
   unfolding pieces comments_among tokens_among CommasChosen declarations_tokens
-  due_nodes none k = record { nodes = noNodes; read = nodes_none _ 0 0 (omega arith); size = refl; chosen = tt; comments = refl; others = refl }
+  due_nodes none k = record { nodes = no_nodes; read = nodes_none _ 0 0 (omega arith); size = refl; chosen = tt; comments = refl; others = refl }
   due_nodes (some q) k = laid_nodes q k.to
 
   -- ---- the rows rendered

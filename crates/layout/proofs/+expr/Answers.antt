@@ -154,7 +154,7 @@ pub arm-second-p-requires : goal.arm-second-p-requires
 arm-second-p-requires t c = within (pattern_whole _ _ _ c.requires.tree.1 c.requires.held.1)
 
 pub arm-third-q-requires : goal.arm-third-q-requires
-arm-third-q-requires t c = record { in_image = within (pattern_whole _ _ _ c.requires.tree.1 c.requires.held.1); in_image_2 = maybe_expr_lem _ _ _ c.requires.tree.2 c.requires.held.2 }
+arm-third-q-requires t c = record { second_in_image = within (pattern_whole _ _ _ c.requires.tree.1 c.requires.held.1); third_in_image = maybe_expr_lem _ _ _ c.requires.tree.2 c.requires.held.2 }
 
 pub arm-overflow_add-at : goal.arm-overflow_add-at
 arm-overflow_add-at t c =
@@ -233,7 +233,7 @@ bind-second-p-requires t c = within (ident_whole c.requires.held.1.0)
 
 pub bind-third-q-requires : goal.bind-third-q-requires
 unfolding StmtAt
-bind-third-q-requires t c = record { in_image = within (ident_whole c.requires.held.1.0); in_image_2 = maybe_type _ _ _ c.requires.tree.2 c.requires.held.1.1 }
+bind-third-q-requires t c = record { second_in_image = within (ident_whole c.requires.held.1.0); third_in_image = maybe_type _ _ _ c.requires.tree.2 c.requires.held.1.1 }
 
 pub bind-word-d-requires : goal.bind-word-d-requires
 unfolding StmtAt rules.stmt_form
@@ -1103,7 +1103,7 @@ form-path-d-requires-in-62 t c =
 pub form-third-requires : goal.form-third-requires
 unfolding ExprAt
 form-third-requires t c =
-    let h = expr_has _ (expr_is _ _ _ 62 (sym c.kind.ensures ∙ c.in-62.is)) c.args.outer c.requires in record { in_image = within (path_whole h.held.1.0); in_image_2 = within (head_whole h.held.1.1.op.head) }
+    let h = expr_has _ (expr_is _ _ _ 62 (sym c.kind.ensures ∙ c.in-62.is)) c.args.outer c.requires in record { second_in_image = within (path_whole h.held.1.0); third_in_image = within (head_whole h.held.1.1.op.head) }
 
 pub form-assign_word-requires : goal.form-assign_word-requires
 unfolding ExprAt
@@ -1511,7 +1511,7 @@ function_args-returns t c =
 
 pub if_else-third-p-requires : goal.if_else-third-p-requires
 unfolding ExprAt
-if_else-third-p-requires t c = record { in_image = within (expr_whole _ _ _ c.requires.tree.1.0 c.requires.held.1.0); in_image_2 = within (block_whole _ _ _ c.requires.tree.1.1 c.requires.held.1.1) }
+if_else-third-p-requires t c = record { second_in_image = within (expr_whole _ _ _ c.requires.tree.1.0 c.requires.held.1.0); third_in_image = within (block_whole _ _ _ c.requires.tree.1.1 c.requires.held.1.1) }
 
 pub if_else-overflow_add-at : goal.if_else-overflow_add-at
 unfolding ExprAt
@@ -2222,7 +2222,7 @@ tail-third-requires t c =
     above_at (get_or c.args.ops.now (c.loop-n.n - 1) 0) (omega (arith, c.loop-n-test.true))
     (omega (arith, k, c.loop-n-test.true)) c.loop-n.invariant.3.4
     in
-    record { in_image = within (expr_whole _ _ _ y.tree.1.0 y.held.1.0); in_image_2 = within (head_whole y.held.1.1.head) }
+    record { second_in_image = within (expr_whole _ _ _ y.tree.1.0 y.held.1.0); third_in_image = within (head_whole y.held.1.1.head) }
 
 pub tail-expr-d-requires : goal.tail-expr-d-requires
 unfolding ExprAt

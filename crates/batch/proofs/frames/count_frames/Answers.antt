@@ -1,6 +1,6 @@
 use mathlib.Core.Path.{sym, ◌∙◌}
 use native.Mathlib.Omega.{arith}
-use borrow.Author.Tests.{not-true, not-false, leb-true, leb-false}
+use borrow.Author.Tests.{leb-true, leb-false}
 use Rattle.laws.proofs.Numbers.{lt_of}
 use Rattle.batch.proofs.Buffer.{passed_none, passed_more, passed_many, passed_cut, passed_all}
 use Rattle.batch.proofs.frames.count_frames.Goals as goal
@@ -17,10 +17,10 @@ frame_fits-requires c = c.loop-at.invariant.inside
 pub returns-then-not-frame_fits : goal.returns-then-not-frame_fits
 returns-then-not-frame_fits c =
     passed_cut _ _ _ c.loop-at.invariant c.loop-at-test.true (lt_of _ _ c.loop-at.invariant.few c.if-files-eq-MAX_SAVES.false)
-    (leb-false _ _ (sym c.frame_fits.ensures ∙ not-true _ c.if-not-frame_fits.true-raw))
+    (leb-false _ _ (sym c.frame_fits.ensures ∙ c.if-not-frame_fits.true))
 
 pub frame_end-at-requires : goal.frame_end-at-requires
-frame_end-at-requires c = leb-true _ _ (sym c.frame_fits.ensures ∙ not-false _ c.if-not-frame_fits.false-raw)
+frame_end-at-requires c = leb-true _ _ (sym c.frame_fits.ensures ∙ c.if-not-frame_fits.false)
 
 pub overflow_add-files : goal.overflow_add-files
 overflow_add-files c = omega (arith, c.loop-at.invariant.few)
@@ -30,7 +30,7 @@ loop-at-smaller c = omega (arith, c.frame_end-at.ensures, c.loop-at-test.true)
 
 pub loop-at-preserved : goal.loop-at-preserved
 loop-at-preserved c =
-    let h = leb-true _ _ (sym c.frame_fits.ensures ∙ not-false _ c.if-not-frame_fits.false-raw) in
+    let h = leb-true _ _ (sym c.frame_fits.ensures ∙ c.if-not-frame_fits.false) in
     rw c.frame_end-at.ensures
     (passed_more _ _ _ c.loop-at.invariant c.loop-at-test.true (lt_of _ _ c.loop-at.invariant.few c.if-files-eq-MAX_SAVES.false) h)
 

@@ -1,6 +1,5 @@
 use mathlib.Core.Path.{refl, sym, ◌∙◌, ap}
 use native.Mathlib.Omega.{arith}
-use borrow.Author.Tests.{not-true, not-false}
 use borrow.Author.Rules.{rules}
 use Rattle.image.specs.Read.{step_of}
 use Rattle.image.proofs.CommentList.{from_on, from_off, from_end}
@@ -15,7 +14,7 @@ comment_fits-requires c = omega arith
 pub returns-then-not-comment_fits : goal.returns-then-not-comment_fits
 returns-then-not-comment_fits c =
     sym (ap step_of
-    (c.loop-left.invariant.1 ∙ from_off _ _ _ _ _ _ c.loop-left-test.true (sym c.comment_fits.ensures ∙ not-true _ c.if-not-comment_fits.true-raw)))
+    (c.loop-left.invariant.1 ∙ from_off _ _ _ _ _ _ c.loop-left-test.true (sym c.comment_fits.ensures ∙ c.if-not-comment_fits.true)))
 
 pub least_after-least-requires : goal.least_after-least-requires
 least_after-least-requires c = omega arith
@@ -33,7 +32,7 @@ pub loop-left-preserved : goal.loop-left-preserved
 loop-left-preserved c = (
   omega arith,
   c.loop-left.invariant.1
-      ∙ from_on _ _ _ _ _ _ c.loop-left-test.true (sym c.comment_fits.ensures ∙ not-false _ c.if-not-comment_fits.false-raw)
+      ∙ from_on _ _ _ _ _ _ c.loop-left-test.true (sym c.comment_fits.ensures ∙ c.if-not-comment_fits.false)
       ∙ rw c.least_after-least.ensures,
 )
 

@@ -13,7 +13,7 @@ second-p-requires c = within (ident_whole c.requires.held.1)
 
 pub third-q-requires : goal.third-q-requires
 unfolding DeclarationAt
-third-q-requires c = record { in_image = within (ident_whole c.requires.held.1); in_image_2 = maybe_list _ _ _ c.requires.tree.1 c.requires.held.2 }
+third-q-requires c = record { second_in_image = within (ident_whole c.requires.held.1); third_in_image = maybe_list _ _ _ c.requires.tree.1 c.requires.held.2 }
 
 pub declares-d-requires : goal.declares-d-requires
 unfolding DeclarationAt rules.declaration

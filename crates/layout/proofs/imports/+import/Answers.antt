@@ -76,8 +76,8 @@ pub import_path-import_dot-e-requires : goal.import_path-import_dot-e-requires
 import_path-import_dot-e-requires t c =
     let w = import_parts c.requires in
     rw c.second-p.ensures (record {
-      in_image = maybe_path _ _ _ w.tree.0 w.held.1;
-      in_image_2 = group_within _ _ _ w.tree.1 w.held.2;
+      path_in_image = maybe_path _ _ _ w.tree.0 w.held.1;
+      group_in_image = group_within _ _ _ w.tree.1 w.held.2;
       room = room_first _ (room_next w.room ((lays_as c.requires.accepted c.import_first-d.ensures).of w.tree.0 w.held.1));
     })
 

@@ -3,13 +3,13 @@ use Rattle.acts.proofs.Laws.{laid_skip}
 use Rattle.layout.proofs.imports.import_dot.Goals as goal
 
 pub is_absent-requires : goal.is_absent-requires
-is_absent-requires c = c.requires.in_image
+is_absent-requires c = c.requires.path_in_image
 
 pub returns-then-is_absent : goal.returns-then-is_absent
 returns-then-is_absent c = rw (sym c.is_absent.ensures ∙ c.if-is_absent.true) laid_skip
 
 pub is_absent-requires-2 : goal.is_absent-requires-2
-is_absent-requires-2 c = c.requires.in_image_2
+is_absent-requires-2 c = c.requires.group_in_image
 
 pub returns-then-is_absent-2 : goal.returns-then-is_absent-2
 returns-then-is_absent-2 c =

@@ -5,7 +5,7 @@ use mathlib.Core.List.{List}
 use Prim.Native.Nat.{ℕ, ◌+◌, ◌≤◌, ◌<◌}
 use native.Mathlib.Omega.{arith}
 use lib.ListN.{length, get_or}
-use borrow.Author.Tests.{le-leb, lt-leb, not-true, not-false}
+use borrow.Author.Tests.{le-leb, lt-leb}
 use Rattle.text.specs.Utf8.{row_of, lead_of, continues, sequence}
 use Rattle.text.specs.declared.utf8.Lead.{Lead}
 use Rattle.text.proofs.Sequences.{sequence_by}
@@ -69,21 +69,21 @@ returns-then-n-eq2 c =
 pub returns-then-not-is_continuation : goal.returns-then-not-is_continuation
 returns-then-not-is_continuation c =
     third_off _ _ _ c.requires.0 c.requires.1 (omega (arith, c.byte-second.ensures)) (omega (arith, c.byte-second.ensures)) (omega arith)
-    (ap continues (sym c.byte.ensures) ∙ sym c.is_continuation.ensures ∙ not-true _ c.if-not-is_continuation.true-raw)
+    (ap continues (sym c.byte.ensures) ∙ sym c.is_continuation.ensures ∙ c.if-not-is_continuation.true)
 
 pub returns-then-n-eq3 : goal.returns-then-n-eq3
 returns-then-n-eq3 c =
     by_third _ _ _ c.requires.0 c.requires.1 (omega (arith, c.byte-second.ensures)) (omega (arith, c.byte-second.ensures)) c.if-n-eq3.true
-    (ap continues (sym c.byte.ensures) ∙ sym c.is_continuation.ensures ∙ not-false _ c.if-not-is_continuation.false-raw)
+    (ap continues (sym c.byte.ensures) ∙ sym c.is_continuation.ensures ∙ c.if-not-is_continuation.false)
 
 pub returns-then-not-is_continuation-2 : goal.returns-then-not-is_continuation-2
 returns-then-not-is_continuation-2 c =
     fourth_off _ _ _ c.requires.0 c.requires.1 (omega (arith, c.byte-second.ensures)) (omega (arith, c.byte-second.ensures)) (omega arith)
-    (ap continues (sym c.byte.ensures) ∙ sym c.is_continuation.ensures ∙ not-false _ c.if-not-is_continuation.false-raw)
-    (ap continues (sym c.byte-2.ensures) ∙ sym c.is_continuation-2.ensures ∙ not-true _ c.if-not-is_continuation-2.true-raw)
+    (ap continues (sym c.byte.ensures) ∙ sym c.is_continuation.ensures ∙ c.if-not-is_continuation.false)
+    (ap continues (sym c.byte-2.ensures) ∙ sym c.is_continuation-2.ensures ∙ c.if-not-is_continuation-2.true)
 
 pub returns : goal.returns
 returns c =
     by_fourth _ _ _ c.requires.0 c.requires.1 (omega (arith, c.byte-second.ensures)) (omega (arith, c.byte-second.ensures)) (omega arith)
-    (ap continues (sym c.byte.ensures) ∙ sym c.is_continuation.ensures ∙ not-false _ c.if-not-is_continuation.false-raw)
-    (ap continues (sym c.byte-2.ensures) ∙ sym c.is_continuation-2.ensures ∙ not-false _ c.if-not-is_continuation-2.false-raw)
+    (ap continues (sym c.byte.ensures) ∙ sym c.is_continuation.ensures ∙ c.if-not-is_continuation.false)
+    (ap continues (sym c.byte-2.ensures) ∙ sym c.is_continuation-2.ensures ∙ c.if-not-is_continuation-2.false)

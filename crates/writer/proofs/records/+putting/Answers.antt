@@ -3,7 +3,6 @@ use mathlib.Core.List.{List}
 use Prim.Native.Nat.{suc, ◌+◌, ◌-◌, ℕ}
 use native.Mathlib.Omega.{arith}
 use lib.ListN.{length}
-use borrow.Author.Tests.{not-true, not-false}
 use Rattle.image.specs.Write.{written, writtens}
 use Rattle.steps.specs.Writer.{payload_from, record_from, children_from}
 use Rattle.writer.specs.Put.{put_of, put_by, child_of, child_by}
@@ -68,11 +67,11 @@ put_child-stands-requires-3 t c = (c.requires.inside, omega arith)
 pub put_child-returns-then-not-stands : goal.put_child-returns-then-not-stands
 put_child-returns-then-not-stands t c =
     sym (ap (child_by _ _) (child_not _ _ _ _ (sym c.stands.ensures ∙ c.if-stands.false)
-    (sym c.stands-2.ensures ∙ c.if-stands-2.false) (sym c.stands-3.ensures ∙ not-true _ c.if-not-stands.true-raw)))
+    (sym c.stands-2.ensures ∙ c.if-stands-2.false) (sym c.stands-3.ensures ∙ c.if-not-stands.true)))
 
 pub put_child-returns-then-row-eq0 : goal.put_child-returns-then-row-eq0
 put_child-returns-then-row-eq0 t c =
-    sym (ap (child_by _ _) (child_spare _ _ _ _ (sym c.stands-3.ensures ∙ not-false _ c.if-not-stands.false-raw) c.if-row-eq0.true))
+    sym (ap (child_by _ _) (child_spare _ _ _ _ (sym c.stands-3.ensures ∙ c.if-not-stands.false) c.if-row-eq0.true))
 
 pub put_child-put_record-requires : goal.put_child-put_record-requires
 put_child-put_record-requires t c =
@@ -81,12 +80,12 @@ put_child-put_record-requires t c =
 pub put_child-returns-in-Fault : goal.put_child-returns-in-Fault
 put_child-returns-in-Fault t c =
     ap (λ (r : Reached). put_of r c.put_record.new.out) (sym c.in-Fault.is) ∙ c.put_record.ensures
-    ∙ sym (open_held _ _ _ _ _ _ (sym c.stands-3.ensures ∙ not-false _ c.if-not-stands.false-raw) c.if-row-eq0.false)
+    ∙ sym (open_held _ _ _ _ _ _ (sym c.stands-3.ensures ∙ c.if-not-stands.false) c.if-row-eq0.false)
 
 pub put_child-returns-in-Next : goal.put_child-returns-in-Next
 put_child-returns-in-Next t c =
     ap (λ (r : Reached). put_of r c.put_record.new.out) (sym c.in-Next.is) ∙ c.put_record.ensures
-    ∙ sym (open_held _ _ _ _ _ _ (sym c.stands-3.ensures ∙ not-false _ c.if-not-stands.false-raw) c.if-row-eq0.false)
+    ∙ sym (open_held _ _ _ _ _ _ (sym c.stands-3.ensures ∙ c.if-not-stands.false) c.if-row-eq0.false)
 
 pub put_children-loop-end-init : goal.put_children-loop-end-init
 put_children-loop-end-init t c =
@@ -130,48 +129,48 @@ pub put_record-opens-requires : goal.put_record-opens-requires
 put_record-opens-requires t c = c.requires.inside
 
 pub put_record-returns-then-not-opens : goal.put_record-returns-then-not-opens
-put_record-returns-then-not-opens t c = sym (ap (put_by _ _ _) (record_not _ _ _ _ (not_opened _ _ _ (sym c.opens.ensures ∙ not-true _ c.if-not-opens.true-raw))))
+put_record-returns-then-not-opens t c = sym (ap (put_by _ _ _) (record_not _ _ _ _ (not_opened _ _ _ (sym c.opens.ensures ∙ c.if-not-opens.true))))
 
 pub put_record-overflow_add-at : goal.put_record-overflow_add-at
-put_record-overflow_add-at t c = omega (arith, (stood _ _ _ _ (was_opened _ _ _ (sym c.opens.ensures ∙ not-false _ c.if-not-opens.false-raw)).0).0)
+put_record-overflow_add-at t c = omega (arith, (stood _ _ _ _ (was_opened _ _ _ (sym c.opens.ensures ∙ c.if-not-opens.false)).0).0)
 
 pub put_record-bounds-l-at : goal.put_record-bounds-l-at
 put_record-bounds-l-at t c = omega
-    (arith, (stood _ _ _ _ (was_opened _ _ _ (sym c.opens.ensures ∙ not-false _ c.if-not-opens.false-raw)).0).0)
+    (arith, (stood _ _ _ _ (was_opened _ _ _ (sym c.opens.ensures ∙ c.if-not-opens.false)).0).0)
 
 pub put_record-overflow_add-at-2 : goal.put_record-overflow_add-at-2
 put_record-overflow_add-at-2 t c =
-    omega (arith, (stood _ _ _ _ (was_opened _ _ _ (sym c.opens.ensures ∙ not-false _ c.if-not-opens.false-raw)).0).0)
+    omega (arith, (stood _ _ _ _ (was_opened _ _ _ (sym c.opens.ensures ∙ c.if-not-opens.false)).0).0)
 
 pub put_record-overflow_add-at-3 : goal.put_record-overflow_add-at-3
 put_record-overflow_add-at-3 t c =
-    omega (arith, (stood _ _ _ _ (was_opened _ _ _ (sym c.opens.ensures ∙ not-false _ c.if-not-opens.false-raw)).0).0)
+    omega (arith, (stood _ _ _ _ (was_opened _ _ _ (sym c.opens.ensures ∙ c.if-not-opens.false)).0).0)
 
 pub put_record-overflow_add-pos : goal.put_record-overflow_add-pos
 put_record-overflow_add-pos t c =
-    omega (arith, (stood _ _ _ _ (was_opened _ _ _ (sym c.opens.ensures ∙ not-false _ c.if-not-opens.false-raw)).0).0, c.requires.below)
+    omega (arith, (stood _ _ _ _ (was_opened _ _ _ (sym c.opens.ensures ∙ c.if-not-opens.false)).0).0, c.requires.below)
 
 pub put_record-copy-requires : goal.put_record-copy-requires
 put_record-copy-requires t c = (
   omega arith,
   (
-    (stood _ _ _ _ (was_opened _ _ _ (sym c.opens.ensures ∙ not-false _ c.if-not-opens.false-raw)).0).0,
-    omega (arith, (stood _ _ _ _ (was_opened _ _ _ (sym c.opens.ensures ∙ not-false _ c.if-not-opens.false-raw)).0).0, c.requires.below),
+    (stood _ _ _ _ (was_opened _ _ _ (sym c.opens.ensures ∙ c.if-not-opens.false)).0).0,
+    omega (arith, (stood _ _ _ _ (was_opened _ _ _ (sym c.opens.ensures ∙ c.if-not-opens.false)).0).0, c.requires.below),
   ),
 )
 
 pub put_record-overflow_add-at-4 : goal.put_record-overflow_add-at-4
 put_record-overflow_add-at-4 t c =
-    omega (arith, (stood _ _ _ _ (was_opened _ _ _ (sym c.opens.ensures ∙ not-false _ c.if-not-opens.false-raw)).0).0)
+    omega (arith, (stood _ _ _ _ (was_opened _ _ _ (sym c.opens.ensures ∙ c.if-not-opens.false)).0).0)
 
 pub put_record-overflow_add-pos-2 : goal.put_record-overflow_add-pos-2
 put_record-overflow_add-pos-2 t c =
-    omega (arith, (stood _ _ _ _ (was_opened _ _ _ (sym c.opens.ensures ∙ not-false _ c.if-not-opens.false-raw)).0).0, c.requires.below)
+    omega (arith, (stood _ _ _ _ (was_opened _ _ _ (sym c.opens.ensures ∙ c.if-not-opens.false)).0).0, c.requires.below)
 
 pub put_record-put_payload-requires : goal.put_record-put_payload-requires
 put_record-put_payload-requires t c =
     record {
-      inside = (stood _ _ _ _ (was_opened _ _ _ (sym c.opens.ensures ∙ not-false _ c.if-not-opens.false-raw)).0).0;
+      inside = (stood _ _ _ _ (was_opened _ _ _ (sym c.opens.ensures ∙ c.if-not-opens.false)).0).0;
       below = omega (arith, c.requires.below);
     }
 
@@ -190,7 +189,7 @@ put_record-put_children-requires t c =
     in (
       omega (arith, c.decreases, c.if-left-eq0.false),
       rw k.place (children_due c.args.l.now c.args.p c.wide-kind.result c.args.at c.args.pos
-          c.requires (stood _ _ _ _ (was_opened _ _ _ (sym c.opens.ensures ∙ not-false _ c.if-not-opens.false-raw)).0).0
+          c.requires (stood _ _ _ _ (was_opened _ _ _ (sym c.opens.ensures ∙ c.if-not-opens.false)).0).0
           k.what c.in-Next.first c.row_under.result k.reads c.row_under.ensures),
     )
 
@@ -236,14 +235,14 @@ pub put_record-put32-requires : goal.put_record-put32-requires
 put_record-put32-requires t c =
     omega (
       arith,
-      (stood _ _ _ _ (was_opened _ _ _ (sym c.opens.ensures ∙ not-false _ c.if-not-opens.false-raw)).0).0,
+      (stood _ _ _ _ (was_opened _ _ _ (sym c.opens.ensures ∙ c.if-not-opens.false)).0).0,
       c.requires.below,
     )
 
 pub put_record-returns-in-Fault : goal.put_record-returns-in-Fault
 put_record-returns-in-Fault t c =
     sym (ap (put_by written _ _) (record_payload c.args.l.now c.args.left c.args.p c.args.at c.wide-kind.result
-    c.if-left-eq0.false c.wide-kind.ensures.0 (was_opened _ _ _ (sym c.opens.ensures ∙ not-false _ c.if-not-opens.false-raw)).1 _ _
+    c.if-left-eq0.false c.wide-kind.ensures.0 (was_opened _ _ _ (sym c.opens.ensures ∙ c.if-not-opens.false)).1 _ _
     (was_fault (λ (x : List ℕ). x) (c.args.pos + 13) c.copy.new.out
     (payload_from c.args.l.now c.args.p c.wide-kind.result (c.args.at + 10)) c.in-Fault.n
     c.in-Fault.q
@@ -260,7 +259,7 @@ put_record-returns-in-Fault-put_children t c =
     in
     sym (ap (put_by written _ _) (record_children c.args.l.now c.args.left c.args.p c.args.at
     c.wide-kind.result c.if-left-eq0.false c.wide-kind.ensures.0
-    (was_opened _ _ _ (sym c.opens.ensures ∙ not-false _ c.if-not-opens.false-raw)).1 k.what c.in-Next.first
+    (was_opened _ _ _ (sym c.opens.ensures ∙ c.if-not-opens.false)).1 k.what c.in-Next.first
     c.row_under.result _ _ k.reads c.row_under.ensures (was_fault writtens c.in-Next.inner
     c.put_payload.new.out (children_from (record_from c.args.l.now (c.args.left - 1))
     c.args.l.now (suc (length c.args.l.now)) c.row_under.result c.in-Next.first)
@@ -286,7 +285,7 @@ put_record-returns-in-Next-put_children t c =
     ∙ c.put_children.ensures)
     in
     is_held written _ _ _ _ _ _ (record_held c.args.l.now c.args.left c.args.p c.args.at c.wide-kind.result
-    c.if-left-eq0.false c.wide-kind.ensures.0 (was_opened _ _ _ (sym c.opens.ensures ∙ not-false _ c.if-not-opens.false-raw)).1
+    c.if-left-eq0.false c.wide-kind.ensures.0 (was_opened _ _ _ (sym c.opens.ensures ∙ c.if-not-opens.false)).1
     c.args.pos c.args.out.now (λ i. omega (arith, c.shared_slice_known-2-1.given i))
-    (stood _ _ _ _ (was_opened _ _ _ (sym c.opens.ensures ∙ not-false _ c.if-not-opens.false-raw)).0).0 _ _ _ _ _ _ _ _ _
+    (stood _ _ _ _ (was_opened _ _ _ (sym c.opens.ensures ∙ c.if-not-opens.false)).0).0 _ _ _ _ _ _ _ _ _
     c.copy.ensures k c.row_under.ensures m c.put32.ensures)
