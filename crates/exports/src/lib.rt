@@ -1,5 +1,6 @@
-// The functions that other languages call: numbers and slices in, numbers out. Their names are symbols, and end in the number of their shape:
-// tools/raise-shape raises it when a parameter or an array changes, so that nothing older is linked.
+// The functions for other languages: numbers and slices in, numbers out. exports_c hands them out under the C calling convention, by the same
+// names: symbols that end in the number of their shape. tools/raise-shape raises it when a parameter or an array changes, so that nothing older
+// is linked.
 #![tactic(auto)]
 
 mod count;
